@@ -21,7 +21,7 @@ impl Cell {
     {
         if self.0 < 1 << 31 {
             if divisor.0 < 1 << 31 {
-                Cell(self.0 / divisor.0)
+                self.unsigned_div(divisor)
             } else if self.0 == 0 {
                 Cell(0)
             } else {
@@ -42,7 +42,7 @@ impl Cell {
     {
         if self.0 < 1 << 31 {
             if divisor.0 < 1 << 31 {
-                Cell(self.0 % divisor.0)
+                self.unsigned_modulo(divisor)
             } else if self.0 == 0 {
                 Cell(0)
             } else {

@@ -1,0 +1,3 @@
+pub mod Throws
+pub mod Stacks
+pub mod Order
