@@ -1,0 +1,98 @@
+ghost use Rattle.std.specs.Prelude.{◌≡◌, map};
+ghost use Rattle.std.specs.Option.{option_copied, option_map, option_map_or};
+ghost use Rattle.std.specs.Str.{str_eq_ignore_ascii_case};
+ghost use Rattle.of_fcodes.specs.Lookup.{row_placed, row_numbered, word_numbered, operand_numbered, name_numbered, number_in, number_named, row_shown};
+
+use crate::operand::Operand;
+use crate::table::{PLACES, ROWS, Row};
+use crate::words::Word;
+
+/// The number of an FCode, 0x000 to 0xFFF (IEEE 1275-1994, 5.2.2.2).
+#[derive(Clone, Copy, Debug, PartialEq, Eq)]
+pub struct FCode(pub u16);
+
+/// The row to which the place of a number leads, where both are there.
+#[inline]
+fn row_at<'a>(rows: &'a [Row], places: &[u16], number: u16) -> Option<&'a Row>
+    ensures { option_map row_shown (option_copied result) ≡ row_placed (map row_shown rows.now) places.now number }
+{
+    let number = usize::from(number);
+    if number >= places.len() {
+        return None;
+    }
+    let place = usize::from(places[number]);
+    if place >= rows.len() {
+        return None;
+    }
+    Some(&rows[place])
+}
+
+/// The row of an FCode, if it has one, in constant time.
+#[inline]
+fn row_of(code: FCode) -> Option<&'static Row>
+    ensures { option_map row_shown (option_copied result) ≡ row_numbered code.0 }
+{
+    row_at(&ROWS, &PLACES, code.0)
+}
+
+/// The word that an FCode names, if it is listed, in constant time.
+#[inline]
+pub fn word_of(code: FCode) -> Option<Word>
+    ensures { result ≡ word_numbered code.0 }
+{
+    match row_of(code) {
+        Some(row) => Some(row.2),
+        None => None,
+    }
+}
+
+/// What stands behind an FCode in an image, in constant time; nothing where it isn't listed.
+#[inline]
+pub fn operand_of(code: FCode) -> Operand
+    ensures { result ≡ operand_numbered code.0 }
+{
+    match row_of(code) {
+        Some(row) => row.3,
+        None => Operand::Nothing,
+    }
+}
+
+/// The name of an FCode, if it is listed, in constant time.
+pub fn name_of(code: FCode) -> Option<&'static str>
+    ensures { option_map (λ name. name.now) result ≡ name_numbered code.0 }
+{
+    match row_of(code) {
+        Some(row) => Some(row.1),
+        None => None,
+    }
+}
+
+/// Whether two names differ at most in the case of their letters.
+fn is_same_name(name: &str, other: &str) -> bool
+    ensures { result ≡ str_eq_ignore_ascii_case name.now other.now }
+{
+    name.eq_ignore_ascii_case(other)
+}
+
+/// The number of the row that bears a name, whatever the case of its letters.
+fn number_in(mut rows: &[Row], name: &str) -> Option<u16>
+    ensures { result ≡ number_in (map row_shown rows.entry.now) name.now }
+{
+    while let [row, rest @ ..] = rows {
+        if is_same_name(row.1, name) {
+            return Some(row.0);
+        }
+        rows = rest;
+    }
+    None
+}
+
+/// The FCode of a name, whatever the case of its letters, if it is listed.
+pub fn fcode_of(name: &str) -> Option<FCode>
+    ensures { option_map (λ code. code.0) result ≡ number_named name.now }
+{
+    match number_in(&ROWS, name) {
+        Some(number) => Some(FCode(number)),
+        None => None,
+    }
+}
