@@ -8,7 +8,7 @@ pub reverse_take : {X : Type 0} (xs : List X) (n : ℕ) → n ≤ length xs → 
 reverse_take xs n h =
     let upper : length (reverse (drop (length xs - n) xs)) ≡ n = length-reverse (drop (length xs - n) xs) ∙ length-drop (length xs - n) xs ∙ omega arith in
     let whole : reverse (drop (length xs - n) xs) ++ reverse (take (length xs - n) xs) ≡ reverse xs =
-        sym (reverse-append (take (length xs - n) xs) (drop (length xs - n) xs)) ∙ ap reverse (take-append-drop (length xs - n) xs) in
+    sym (reverse-append (take (length xs - n) xs) (drop (length xs - n) xs)) ∙ ap reverse (take-append-drop (length xs - n) xs) in
     sym (rw (upper, whole) at (drop-append_seam (reverse (drop (length xs - n) xs)) (reverse (take (length xs - n) xs))))
 
 four_of : {X : Type 0} (s : List X) (d : X) → 4 ≤ length s → s ≡ get_or s 0 d ∷ get_or s 1 d ∷ get_or s 2 d ∷ get_or s 3 d ∷ drop 4 s

@@ -1,6 +1,6 @@
 ghost use Rattle.std.specs.Prelude.{◌+◌, IfOk, IfErr, OnOk, reverse, ◌≡◌, ◌<◌, ◌≤◌, List, [], ◌∷◌, length, drop, Ok, Err};
 ghost use Rattle.of_stacks.specs.Throws.{stack_underflow, stack_overflow};
-ghost use Rattle.of_stacks.specs.Stacks.{within};
+ghost use Rattle.of_stacks.specs.Stacks.{within, Becomes};
 
 use crate::throws::Throw;
 use arrayvec::ArrayVec;
@@ -68,8 +68,7 @@ impl DataStack {
     /// Pushes a cell, or throws -3 where 256 cells are there already.
     #[inline]
     pub fn try_push(&mut self, x: Cell) -> Result<(), Throw>
-        ensures ok { IfOk result (λ _. within (x ∷ self.old) ≡ Ok self.new) }
-        ensures err { IfErr result (λ t. (within (x ∷ self.old) ≡ Err t) × (self.new ≡ self.old)) }
+        ensures { Becomes (within (x ∷ self.old)) self.old self.new result }
     {
         self.room_for(1)?;
         self.push(x);

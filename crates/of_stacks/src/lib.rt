@@ -2,11 +2,10 @@
 #![tactic(auto)]
 
 mod data_stack;
-mod texts;
-mod throws;
-
 #[cfg(test)]
 mod tests;
+mod texts;
+mod throws;
 
 pub use data_stack::{CAPACITY, DataStack};
 pub use texts::text_of;

@@ -14,7 +14,10 @@ fn pushes_and_pops(rt: HostRuntime) {
     assert_eq!(rt; stack.top_three(), Ok((Cell(2), Cell(3), Cell(4))));
     assert_eq!(rt; stack.top_four(), Ok((Cell(1), Cell(2), Cell(3), Cell(4))));
     assert_eq!(rt; stack.pop(), Ok(Cell(4)));
-    assert_eq!(rt; stack.cells(), [Cell(0), Cell(1), Cell(2), Cell(3)].as_slice());
+    assert_eq!(rt;
+        stack.cells(),
+        [Cell(0), Cell(1), Cell(2), Cell(3)].as_slice()
+    );
     stack.clear();
     assert_eq!(rt; stack.top_two(), Err(Throw(-4)));
 }
@@ -50,7 +53,16 @@ fn texts_and_order(rt: HostRuntime) {
     assert_eq!(rt; text_of(-263), "bad handle");
     assert_eq!(rt; text_of(7), "thrown by the program");
     assert_eq!(rt; text_of(i32::MIN), "thrown by the program");
-    assert_eq!(rt; Throw::DIVISION_BY_ZERO.first_of(Throw::STACK_UNDERFLOW), Throw(-4));
-    assert_eq!(rt; Throw::STACK_OVERFLOW.first_of(Throw::DICTIONARY_OVERFLOW), Throw(-8));
-    assert_eq!(rt; Throw::READ_ONLY.first_of(Throw::INVALID_ADDRESS), Throw(-9));
+    assert_eq!(rt;
+        Throw::DIVISION_BY_ZERO.first_of(Throw::STACK_UNDERFLOW),
+        Throw(-4)
+    );
+    assert_eq!(rt;
+        Throw::STACK_OVERFLOW.first_of(Throw::DICTIONARY_OVERFLOW),
+        Throw(-8)
+    );
+    assert_eq!(rt;
+        Throw::READ_ONLY.first_of(Throw::INVALID_ADDRESS),
+        Throw(-9)
+    );
 }

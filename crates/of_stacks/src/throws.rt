@@ -106,7 +106,11 @@ impl Throw {
     pub fn first_of(self, other: Throw) -> Throw
         ensures { result ≡ first_of self other }
     {
-        if rank(self.0) <= rank(other.0) { self } else { other }
+        if rank(self.0) <= rank(other.0) {
+            self
+        } else {
+            other
+        }
     }
 }
 

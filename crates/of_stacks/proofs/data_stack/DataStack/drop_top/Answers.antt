@@ -6,6 +6,6 @@ use Rattle.of_stacks.proofs.data_stack.DataStack.drop_top.Goals as goal
 pub returns-clause-cells : goal.returns-clause-cells
 returns-clause-cells c =
     let there : c.args.count ≤ length c.self.inside.cells.items =
-        omega (arith, ap length c.self.view_is, length-reverse c.self.inside.cells.items) in
+    omega (arith, ap length c.self.view_is, length-reverse c.self.inside.cells.items) in
     rw (c.truncate.ensures.items, c.len-depth.ensures.value, ← c.self.view_is)
     (reverse_take c.self.inside.cells.items c.args.count there)
