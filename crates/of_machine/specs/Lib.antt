@@ -1,0 +1,5 @@
+pub mod Text
+pub mod Words
+pub mod Tokens
+pub mod States
+pub mod Runs

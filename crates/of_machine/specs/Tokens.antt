@@ -1,0 +1,127 @@
+-- What a token of a running image does, or what it throws (IEEE 1275-1994, 5.2.2 and 5.3.3).
+use Rattle.std.specs.Prelude.{◌≡◌, ℕ, ◌+◌, ℤ, pos, negsuc, ◌+ℤ◌, List, [], ◌∷◌, length, Option, Some, None, Result, Ok, Err, nat_eq, nat_lt, nat_le, ◌&&◌, if◌then◌else◌}
+use Rattle.of_cells.specs.declared.cells.Cell.{Cell}
+use Rattle.of_stacks.specs.declared.throws.Throw.{Throw}
+use Rattle.of_stacks.specs.Throws.{stack_underflow, not_assigned, image_ended}
+use Rattle.of_stacks.specs.Stacks.{within}
+use Rattle.of_fcodes.specs.declared.words.Word.{Word}
+use Rattle.of_fcodes.specs.declared.words.Word.TheVariants as word
+use Rattle.of_fcodes.specs.declared.words.StreamWord.{StreamWord}
+use Rattle.of_fcodes.specs.declared.words.StreamWord.TheVariants.{End0, End1, Branch, BranchIfZero, Mark, Resolve, Offset16}
+use Rattle.of_fcodes.specs.Lookup.{word_numbered}
+use Rattle.of_stream.specs.declared.stream.OffsetSize.{OffsetSize}
+use Rattle.of_stream.specs.declared.stream.OffsetSize.TheVariants.{Two}
+use Rattle.of_stream.specs.Decoding.{Argument, Nothing, Literal, String, Code, Named, Offset, Token, token_from}
+use Rattle.of_machine.specs.declared.tokens.Source.{Source}
+use Rattle.of_machine.specs.Words.{Parts, word_entry}
+
+-- what a token of the stream leaves: the data stack, and from where the image goes on, if it does
+pub record Move : Type 0 where
+  pub stack : List Cell
+  pub source : Option Source
+
+-- the image goes on from there
+abbrev pub going_on : Source → List Cell → Result Move Throw
+going_on on s = Ok (record { stack = s; source = Some on })
+
+-- the image ends
+abbrev pub ending : List Cell → Result Move Throw
+ending s = Ok (record { stack = s; source = None })
+
+-- the position to which a branch goes: it must lie behind the header and before the end
+abbrev pub landing : ℕ → ℤ → Result ℕ Throw
+landing end (pos t) = if nat_le 8 t && nat_lt t end then Ok t else Err image_ended
+landing end (negsuc t) = Err image_ended
+
+-- the image goes on from the position to which a branch goes
+abbrev pub going_to : OffsetSize → List Cell → Result ℕ Throw → Result Move Throw
+going_to size s (Ok t) = going_on (record { position = t; size = size }) s
+going_to size s (Err t) = Err t
+
+-- a branch on zero takes the top cell
+abbrev pub branching : List Cell → Source → Result ℕ Throw → Result Move Throw
+branching [] on target = Err stack_underflow
+branching (x ∷ s) on target = if nat_eq x.0 0 then going_to on.size s target else going_on on s
+
+-- a word with an offset: the branches; the others are not run yet
+abbrev pub branch_entry : StreamWord → Source → Result ℕ Throw → List Cell → Result Move Throw
+branch_entry Branch on target s = going_to on.size s target
+branch_entry BranchIfZero on target s = branching s on target
+branch_entry _ on target s = Err not_assigned
+
+-- a word of the stream without an operand; those that are not run yet are as unassigned
+abbrev pub stream_entry : StreamWord → Source → List Cell → Result Move Throw
+stream_entry End0 on s = ending s
+stream_entry End1 on s = ending s
+stream_entry Mark on s = going_on on s
+stream_entry Resolve on s = going_on on s
+stream_entry Offset16 on s = going_on (record on { size = Two }) s
+stream_entry _ on s = Err not_assigned
+
+abbrev pub pushed_on : Source → Result (List Cell) Throw → Result Move Throw
+pushed_on on (Ok s) = going_on on s
+pushed_on on (Err t) = Err t
+
+-- one more cell
+abbrev pub literal_entry : Cell → Source → List Cell → Result Move Throw
+literal_entry x on s = pushed_on on (within (x ∷ s))
+
+-- the word of the stream, if the word is one
+abbrev pub stream_of : Option Word → Option StreamWord
+stream_of (Some (word.Stream w)) = Some w
+stream_of _ = None
+
+-- what a token leaves: the parts, and from where the image goes on, if it does
+pub record After : Type 0 where
+  pub parts : Parts
+  pub source : Option Source
+
+abbrev pub after_move : Parts → Result Move Throw → Result After Throw
+after_move m (Ok v) = Ok (record { parts = record m { stack = v.stack }; source = v.source })
+after_move m (Err t) = Err t
+
+abbrev pub after_word : Source → Result Parts Throw → Result After Throw
+after_word on (Ok m) = Ok (record { parts = m; source = Some on })
+after_word on (Err t) = Err t
+
+-- a token with an offset, which counts from its own first byte, the one behind the FCode
+abbrev pub offset_entry : Option StreamWord → Source → Result ℕ Throw → List Cell → Result Move Throw
+offset_entry (Some w) on target s = branch_entry w on target s
+offset_entry None on target s = Err not_assigned
+
+-- an FCode without an operand
+abbrev pub code_entry : Option Word → Source → Parts → Result After Throw
+code_entry (Some (word.Stream w)) on m = after_move m (stream_entry w on m.stack)
+code_entry (Some w) on m = after_word on (word_entry w m)
+code_entry None on m = Err not_assigned
+
+-- A token of an image of so many bytes, which stands at a position; the next one stands at `on`.
+abbrev pub argument_entry : Argument → Option Word → ℕ → ℕ → Source → Parts → Result After Throw
+argument_entry Nothing w end at on m = code_entry w on m
+argument_entry (Literal x) w end at on m = after_move m (literal_entry x on m.stack)
+argument_entry (Offset by) w end at on m = after_move m (offset_entry (stream_of w) on (landing end (pos (at + 1) +ℤ by)) m.stack)
+argument_entry (String s) w end at on m = Err not_assigned
+argument_entry (Code c) w end at on m = Err not_assigned
+argument_entry (Named s c) w end at on m = Err not_assigned
+
+-- the token, and the position behind it
+abbrev pub token_entry : Option (Token × ℕ) → ℕ → Source → Parts → Result After Throw
+token_entry (Some found) end here m =
+    argument_entry found.0.argument (word_numbered found.0.code.0) end here.position (record here { position = found.1 }) m
+token_entry None end here m = Err image_ended
+
+-- the token from which an image is read on
+unfoldable pub source_entry : List ℕ → Source → Parts → Result After Throw
+source_entry image here m = token_entry (token_from image here.position here.size) (length image) here m
+
+-- ---- what a call answered and left
+
+-- a token of the stream left its move, or threw and changed nothing
+abbrev pub Moves : Result Move Throw → List Cell → List Cell → Result (Option Source) Throw → Type 0
+Moves entry old new (Ok source) = entry ≡ Ok (record { stack = new; source = source })
+Moves entry old new (Err t) = (entry ≡ Err t) × (new ≡ old)
+
+-- a token left what comes after it, or threw and changed nothing
+abbrev pub GoesOn : Result After Throw → Parts → Parts → Result (Option Source) Throw → Type 0
+GoesOn entry old new (Ok source) = entry ≡ Ok (record { parts = new; source = source })
+GoesOn entry old new (Err t) = (entry ≡ Err t) × (new ≡ old)

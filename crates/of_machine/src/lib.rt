@@ -1,0 +1,15 @@
+//! The machine: it runs the tokens of an image, step by step, as the abstract machine does.
+#![tactic(auto)]
+
+mod answers;
+mod machine;
+mod run;
+#[cfg(test)]
+mod tests;
+mod text;
+mod tokens;
+mod words;
+
+pub use answers::{End, Progress, Refusal};
+pub use machine::{LONGEST_IMAGE, Machine};
+pub use run::run_script;

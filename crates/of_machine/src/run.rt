@@ -1,0 +1,35 @@
+ghost use Rattle.std.specs.Prelude.{◌≡◌, IfOk, IfErr, OnOk, None};
+ghost use Rattle.of_machine.specs.States.{image_refusal, Refuses};
+ghost use Rattle.of_machine.specs.Runs.{RunsTo};
+
+use crate::answers::{End, Progress, Refusal};
+use crate::machine::Machine;
+use std::alloc::Global;
+
+/// Runs an image for `/slot` on a new machine, for at most `limit` steps.
+///
+/// The machine that it gives back is the abstract machine after as many steps as were made. The
+/// end is Done where nothing runs any more, else LimitReached. Refused are ImageTooLong over
+/// 256 KiB, then BadStart where the header can't be read, and NoMemory, which gives no machine.
+#[tactic(auto, using(crate::proofs::RunLemmas::run_begins))]
+pub fn run_script(alloc: Global, image: &[u8], limit: u64) -> Result<(Machine, End), Refusal>
+    ensures accepted { OnOk result (image_refusal image.now None ≡ None) }
+    ensures ok { IfOk result (λ r. RunsTo image.now limit r.0 r.1) }
+    ensures err { IfErr result (λ e. Refuses (image_refusal image.now None) e) }
+{
+    let mut machine = Machine::new(alloc);
+    machine.load(image, "/slot")?;
+    for _ in 0..limit {
+        match machine.step() {
+            Ok(Progress::Done) => {}
+            Ok(Progress::Ended) => break,
+            Err(_) => return Err(Refusal::NoMemory),
+        }
+    }
+    let end = if machine.is_running() {
+        End::LimitReached
+    } else {
+        End::Done
+    };
+    Ok((machine, end))
+}
