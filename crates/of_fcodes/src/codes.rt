@@ -1,6 +1,7 @@
 ghost use Rattle.std.specs.Prelude.{◌≡◌, map};
 ghost use Rattle.std.specs.Option.{option_copied, option_map, option_map_or};
 ghost use Rattle.std.specs.Str.{str_eq_ignore_ascii_case};
+ghost use Rattle.of_fcodes.specs.Rows.{rows};
 ghost use Rattle.of_fcodes.specs.Lookup.{row_placed, row_numbered, word_numbered, operand_numbered, name_numbered, number_in, number_named, row_shown};
 
 use crate::operand::Operand;
@@ -27,12 +28,20 @@ fn row_at<'a>(rows: &'a [Row], places: &[u16], number: u16) -> Option<&'a Row>
     Some(&rows[place])
 }
 
+/// The rows of the table.
+#[inline]
+fn table() -> &'static [Row]
+    ensures { map row_shown result.now ≡ rows }
+{
+    &ROWS
+}
+
 /// The row of an FCode, if it has one, in constant time.
 #[inline]
 fn row_of(code: FCode) -> Option<&'static Row>
     ensures { option_map row_shown (option_copied result) ≡ row_numbered code.0 }
 {
-    row_at(&ROWS, &PLACES, code.0)
+    row_at(table(), &PLACES, code.0)
 }
 
 /// The word that an FCode names, if it is listed, in constant time.
@@ -91,7 +100,7 @@ fn number_in(mut rows: &[Row], name: &str) -> Option<u16>
 pub fn fcode_of(name: &str) -> Option<FCode>
     ensures { option_map (λ code. code.0) result ≡ number_named name.now }
 {
-    match number_in(&ROWS, name) {
+    match number_in(table(), name) {
         Some(number) => Some(FCode(number)),
         None => None,
     }
