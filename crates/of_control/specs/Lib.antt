@@ -1,1 +1,10 @@
 pub mod Openers
+pub mod Element
+pub mod Items
+pub mod Body
+pub mod Matching
+pub mod Targets
+pub mod Reading
+pub mod Calls
+pub mod Compiling
+pub mod Law

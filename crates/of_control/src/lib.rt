@@ -2,8 +2,13 @@
 #![tactic(auto)]
 
 mod control;
+mod laws;
 mod opener;
 mod search;
 
 pub use control::Control;
+pub use laws::{calls_follow_matching, closed_is_read, compiled_is_flat, items_are_flat};
 pub use opener::{Kind, Opener};
+
+#[cfg(test)]
+mod tests;

@@ -1,0 +1,26 @@
+//! What holds of all definitions, said of the calls of `Control` and of what is compiled from their answers.
+ghost use Rattle.of_control.specs.Law.{CallsFollowMatching, ClosedIsRead, CompiledIsFlat, ItemsAreFlat};
+
+/// A definition has at most one matching. The calls that its elements make answer exactly the places of the partners,
+/// and `None` from the first element on with which there is no matching, or one with more than `N` openers open at once.
+pub fn calls_follow_matching<A, const N: usize>()
+    ensures { CallsFollowMatching A N }
+{}
+
+/// `is_closed` holds exactly where all is matched and never more than `N` openers were open at once. A matching has
+/// a structured body exactly where it leaves nothing open.
+pub fn closed_is_read<A, const N: usize>()
+    ensures { ClosedIsRead A N }
+{}
+
+/// The items of a structured body, with the targets that its nesting gives, are the items of the definition's
+/// elements, with the places of the partners as targets.
+pub fn items_are_flat<A>()
+    ensures { ItemsAreFlat A }
+{}
+
+/// A definition that is compiled element by element, with the targets that are set at a resolve, a `loop`, an `endof`
+/// and an `endcase`, has exactly these items.
+pub fn compiled_is_flat<A, const N: usize>()
+    ensures { CompiledIsFlat A N }
+{}

@@ -1,0 +1,94 @@
+//! What was found, counted.
+use crate::calls::{Answered, called};
+use crate::element::{Element, LENGTH};
+use crate::matching::{Partners, matchings, open_at};
+use of_control::Control;
+use std::fmt;
+
+/// How many lists were tried, how many have a matching, how many of these leave nothing open, the same where never
+/// more than one is open, and for how many the calls answered otherwise.
+#[derive(Clone, Copy, Default)]
+pub struct Tally {
+    lists: u64,
+    matched: u64,
+    closed: u64,
+    matched_by_one: u64,
+    closed_by_one: u64,
+    differing: u64,
+}
+
+impl fmt::Display for Tally {
+    fn fmt<W: fmt::Write>(&self, f: &mut fmt::Formatter<W>) -> fmt::Result {
+        write!(
+            f,
+            "{} lists: {} have a matching, {} a closed one; {} and {} with one open at most; {} differ",
+            self.lists,
+            self.matched,
+            self.closed,
+            self.matched_by_one,
+            self.closed_by_one,
+            self.differing
+        )
+    }
+}
+
+impl Tally {
+    /// Tries the first `length` elements.
+    pub fn take(&mut self, elements: &[Element; LENGTH], length: usize) {
+        let list = elements.get(..length).unwrap_or(&elements[..]);
+        let found = matchings(list);
+        let matching = found.as_slice().first();
+        let bounded = matching.filter(|partners| is_bounded(list, partners, 1));
+        let is_closed = matching.is_some_and(|partners| leaves_nothing(list, partners));
+        let mut wide: Control<32> = Control::new();
+        let mut narrow: Control<1> = Control::new();
+        let agrees = found.len() < 2
+            && is_answered(list, matching, &called(&mut wide, list))
+            && is_answered(list, bounded, &called(&mut narrow, list));
+        count(&mut self.lists, true);
+        count(&mut self.matched, matching.is_some());
+        count(&mut self.closed, is_closed);
+        count(&mut self.matched_by_one, bounded.is_some());
+        count(&mut self.closed_by_one, is_closed && bounded.is_some());
+        count(&mut self.differing, !agrees);
+    }
+}
+
+fn count(counter: &mut u64, is_one: bool) {
+    if is_one {
+        *counter = counter.saturating_add(1);
+    }
+}
+
+/// Whether never more than `most` are open.
+fn is_bounded(list: &[Element], partners: &Partners, most: usize) -> bool {
+    (0..=list.len()).all(|at| open_at(list, partners, at).len() <= most)
+}
+
+/// Whether no opener is left open.
+fn leaves_nothing(list: &[Element], partners: &Partners) -> bool {
+    open_at(list, partners, list.len()).is_empty()
+}
+
+/// Whether the calls answered these partners, and were closed where nothing is left open. Without partners the last
+/// call answers nothing, and nothing is closed.
+fn is_answered(list: &[Element], matching: Option<&Partners>, called: &Answered) -> bool {
+    let Some(partners) = matching else {
+        return !called.is_closed
+            && list
+                .len()
+                .checked_sub(1)
+                .is_none_or(|last| called.answers.get(last) == Some(&None));
+    };
+    called.is_closed == leaves_nothing(list, partners)
+        && list
+            .iter()
+            .zip(partners.iter())
+            .zip(called.answers.iter())
+            .all(|((element, partner), answer)| *answer == due(*element, *partner))
+}
+
+/// What a call answers: the partner of a closer, and nothing at a roll.
+fn due(element: Element, partner: Option<usize>) -> Option<usize> {
+    if element.is_closer() { partner } else { None }
+}
