@@ -1,0 +1,6 @@
+use Rattle.std.specs.Io.KnownBytes.{Consumes}
+use Rattle.ofw.proofs.input.read_whole.Given as goal
+
+-- what was read is what the file has lost
+abbrev pub invariant-loop : goal.invariant-loop
+invariant-loop g l = Consumes (g.R.Read.remaining l.initial.file) (g.R.Read.remaining l.file) l.text.items

@@ -1,0 +1,58 @@
+ghost use Rattle.std.specs.Prelude.{◌≡◌};
+
+use crate::status::Status;
+use of_machine::Refusal;
+use thiserror::Error;
+
+/// Why the program can't do what it was asked.
+#[derive(Clone, Copy, Debug, PartialEq, Eq, Error)]
+pub enum Fault {
+    /// An argument isn't text.
+    #[error("an argument is not text")]
+    ArgumentNotText,
+    /// The image's file can't be opened.
+    #[error("the image can't be opened")]
+    Unopened,
+    /// A read of the image's file failed.
+    #[error("the image can't be read")]
+    Unread,
+    /// The image's file was given up.
+    #[error("the image doesn't end after 16777216 reads")]
+    Endless,
+    /// A byte of the image's file is no hexadecimal digit.
+    #[error("line {line}: {digit:?} is no hexadecimal digit")]
+    BadDigit {
+        /// The line, from 1.
+        line: usize,
+        /// What stands there, a byte as the character of that code.
+        digit: char,
+    },
+    /// The last byte of the image has one digit.
+    #[error("an odd number of hexadecimal digits")]
+    OddDigits,
+    /// The monitor refuses the image.
+    #[error(transparent)]
+    Refused(Refusal),
+    /// A write of the output failed.
+    #[error("the output can't be written")]
+    Unwritten,
+    /// A growth of memory was refused.
+    #[error("no memory")]
+    NoMemory,
+}
+
+impl Fault {
+    ghost use Rattle.ofw.specs.Runs.{status_of};
+
+    /// How the program ends with this fault.
+    pub fn status(self) -> Status
+        ensures { result ≡ status_of self }
+    {
+        match self {
+            Fault::ArgumentNotText => Status::Usage,
+            Fault::NoMemory => Status::NoMemory,
+            Fault::Refused(Refusal::NoMemory) => Status::NoMemory,
+            _ => Status::Fault,
+        }
+    }
+}

@@ -1,0 +1,51 @@
+//! `ofw`: an Open Firmware boot monitor on a simulated board.
+#![tactic(auto)]
+
+mod arguments;
+pub mod engine;
+mod fault;
+mod input;
+mod output;
+mod status;
+#[cfg(test)]
+mod tests;
+
+use arguments::{Request, parse};
+use fault::Fault;
+use output::report;
+use status::Status;
+use std::fs::File;
+use std::process::ExitCode;
+use std::{env, io};
+
+/// Opens the image and runs it.
+fn run(rt: &HostRuntime, request: Request) -> Status {
+    let Ok(mut image) = File::open(rt, request.image) else {
+        return report(Fault::Unopened, &mut rt.stderr());
+    };
+    engine::run(
+        rt.alloc(),
+        &mut image,
+        request.limit,
+        &mut rt.stdout(),
+        &mut rt.stderr(),
+    )
+}
+
+fn main(rt: HostRuntime) -> ExitCode {
+    let Ok(words) = env::args(&rt) else {
+        return ExitCode::from(report(Fault::ArgumentNotText, &mut rt.stderr()).code());
+    };
+    let words: Vec<String> = match words.collect(rt.alloc()) {
+        Ok(words) => words,
+        Err(_) => return ExitCode::from(report(Fault::NoMemory, &mut rt.stderr()).code()),
+    };
+    match parse(rt.alloc(), &words) {
+        Ok(Some(request)) => ExitCode::from(run(&rt, request).code()),
+        Ok(None) => ExitCode::from(Status::Usage.code()),
+        Err(error) => {
+            let _ = error.print(&rt);
+            ExitCode::from(error.exit_code() as u8)
+        }
+    }
+}

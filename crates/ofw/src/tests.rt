@@ -1,0 +1,227 @@
+use crate::arguments::parse;
+use crate::engine::run;
+use crate::fault::Fault;
+use crate::input::{MOST_READS, read_whole};
+use crate::status::Status;
+use std::alloc::Global;
+use std::io::{Error, ErrorKind, Read, Result, Write};
+use std::test::Fail;
+
+const FIVE: &[u8] = b"f108020a0000000da7a81e9d00";
+
+/// A reader that gives up to seven bytes a read, and fails at a read, counted from 0.
+#[derive(Drop)]
+struct Paper<'a> {
+    text: &'a [u8],
+    reads: u32,
+    fails_at: u32,
+}
+
+impl Read for Paper<'_> {
+    fn read(&mut self, buf: &mut [u8]) -> Result<usize> {
+        if self.reads == self.fails_at {
+            return Err(Error::from(ErrorKind::Other));
+        }
+        self.reads = self.reads.saturating_add(1);
+        let count = self.text.len().min(buf.len()).min(7);
+        buf[..count].copy_from_slice(&self.text[..count]);
+        self.text = &self.text[count..];
+        Ok(count)
+    }
+}
+
+/// A reader that never ends.
+#[derive(Drop)]
+struct Endless {
+    reads: u32,
+}
+
+impl Read for Endless {
+    fn read(&mut self, buf: &mut [u8]) -> Result<usize> {
+        if buf.is_empty() {
+            return Ok(0);
+        }
+        buf[0] = b'0';
+        self.reads = self.reads.saturating_add(1);
+        Ok(1)
+    }
+}
+
+/// A writer that takes a byte a write, and fails at a write, counted from 0.
+#[derive(Drop)]
+struct Screen {
+    text: Vec<u8>,
+    writes: u32,
+    fails_at: u32,
+}
+
+impl Write for Screen {
+    fn write(&mut self, buf: &[u8]) -> Result<usize> {
+        if self.writes == self.fails_at {
+            return Err(Error::from(ErrorKind::Other));
+        }
+        self.writes = self.writes.saturating_add(1);
+        if buf.is_empty() {
+            return Ok(0);
+        }
+        self.text.push(buf[0])?;
+        Ok(1)
+    }
+
+    fn flush(&mut self) -> Result<()> {
+        Ok(())
+    }
+}
+
+fn blank_screen(alloc: Global, fails_at: u32) -> Screen {
+    Screen {
+        text: Vec::new(alloc),
+        writes: 0,
+        fails_at,
+    }
+}
+
+/// A file, a limit, the read and the write that fail, and then what goes out, what is said and
+/// the status.
+type Case = (
+    &'static [u8],
+    u64,
+    u32,
+    u32,
+    &'static str,
+    &'static str,
+    Status,
+);
+
+const CASES: [Case; 10] = [
+    (FIVE, 9, 99, 99, "5 ", "", Status::Done),
+    (
+        b" f1 08 020a\n0000000d a7a81e9d00\n",
+        9,
+        99,
+        99,
+        "5 ",
+        "",
+        Status::Done,
+    ),
+    (FIVE, 4, 99, 99, "5 ", "", Status::LimitReached),
+    (FIVE, 0, 99, 99, "", "", Status::LimitReached),
+    (
+        b"ffffffffffffffff",
+        9,
+        99,
+        99,
+        "",
+        "ofw: bad start byte ff\n",
+        Status::Fault,
+    ),
+    (
+        b"f108",
+        9,
+        99,
+        99,
+        "",
+        "ofw: image shorter than its header\n",
+        Status::Fault,
+    ),
+    (
+        b"f1\n08 zz",
+        9,
+        99,
+        99,
+        "",
+        "ofw: line 2: 'z' is no hexadecimal digit\n",
+        Status::Fault,
+    ),
+    (
+        b"f10",
+        9,
+        99,
+        99,
+        "",
+        "ofw: an odd number of hexadecimal digits\n",
+        Status::Fault,
+    ),
+    (
+        FIVE,
+        9,
+        2,
+        99,
+        "",
+        "ofw: the image can't be read\n",
+        Status::Fault,
+    ),
+    (
+        FIVE,
+        9,
+        99,
+        1,
+        "5",
+        "ofw: the output can't be written\n",
+        Status::Fault,
+    ),
+];
+
+#[test]
+fn statuses(rt: HostRuntime) -> Result<()> {
+    for (text, limit, read, write, printed, said, status) in CASES {
+        let mut file = Paper {
+            text,
+            reads: 0,
+            fails_at: read,
+        };
+        let mut out = blank_screen(rt.alloc(), write);
+        let mut errors = blank_screen(rt.alloc(), 999);
+        assert_eq!(rt;
+            run(rt.alloc(), &mut file, limit, &mut out, &mut errors),
+            status
+        );
+        assert_eq!(rt; out.text.as_slice(), printed.as_bytes());
+        assert_eq!(rt; errors.text.as_slice(), said.as_bytes());
+    }
+    Ok(())
+}
+
+#[test]
+fn endless_file(rt: HostRuntime) {
+    let mut file = Endless { reads: 0 };
+    assert_eq!(rt;
+        read_whole(rt.alloc(), &mut file).err(),
+        Some(Fault::Endless)
+    );
+    assert_eq!(rt; file.reads, MOST_READS);
+}
+
+/// Words of a command line, and the image and the limit that they ask for.
+const LINES: [(&[&str], Option<(&str, u64)>); 7] = [
+    (&["ofw", "run", "a.hex"], Some(("a.hex", 1_000_000))),
+    (&["ofw", "run", "a.hex", "--limit", "0"], Some(("a.hex", 0))),
+    (
+        &["ofw", "run", "a.hex", "--limit", "1000000000"],
+        Some(("a.hex", 1_000_000_000)),
+    ),
+    (&["ofw", "run", "a.hex", "--limit", "1000000001"], None),
+    (&["ofw", "run", "a.hex", "--steps", "5"], None),
+    (&["ofw", "walk", "a.hex"], None),
+    (&["ofw"], None),
+];
+
+#[test]
+fn arguments(rt: HostRuntime) -> std::result::Result<(), Fail> {
+    for (words, wanted) in LINES {
+        let mut line = Vec::new(rt.alloc());
+        for word in words {
+            line.push(String::from_str(rt.alloc(), word)?)?;
+        }
+        let asked = match parse(rt.alloc(), &line) {
+            Ok(Some(request)) => Some((request.image, request.limit)),
+            _ => None,
+        };
+        assert_eq!(rt; asked.is_some(), wanted.is_some());
+        if let (Some(asked), Some(wanted)) = (asked, wanted) {
+            assert_eq!(rt; asked.0, wanted.0);
+            assert_eq!(rt; asked.1, wanted.1);
+        }
+    }
+    Ok(())
+}
