@@ -1,10 +1,10 @@
 -- The places of the table lead from each number to its row.
-use Rattle.std.proofs.Common.{◌≡◌, ◌≢◌, ℕ, zero, suc, ◌+◌, ◌<◌, ◌≤◌, Bool, true, false, List, [], ◌∷◌, ◌++◌, length, map, get_or, nat_lt, codes, refl, sym, Some, None, ap, ◌∙◌, arith}
+use Rattle.std.proofs.Common.{◌≡◌, ℕ, zero, suc, ◌+◌, ◌<◌, ◌≤◌, Bool, true, false, List, [], ◌∷◌, length, get_or, nat_lt, refl, sym, None, ap, ◌∙◌, arith}
 use Rattle.std.specs.Prelude.{slice_get, slice_index}
 use Rattle.std.proofs.lemmas.Bool.Decides.{nat_tests}
 use Rattle.of_fcodes.specs.declared.table.TheConstants.{PLACES}
-use Rattle.of_fcodes.specs.Rows.{Row, rows, first_rows, second_rows, third_rows, fourth_rows, fifth_rows, sixth_rows, seventh_rows}
-use Rattle.of_fcodes.specs.Lookup.{row_in, row_placed, number_in, row_numbered, number_named, FindsEachRow}
+use Rattle.of_fcodes.specs.Rows.{rows, first_rows, second_rows, third_rows, fourth_rows, fifth_rows, sixth_rows, seventh_rows}
+use Rattle.of_fcodes.specs.Lookup.{row_in, row_placed, row_numbered, number_named, FindsEachRow}
 use Rattle.of_fcodes.proofs.Agreement.{is_rising, places_from, place_found, row_in-above}
 
 -- the numbers of the FCodes rise

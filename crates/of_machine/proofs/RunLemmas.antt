@@ -1,5 +1,5 @@
 -- Runs of the abstract machine, turn by turn.
-use Rattle.std.proofs.Common.{◌≡◌, ℕ, ◌+◌, zero, suc, Bool, true, false, List, [], Option, Some, None, refl, ap, sym, ◌∙◌, add-one, ◌&&◌, nat_lt, ◌-◌, ◌^◌}
+use Rattle.std.proofs.Common.{◌≡◌, ℕ, ◌+◌, Bool, true, false, [], Option, Some, None, refl, ap, ◌∙◌, add-one, ◌&&◌, nat_lt, ◌-◌, ◌^◌}
 use Rattle.std.specs.Prelude.{is_some}
 use Rattle.of_machine.specs.States.{State, Running, stepped, running_step, can_step, Steps}
 use Rattle.of_machine.specs.declared.answers.Progress.TheVariants.{Done}

@@ -1,5 +1,5 @@
 -- Runs: a machine with what is still to be handed in to it, turn by turn.
-use Rattle.std.specs.Prelude.{◌≡◌, ℕ, zero, suc, ◌≤◌, List, [], is_some, Bool, true, false, if◌then◌else◌, Option, None}
+use Rattle.std.specs.Prelude.{◌≡◌, ℕ, zero, suc, ◌≤◌, List, [], is_some, true, false, if◌then◌else◌}
 use Rattle.of_machine.specs.declared.answers.End.{End}
 use Rattle.of_machine.specs.declared.answers.End.TheVariants.{Done, LimitReached}
 use Rattle.of_machine.specs.States.{State, idle, loaded, can_step, stepped}

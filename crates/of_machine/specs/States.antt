@@ -1,6 +1,5 @@
 -- The abstract machine: its states, and what each call makes of them.
-use Rattle.std.specs.Prelude.{◌≡◌, ◌⊎◌, ℕ, ◌+◌, ◌-◌, ◌^◌, Bool, true, false, List, [], ◌∷◌, ◌++◌, length, Option, Some, None, is_some, Result, Ok, Err, nat_lt, ◌&&◌, ◌==◌, if◌then◌else◌, codes}
-use Rattle.std.specs.Option.{option_map}
+use Rattle.std.specs.Prelude.{◌≡◌, ◌⊎◌, ℕ, ◌+◌, ◌-◌, ◌^◌, Bool, true, false, List, [], ◌++◌, length, Option, Some, None, is_some, Result, Ok, Err, nat_lt, ◌&&◌, if◌then◌else◌, codes}
 use Rattle.std.specs.Str.{bytes_eq}
 use Rattle.of_cells.specs.declared.cells.Cell.{Cell}
 use Rattle.of_stacks.specs.declared.throws.Throw.{Throw}
@@ -13,12 +12,21 @@ use Rattle.of_machine.specs.declared.answers.Refusal.{Refusal}
 use Rattle.of_machine.specs.declared.answers.Refusal.TheVariants.{Busy, ImageTooLong, BadStart, NoNode, NoMemory}
 use Rattle.of_machine.specs.Text.{fault_text}
 use Rattle.of_machine.specs.Words.{Parts, parts}
-use Rattle.of_machine.specs.Tokens.{After, source_entry}
+use Rattle.of_machine.specs.Tokens.{After, source_entry, source_if}
 
 -- an image that runs, and from where it is read on
 pub record Running : Type 0 where
   pub image : List ℕ
   pub source : Source
+
+-- the image that runs, if one goes on
+abbrev pub running_of : List ℕ → Option Source → Option Running
+running_of image None = None
+running_of image (Some s) = Some (record { image = image; source = s })
+
+-- the image of a machine, if it runs
+abbrev pub running_if : Bool → List ℕ → Source → Option Running
+running_if goes image s = running_of image (source_if goes s)
 
 -- a state of the machine
 pub record State : Type 0 where
@@ -34,10 +42,6 @@ pub record State : Type 0 where
 -- a machine as it is made
 abbrev pub idle : State
 idle = record { stack = []; console = []; running = None; steps = 0 }
-
-abbrev pub running_of : List ℕ → Option Source → Option Running
-running_of image None = None
-running_of image (Some s) = Some (record { image = image; source = s })
 
 -- ---- a step
 
@@ -77,10 +81,10 @@ abbrev pub Steps : Progress → State → State → Type 0
 Steps Done old new = (can_step old ≡ true) × (new ≡ stepped old)
 Steps Ended old new = (can_step old ≡ false) × (new ≡ old)
 
--- what a token's answer led to
-abbrev pub Settles : Result (Option Source) Throw → Parts → Parts → Option Source → Type 0
-Settles (Ok source) old new result = (new ≡ old) × (result ≡ source)
-Settles (Err t) old new result = (new ≡ (thrown t old).parts) × (result ≡ None)
+-- what a token's answer led to: the parts, and whether the image goes on
+abbrev pub Settles : Result Bool Throw → Parts → Parts → Bool → Type 0
+Settles (Ok goes) old new result = (new ≡ old) × (result ≡ goes)
+Settles (Err t) old new result = (new ≡ (thrown t old).parts) × (result ≡ false)
 
 -- ---- loading
 

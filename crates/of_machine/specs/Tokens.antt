@@ -1,5 +1,5 @@
 -- What a token of a running image does, or what it throws (IEEE 1275-1994, 5.2.2 and 5.3.3).
-use Rattle.std.specs.Prelude.{◌≡◌, ℕ, ◌+◌, ℤ, pos, negsuc, ◌+ℤ◌, List, [], ◌∷◌, length, Option, Some, None, Result, Ok, Err, nat_eq, nat_lt, nat_le, ◌&&◌, if◌then◌else◌}
+use Rattle.std.specs.Prelude.{◌≡◌, Bool, true, false, ℕ, ◌+◌, ℤ, pos, negsuc, ◌+ℤ◌, List, [], ◌∷◌, length, Option, Some, None, Result, Ok, Err, nat_eq, nat_lt, nat_le, ◌&&◌, if◌then◌else◌}
 use Rattle.of_cells.specs.declared.cells.Cell.{Cell}
 use Rattle.of_stacks.specs.declared.throws.Throw.{Throw}
 use Rattle.of_stacks.specs.Throws.{stack_underflow, not_assigned, image_ended}
@@ -116,12 +116,18 @@ source_entry image here m = token_entry (token_from image here.position here.siz
 
 -- ---- what a call answered and left
 
--- a token of the stream left its move, or threw and changed nothing
-abbrev pub Moves : Result Move Throw → List Cell → List Cell → Result (Option Source) Throw → Type 0
-Moves entry old new (Ok source) = entry ≡ Ok (record { stack = new; source = source })
-Moves entry old new (Err t) = (entry ≡ Err t) × (new ≡ old)
+-- where an image goes on, if it does
+abbrev pub source_if : Bool → Source → Option Source
+source_if true s = Some s
+source_if false s = None
 
--- a token left what comes after it, or threw and changed nothing
-abbrev pub GoesOn : Result After Throw → Parts → Parts → Result (Option Source) Throw → Type 0
-GoesOn entry old new (Ok source) = entry ≡ Ok (record { parts = new; source = source })
-GoesOn entry old new (Err t) = (entry ≡ Err t) × (new ≡ old)
+-- A token of the stream left its move, or threw and changed nothing on the stack.
+-- The answer is whether the image goes on, which it does from the source that was left.
+abbrev pub Moves : Result Move Throw → List Cell → List Cell → Source → Result Bool Throw → Type 0
+Moves entry old new source (Ok goes) = entry ≡ Ok (record { stack = new; source = source_if goes source })
+Moves entry old new source (Err t) = (entry ≡ Err t) × (new ≡ old)
+
+-- a token left what comes after it, or threw and changed nothing of the parts
+abbrev pub GoesOn : Result After Throw → Parts → Parts → Source → Result Bool Throw → Type 0
+GoesOn entry old new source (Ok goes) = entry ≡ Ok (record { parts = new; source = source_if goes source })
+GoesOn entry old new source (Err t) = (entry ≡ Err t) × (new ≡ old)

@@ -8,7 +8,7 @@ use crate::text::print_fault;
 use crate::tokens::{Source, run_token};
 use of_cells::Cell;
 use of_stacks::{DataStack, Throw};
-use of_stream::{HEADER_LENGTH, Stream, open};
+use of_stream::{HEADER_LENGTH, OffsetSize, Stream, open};
 use std::alloc::{AllocError, Global};
 use std::marker::Model;
 
@@ -29,57 +29,58 @@ pub struct Machine {
     stack: DataStack,
     console: Vec<u8>,
     image: Vec<u8>,
-    source: Option<Source>,
+    is_running: bool,
+    source: Source,
     steps: u64,
 }
 
 // Clauses see a state of the abstract machine. The bytes of an image that has ended can't be seen.
 impl Model for Machine {
-    ghost use Rattle.std.specs.Prelude.{option_map};
-    ghost use Rattle.of_machine.specs.States.{State, running_of};
+    ghost use Rattle.of_machine.specs.States.{State, running_if};
 
     ghost Value = { State };
 
-    ghost view = { λ m. record { stack = m.stack; console = m.console.items; running = running_of m.image.items m.source; steps = m.steps } };
+    ghost view = { λ m. record { stack = m.stack; console = m.console.items; running = running_if m.is_running m.image.items m.source; steps = m.steps } };
 }
 
-/// Reads a token of an image and runs it; a throw changes nothing.
+/// Reads a token of an image, runs it, and answers whether the image goes on; a throw changes
+/// nothing of the parts.
 #[inline]
 #[tactic(auto, unfolding(crate::specs::Tokens::source_entry))]
 fn take_token(
     image: &[u8],
-    here: Source,
+    source: &mut Source,
     stack: &mut DataStack,
     console: &mut Vec<u8>,
-) -> Result<Option<Source>, Throw>
+) -> Result<bool, Throw>
     requires { vec_len console.old + 34 ≤ vec_capacity console.old }
-    ensures entry { GoesOn (source_entry image.now here (parts stack.old console.old.items)) (parts stack.old console.old.items) (parts stack.new console.new.items) result }
+    ensures entry { GoesOn (source_entry image.now source.old (parts stack.old console.old.items)) (parts stack.old console.old.items) (parts stack.new console.new.items) source.new result }
     ensures capacity { vec_capacity console.new ≡ vec_capacity console.old }
     ensures short { vec_len console.new ≤ vec_len console.old + 34 }
 {
     let stream = Stream { image };
-    match stream.token_at(here.position, here.size) {
-        Ok((token, next)) => run_token(token, image.len(), here, next, stack, console),
+    let at = source.position;
+    match stream.token_at(at, source.size) {
+        Ok((token, next)) => {
+            source.position = next;
+            run_token(token, image.len(), at, source, stack, console)
+        }
         Err(_) => Err(Throw::IMAGE_ENDED),
     }
 }
 
 /// What a token's answer leads to: a throw empties the stack, prints its text and ends the image.
 #[inline]
-fn settle(
-    answer: Result<Option<Source>, Throw>,
-    stack: &mut DataStack,
-    console: &mut Vec<u8>,
-) -> Option<Source>
+fn settle(answer: Result<bool, Throw>, stack: &mut DataStack, console: &mut Vec<u8>) -> bool
     requires { vec_len console.old + 72 ≤ vec_capacity console.old }
     ensures { Settles answer (parts stack.old console.old.items) (parts stack.new console.new.items) result }
 {
     match answer {
-        Ok(source) => source,
+        Ok(goes_on) => goes_on,
         Err(fault) => {
             print_fault(console, fault);
             stack.clear();
-            None
+            false
         }
     }
 }
@@ -93,7 +94,11 @@ impl Machine {
             stack: DataStack::new(),
             console: Vec::new(alloc),
             image: Vec::new(alloc),
-            source: None,
+            is_running: false,
+            source: Source {
+                position: HEADER_LENGTH,
+                size: OffsetSize::Two,
+            },
             steps: 0,
         }
     }
@@ -123,7 +128,7 @@ impl Machine {
     pub fn is_running(&self) -> bool
         ensures { result ≡ is_some self.now.running }
     {
-        self.source.is_some()
+        self.is_running
     }
 
     /// Makes one step, if one can be made: reads a token of the running image and runs it
@@ -135,15 +140,17 @@ impl Machine {
         ensures ok { IfOk result (λ p. Steps p self.old self.new) }
         ensures err { OnErr result (self.new ≡ self.old) }
     {
-        let Some(here) = self.source else {
-            return Ok(Progress::Ended);
-        };
-        if self.steps == u64::MAX {
+        if !self.is_running || self.steps == u64::MAX {
             return Ok(Progress::Ended);
         }
         self.console.reserve(LONGEST_TEXT)?;
-        let answer = take_token(&self.image, here, &mut self.stack, &mut self.console);
-        self.source = settle(answer, &mut self.stack, &mut self.console);
+        let answer = take_token(
+            &self.image,
+            &mut self.source,
+            &mut self.stack,
+            &mut self.console,
+        );
+        self.is_running = settle(answer, &mut self.stack, &mut self.console);
         self.steps += 1;
         Ok(Progress::Done)
     }
@@ -158,7 +165,7 @@ impl Machine {
         ensures err { IfErr result (λ e. Refuses (load_refusal self.old image.now path.now) e) }
         ensures unchanged { OnErr result (self.new ≡ self.old) }
     {
-        if self.source.is_some() {
+        if self.is_running {
             return Err(Refusal::Busy);
         }
         if image.len() > LONGEST_IMAGE {
@@ -172,10 +179,11 @@ impl Machine {
             .to_vec(*self.image.allocator())
             .map_err(|_| Refusal::NoMemory)?;
         self.image = copy;
-        self.source = Some(Source {
+        self.source = Source {
             position: HEADER_LENGTH,
             size: stream.first_size(),
-        });
+        };
+        self.is_running = true;
         Ok(())
     }
 }

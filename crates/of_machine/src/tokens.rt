@@ -1,9 +1,9 @@
-ghost use Rattle.std.specs.Prelude.{◌≡◌, ◌+◌, ◌<◌, ◌≤◌, pos, ◌+ℤ◌, Ok, Err, Some, None, MatchResult, vec_len, vec_capacity};
+ghost use Rattle.std.specs.Prelude.{◌≡◌, ◌+◌, ◌<◌, ◌≤◌, pos, ◌+ℤ◌, Some, vec_len, vec_capacity};
 ghost use Rattle.of_stacks.specs.Stacks.{Becomes};
 ghost use Rattle.of_fcodes.specs.Lookup.{word_numbered};
-ghost use Rattle.of_stream.specs.Decoding.{token_shown};
+ghost use Rattle.of_stream.specs.Decoding.{argument_shown};
 ghost use Rattle.of_machine.specs.Words.{parts};
-ghost use Rattle.of_machine.specs.Tokens.{landing, branching, branch_entry, stream_entry, literal_entry, stream_of, offset_entry, code_entry, token_entry, Moves, GoesOn};
+ghost use Rattle.of_machine.specs.Tokens.{landing, going_to, branching, branch_entry, stream_entry, literal_entry, stream_of, offset_entry, code_entry, argument_entry, Moves, GoesOn};
 
 use crate::words::run_word;
 use of_cells::Cell;
@@ -38,11 +38,19 @@ fn land(end: usize, at: usize, by: i16) -> Result<usize, Throw>
 
 /// Goes on at a target.
 #[inline]
-fn go_to(size: OffsetSize, target: Result<usize, Throw>) -> Result<Option<Source>, Throw>
-    ensures { MatchResult target (λ t. result ≡ Ok (Some (record { position = t; size = size }))) (λ f. result ≡ Err f) }
+fn go_to(
+    target: Result<usize, Throw>,
+    source: &mut Source,
+    stack: &mut DataStack,
+) -> Result<bool, Throw>
+    ensures { Moves (going_to source.old.size stack.old target) stack.old stack.new source.new result }
 {
+    let _ = &stack;
     match target {
-        Ok(position) => Ok(Some(Source { position, size })),
+        Ok(position) => {
+            source.position = position;
+            Ok(true)
+        }
         Err(fault) => Err(fault),
     }
 }
@@ -50,24 +58,22 @@ fn go_to(size: OffsetSize, target: Result<usize, Throw>) -> Result<Option<Source
 /// ( x -- ) goes to the target where x is 0
 #[inline]
 fn go_if_zero(
-    on: Source,
     target: Result<usize, Throw>,
+    source: &mut Source,
     stack: &mut DataStack,
-) -> Result<Option<Source>, Throw>
-    ensures { Moves (branching stack.old on target) stack.old stack.new result }
+) -> Result<bool, Throw>
+    ensures { Moves (branching stack.old source.old target) stack.old stack.new source.new result }
 {
     let x = stack.peek()?;
     if x.0 != 0 {
         stack.drop_top(1);
-        return Ok(Some(on));
+        return Ok(true);
     }
     match target {
         Ok(position) => {
             stack.drop_top(1);
-            Ok(Some(Source {
-                position,
-                size: on.size,
-            }))
+            source.position = position;
+            Ok(true)
         }
         Err(fault) => Err(fault),
     }
@@ -77,58 +83,61 @@ fn go_if_zero(
 #[inline]
 fn run_branch(
     word: StreamWord,
-    on: Source,
     target: Result<usize, Throw>,
+    source: &mut Source,
     stack: &mut DataStack,
-) -> Result<Option<Source>, Throw>
-    ensures { Moves (branch_entry word on target stack.old) stack.old stack.new result }
+) -> Result<bool, Throw>
+    ensures { Moves (branch_entry word source.old target stack.old) stack.old stack.new source.new result }
 {
     match word {
-        StreamWord::Branch => go_to(on.size, target),
-        StreamWord::BranchIfZero => go_if_zero(on, target, stack),
+        StreamWord::Branch => go_to(target, source, stack),
+        StreamWord::BranchIfZero => go_if_zero(target, source, stack),
         _ => Err(Throw::NOT_ASSIGNED),
     }
 }
 
-/// Runs a word of the stream that has no operand; a throw changes nothing.
+/// Runs a word of the stream that has no operand, and answers whether the image goes on; a throw
+/// changes nothing.
 #[inline]
-fn run_stream(word: StreamWord, on: Source, stack: &mut DataStack) -> Result<Option<Source>, Throw>
-    ensures { Moves (stream_entry word on stack.old) stack.old stack.new result }
+fn run_stream(word: StreamWord, source: &mut Source, stack: &mut DataStack) -> Result<bool, Throw>
+    ensures { Moves (stream_entry word source.old stack.old) stack.old stack.new source.new result }
 {
+    let _ = &stack;
     match word {
-        StreamWord::End0 => Ok(None),
-        StreamWord::End1 => Ok(None),
-        StreamWord::Mark => Ok(Some(on)),
-        StreamWord::Resolve => Ok(Some(on)),
-        StreamWord::Offset16 => Ok(Some(Source {
-            position: on.position,
-            size: OffsetSize::Two,
-        })),
+        StreamWord::End0 => Ok(false),
+        StreamWord::End1 => Ok(false),
+        StreamWord::Mark => Ok(true),
+        StreamWord::Resolve => Ok(true),
+        StreamWord::Offset16 => {
+            source.size = OffsetSize::Two;
+            Ok(true)
+        }
         _ => Err(Throw::NOT_ASSIGNED),
     }
 }
 
 /// ( -- x )
 #[inline]
-fn run_literal(x: Cell, on: Source, stack: &mut DataStack) -> Result<Option<Source>, Throw>
-    ensures { Moves (literal_entry x on stack.old) stack.old stack.new result }
+fn run_literal(x: Cell, source: &mut Source, stack: &mut DataStack) -> Result<bool, Throw>
+    ensures { Moves (literal_entry x source.old stack.old) stack.old stack.new source.new result }
 {
+    let _ = &source;
     stack.try_push(x)?;
-    Ok(Some(on))
+    Ok(true)
 }
 
 /// Runs a token with an offset; a throw changes nothing.
 #[inline]
 fn run_offset(
     word: Option<Word>,
-    on: Source,
     target: Result<usize, Throw>,
+    source: &mut Source,
     stack: &mut DataStack,
-) -> Result<Option<Source>, Throw>
-    ensures { Moves (offset_entry (stream_of word) on target stack.old) stack.old stack.new result }
+) -> Result<bool, Throw>
+    ensures { Moves (offset_entry (stream_of word) source.old target stack.old) stack.old stack.new source.new result }
 {
     match word {
-        Some(Word::Stream(word)) => run_branch(word, on, target, stack),
+        Some(Word::Stream(word)) => run_branch(word, target, source, stack),
         _ => Err(Throw::NOT_ASSIGNED),
     }
 }
@@ -137,52 +146,48 @@ fn run_offset(
 #[inline]
 fn run_code(
     word: Option<Word>,
-    on: Source,
+    source: &mut Source,
     stack: &mut DataStack,
     console: &mut Vec<u8>,
-) -> Result<Option<Source>, Throw>
+) -> Result<bool, Throw>
     requires { vec_len console.old + 34 ≤ vec_capacity console.old }
-    ensures entry { GoesOn (code_entry word on (parts stack.old console.old.items)) (parts stack.old console.old.items) (parts stack.new console.new.items) result }
+    ensures entry { GoesOn (code_entry word source.old (parts stack.old console.old.items)) (parts stack.old console.old.items) (parts stack.new console.new.items) source.new result }
     ensures capacity { vec_capacity console.new ≡ vec_capacity console.old }
     ensures short { vec_len console.new ≤ vec_len console.old + 34 }
 {
     match word {
-        Some(Word::Stream(word)) => run_stream(word, on, stack),
+        Some(Word::Stream(word)) => run_stream(word, source, stack),
         Some(word) => {
             run_word(word, stack, console)?;
-            Ok(Some(on))
+            Ok(true)
         }
         None => Err(Throw::NOT_ASSIGNED),
     }
 }
 
-/// Runs a token that stands at `here` in an image of `end` bytes, with the next token at `next`;
-/// a throw changes nothing.
+/// Runs a token that stands at `at` in an image of `end` bytes, where `source` stands behind it
+/// already, and answers whether the image goes on; a throw changes nothing on the stack.
 #[inline]
 pub fn run_token(
     token: Token,
     end: usize,
-    here: Source,
-    next: usize,
+    at: usize,
+    source: &mut Source,
     stack: &mut DataStack,
     console: &mut Vec<u8>,
-) -> Result<Option<Source>, Throw>
-    requires within { here.position < end }
+) -> Result<bool, Throw>
+    requires within { at < end }
     requires room { vec_len console.old + 34 ≤ vec_capacity console.old }
-    ensures entry { GoesOn (token_entry (Some (token_shown token.entry, next)) end here (parts stack.old console.old.items)) (parts stack.old console.old.items) (parts stack.new console.new.items) result }
+    ensures entry { GoesOn (argument_entry (argument_shown token.entry.argument) (word_numbered token.entry.code.0) end at source.old (parts stack.old console.old.items)) (parts stack.old console.old.items) (parts stack.new console.new.items) source.new result }
     ensures capacity { vec_capacity console.new ≡ vec_capacity console.old }
     ensures short { vec_len console.new ≤ vec_len console.old + 34 }
 {
-    let on = Source {
-        position: next,
-        size: here.size,
-    };
     match token.argument {
-        Argument::Nothing => run_code(word_of(token.code), on, stack, console),
-        Argument::Literal(x) => run_literal(x, on, stack),
+        Argument::Nothing => run_code(word_of(token.code), source, stack, console),
+        Argument::Literal(x) => run_literal(x, source, stack),
         Argument::Offset(by) => {
-            let target = land(end, here.position, by);
-            run_offset(word_of(token.code), on, target, stack)
+            let target = land(end, at, by);
+            run_offset(word_of(token.code), target, source, stack)
         }
         Argument::String(_) => Err(Throw::NOT_ASSIGNED),
         Argument::FCode(_) => Err(Throw::NOT_ASSIGNED),

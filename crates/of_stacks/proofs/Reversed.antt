@@ -1,7 +1,9 @@
 -- The cells in the order of the array and in the order of the stack.
-use Rattle.std.proofs.Common.{◌≡◌, ℕ, ◌+◌, ◌-◌, ◌≤◌, ◌<◌, List, [], ◌∷◌, ◌++◌, length, take, drop, reverse, get_or, arith, refl, ap, sym, ◌∙◌}
-use Rattle.std.proofs.Math.Seq.{drop-append_seam}
-use Rattle.std.proofs.lemmas.List.{take-append-drop, length-drop, length-reverse, get_or-reverse, reverse-append}
+use Rattle.std.proofs.Common.{◌≡◌, ℕ, ◌+◌, ◌-◌, ◌≤◌, ◌<◌, List, [], ◌∷◌, ◌++◌, length, take, drop, set, reverse, get_or, arith, refl, ap, sym, ◌∙◌}
+use Rattle.std.specs.List.{refill}
+use Rattle.std.proofs.Math.Seq.{drop-append_seam, take-append_seam, take-length}
+use Rattle.std.proofs.lemmas.Grind.{take-set_at}
+use Rattle.std.proofs.lemmas.List.{take-append-drop, length-drop, length-reverse, get_or-reverse, reverse-append, length-set}
 
 -- dropping from the stack is taking fewer from the array
 pub reverse_take : {X : Type 0} (xs : List X) (n : ℕ) → n ≤ length xs → reverse (take (length xs - n) xs) ≡ drop n (reverse xs)
@@ -28,3 +30,23 @@ reverse_four xs d h =
     let third : get_or (reverse xs) 2 d ≡ get_or xs (length xs - 3) d = get_or-reverse xs 2 d (omega arith) ∙ ap (λ k. get_or xs k d) (omega arith) in
     let fourth : get_or (reverse xs) 3 d ≡ get_or xs (length xs - 4) d = get_or-reverse xs 3 d (omega arith) ∙ ap (λ k. get_or xs k d) (omega arith) in
     rw (first, second, third, fourth) at (four_of (reverse xs) d long)
+
+-- a write at the end of the array is a write of the top
+pub reverse_set : {X : Type 0} (xs : List X) (x : X) → 0 < length xs → reverse (set xs (length xs - 1) x) ≡ x ∷ drop 1 (reverse xs)
+reverse_set xs x h =
+    let last : length xs ≡ length xs - 1 + 1 = omega arith in
+    let within : length xs - 1 < length xs = omega arith in
+    let whole : set xs (length xs - 1) x ≡ take (length xs - 1) xs ++ x ∷ [] =
+    sym (take-length (set xs (length xs - 1) x)) ∙ ap (λ n. take n (set xs (length xs - 1) x)) (length-set xs (length xs - 1) x)
+    ∙ take-set_at xs (length xs - 1) (length xs) x last within in
+    ap reverse whole ∙ reverse-append (take (length xs - 1) xs) (x ∷ []) ∙ ap (λ ys. x ∷ ys) (reverse_take xs 1 h)
+
+-- cells of the same number leave nothing to fill up
+refill_same : {X : Type 0} (xs ws : List X) → length ws ≡ length xs → refill (length xs) xs ws ≡ ws
+refill_same xs ws e = ap (λ n. take n (ws ++ drop (length ws) xs)) (sym e) ∙ take-append_seam ws (drop (length ws) xs)
+
+-- the same, as the array is given back
+pub reverse_refill : {X : Type 0} (xs ys : List X) (n : ℕ) (x : X) → ys ≡ xs → n ≡ length xs → 0 < length xs
+    → reverse (refill (length xs) xs (set ys (n - 1) x)) ≡ x ∷ drop 1 (reverse xs)
+reverse_refill xs ys n x e f h =
+    rw (e, f) (ap reverse (refill_same xs (set xs (length xs - 1) x) (length-set xs (length xs - 1) x)) ∙ reverse_set xs x h)

@@ -177,17 +177,17 @@ impl DataStack {
     }
 
     /// Puts a cell in the place of the top one, which must be there.
-    #[inline]
+    #[inline(always)]
     pub fn replace_top(&mut self, x: Cell)
         requires { 1 ≤ length self.old }
         ensures { self.new ≡ x ∷ drop 1 self.old }
     {
-        let _ = self.cells.pop();
-        self.push(x);
+        let last = self.cells.len() - 1;
+        self.cells[last] = x;
     }
 
     /// Puts a cell in the place of the two top ones, which must be there.
-    #[inline]
+    #[inline(always)]
     pub fn replace_two(&mut self, x: Cell)
         requires { 2 ≤ length self.old }
         ensures cells { self.new ≡ x ∷ drop 2 self.old }

@@ -1,7 +1,8 @@
 use crate::arguments::parse;
 use crate::engine::run;
 use crate::fault::Fault;
-use crate::input::{MOST_READS, read_whole};
+use crate::input::MOST_READS;
+use crate::output::report;
 use crate::status::Status;
 use std::alloc::Global;
 use std::io::{Error, ErrorKind, Read, Result, Write};
@@ -185,11 +186,30 @@ fn statuses(rt: HostRuntime) -> Result<()> {
 #[test]
 fn endless_file(rt: HostRuntime) {
     let mut file = Endless { reads: 0 };
-    assert_eq!(rt;
-        read_whole(rt.alloc(), &mut file).err(),
-        Some(Fault::Endless)
-    );
+    let mut out = blank_screen(rt.alloc(), 0);
+    let mut errors = blank_screen(rt.alloc(), 999);
+    let status = run(rt.alloc(), &mut file, 9, &mut out, &mut errors);
+    assert_eq!(rt; status, Status::Fault);
     assert_eq!(rt; file.reads, MOST_READS);
+    let said = b"ofw: the image doesn't end after 16777216 reads\n";
+    assert_eq!(rt; errors.text.as_slice(), said.as_slice());
+}
+
+#[test]
+fn codes(rt: HostRuntime) {
+    let mut errors = blank_screen(rt.alloc(), 999);
+    assert_eq!(rt; report(Fault::NoMemory, &mut errors), Status::NoMemory);
+    assert_eq!(rt; errors.text.as_slice(), b"ofw: no memory\n".as_slice());
+    assert_eq!(rt; report(Fault::ArgumentNotText, &mut errors).code(), 2);
+    for (status, code) in [
+        (Status::Done, 0),
+        (Status::Fault, 1),
+        (Status::Usage, 2),
+        (Status::LimitReached, 3),
+        (Status::NoMemory, 5),
+    ] {
+        assert_eq!(rt; status.code(), code);
+    }
 }
 
 /// Words of a command line, and the image and the limit that they ask for.

@@ -1,5 +1,4 @@
-use Rattle.std.proofs.Common.{◌≡◌, ℕ, ◌<◌, ◌≤◌, [], ◌∷◌, ◌++◌, ap, ◌∙◌, sym, append_assoc, arith}
-use Rattle.of_machine.specs.Text.{digit_byte, digits}
+use Rattle.std.proofs.Common.{◌<◌, ◌≤◌, ◌++◌, ap, append_assoc, arith}
 use Rattle.of_machine.proofs.Digits.{digits_more}
 use Rattle.of_machine.proofs.text.+print_digits.Goals as goal
 
