@@ -1,0 +1,21 @@
+//! Compiled code: definitions as items in code cells.
+#![tactic(auto)]
+
+mod fault;
+mod item;
+mod laws;
+mod list_code;
+mod store;
+#[cfg(test)]
+mod tests;
+mod under_condition;
+
+pub use fault::CodeFault;
+pub use item::{Item, Place};
+pub use laws::{
+    abandoned_items_are_forgotten, appended_items_are_found, finished_words_are_bound,
+    targets_change_alone,
+};
+pub use list_code::ListCode;
+pub use store::{CALLS_IN_STEP, CAPACITY, CodeStore, Start};
+pub use under_condition::literal_under_condition;

@@ -1,0 +1,57 @@
+-- The fault of a read or a write, case by case.
+use Rattle.std.proofs.Common.{◌≡◌, ◌≢◌, ℕ, ◌%◌, ◌<◌, true, false, eqb, Option, Some, None, Ok, Err, refl, arith}
+use Rattle.std.proofs.lemmas.Grind.{common_steps}
+use Rattle.of_memory.specs.declared.fault.MemFault.{MemFault}
+use Rattle.of_memory.specs.declared.fault.MemFault.TheVariants.{Address, Alignment, ReadOnly}
+use Rattle.of_memory.specs.declared.width.Width.{Width}
+use Rattle.of_memory.specs.Width.{bytes_in}
+use Rattle.of_memory.specs.Regions.{region_of, may_write}
+use Rattle.of_memory.specs.DataSpace.{DataSpace}
+use Rattle.of_memory.specs.Access.{are_readable, read_fault, write_fault, unless}
+use Rattle.of_memory.proofs.Readable.{range_placed}
+
+some_not_none : (n : ℕ) → 0 < n → eqb n 0 ≡ false
+some_not_none n l = grind (arith, common_steps)
+
+differs : (n : ℕ) → n ≢ 0 → eqb n 0 ≡ false
+differs n l = grind (arith, common_steps)
+
+pub address_fault : (m : DataSpace) (a n : ℕ) (w : Width) → 0 < n → are_readable m a n ≡ false → read_fault m a n w ≡ Some Address
+unfolding read_fault
+address_fault m a n w some test = rw (some_not_none n some, test) refl
+
+pub alignment_fault : (m : DataSpace) (a n : ℕ) (w : Width) → 0 < n → are_readable m a n ≡ true → a % bytes_in w ≢ 0 → read_fault m a n w ≡ Some Alignment
+unfolding read_fault
+alignment_fault m a n w some test odd = rw (some_not_none n some, test, differs (a % bytes_in w) odd) refl
+
+pub no_fault : (m : DataSpace) (a n : ℕ) (w : Width) → 0 < n → are_readable m a n ≡ true → a % bytes_in w ≡ 0 → read_fault m a n w ≡ None
+unfolding read_fault
+no_fault m a n w some test even = rw (some_not_none n some, test, even) refl
+
+-- the fault that an answer shows
+unless_err : {A : Type 0} (f : Option MemFault) (x : A) (e : MemFault) → unless f x ≡ Err e → f ≡ Some e
+unless_err None x e h = cc
+unless_err (Some f) x e h = cc
+
+unless_ok : {A : Type 0} (f : Option MemFault) (x y : A) → unless f x ≡ Ok y → f ≡ None
+unless_ok None x y h = refl
+unless_ok (Some f) x y h = cc
+
+pub write_fault_of_read : (m : DataSpace) (a n : ℕ) (w : Width) (x : ℕ) (e : MemFault) → unless (read_fault m a n w) x ≡ Err e → write_fault m a n w ≡ Some e
+unfolding write_fault
+write_fault_of_read m a n w x e h = let f = unless_err (read_fault m a n w) x e h in rw f refl
+
+pub read_only_fault : (m : DataSpace) (a n : ℕ) (w : Width) (x y : ℕ) → 0 < n → unless (read_fault m a n w) x ≡ Ok y → may_write (region_of a) ≡ false → write_fault m a n w ≡ Some ReadOnly
+unfolding write_fault
+read_only_fault m a n w x y some h test =
+    let f = unless_ok (read_fault m a n w) x y h in rw (f, some_not_none n some, test) refl
+
+pub no_write_fault : (m : DataSpace) (a n : ℕ) (w : Width) (x y : ℕ) → 0 < n → unless (read_fault m a n w) x ≡ Ok y → may_write (region_of a) ≡ true → write_fault m a n w ≡ None
+unfolding write_fault
+no_write_fault m a n w x y some h test =
+    let f = unless_ok (read_fault m a n w) x y h in rw (f, some_not_none n some, test) refl
+
+-- what a read and a write need
+pub ruleset read_faults = (address_fault, alignment_fault, no_fault, range_placed)
+
+pub ruleset write_faults = (write_fault_of_read, read_only_fault, no_write_fault)

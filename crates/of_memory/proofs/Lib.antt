@@ -1,0 +1,10 @@
+pub mod AllFrom
+pub mod Laid
+pub mod Reach
+pub mod Free
+pub mod Gap
+pub mod Readable
+pub mod Faults
+pub mod Nothing
+pub mod Sound
+pub mod Bytes

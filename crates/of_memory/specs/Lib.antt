@@ -1,0 +1,10 @@
+pub mod Width
+pub mod Regions
+pub mod Blocks
+pub mod BlockSearch
+pub mod DataSpace
+pub mod Access
+pub mod Outcomes
+pub mod Growth
+pub mod BlockCalls
+pub mod Laws

@@ -1,0 +1,65 @@
+ghost use Rattle.std.specs.Prelude.{◌≡◌, ◌<◌, [], ◌∷◌, length, MatchOption};
+ghost use Rattle.of_memory.specs.DataSpace.{free_after};
+
+use arrayvec::ArrayVec;
+use std::marker::Model;
+
+/// How many images run at once at most: the return stack has an item for each.
+pub(crate) const LIMIT: usize = 256;
+
+/// Where each image that runs ends.
+#[derive(Drop)]
+pub(crate) struct ImageEnds {
+    ends: ArrayVec<u32, LIMIT>,
+}
+
+// Clauses see the ends, the latest first.
+impl Model for ImageEnds {
+    ghost use Rattle.std.specs.Prelude.{List, ℕ, reverse, length, ◌≤◌};
+
+    ghost Value = { List ℕ };
+
+    ghost view = { λ s. reverse s.ends.items };
+
+    ghost invariant = { λ s. length s.ends.items ≤ 256 };
+}
+
+impl ImageEnds {
+    pub(crate) fn new() -> ImageEnds
+        ensures { result ≡ [] }
+    {
+        ImageEnds {
+            ends: ArrayVec::new(),
+        }
+    }
+
+    /// How many images run.
+    pub(crate) fn count(&self) -> usize
+        ensures { result ≡ length self.now }
+    {
+        self.ends.len()
+    }
+
+    /// Where the image region is free.
+    pub(crate) fn free(&self) -> u32
+        ensures { result ≡ free_after self.now }
+    {
+        match self.ends.last() {
+            Some(end) => *end,
+            None => 0x60_0000,
+        }
+    }
+
+    pub(crate) fn push(&mut self, end: u32)
+        requires { length self.old < 256 }
+        ensures { self.new ≡ end ∷ self.old }
+    {
+        self.ends.push(end);
+    }
+
+    pub(crate) fn pop(&mut self) -> Option<u32>
+        ensures { MatchOption result ((self.old ≡ []) × (self.new ≡ [])) (λ end. self.old ≡ end ∷ self.new) }
+    {
+        self.ends.pop()
+    }
+}

@@ -1,0 +1,138 @@
+ghost use Rattle.std.specs.Prelude.{◌≡◌, ◌+◌, ◌<◌, ◌≤◌, length, take, drop, replicate, IfOk};
+ghost use Rattle.byteorder.specs.Endian.{big_bytes};
+ghost use Rattle.of_memory.specs.DataSpace.{fresh, zeros_but, with_bytes};
+
+use crate::blocks::Block;
+use crate::images::ImageEnds;
+use crate::regions::place;
+use byteorder::{BigEndian, ByteOrder};
+use std::alloc::{AllocError, Global};
+use std::marker::Model;
+
+mod access;
+mod checks;
+mod data;
+mod heap;
+mod image;
+mod instances;
+mod properties;
+mod ranges;
+
+/// How many bytes are kept: 0x40000 for each of six regions.
+const BYTES: usize = 1572864;
+
+/// How many blocks find room in the instance region.
+const MARKS: usize = 16384;
+
+/// The data space: the bytes of the data, property, instance, heap, scratch and image regions, and
+/// what is taken of each.
+///
+/// Only `new` and `heap_take` take memory.
+#[derive(Drop)]
+pub struct Memory {
+    bytes: Vec<u8>,
+    here: u32,
+    properties_end: u32,
+    images: ImageEnds,
+    heap: Vec<Block>,
+    instances: Vec<Block>,
+}
+
+impl Model for Memory {
+    ghost use Rattle.std.specs.Prelude.{◌≤◌, vec_capacity};
+    ghost use Rattle.of_memory.specs.DataSpace.{DataSpace, IsSound};
+
+    ghost Value = { DataSpace };
+
+    ghost view = { λ m. record {
+      bytes = m.bytes.items;
+      here = m.here;
+      properties_end = m.properties_end;
+      images = m.images;
+      heap = m.heap.items;
+      instances = m.instances.items;
+    } };
+
+    ghost invariant = { λ m. IsSound (record {
+      bytes = m.bytes.items;
+      here = m.here;
+      properties_end = m.properties_end;
+      images = m.images;
+      heap = m.heap.items;
+      instances = m.instances.items;
+    }) × (16384 ≤ vec_capacity m.instances) };
+}
+
+/// So many zeros, but for one byte.
+#[tactic(auto, unfolding(crate::specs::DataSpace::zeros_but))]
+fn zeros_but(alloc: Global, count: usize, at: usize, value: u8) -> Result<Vec<u8>, AllocError>
+    requires { at < count }
+    ensures items { IfOk result (λ v. v.items ≡ zeros_but count at value) }
+    ensures len { IfOk result (λ v. length v.items ≡ count) }
+{
+    let mut bytes = vec![in alloc; 0u8; count]?;
+    bytes[at] = value;
+    Ok(bytes)
+}
+
+impl Memory {
+    /// The data space at first: all bytes are 0, but the cell `base` at 0x500000 is 16.
+    ///
+    /// This takes all the memory that is ever needed, but for the list of the heap's blocks.
+    #[tactic(auto, unfolding(crate::specs::DataSpace::fresh))]
+    pub fn new(alloc: Global) -> Result<Memory, AllocError>
+        ensures { IfOk result (λ m. m ≡ fresh) }
+    {
+        let bytes = zeros_but(alloc, BYTES, place(0x50_0003), 16)?;
+        let instances = Vec::with_capacity(alloc, MARKS)?;
+        Ok(Memory {
+            bytes,
+            here: 0x10_0000,
+            properties_end: 0x20_0010,
+            images: ImageEnds::new(),
+            heap: Vec::new(alloc),
+            instances,
+        })
+    }
+
+    /// Overwrites the bytes from a place on.
+    #[inline]
+    fn put(&mut self, at: usize, new: &[u8])
+        requires { at + length new.now ≤ 1572864 }
+        ensures { self.new ≡ with_bytes self.old at new.now }
+    {
+        let end = at + new.len();
+        self.bytes[at..end].copy_from_slice(new);
+    }
+
+    /// Overwrites four bytes from a place on with a number, the high byte first.
+    #[inline]
+    fn put_cell(&mut self, at: usize, value: u32)
+        requires { at + 4 ≤ 1572864 }
+        ensures { self.new ≡ with_bytes self.old at (big_bytes 4 value) }
+    {
+        let mut new = [0; 4];
+        BigEndian::write_u32(&mut new, value);
+        self.put(at, &new);
+    }
+
+    /// Sets `len` bytes from a place on to one value.
+    fn set_all(&mut self, at: usize, len: usize, value: u8)
+        requires { at + len ≤ 1572864 }
+        ensures { self.new ≡ with_bytes self.old at (replicate len value) }
+    {
+        self.bytes[at..at + len].fill(value);
+    }
+
+    /// Copies `len` bytes from one place to another, as if by way of a third.
+    fn shift(&mut self, from: usize, to: usize, len: usize)
+        requires from { from + len ≤ 1572864 }
+        requires to { to + len ≤ 1572864 }
+        ensures { self.new ≡ with_bytes self.old to (take len (drop from self.old.bytes)) }
+    {
+        self.bytes.as_mut_slice().copy_within(from..from + len, to);
+    }
+}
+
+#[cfg(test)]
+mod tests;

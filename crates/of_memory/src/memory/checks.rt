@@ -1,0 +1,121 @@
+ghost use Rattle.std.specs.Prelude.{◌≡◌, ◌+◌, ◌<◌, ◌≤◌, Some, None, IfOk, MatchResult};
+ghost use Rattle.of_memory.specs.Regions.{place_of};
+ghost use Rattle.of_memory.specs.Access.{are_readable, read_fault, write_fault, unless, end_of};
+ghost use Rattle.of_memory.specs.Outcomes.{TakesNoMemory};
+
+use super::Memory;
+use crate::blocks::{block_end, covers};
+use crate::fault::MemFault;
+use crate::regions::{Region, SPAN, may_write, place};
+use crate::width::Width;
+use of_cells::Cell;
+
+impl Memory {
+    /// Whether each of `len` bytes can be read.
+    #[inline]
+    fn is_readable(&self, addr: u32, len: u32) -> bool
+        requires { 0 < len }
+        ensures { result ≡ are_readable self.now addr len }
+    {
+        let Some(region) = Region::of(addr) else {
+            return false;
+        };
+        let within = addr % SPAN;
+        let size = region.size();
+        if within >= size || len > size - within {
+            return false;
+        }
+        if region.is_heap() {
+            covers(&self.heap, addr, len)
+        } else {
+            true
+        }
+    }
+
+    /// Where the bytes of a read stand.
+    #[inline]
+    #[tactic(auto, using(crate::proofs::Faults::read_faults))]
+    pub(super) fn to_read(&self, addr: u32, len: u32, width: Width) -> Result<usize, MemFault>
+        requires { 0 < len }
+        ensures value { result ≡ unless (read_fault self.now addr len width) (place_of addr) }
+        ensures within { IfOk result (λ at. at + len ≤ 1572864) }
+        ensures memory { TakesNoMemory result }
+    {
+        if !self.is_readable(addr, len) {
+            return Err(MemFault::Address);
+        }
+        if addr % width.bytes() != 0 {
+            return Err(MemFault::Alignment);
+        }
+        Ok(place(addr))
+    }
+
+    /// Where the bytes of a write stand.
+    #[inline]
+    #[tactic(auto, using(crate::proofs::Faults::write_faults))]
+    pub(super) fn to_write(&self, addr: u32, len: u32, width: Width) -> Result<usize, MemFault>
+        requires { 0 < len }
+        ensures value { result ≡ unless (write_fault self.now addr len width) (place_of addr) }
+        ensures within { IfOk result (λ at. at + len ≤ 1572864) }
+        ensures memory { TakesNoMemory result }
+    {
+        let at = self.to_read(addr, len, width)?;
+        if !may_write(addr) {
+            return Err(MemFault::ReadOnly);
+        }
+        Ok(at)
+    }
+
+    /// Whether a read of `len` bytes at a multiple of `width` would succeed, without making it.
+    ///
+    /// No bytes can always be read. Else the first of these counts: Address, if a byte can't be
+    /// read; Alignment, if the address is no multiple of the width.
+    #[tactic(auto, using(crate::proofs::Nothing::no_read_fault))]
+    pub fn check_read(&self, addr: Cell, len: Cell, width: Width) -> Result<(), MemFault>
+        ensures value { result ≡ unless (read_fault self.now addr.0 len.0 width) tt }
+        ensures memory { TakesNoMemory result }
+    {
+        if len.0 == 0 {
+            return Ok(());
+        }
+        let _ = self.to_read(addr.0, len.0, width)?;
+        Ok(())
+    }
+
+    /// Whether a write of `len` bytes at a multiple of `width` would succeed, without making it.
+    ///
+    /// No bytes can always be written. Else the first of these counts: Address, if a byte can't be
+    /// read; Alignment, if the address is no multiple of the width; ReadOnly, if programs may only
+    /// read the region.
+    #[tactic(auto, using(crate::proofs::Nothing::no_write_fault))]
+    pub fn check_write(&self, addr: Cell, len: Cell, width: Width) -> Result<(), MemFault>
+        ensures value { result ≡ unless (write_fault self.now addr.0 len.0 width) tt }
+        ensures memory { TakesNoMemory result }
+    {
+        if len.0 == 0 {
+            return Ok(());
+        }
+        let _ = self.to_write(addr.0, len.0, width)?;
+        Ok(())
+    }
+
+    /// Where the region, or in the heap the live block, ends that holds the address.
+    ///
+    /// Address, if the byte there can't be read.
+    pub fn end_of(&self, addr: Cell) -> Result<Cell, MemFault>
+        ensures value { result ≡ end_of self.now addr.0 }
+        ensures memory { TakesNoMemory result }
+    {
+        let Some(region) = Region::of(addr.0) else {
+            return Err(MemFault::Address);
+        };
+        if region.is_heap() {
+            return block_end(&self.heap, addr.0);
+        }
+        let within = addr.0 % SPAN;
+        if within >= region.size() {
+            return Err(MemFault::Address);
+        }
+        Ok(Cell(addr.0 - within + region.size()))
+    }
+}

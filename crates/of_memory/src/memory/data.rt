@@ -1,0 +1,63 @@
+ghost use Rattle.std.specs.Prelude.{◌≡◌, ◌≤◌};
+ghost use Rattle.of_memory.specs.Outcomes.{Answers, Becomes, TakesNoMemory};
+ghost use Rattle.of_memory.specs.DataSpace.{IsSound};
+ghost use Rattle.of_memory.specs.Growth.{allotted, appended, moved};
+
+use super::Memory;
+use crate::fault::MemFault;
+use crate::regions::place;
+use of_cells::Cell;
+
+/// Where an address comes by a signed cell, at least 0.
+fn moved_by(addr: u32, n: Cell) -> u32
+    requires { addr ≤ 0x14_0000 }
+    ensures { result ≡ moved addr n.0 }
+{
+    if n.0 < 1 << 31 {
+        addr + n.0
+    } else {
+        addr.saturating_sub(u32::MAX - n.0 + 1)
+    }
+}
+
+impl Memory {
+    /// The next free address of the data region.
+    #[inline]
+    pub fn here(&self) -> Cell
+        ensures value { result.0 ≡ self.now.here }
+        ensures sound { IsSound self.now }
+    {
+        Cell(self.here)
+    }
+
+    /// Moves `here` by `n` bytes, up, or down if `n` is negative.
+    ///
+    /// Full, if it would leave the data region.
+    pub fn allot(&mut self, n: Cell) -> Result<(), MemFault>
+        ensures value { Becomes result self.old self.new (allotted self.old n.0) }
+        ensures memory { TakesNoMemory result }
+    {
+        let here = moved_by(self.here, n);
+        if here < 0x10_0000 || here > 0x14_0000 {
+            return Err(MemFault::Full);
+        }
+        self.here = here;
+        Ok(())
+    }
+
+    /// Stores bytes at `here`, at any alignment, allots as many and answers their address.
+    ///
+    /// Full, if they would leave the data region.
+    pub fn append(&mut self, new: &[u8]) -> Result<Cell, MemFault>
+        ensures value { Answers result self.old self.new (appended self.old new.now) }
+        ensures memory { TakesNoMemory result }
+    {
+        let at = self.here;
+        if new.len() > (0x14_0000 - at) as usize {
+            return Err(MemFault::Full);
+        }
+        self.here = at + new.len() as u32;
+        self.put(place(at), new);
+        Ok(Cell(at))
+    }
+}

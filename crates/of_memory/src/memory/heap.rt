@@ -1,0 +1,50 @@
+ghost use Rattle.std.specs.Prelude.{◌≡◌, IfOk};
+ghost use Rattle.of_memory.specs.Blocks.{IsLeastFree, rounded};
+ghost use Rattle.of_memory.specs.BlockCalls.{heap_taken, heap_given};
+ghost use Rattle.of_memory.specs.Outcomes.{Takes, Becomes, TakesNoMemory};
+
+use super::Memory;
+use crate::blocks::{block_index, block_size, take_block};
+use crate::fault::MemFault;
+use crate::regions::place;
+use of_cells::Cell;
+
+impl Memory {
+    /// Takes a block of the heap for `len` bytes, zeroes it and answers its address, the least
+    /// multiple of 8 where it meets no live block. Its size is `len` up to a multiple of 8, at
+    /// least 8.
+    ///
+    /// Full, if there is no such address; NoMemory, if the list of blocks can't grow.
+    #[tactic(auto, using(crate::proofs::Free::too_long))]
+    pub fn heap_take(&mut self, len: Cell) -> Result<Cell, MemFault>
+        ensures taken { Takes result self.old self.new (heap_taken self.old len.0) }
+        ensures least { let size = rounded len.0 in
+            IfOk result (λ a. IsLeastFree 0x40_0000 0x44_0000 self.old.heap size a.0) }
+    {
+        if len.0 > 0x4_0000 {
+            return Err(MemFault::Full);
+        }
+        let size = block_size(len.0);
+        let at = take_block(&mut self.heap, 0x40_0000, 0x44_0000, size)?;
+        self.set_all(place(at), size as usize, 0);
+        Ok(Cell(at))
+    }
+
+    /// Gives back the live block of the heap at the address.
+    ///
+    /// BadBlock, if no live block stands there, or `len` doesn't round to its size.
+    pub fn heap_give(&mut self, addr: Cell, len: Cell) -> Result<(), MemFault>
+        ensures given { Becomes result self.old self.new (heap_given self.old addr.0 len.0) }
+        ensures memory { TakesNoMemory result }
+    {
+        let _ = &self.heap;
+        if len.0 > 0x4_0000 {
+            return Err(MemFault::BadBlock);
+        }
+        let Some(i) = block_index(&self.heap, addr.0, block_size(len.0)) else {
+            return Err(MemFault::BadBlock);
+        };
+        self.heap.remove(i);
+        Ok(())
+    }
+}
