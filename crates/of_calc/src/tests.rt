@@ -4,8 +4,8 @@ use of_fcodes::ArithmeticWord::{self, *};
 use of_stacks::{DataStack, Throw};
 use std::test::Fail;
 
-/// A word with the stack before it and after it, the top last. The results are those of other
-/// Forth systems, and of the definitions in the standards where these have no such word.
+/// A word with the stack before it and after it, the top last, worked out by hand from the
+/// definitions of the standards; the divisions also with another Forth system.
 type Case = (ArithmeticWord, &'static [u32], &'static [u32]);
 
 const CASES: [Case; 29] = [
