@@ -1,1 +1,4 @@
 pub mod Arithmetic
+pub mod Arranging
+pub mod Comparing
+pub mod Splitting

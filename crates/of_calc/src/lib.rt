@@ -2,7 +2,13 @@
 #![tactic(auto)]
 
 mod arithmetic;
+mod arranging;
+mod comparing;
+mod splitting;
 #[cfg(test)]
 mod tests;
 
 pub use arithmetic::calculate;
+pub use arranging::arrange;
+pub use comparing::compare;
+pub use splitting::split;

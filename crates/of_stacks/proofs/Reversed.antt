@@ -1,6 +1,6 @@
 -- The cells in the order of the array and in the order of the stack.
-use Rattle.std.proofs.Common.{◌≡◌, ℕ, ◌+◌, ◌-◌, ◌≤◌, ◌<◌, List, [], ◌∷◌, ◌++◌, length, take, drop, set, reverse, get_or, arith, refl, ap, sym, ◌∙◌}
-use Rattle.std.specs.List.{refill}
+use Rattle.std.proofs.Common.{◌≡◌, ℕ, suc, ◌+◌, ◌-◌, ◌≤◌, ◌<◌, List, [], ◌∷◌, ◌++◌, length, take, drop, set, reverse, get_or, arith, refl, ap, sym, ◌∙◌}
+use Rattle.std.specs.List.{refill, remove}
 use Rattle.std.proofs.Math.Seq.{drop-append_seam, take-append_seam, take-length}
 use Rattle.std.proofs.lemmas.Grind.{take-set_at}
 use Rattle.std.proofs.lemmas.List.{take-append-drop, length-drop, length-reverse, get_or-reverse, reverse-append, length-set}
@@ -12,6 +12,25 @@ reverse_take xs n h =
     let whole : reverse (drop (length xs - n) xs) ++ reverse (take (length xs - n) xs) ≡ reverse xs =
     sym (reverse-append (take (length xs - n) xs) (drop (length xs - n) xs)) ∙ ap reverse (take-append-drop (length xs - n) xs) in
     sym (rw (upper, whole) at (drop-append_seam (reverse (drop (length xs - n) xs)) (reverse (take (length xs - n) xs))))
+
+-- what is dropped from the array is what is taken from the stack
+pub reverse_drop : {X : Type 0} (xs : List X) (n : ℕ) → n ≤ length xs → reverse (drop (length xs - n) xs) ≡ take n (reverse xs)
+reverse_drop xs n h =
+    let upper : length (reverse (drop (length xs - n) xs)) ≡ n = length-reverse (drop (length xs - n) xs) ∙ length-drop (length xs - n) xs ∙ omega arith in
+    let whole : reverse (drop (length xs - n) xs) ++ reverse (take (length xs - n) xs) ≡ reverse xs =
+    sym (reverse-append (take (length xs - n) xs) (drop (length xs - n) xs)) ∙ ap reverse (take-append-drop (length xs - n) xs) in
+    sym (rw (upper, whole) at (take-append_seam (reverse (drop (length xs - n) xs)) (reverse (take (length xs - n) xs))))
+
+-- a cell taken out of the array is taken out of the stack
+pub reverse_remove : {X : Type 0} (xs : List X) (n : ℕ) → n < length xs → reverse (remove xs (length xs - 1 - n)) ≡ remove (reverse xs) n
+reverse_remove xs n h =
+    let after : suc (length xs - 1 - n) ≡ length xs - n = omega arith in
+    let before : length xs - 1 - n ≡ length xs - suc n = omega arith in
+    reverse-append (take (length xs - 1 - n) xs) (drop (suc (length xs - 1 - n)) xs)
+    ∙ ap (λ k. reverse (drop k xs) ++ reverse (take (length xs - 1 - n) xs)) after
+    ∙ ap (λ k. reverse (drop (length xs - n) xs) ++ reverse (take k xs)) before
+    ∙ ap (λ ys. ys ++ reverse (take (length xs - suc n) xs)) (reverse_drop xs n (omega arith))
+    ∙ ap (λ ys. take n (reverse xs) ++ ys) (reverse_take xs (suc n) (omega arith))
 
 four_of : {X : Type 0} (s : List X) (d : X) → 4 ≤ length s → s ≡ get_or s 0 d ∷ get_or s 1 d ∷ get_or s 2 d ∷ get_or s 3 d ∷ drop 4 s
 four_of [] d h = absurd (omega arith)

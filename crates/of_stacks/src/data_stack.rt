@@ -1,4 +1,5 @@
-ghost use Rattle.std.specs.Prelude.{◌+◌, IfOk, IfErr, OnOk, reverse, ◌≡◌, ◌<◌, ◌≤◌, List, [], ◌∷◌, length, drop, Ok, Err};
+ghost use Rattle.std.specs.Prelude.{◌+◌, IfOk, IfErr, OnOk, reverse, ◌≡◌, ◌<◌, ◌≤◌, List, [], ◌∷◌, length, drop, Ok, Err, Some, None};
+ghost use Rattle.std.specs.List.{slice_get, remove};
 ghost use Rattle.of_stacks.specs.Throws.{stack_underflow, stack_overflow};
 ghost use Rattle.of_stacks.specs.Stacks.{within, Becomes};
 
@@ -195,6 +196,31 @@ impl DataStack {
     {
         let _ = self.pop();
         self.replace_top(x);
+    }
+
+    /// The cell under `count` others, or -4 where there is none.
+    #[inline]
+    pub fn under(&self, count: usize) -> Result<Cell, Throw>
+        ensures ok { IfOk result (λ x. slice_get self.now count ≡ Some x) }
+        ensures there { OnOk result (count < length self.now) }
+        ensures err { IfErr result (λ t. (slice_get self.now count ≡ None) × (t ≡ stack_underflow)) }
+    {
+        let depth = self.cells.len();
+        if count >= depth {
+            return Err(Throw::STACK_UNDERFLOW);
+        }
+        Ok(self.cells[depth - 1 - count])
+    }
+
+    /// Takes out the cell under `count` others, which must be there.
+    pub fn take_out(&mut self, count: usize) -> Cell
+        requires { count < length self.old }
+        ensures cell { slice_get self.old count ≡ Some result }
+        ensures rest { self.new ≡ remove self.old count }
+        ensures room { length self.new < 256 }
+    {
+        let depth = self.cells.len();
+        self.cells.remove(depth - 1 - count)
     }
 
     /// Drops every cell.

@@ -37,6 +37,19 @@ fn replaces(rt: HostRuntime) {
 }
 
 #[test]
+fn cells_under_others(rt: HostRuntime) {
+    let mut stack = DataStack::new();
+    stack.push(Cell(7));
+    stack.push(Cell(8));
+    stack.push(Cell(9));
+    assert_eq!(rt; stack.under(0), Ok(Cell(9)));
+    assert_eq!(rt; stack.under(2), Ok(Cell(7)));
+    assert_eq!(rt; stack.under(3), Err(Throw(-4)));
+    assert_eq!(rt; stack.take_out(1), Cell(8));
+    assert_eq!(rt; stack.cells(), [Cell(7), Cell(9)].as_slice());
+}
+
+#[test]
 fn holds_256_cells(rt: HostRuntime) {
     let mut stack = DataStack::new();
     for _ in 0..CAPACITY {
