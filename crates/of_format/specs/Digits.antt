@@ -1,0 +1,46 @@
+-- Digits, and numbers as text in a base (IEEE 1275-1994, 7.4.5 and A.5.2; Forth 2012, 3.1.2.3 and 6.1.0050).
+use Rattle.std.specs.Prelude.{ℕ, zero, suc, ◌+◌, ◌-◌, ◌/◌, ◌%◌, ℤ, pos, negsuc, Bool, ◌&&◌, nat_lt, nat_le, List, [], ◌∷◌, ◌++◌, Option, Some, None, if◌then◌else◌}
+
+-- the byte of a digit: 0 to 9, then a to z
+abbrev pub digit_byte : ℕ → ℕ
+digit_byte d = if nat_lt d 10 then 48 + d else 87 + d
+
+-- the digits of a number in a base, at most `more` and one
+unfoldable pub digits : ℕ → ℕ → ℕ → List ℕ
+digits zero base n = digit_byte (n % base) ∷ []
+digits (suc more) base n =
+    if nat_lt n base then digit_byte (n % base) ∷ [] else digits more base (n / base) ++ digit_byte (n % base) ∷ []
+
+-- a cell's number in a base, unsigned
+abbrev pub unsigned_text : ℕ → ℕ → List ℕ
+unsigned_text base n = digits 31 base n
+
+-- a double's number in a base
+abbrev pub double_text : ℕ → ℕ → List ℕ
+double_text base n = digits 63 base n
+
+-- a signed number in a base
+unfoldable pub number_text : ℕ → ℤ → List ℕ
+number_text base (pos n) = digits 31 base n
+number_text base (negsuc n) = 45 ∷ digits 31 base (n + 1)
+
+-- the character lies in the range, both ends in
+abbrev pub is_in : ℕ → ℕ → ℕ → Bool
+is_in low high char = nat_le low char && nat_le char high
+
+-- what a character stands for as a digit: 0 to 9, and letters of either case from 10 on
+unfoldable pub digit_of : ℕ → Option ℕ
+digit_of char =
+    if is_in 48 57 char then Some (char - 48)
+    else if is_in 65 90 char then Some (char - 55)
+    else if is_in 97 122 char then Some (char - 87)
+    else None
+
+-- a digit, if it is below the base
+abbrev pub below_base : ℕ → Option ℕ → Option ℕ
+below_base base None = None
+below_base base (Some d) = if nat_lt d base then Some d else None
+
+-- the value of a character as a digit in a base
+abbrev pub digit_value : ℕ → ℕ → Option ℕ
+digit_value base char = below_base base (digit_of char)
