@@ -1,5 +1,10 @@
-use crate::{digit, double_text, read_number, signed_text, unsigned_text};
+use crate::{
+    Pictured, base, digit, digit_byte, double_text, read_number, signed_text, unsigned_text,
+};
 use of_cells::{Cell, Double};
+use of_memory::Memory;
+use of_stacks::Throw;
+use std::test::Fail;
 
 /// A cell, a base, and its text unsigned and signed.
 const TEXTS: [(u32, u32, &str, &str); 9] = [
@@ -68,6 +73,7 @@ fn digits(rt: HostRuntime) {
     for (char, base, value) in DIGITS {
         assert_eq!(rt; digit(char, base), value, "{char:x}");
     }
+    assert_eq!(rt; [digit_byte(9), digit_byte(10)], [b'9', b'a']);
 }
 
 /// A text, a base, and the cell that it reads as.
@@ -101,4 +107,56 @@ fn numbers_read(rt: HostRuntime) {
             "{text}"
         );
     }
+}
+
+/// Bytes are held before those that are held, and end at 0x500100.
+#[test]
+fn pictured_text(rt: HostRuntime) -> Result<(), Fail> {
+    let mut memory = Memory::new(rt.alloc())?;
+    let mut pictured = Pictured::new();
+    assert_eq!(rt; pictured.text(), (Cell(0x50_0100), Cell(0)));
+    pictured.hold(&mut memory, b'a')?;
+    pictured.hold(&mut memory, b'b')?;
+    pictured.hold_text(&mut memory, b"xyz")?;
+    assert_eq!(rt; pictured.text(), (Cell(0x50_00fb), Cell(5)));
+    assert_eq!(rt;
+        memory.slice(Cell(0x50_00fb), Cell(6))?,
+        b"xyzba\0".as_slice()
+    );
+    pictured.start();
+    assert_eq!(rt; pictured.text(), (Cell(0x50_0100), Cell(0)));
+    Ok(())
+}
+
+#[test]
+fn pictured_text_of_128_bytes(rt: HostRuntime) -> Result<(), Fail> {
+    let mut memory = Memory::new(rt.alloc())?;
+    let mut pictured = Pictured::new();
+    for _ in 0..127 {
+        pictured.hold(&mut memory, b'x')?;
+    }
+    assert_eq!(rt; pictured.hold_text(&mut memory, b"ab"), Err(Throw(-17)));
+    assert_eq!(rt; pictured.len(), 127);
+    pictured.hold_text(&mut memory, b"a")?;
+    assert_eq!(rt; pictured.hold(&mut memory, b'b'), Err(Throw(-17)));
+    assert_eq!(rt; pictured.text(), (Cell(0x50_0080), Cell(128)));
+    assert_eq!(rt; memory.slice(Cell(0x50_007f), Cell(3))?, b"\0ax".as_slice());
+    Ok(())
+}
+
+#[test]
+fn bases(rt: HostRuntime) -> Result<(), Fail> {
+    let mut memory = Memory::new(rt.alloc())?;
+    assert_eq!(rt; base(&memory), Ok(16));
+    for (number, answer) in [
+        (1, Err(Throw(-24))),
+        (2, Ok(2)),
+        (36, Ok(36)),
+        (37, Err(Throw(-24))),
+        (0x1000_0010, Err(Throw(-24))),
+    ] {
+        memory.write32(Cell(0x50_0000), Cell(number))?;
+        assert_eq!(rt; base(&memory), answer, "{number}");
+    }
+    Ok(())
 }
