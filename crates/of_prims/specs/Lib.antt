@@ -1,0 +1,5 @@
+pub mod Data
+pub mod Addresses
+pub mod Memory
+pub mod Text
+pub mod Numbers

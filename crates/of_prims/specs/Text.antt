@@ -1,0 +1,77 @@
+-- What each word of the group Text makes of the data stack, the top first, and of the data space, or what it throws
+-- (IEEE 1275-1994, 7.3.4 and A.5.2; Forth 2012, 6.1.0980, 6.1.0770). The words that print or ask are run elsewhere.
+use Rattle.std.specs.Prelude.{ℕ, ◌+◌, ◌-◌, ◌==◌, ◌<◌, nat_lt, List, ◌∷◌, [], take, drop, Option, Some, None, Result, Ok, Err, if◌then◌else◌}
+use Rattle.of_cells.specs.declared.cells.Cell.{Cell}
+use Rattle.of_cells.specs.Arithmetic.{plus}
+use Rattle.of_cells.specs.Splitting.{low_byte}
+use Rattle.of_stacks.specs.declared.throws.Throw.{Throw}
+use Rattle.of_stacks.specs.Throws.{stack_underflow, not_assigned, invalid_argument}
+use Rattle.of_stacks.specs.Order.{first_in}
+use Rattle.of_stacks.specs.Stacks.{within}
+use Rattle.of_memory.specs.Access.{read_fault, write_fault, number_at}
+use Rattle.of_memory.specs.DataSpace.{DataSpace, bytes_from, written}
+use Rattle.of_memory.specs.declared.width.Width.TheVariants.{One}
+use Rattle.of_fcodes.specs.declared.words.TextWord.{TextWord}
+use Rattle.of_fcodes.specs.declared.words.TextWord.TheVariants.{UpperCase, LowerCase, Pack, Count, KeyReady, Key, Emit, «Type», CarriageReturn, Blank, Backspace, Bell, LeftParseString, ParseTwoInts}
+use Rattle.of_format.specs.Digits.{is_in}
+use Rattle.of_format.specs.Reading.{number_read}
+use Rattle.of_prims.specs.Data.{Space, number, unless_fault, over}
+
+-- a character with an ASCII letter in upper case
+abbrev pub upper_case : Cell → Cell
+upper_case char = if is_in 97 122 char.0 then number (char.0 - 32) else char
+
+-- a character with an ASCII letter in lower case
+abbrev pub lower_case : Cell → Cell
+lower_case char = if is_in 65 90 char.0 then number (char.0 + 32) else char
+
+-- how many bytes of a text stand before the first that is the byte
+abbrev pub before : ℕ → List ℕ → ℕ
+before byte [] = 0
+before byte (x ∷ xs) = if x == byte then 0 else before byte xs + 1
+
+-- A text of n bytes at the address, parted at its byte i: what stands before it, on top, and what stands after it.
+-- At its end nothing stands after it.
+abbrev pub parted : Cell → ℕ → ℕ → List Cell → List Cell
+parted a n i s =
+    number i ∷ a ∷ (if nat_lt i n then number (n - i - 1) ∷ plus a (number (i + 1)) ∷ s else number 0 ∷ plus a (number n) ∷ s)
+
+-- two numbers that a text gave, the second on top
+abbrev pub both_read : Option Cell → Option Cell → List Cell → Result (List Cell) Throw
+both_read (Some low) (Some high) s = Ok (high ∷ low ∷ s)
+both_read (Some low) None s = Err invalid_argument
+both_read None high s = Err invalid_argument
+
+-- A text with a comma at its byte i of n, read as two numbers in hexadecimal. Without one the first is 0.
+abbrev pub two_read : List ℕ → ℕ → ℕ → List Cell → Result (List Cell) Throw
+two_read text n i s =
+    if nat_lt i n then both_read (number_read 16 (drop (i + 1) text)) (number_read 16 (take i text)) s
+    else both_read (Some (number 0)) (number_read 16 text) s
+
+-- the table, a word a line
+unfoldable pub text_entry : TextWord → List Cell → DataSpace → Result Space Throw
+text_entry UpperCase (char ∷ s) m = Ok (upper_case char ∷ s, m)
+text_entry LowerCase (char ∷ s) m = Ok (lower_case char ∷ s, m)
+text_entry Pack (a ∷ n ∷ from ∷ s) m =
+    unless_fault (read_fault m from.0 n.0 One)
+    (unless_fault (write_fault m a.0 (n.0 + 1) One)
+    (first_in ((nat_lt 255 n.0, invalid_argument) ∷ []) (a ∷ s, written m a.0 (n.0 ∷ bytes_from m from.0 n.0))))
+text_entry Count (a ∷ s) m =
+    unless_fault (read_fault m a.0 1 One) (over m (within (number (number_at m a.0 1) ∷ plus a (number 1) ∷ s)))
+text_entry Blank s m = over m (within (number 32 ∷ s))
+text_entry Backspace s m = over m (within (number 8 ∷ s))
+text_entry Bell s m = over m (within (number 7 ∷ s))
+text_entry LeftParseString (char ∷ n ∷ a ∷ s) m =
+    unless_fault (read_fault m a.0 n.0 One)
+    (over m (within (parted a n.0 (before (low_byte char).0 (bytes_from m a.0 n.0)) s)))
+text_entry ParseTwoInts (n ∷ a ∷ s) m =
+    unless_fault (read_fault m a.0 n.0 One)
+    (over m (two_read (bytes_from m a.0 n.0) n.0 (before 44 (bytes_from m a.0 n.0)) s))
+-- the words that print or ask, which are run elsewhere
+text_entry KeyReady s m = Err not_assigned
+text_entry Key s m = Err not_assigned
+text_entry Emit s m = Err not_assigned
+text_entry «Type» s m = Err not_assigned
+text_entry CarriageReturn s m = Err not_assigned
+-- every other stack is too short
+text_entry _ _ m = Err stack_underflow

@@ -1,0 +1,11 @@
+//! The words over the data stack, the data space and the pictured text.
+#![tactic(auto)]
+
+mod addresses;
+mod faults;
+mod numbers;
+mod storage;
+
+pub use addresses::locate;
+pub use numbers::convert;
+pub use storage::access;
