@@ -1,10 +1,11 @@
 -- What each word of the group Numbers makes of the data stack, the top first, of the data space and of the pictured
 -- text, or what it throws (IEEE 1275-1994, 7.4.5 and A.5.2; Forth 2012, 6.1.0490, 6.1.1670, 6.1.2210, 6.1.0030,
 -- 6.1.0050, 6.1.0040, 6.1.0750). The words that print are run elsewhere.
-use Rattle.std.specs.Prelude.{ℕ, ◌+◌, ◌-◌, ◌*◌, ◌/◌, ◌%◌, ◌^◌, pos, true, false, int_lt, List, ◌∷◌, [], Option, Some, None, Result, Ok, Err, if◌then◌else◌}
+use Rattle.std.specs.Prelude.{ℕ, ◌+◌, ◌-◌, ◌*◌, ◌/◌, ◌%◌, ◌^◌, Bool, true, false, List, ◌∷◌, [], Option, Some, None, Result, Ok, Err, if◌then◌else◌}
 use Rattle.of_cells.specs.declared.cells.Cell.{Cell}
 use Rattle.of_cells.specs.declared.doubles.Double.{Double}
-use Rattle.of_cells.specs.Numbers.{flag, signed}
+use Rattle.of_cells.specs.Numbers.{flag}
+use Rattle.of_cells.specs.Comparing.{is_less}
 use Rattle.of_cells.specs.Doubles.{double, number_of}
 use Rattle.of_calc.specs.Arithmetic.{double_of, with_double}
 use Rattle.of_cells.specs.Splitting.{low_byte}
@@ -53,8 +54,9 @@ all_unsigned_digits n s m count (Ok base) = holding (number 0 ∷ s) (held m cou
 all_unsigned_digits n s m count (Err t) = Err t
 
 -- a minus sign is held where the number is negative
-abbrev pub signed_with : Cell → List Cell → DataSpace → ℕ → Result Data Throw
-signed_with n s m count = if int_lt (signed n) (pos 0) then holding s (held m count (45 ∷ [])) else Ok (data_of s m count)
+abbrev pub signed_with : Bool → List Cell → DataSpace → ℕ → Result Data Throw
+signed_with true s m count = holding s (held m count (45 ∷ []))
+signed_with false s m count = Ok (data_of s m count)
 
 -- the address and the length of the pictured text on the stack
 abbrev pub with_text : ℕ → List Cell → List Cell
@@ -78,7 +80,7 @@ with_digit char (Some d) s = flag true ∷ number d ∷ s
 unfoldable pub numbers_entry : NumbersWord → List Cell → DataSpace → ℕ → Result Data Throw
 numbers_entry Begin s m count = Ok (data_of s m 0)
 numbers_entry Hold (char ∷ s) m count = holding s (held m count ((low_byte char).0 ∷ []))
-numbers_entry Sign (n ∷ s) m count = signed_with n s m count
+numbers_entry Sign (n ∷ s) m count = signed_with (is_less n (number 0)) s m count
 numbers_entry NextDigit (high ∷ low ∷ s) m count = next_digit (number_of (double_of low high)) s m count (base_in m)
 numbers_entry AllDigits (high ∷ low ∷ s) m count = all_digits (number_of (double_of low high)) s m count (base_in m)
 numbers_entry End (high ∷ low ∷ s) m count = Ok (data_of (with_text count s) m count)

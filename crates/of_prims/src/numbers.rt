@@ -1,9 +1,10 @@
-ghost use Rattle.std.specs.Prelude.{◌≡◌, ◌∷◌, true, IfErr};
+ghost use Rattle.std.specs.Prelude.{◌≡◌, ◌≤◌, [], ◌∷◌, length, drop, true, IfErr};
 ghost use Rattle.of_stacks.specs.Throws.{is_listed};
 ghost use Rattle.of_stacks.specs.Stacks.{Becomes};
 ghost use Rattle.of_fcodes.specs.declared.words.NumbersWord.{NumbersWord};
 ghost use Rattle.of_prims.specs.Data.{data_of};
-ghost use Rattle.of_prims.specs.Numbers.{numbers_entry};
+ghost use Rattle.of_prims.specs.Numbers.{numbers_entry, holding};
+ghost use Rattle.of_format.specs.Pictured.{held};
 
 use crate::faults::slice;
 use of_cells::{Cell, Double};
@@ -34,19 +35,27 @@ fn hold_char(
     Ok(())
 }
 
+/// ( n -- ) holds `-`.
+#[tactic(auto, unfolding(of_stacks::specs::Throws::is_listed, of_stacks::specs::Throws::listed_numbers))]
+fn hold_minus(stack: &mut DataStack, memory: &mut Memory, pictured: &mut Pictured) -> Result<(), Throw>
+    requires { 1 ≤ length stack.old }
+    ensures entry { Becomes (holding (drop 1 stack.old) (held memory.old pictured.old (45 ∷ []))) (data_of stack.old memory.old pictured.old) (data_of stack.new memory.new pictured.new) result }
+    ensures listed { IfErr result (λ t. is_listed t ≡ true) }
+{
+    pictured.hold(memory, b'-')?;
+    stack.drop_top(1);
+    Ok(())
+}
+
 /// ( n -- ) holds `-` where the number is negative.
 #[tactic(auto, unfolding(crate::specs::Numbers::numbers_entry, of_stacks::specs::Throws::is_listed, of_stacks::specs::Throws::listed_numbers))]
-fn hold_sign(
-    stack: &mut DataStack,
-    memory: &mut Memory,
-    pictured: &mut Pictured,
-) -> Result<(), Throw>
+fn hold_sign(stack: &mut DataStack, memory: &mut Memory, pictured: &mut Pictured) -> Result<(), Throw>
     ensures entry { Becomes (numbers_entry NumbersWord.Sign stack.old memory.old pictured.old) (data_of stack.old memory.old pictured.old) (data_of stack.new memory.new pictured.new) result }
     ensures listed { IfErr result (λ t. is_listed t ≡ true) }
 {
     let n = stack.peek()?;
-    if n.signed() < 0 {
-        pictured.hold(memory, b'-')?;
+    if n.is_less(Cell::ZERO) {
+        return hold_minus(stack, memory, pictured);
     }
     stack.drop_top(1);
     Ok(())
