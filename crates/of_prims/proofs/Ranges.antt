@@ -182,3 +182,22 @@ second_writes m a ys e =
 
 -- what the words on two cells need
 pub ruleset two_cells = (first_reads, second_reads, first_writes, second_writes)
+
+-- where a range that can be read stands among the bytes of its region
+pub record RangeAt (a n : ℕ) : Type 0 where
+  pub some : 1 ≤ a / 1048576
+  pub last : a / 1048576 ≤ 6
+  pub within : a % 1048576 + n ≤ 262144
+
+region_number : (m : DataSpace) (x : ℕ) → is_readable m x ≡ true → 1 ≤ x / 1048576
+region_number m x e = grind (arith, common_steps, nat_tests)
+
+pub range_at : (m : DataSpace) (a n : ℕ) (w : Width) → 0 < n → read_fault m a n w ≡ None → RangeAt a n
+range_at m a n w some e =
+    let can = (can_read m a n w some e).can in
+    let first : is_readable m a ≡ true = rw (add-zero a) at (all_at (is_readable m) a n 0 can some) in
+    let end : is_readable m (a + (n - 1)) ≡ true = all_at (is_readable m) a n (n - 1) can (omega arith) in
+    let same : (a + (n - 1)) / 1048576 ≡ a / 1048576 = same_region m a n (n - 1) can (omega arith) in
+    let inside : (a + (n - 1)) % 1048576 < 262144 = within_region m (a + (n - 1)) end in
+    let small : a + n ≤ 7340032 = range_small m a n w some e in
+    record { some = region_number m a first; last = omega arith; within = omega arith }

@@ -1,6 +1,6 @@
 -- What each word of the group Text makes of the data stack, the top first, and of the data space, or what it throws
 -- (IEEE 1275-1994, 7.3.4 and A.5.2; Forth 2012, 6.1.0980, 6.1.0770). The words that print or ask are run elsewhere.
-use Rattle.std.specs.Prelude.{ℕ, ◌+◌, ◌-◌, ◌==◌, ◌<◌, nat_lt, List, ◌∷◌, [], take, drop, Option, Some, None, Result, Ok, Err, if◌then◌else◌}
+use Rattle.std.specs.Prelude.{ℕ, ◌+◌, ◌-◌, ◌==◌, min, nat_lt, List, ◌∷◌, [], length, take, drop, Option, Some, None, Result, Ok, Err, if◌then◌else◌}
 use Rattle.of_cells.specs.declared.cells.Cell.{Cell}
 use Rattle.of_cells.specs.Arithmetic.{plus}
 use Rattle.of_cells.specs.Splitting.{low_byte}
@@ -31,22 +31,28 @@ before byte [] = 0
 before byte (x ∷ xs) = if x == byte then 0 else before byte xs + 1
 
 -- A text of n bytes at the address, parted at its byte i: what stands before it, on top, and what stands after it.
--- At its end nothing stands after it.
+-- At the end of the text nothing stands after it.
 abbrev pub parted : Cell → ℕ → ℕ → List Cell → List Cell
-parted a n i s =
-    number i ∷ a ∷ (if nat_lt i n then number (n - i - 1) ∷ plus a (number (i + 1)) ∷ s else number 0 ∷ plus a (number n) ∷ s)
+parted a n i s = number i ∷ a ∷ number (n - (i + 1)) ∷ plus a (number (min (i + 1) n)) ∷ s
 
--- two numbers that a text gave, the second on top
-abbrev pub both_read : Option Cell → Option Cell → List Cell → Result (List Cell) Throw
-both_read (Some low) (Some high) s = Ok (high ∷ low ∷ s)
-both_read (Some low) None s = Err invalid_argument
-both_read None high s = Err invalid_argument
+-- two numbers, where a text gave both
+abbrev pub both_read : Option Cell → Option Cell → Option (Cell × Cell)
+both_read (Some low) (Some high) = Some (low, high)
+both_read (Some low) None = None
+both_read None high = None
 
--- A text with a comma at its byte i of n, read as two numbers in hexadecimal. Without one the first is 0.
-abbrev pub two_read : List ℕ → ℕ → ℕ → List Cell → Result (List Cell) Throw
-two_read text n i s =
-    if nat_lt i n then both_read (number_read 16 (drop (i + 1) text)) (number_read 16 (take i text)) s
-    else both_read (Some (number 0)) (number_read 16 text) s
+-- What a text reads as in hexadecimal: the number behind its first comma, and the one before it. Without a comma
+-- the whole text is the second, and the first is 0.
+abbrev pub two_read : List ℕ → Option (Cell × Cell)
+two_read text =
+    if nat_lt (before 44 text) (length text)
+    then both_read (number_read 16 (drop (before 44 text + 1) text)) (number_read 16 (take (before 44 text) text))
+    else both_read (Some (number 0)) (number_read 16 text)
+
+-- both numbers on the stack, the second on top
+abbrev pub two_pushed : Option (Cell × Cell) → List Cell → Result (List Cell) Throw
+two_pushed None s = Err invalid_argument
+two_pushed (Some numbers) s = Ok (numbers.1 ∷ numbers.0 ∷ s)
 
 -- the table, a word a line
 unfoldable pub text_entry : TextWord → List Cell → DataSpace → Result Space Throw
@@ -66,7 +72,7 @@ text_entry LeftParseString (char ∷ n ∷ a ∷ s) m =
     (over m (within (parted a n.0 (before (low_byte char).0 (bytes_from m a.0 n.0)) s)))
 text_entry ParseTwoInts (n ∷ a ∷ s) m =
     unless_fault (read_fault m a.0 n.0 One)
-    (over m (two_read (bytes_from m a.0 n.0) n.0 (before 44 (bytes_from m a.0 n.0)) s))
+    (over m (two_pushed (two_read (bytes_from m a.0 n.0)) s))
 -- the words that print or ask, which are run elsewhere
 text_entry KeyReady s m = Err not_assigned
 text_entry Key s m = Err not_assigned

@@ -1,7 +1,7 @@
-ghost use Rattle.std.specs.Prelude.{◌≡◌, true, None, Some, OnOk, IfOk, IfErr};
+ghost use Rattle.std.specs.Prelude.{◌≡◌, ◌≤◌, length, true, None, Some, OnOk, IfOk, IfErr};
 ghost use Rattle.std.specs.Int.{bytes_high_first};
 ghost use Rattle.of_stacks.specs.Throws.{is_listed};
-ghost use Rattle.of_memory.specs.Access.{read_fault, write_fault};
+ghost use Rattle.of_memory.specs.Access.{read_fault, write_fault, number_at};
 ghost use Rattle.of_memory.specs.DataSpace.{bytes_from, written};
 ghost use Rattle.of_memory.specs.declared.width.Width.{Width};
 ghost use Rattle.of_prims.specs.Data.{throw_of, thrown, fault_of, cell_at};
@@ -30,6 +30,7 @@ fn throw_of(fault: MemFault) -> Throw
 /// The bytes of a range that can be read, or the throw of a range that can't.
 pub fn slice(memory: &Memory, addr: Cell, len: Cell) -> Result<&[u8], Throw>
     ensures ok { IfOk result (λ s. (read_fault memory.now addr.0 len.0 Width.One ≡ None) × (s.now ≡ bytes_from memory.now addr.0 len.0)) }
+    ensures short { IfOk result (λ s. length s.now ≤ len.0) }
     ensures err { IfErr result (λ t. fault_of (read_fault memory.now addr.0 len.0 Width.One) ≡ Some t) }
     ensures listed { IfErr result (λ t. is_listed t ≡ true) }
 {
@@ -52,6 +53,17 @@ pub fn check_write(memory: &Memory, addr: Cell, len: Cell, width: Width) -> Resu
     ensures listed { IfErr result (λ t. is_listed t ≡ true) }
 {
     thrown(memory.check_write(addr, len, width))
+}
+
+/// The byte at an address that can be read.
+pub fn byte_at(memory: &Memory, addr: Cell) -> u8
+    requires { read_fault memory.now addr.0 1 Width.One ≡ None }
+    ensures { result ≡ number_at memory.now addr.0 1 }
+{
+    match memory.read8(addr) {
+        Ok(byte) => byte,
+        Err(_) => 0,
+    }
 }
 
 /// The cell at an address where one can be read.

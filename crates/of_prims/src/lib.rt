@@ -5,7 +5,9 @@ mod addresses;
 mod faults;
 mod numbers;
 mod storage;
+mod texts;
 
 pub use addresses::locate;
 pub use numbers::convert;
 pub use storage::access;
+pub use texts::edit;

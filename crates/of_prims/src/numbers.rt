@@ -37,7 +37,11 @@ fn hold_char(
 
 /// ( n -- ) holds `-`.
 #[tactic(auto, unfolding(of_stacks::specs::Throws::is_listed, of_stacks::specs::Throws::listed_numbers))]
-fn hold_minus(stack: &mut DataStack, memory: &mut Memory, pictured: &mut Pictured) -> Result<(), Throw>
+fn hold_minus(
+    stack: &mut DataStack,
+    memory: &mut Memory,
+    pictured: &mut Pictured,
+) -> Result<(), Throw>
     requires { 1 ≤ length stack.old }
     ensures entry { Becomes (holding (drop 1 stack.old) (held memory.old pictured.old (45 ∷ []))) (data_of stack.old memory.old pictured.old) (data_of stack.new memory.new pictured.new) result }
     ensures listed { IfErr result (λ t. is_listed t ≡ true) }
@@ -49,7 +53,11 @@ fn hold_minus(stack: &mut DataStack, memory: &mut Memory, pictured: &mut Picture
 
 /// ( n -- ) holds `-` where the number is negative.
 #[tactic(auto, unfolding(crate::specs::Numbers::numbers_entry, of_stacks::specs::Throws::is_listed, of_stacks::specs::Throws::listed_numbers))]
-fn hold_sign(stack: &mut DataStack, memory: &mut Memory, pictured: &mut Pictured) -> Result<(), Throw>
+fn hold_sign(
+    stack: &mut DataStack,
+    memory: &mut Memory,
+    pictured: &mut Pictured,
+) -> Result<(), Throw>
     ensures entry { Becomes (numbers_entry NumbersWord.Sign stack.old memory.old pictured.old) (data_of stack.old memory.old pictured.old) (data_of stack.new memory.new pictured.new) result }
     ensures listed { IfErr result (λ t. is_listed t ≡ true) }
 {
