@@ -3,3 +3,4 @@ pub mod Addresses
 pub mod Memory
 pub mod Text
 pub mod Numbers
+pub mod Prims

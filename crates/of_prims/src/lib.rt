@@ -4,10 +4,12 @@
 mod addresses;
 mod faults;
 mod numbers;
+mod prims;
 mod storage;
 mod texts;
 
 pub use addresses::locate;
 pub use numbers::convert;
+pub use prims::prim;
 pub use storage::access;
 pub use texts::edit;
