@@ -1,5 +1,6 @@
 use crate::{
-    Pictured, base, digit, digit_byte, double_text, read_number, signed_text, unsigned_text,
+    Pictured, base, digit, digit_byte, double_text, read_number, signed_text, texts_read_back,
+    unsigned_text,
 };
 use of_cells::{Cell, Double};
 use of_memory::Memory;
@@ -159,4 +160,9 @@ fn bases(rt: HostRuntime) -> Result<(), Fail> {
         assert_eq!(rt; base(&memory), answer, "{number}");
     }
     Ok(())
+}
+
+#[test]
+fn laws() {
+    texts_read_back();
 }

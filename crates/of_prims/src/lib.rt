@@ -6,6 +6,8 @@ mod faults;
 mod numbers;
 mod prims;
 mod storage;
+#[cfg(test)]
+mod tests;
 mod texts;
 
 pub use addresses::locate;
