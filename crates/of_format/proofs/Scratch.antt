@@ -1,13 +1,11 @@
 -- The scratch region, where the cell `base` and the pictured text stand.
-use Rattle.std.proofs.Common.{◌≡◌, ℕ, suc, ◌+◌, ◌-◌, ◌*◌, ◌/◌, ◌%◌, ◌<◌, ◌≤◌, nat_lt, Bool, true, ◌&&◌, List, [], ◌∷◌, ◌++◌, length, length-append, length-drop, take, drop, Option, Some, None, Result, Ok, Err, add-zero, refl, ap, sym, ◌∙◌, arith}
-use Rattle.std.proofs.lemmas.List.{places, same_lists, take-append-drop}
+use Rattle.std.proofs.Common.{◌≡◌, ℕ, ◌/◌, ◌%◌, ◌<◌, ◌≤◌, nat_lt, true, List, [], ◌∷◌, None, Result, Ok, Err, refl, ap, sym, ◌∙◌, arith}
 use Rattle.std.proofs.lemmas.Bool.Decides.{nat_tests}
 use Rattle.std.proofs.Math.Nat.{mod-eq_of_lt}
 use Rattle.std.specs.Int.{bytes_high_first}
 use Rattle.of_cells.specs.declared.cells.Cell.{Cell}
-use Rattle.of_memory.specs.Regions.{region_of, place_of}
-use Rattle.of_memory.specs.DataSpace.{DataSpace, is_readable, splice, written}
-use Rattle.of_memory.specs.Access.{all_from, are_readable, read_fault, write_fault, write, read_cell, number_at}
+use Rattle.of_memory.specs.DataSpace.{DataSpace, is_readable, written}
+use Rattle.of_memory.specs.Access.{all_from, read_fault, write_fault, write, read_cell, number_at}
 use Rattle.of_memory.specs.Outcomes.{Becomes}
 use Rattle.of_memory.specs.declared.fault.MemFault.{MemFault}
 use Rattle.of_memory.specs.declared.width.Width.TheVariants.{One, Four}

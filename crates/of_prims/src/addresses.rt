@@ -8,11 +8,13 @@ use of_fcodes::AddressesWord;
 use of_memory::Memory;
 use of_stacks::{DataStack, Throw};
 
-/// The sizes of a byte, of 16 bits and of a cell, in bytes.
+/// The size of a byte.
 const BYTE: Cell = Cell(1);
 
+/// The size of 16 bits, in bytes.
 const WORD: Cell = Cell(2);
 
+/// The size of a cell, in bytes.
 const CELL: Cell = Cell(4);
 
 // ( a i -- a' ) past so many items of a size

@@ -1,4 +1,3 @@
-use Rattle.std.proofs.Common.{sym}
 use Rattle.of_format.proofs.Scratch.{base_answer, base_no_fault}
 use Rattle.of_format.proofs.base_cell.base_number.Goals as goal
 

@@ -1,4 +1,3 @@
-use Rattle.std.proofs.Common.{rules}
 use Rattle.of_format.proofs.Scratch.{byte_written}
 use Rattle.of_format.proofs.pictured.put.Goals as goal
 

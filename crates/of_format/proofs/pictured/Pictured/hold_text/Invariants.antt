@@ -1,4 +1,4 @@
-use Rattle.std.proofs.Common.{◌≡◌, ◌+◌, ◌-◌, ◌≤◌, take, drop, length}
+use Rattle.std.proofs.Common.{◌≡◌, ◌+◌, ◌-◌, take, drop, length}
 use Rattle.of_memory.specs.DataSpace.{written}
 use Rattle.of_format.proofs.pictured.Pictured.hold_text.Given as goal
 
