@@ -353,7 +353,7 @@ fn appends_at_any_alignment(rt: HostRuntime) -> Result<(), Fail> {
         b"\x77\x55\x66\x11\x22\x33\x44\xf0".as_slice()
     );
     parts.memory.allot(Cell(0x3_fff6))?;
-    parts.stack.push(Cell(1));
+    parts.stack.try_push(Cell(1))?;
     assert_eq!(rt; parts.run(Word::Memory(MemoryWord::Comma)), Err(Throw(-8)));
     assert_eq!(rt; parts.run(Word::Memory(MemoryWord::CommaWord)), Ok(()));
     Ok(())
@@ -416,11 +416,11 @@ fn pictured_text(rt: HostRuntime) -> Result<(), Fail> {
         );
         assert_eq!(rt; parts.stack.cells(), stack_of(after)?.cells(), "{word:?}");
     }
-    parts.stack.push(Cell(0x158));
+    parts.stack.try_push(Cell(0x158))?;
     parts.run(Word::Numbers(NumbersWord::Hold))?;
-    parts.stack.push(Cell(3));
+    parts.stack.try_push(Cell(3))?;
     parts.run(Word::Numbers(NumbersWord::Sign))?;
-    parts.stack.push(Cell(0xffff_fffd));
+    parts.stack.try_push(Cell(0xffff_fffd))?;
     parts.run(Word::Numbers(NumbersWord::Sign))?;
     parts.run(Word::Numbers(NumbersWord::End))?;
     assert_eq!(rt; parts.stack.cells(), [Cell(0x50_00fb), Cell(5)].as_slice());
@@ -543,9 +543,9 @@ const GROWING: [Word; 9] = [
 fn full_stacks(rt: HostRuntime) -> Result<(), Fail> {
     for word in GROWING {
         let mut parts = parts_of(rt.alloc(), &[0x10_0000; 253])?;
-        parts.stack.push(Cell(0x10_0000));
-        parts.stack.push(Cell(0));
-        parts.stack.push(Cell(0x10_0000));
+        parts.stack.try_push(Cell(0x10_0000))?;
+        parts.stack.try_push(Cell(0))?;
+        parts.stack.try_push(Cell(0x10_0000))?;
         assert_eq!(rt; parts.run(word), Err(Throw(-3)), "{word:?}");
         assert_eq!(rt; parts.stack.depth(), 256, "{word:?}");
     }
