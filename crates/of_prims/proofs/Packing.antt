@@ -1,5 +1,5 @@
 -- A text stored with its length before it.
-use Rattle.std.proofs.Common.{◌≡◌, ℕ, ◌+◌, ◌-◌, ◌*◌, ◌/◌, ◌%◌, ◌<◌, ◌≤◌, List, [], ◌∷◌, length, length-drop, drop, inl, inr, Option, Some, None, Result, Ok, Err, add-zero, refl, sym, ap, ◌∙◌, arith}
+use Rattle.std.proofs.Common.{◌≡◌, ℕ, ◌+◌, ◌%◌, ◌<◌, ◌≤◌, List, [], ◌∷◌, length, drop, inl, inr, None, Result, Ok, Err, add-zero, refl, sym, ap, ◌∙◌, arith}
 use Rattle.std.proofs.lemmas.List.{places, same_lists, length-take}
 use Rattle.std.proofs.lemmas.Bool.{cases_eq}
 use Rattle.std.proofs.Math.Nat.{mod-eq_of_lt}

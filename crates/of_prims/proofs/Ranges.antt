@@ -1,9 +1,9 @@
 -- Ranges that can be read or written, and parts of them.
-use Rattle.std.proofs.Common.{◌≡◌, ℕ, zero, suc, ◌+◌, ◌-◌, ◌*◌, ◌/◌, ◌%◌, ◌<◌, ◌≤◌, nat_lt, eqb, Bool, true, false, ◌&&◌, ◌||◌, not, List, if◌then◌else◌, Option, Some, None, Result, Ok, Err, add-zero, refl, sym, ap, ◌∙◌, lit≤, arith}
+use Rattle.std.proofs.Common.{◌≡◌, ℕ, zero, suc, ◌+◌, ◌-◌, ◌/◌, ◌%◌, ◌<◌, ◌≤◌, eqb, Bool, true, false, ◌&&◌, ◌||◌, not, List, if◌then◌else◌, Option, Some, None, add-zero, refl, arith}
 use Rattle.std.proofs.lemmas.Bool.{false≢true}
 use Rattle.std.proofs.lemmas.Bool.Decides.{nat_tests}
 use Rattle.std.proofs.lemmas.Grind.{common_steps}
-use Rattle.of_memory.specs.Regions.{region_of, may_write, place_of}
+use Rattle.of_memory.specs.Regions.{region_of, may_write}
 use Rattle.of_memory.specs.DataSpace.{DataSpace, is_readable, written}
 use Rattle.of_memory.specs.Access.{all_from, are_readable, read_fault, write_fault, or_fault}
 use Rattle.of_memory.specs.Width.{bytes_in}

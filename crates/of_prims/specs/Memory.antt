@@ -8,12 +8,11 @@ use Rattle.of_cells.specs.Splitting.{low_byte, low_half}
 use Rattle.of_stacks.specs.declared.throws.Throw.{Throw}
 use Rattle.of_stacks.specs.Throws.{stack_underflow, not_assigned}
 use Rattle.of_stacks.specs.Stacks.{within}
-use Rattle.of_memory.specs.Access.{read_fault, write_fault, number_at, read, write, filled, copied}
+use Rattle.of_memory.specs.Access.{read_fault, write_fault, read, write, filled, copied}
 use Rattle.of_memory.specs.BlockCalls.{heap_given}
 use Rattle.of_memory.specs.DataSpace.{DataSpace, bytes_from, written}
 use Rattle.of_memory.specs.Growth.{appended}
 use Rattle.of_memory.specs.declared.fault.MemFault.{MemFault}
-use Rattle.of_memory.specs.declared.width.Width.{Width}
 use Rattle.of_memory.specs.declared.width.Width.TheVariants.{One, Two, Four}
 use Rattle.of_fcodes.specs.declared.words.MemoryWord.{MemoryWord}
 use Rattle.of_fcodes.specs.declared.words.MemoryWord.TheVariants.{On, Off, PlusStore, Fetch, FetchLong, FetchWord, FetchSignedWord, FetchByte, Store, StoreLong, StoreWord, StoreByte, FetchTwo, StoreTwo, Move, Fill, Compare, CommaByte, CommaWord, CommaLong, Comma, AllocMem, FreeMem}

@@ -26,7 +26,7 @@ macro_rules! indexed {
 }
 
 // ( a -- a' ) past one item of a size
-macro_rules! next {
+macro_rules! past_one {
     ($stack:ident, $size:expr) => {{
         let a = $stack.peek()?;
         $stack.replace_top(a.add($size));
@@ -65,10 +65,10 @@ pub fn locate(word: AddressesWord, stack: &mut DataStack, memory: &Memory) -> Re
         AddressesWord::WordIndexed => indexed!(stack, WORD),
         AddressesWord::LongIndexed => indexed!(stack, CELL),
         AddressesWord::CellIndexed => indexed!(stack, CELL),
-        AddressesWord::NextByte => next!(stack, BYTE),
-        AddressesWord::NextWord => next!(stack, WORD),
-        AddressesWord::NextLong => next!(stack, CELL),
-        AddressesWord::NextCell => next!(stack, CELL),
+        AddressesWord::NextByte => past_one!(stack, BYTE),
+        AddressesWord::NextWord => past_one!(stack, WORD),
+        AddressesWord::NextLong => past_one!(stack, CELL),
+        AddressesWord::NextCell => past_one!(stack, CELL),
         AddressesWord::Bytes => scaled!(stack, BYTE),
         AddressesWord::Words => scaled!(stack, WORD),
         AddressesWord::Longs => scaled!(stack, CELL),
