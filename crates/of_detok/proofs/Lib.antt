@@ -1,0 +1,5 @@
+pub mod Loops
+pub mod Plain
+pub mod Laid
+pub mod Digits16
+pub mod ReadBack

@@ -1,0 +1,75 @@
+-- What a listing means: the bytes on its lines, joined.
+use Rattle.std.specs.Prelude.{◌≡◌, ℕ, ◌+◌, ◌*◌, ◌<◌, List, [], ◌∷◌, ◌++◌, length, take, drop, slice_index, Option, Some, None, Result, Ok, Err, Bool, ◌&&◌, nat_eq, if◌then◌else◌}
+use Rattle.std.specs.Str.{str_eq_ignore_ascii_case}
+use Rattle.of_detok.specs.declared.fault.DetokFault.{DetokFault}
+use Rattle.of_detok.specs.declared.fault.DetokFault.TheVariants as fault
+use Rattle.of_detok.specs.Digits.{digit_value, place}
+use Rattle.of_detok.specs.Listing.{listed}
+
+-- a byte before the other lines of a text
+abbrev pub with_first : ℕ → List (List ℕ) → List (List ℕ)
+with_first b [] = (b ∷ []) ∷ []
+with_first b (line ∷ lines) = (b ∷ line) ∷ lines
+
+-- the lines of a text, each up to its 0x0A or to the end
+unfoldable pub text_lines : List ℕ → List (List ℕ)
+text_lines [] = []
+text_lines (b ∷ bytes) = if nat_eq b 10 then [] ∷ text_lines bytes else with_first b (text_lines bytes)
+
+-- the byte that two digits say
+abbrev pub byte_of : Option ℕ → Option ℕ → Option ℕ
+byte_of (Some high) (Some low) = Some (high * 16 + low)
+byte_of _ _ = None
+
+-- a byte before others
+abbrev pub byte_before : Option ℕ → Option (List ℕ) → Option (List ℕ)
+byte_before (Some b) (Some bytes) = Some (b ∷ bytes)
+byte_before _ _ = None
+
+abbrev pub are_spaces : ℕ → ℕ → Bool
+are_spaces a b = nat_eq a 0x20 && nat_eq b 0x20
+
+-- the bytes of pairs of digits up to two spaces
+unfoldable pub paired : List ℕ → Option (List ℕ)
+paired [] = None
+paired (a ∷ []) = None
+paired (a ∷ b ∷ text) = if are_spaces a b then Some [] else byte_before (byte_of (digit_value a) (digit_value b)) (paired text)
+
+-- at least one byte
+abbrev pub some_bytes : Option (List ℕ) → Option (List ℕ)
+some_bytes (Some (b ∷ bytes)) = Some (b ∷ bytes)
+some_bytes _ = None
+
+-- the bytes on a line before which so many stand
+unfoldable pub line_bytes : ℕ → List ℕ → Option (List ℕ)
+line_bytes before line =
+    if str_eq_ignore_ascii_case (take 8 line) (place before) then some_bytes (paired (drop 8 line)) else None
+
+-- the bytes so far with those of a line and of what follows; or the number of the line
+abbrev pub bytes_behind : ℕ → List ℕ → Option (List ℕ) → (List ℕ → Result (List ℕ) ℕ) → Result (List ℕ) ℕ
+bytes_behind number image None next = Err number
+bytes_behind number image (Some bytes) next = next (image ++ bytes)
+
+-- the bytes so far with those on lines from this number on; or the number of the first line that isn't one
+abbrev pub read_lines : ℕ → List ℕ → List (List ℕ) → Result (List ℕ) ℕ
+read_lines number image [] = Ok image
+read_lines number image (line ∷ lines) =
+    bytes_behind number image (line_bytes (length image) line) (λ more. read_lines (number + 1) more lines)
+
+-- the image that a text means, or the number of its first line that isn't one, from 1
+abbrev pub meaning : List ℕ → Result (List ℕ) ℕ
+meaning text = read_lines 1 [] (text_lines text)
+
+-- a call was refused for this line, or for want of memory
+abbrev pub IsUnread : {A : Type 0} → Result A ℕ → DetokFault → Type 0
+IsUnread r fault.NoMemory = Unit {0}
+IsUnread r (fault.Stream f) = ⊥
+IsUnread r (fault.BadLine n) = r ≡ Err n
+
+-- each number is a byte
+abbrev pub IsBytes : List ℕ → Type 0
+IsBytes image = (i : ℕ) → slice_index image i < 256
+
+-- each listing reads back
+abbrev pub ListingReadsBack : Type 0
+ListingReadsBack = (image text : List ℕ) → IsBytes image → listed image ≡ Ok text → meaning text ≡ Ok image

@@ -1,0 +1,226 @@
+// What is said behind the bytes of a line. Each function that writes puts its text behind what
+// stands there.
+
+ghost use Rattle.std.specs.Prelude.{◌≡◌, ◌<◌, ◌≤◌, ◌+◌, ◌*◌, ◌^◌, ◌%◌, pos, ◌+ℤ◌, ◌++◌, codes, length, map, OnOk, slice_index};
+ghost use Rattle.of_detok.specs.Listing.{name, shown, quoted, width, wrapped, target, operands, token_label, start_name, actual_sum, said_sum, said_length, unless_said, header_label};
+ghost use Rattle.of_detok.specs.Digits.{digits};
+ghost use Rattle.of_stream.specs.Decoding.{argument_shown, token_shown};
+
+use crate::line::write_digits;
+use of_fcodes::{FCode, name_of};
+use of_stream::{Argument, HEADER_LENGTH, OffsetSize, Token};
+use std::alloc::AllocError;
+
+/// Writes an FCode in three digits.
+fn write_code(out: &mut Vec<u8>, code: FCode) -> Result<(), AllocError>
+    ensures { OnOk result (out.new.items ≡ out.old.items ++ digits 3 code.0) }
+{
+    write_digits(out, 3, usize::from(code.0))
+}
+
+/// Writes the name of an FCode, and of one that isn't listed its number.
+#[tactic(auto, unfolding(crate::specs::Listing::name), using(std::proofs::lemmas::List::append_assoc))]
+fn write_name(out: &mut Vec<u8>, code: FCode) -> Result<(), AllocError>
+    ensures { OnOk result (out.new.items ≡ out.old.items ++ name code.0) }
+{
+    match name_of(code) {
+        Some(name) => out.extend_from_slice(name.as_bytes()),
+        None => {
+            out.extend_from_slice(b"fcode-")?;
+            write_code(out, code)
+        }
+    }
+}
+
+/// A byte as it is shown in a string: `.` unless it can be printed.
+#[inline]
+fn shown(byte: u8) -> u8
+    ensures { result ≡ shown byte }
+{
+    match byte {
+        0x20..=0x7e => byte,
+        _ => b'.',
+    }
+}
+
+/// Writes a string in quotes.
+#[tactic(auto, unfolding(crate::specs::Listing::quoted), using(std::proofs::lemmas::List::append_assoc))]
+fn write_quoted(out: &mut Vec<u8>, text: &[u8]) -> Result<(), AllocError>
+    ensures { OnOk result (out.new.items ≡ out.old.items ++ quoted text.now) }
+{
+    out.push(b'"')?;
+    write_shown(out, text)?;
+    out.push(b'"')?;
+    Ok(())
+}
+
+/// Writes the bytes of a string.
+fn write_shown(out: &mut Vec<u8>, text: &[u8]) -> Result<(), AllocError>
+    ensures { OnOk result (out.new.items ≡ out.old.items ++ map shown text.now) }
+{
+    for byte in text {
+        out.push(shown(*byte))?;
+    }
+    Ok(())
+}
+
+/// How many bytes an offset has.
+#[inline]
+fn width(size: OffsetSize) -> usize
+    ensures { result ≡ width size }
+{
+    match size {
+        OffsetSize::One => 1,
+        OffsetSize::Two => 2,
+    }
+}
+
+/// The position so far from another, modulo 2^24.
+fn moved(from: usize, by: i16) -> usize
+    requires { from < 2 ^ 63 }
+    ensures { result ≡ wrapped (pos from +ℤ by) }
+{
+    let length = usize::from(by.unsigned_abs());
+    if by >= 0 {
+        return (from + length) % 0x100_0000;
+    }
+    if length <= from {
+        return (from - length) % 0x100_0000;
+    }
+    0xff_ffff - (length - from - 1) % 0x100_0000
+}
+
+/// Where the offset at the end of a token leads, modulo 2^24.
+#[tactic(auto, unfolding(crate::specs::Listing::target))]
+fn target_of(next: usize, size: OffsetSize, by: i16) -> usize
+    requires { next < 2 ^ 63 }
+    ensures { result ≡ target next size by }
+{
+    moved(next.saturating_sub(width(size)), by)
+}
+
+/// Writes the operands of a token before a position, each behind a space.
+#[tactic(auto, unfolding(crate::specs::Listing::operands), using(std::proofs::lemmas::List::append_assoc))]
+fn write_operands(
+    out: &mut Vec<u8>,
+    next: usize,
+    size: OffsetSize,
+    argument: Argument<'_>,
+) -> Result<(), AllocError>
+    requires { next < 2 ^ 63 }
+    ensures { OnOk result (out.new.items ≡ out.old.items ++ operands next size (argument_shown argument.entry)) }
+{
+    match argument {
+        Argument::Nothing => Ok(()),
+        Argument::Literal(x) => {
+            out.push(b' ')?;
+            write_digits(out, 8, x.0 as usize)
+        }
+        Argument::String(text) => {
+            out.push(b' ')?;
+            write_quoted(out, text)
+        }
+        Argument::FCode(code) => {
+            out.push(b' ')?;
+            write_code(out, code)
+        }
+        Argument::Named(name, code) => {
+            out.push(b' ')?;
+            write_quoted(out, name)?;
+            out.push(b' ')?;
+            write_code(out, code)
+        }
+        Argument::Offset(by) => {
+            out.extend_from_slice(b" -> ")?;
+            write_digits(out, 6, target_of(next, size, by))
+        }
+    }
+}
+
+/// Writes the name and the operands of a token before a position.
+#[tactic(auto, using(std::proofs::lemmas::List::append_assoc))]
+pub fn write_token(
+    out: &mut Vec<u8>,
+    next: usize,
+    size: OffsetSize,
+    token: Token<'_>,
+) -> Result<(), AllocError>
+    requires { next < 2 ^ 63 }
+    ensures { OnOk result (out.new.items ≡ out.old.items ++ token_label next size (token_shown token.entry)) }
+{
+    write_name(out, token.code)?;
+    write_operands(out, next, size, token.argument)
+}
+
+/// The word that a start byte stands for.
+fn start_name(start: u8) -> &'static [u8]
+    ensures { result.now ≡ start_name start }
+{
+    match start {
+        0xf1 => b"start1",
+        0xf2 => b"start2",
+        0xf3 => b"start4",
+        _ => b"version1",
+    }
+}
+
+/// The low sixteen bits of the sum of the bytes behind the header.
+#[tactic(auto, unfolding(crate::specs::Listing::actual_sum))]
+fn actual_sum(image: &[u8]) -> usize
+    requires { 8 ≤ length image.now }
+    ensures { result ≡ actual_sum image.now }
+{
+    let mut sum = 0;
+    for byte in &image[HEADER_LENGTH..] {
+        sum = (sum + usize::from(*byte)) % 0x1_0000;
+    }
+    sum
+}
+
+/// The checksum that a header says.
+fn said_sum(image: &[u8]) -> usize
+    requires { 8 ≤ length image.now }
+    ensures { result ≡ said_sum image.now }
+{
+    usize::from(image[2]) * 0x100 + usize::from(image[3])
+}
+
+/// The length that a header says.
+fn said_length(image: &[u8]) -> usize
+    requires { 8 ≤ length image.now }
+    ensures { result ≡ said_length image.now }
+{
+    let high = usize::from(image[4]) * 0x100 + usize::from(image[5]);
+    (high * 0x100 + usize::from(image[6])) * 0x100 + usize::from(image[7])
+}
+
+/// Writes a number under a title where the header says another.
+#[tactic(auto, using(std::proofs::lemmas::List::append_assoc))]
+fn write_unless_said(
+    out: &mut Vec<u8>,
+    title: &[u8],
+    count: usize,
+    said: usize,
+    actual: usize,
+) -> Result<(), AllocError>
+    ensures { OnOk result (out.new.items ≡ out.old.items ++ unless_said title.now count said actual) }
+{
+    if said == actual {
+        return Ok(());
+    }
+    out.extend_from_slice(title)?;
+    write_digits(out, count, actual)?;
+    out.push(b')')?;
+    Ok(())
+}
+
+/// Writes the start word, and the checksum and the length where the header says others.
+#[tactic(auto, unfolding(crate::specs::Listing::header_label), using(std::proofs::lemmas::List::append_assoc))]
+pub fn write_header(out: &mut Vec<u8>, image: &[u8]) -> Result<(), AllocError>
+    requires { 8 ≤ length image.now }
+    ensures { OnOk result (out.new.items ≡ out.old.items ++ header_label image.now) }
+{
+    out.extend_from_slice(start_name(image[0]))?;
+    write_unless_said(out, b" (sum ", 4, said_sum(image), actual_sum(image))?;
+    write_unless_said(out, b" (bytes ", 8, said_length(image), image.len())
+}

@@ -1,0 +1,16 @@
+//! Listings of FCode images, a line for each token, that read back to the image.
+#![tactic(auto)]
+
+mod fault;
+mod labels;
+mod laws;
+mod line;
+mod lister;
+mod reader;
+#[cfg(test)]
+mod tests;
+
+pub use fault::DetokFault;
+pub use laws::{listings_read_back, relisted};
+pub use lister::listing;
+pub use reader::read_listing;

@@ -1,0 +1,140 @@
+ghost use Rattle.std.specs.Prelude.{◌≡◌, ◌+◌, ◌-◌, ◌/◌, ◌≤◌, ◌<◌, ◌^◌, ◌++◌, codes, length, take, drop, IfOk, IfErr, OnOk, slice_range};
+ghost use Rattle.std.specs.List.{flat_map};
+ghost use Rattle.of_stream.specs.Decoding.{token_shown};
+ghost use Rattle.of_detok.specs.Listing.{header_line, line_text, token_line, trailing_from, is_end, size_behind, lines_behind, text_behind, listed, IsRefused};
+
+use crate::fault::DetokFault;
+use crate::labels::{write_header, write_token};
+use crate::line::write_line;
+use of_fcodes::FCode;
+use of_stream::{HEADER_LENGTH, OffsetSize, Stream, StreamFault, Token, open};
+use std::alloc::{AllocError, Global};
+
+/// How many bytes stand on a line behind the end token.
+const TRAILING: usize = 16;
+
+/// Writes the line of the header.
+#[tactic(auto, unfolding(crate::specs::Listing::line_text), using(std::proofs::lemmas::List::append_assoc))]
+fn write_header_line(out: &mut Vec<u8>, image: &[u8]) -> Result<(), AllocError>
+    requires { 8 ≤ length image.now }
+    ensures { OnOk result (out.new.items ≡ out.old.items ++ line_text (header_line image.now)) }
+{
+    write_line(out, 0, &image[..HEADER_LENGTH])?;
+    write_header(out, image)?;
+    out.push(b'\n')?;
+    Ok(())
+}
+
+/// Writes the line of the token from a position up to another.
+#[tactic(auto, unfolding(crate::specs::Listing::line_text), using(std::proofs::lemmas::List::append_assoc))]
+fn write_token_line(
+    out: &mut Vec<u8>,
+    image: &[u8],
+    position: usize,
+    size: OffsetSize,
+    token: Token<'_>,
+    next: usize,
+) -> Result<(), AllocError>
+    requires rises { position ≤ next }
+    requires within { next ≤ length image.now }
+    ensures { OnOk result (out.new.items ≡ out.old.items ++ line_text (token_line image.now position size (token_shown token.entry, next))) }
+{
+    write_line(out, position, &image[position..next])?;
+    write_token(out, next, size, token)?;
+    out.push(b'\n')?;
+    Ok(())
+}
+
+/// Writes a line behind the end token.
+#[tactic(auto, unfolding(crate::specs::Listing::line_text), using(std::proofs::lemmas::List::append_assoc))]
+fn write_trailing_line(out: &mut Vec<u8>, before: usize, bytes: &[u8]) -> Result<(), AllocError>
+    ensures { OnOk result (out.new.items ≡ out.old.items ++ line_text (record { before = before; bytes = bytes.now; label = codes "trailing" })) }
+{
+    write_line(out, before, bytes)?;
+    out.extend_from_slice(b"trailing\n")
+}
+
+/// The bytes of the line that begins at a position behind the end token.
+#[tactic(auto, using(std::proofs::lemmas::List::take_min))]
+fn bytes_from(image: &[u8], position: usize) -> &[u8]
+    requires { position ≤ length image.now }
+    ensures { result.now ≡ take 16 (drop position image.now) }
+{
+    let rest = &image[position..];
+    &rest[..TRAILING.min(rest.len())]
+}
+
+/// Writes the lines from a position on, behind the end token.
+fn write_trailing(out: &mut Vec<u8>, image: &[u8], position: usize) -> Result<(), AllocError>
+    requires { position ≤ length image.now }
+    ensures { OnOk result (out.new.items ≡ out.old.items ++ flat_map line_text (trailing_from image.now position)) }
+{
+    let count = (image.len() - position).div_ceil(TRAILING);
+    for k in 0..count {
+        let first = position + TRAILING * k;
+        write_trailing_line(out, first, bytes_from(image, first))?;
+    }
+    Ok(())
+}
+
+/// Whether an FCode ends an image.
+#[inline]
+fn is_end(code: FCode) -> bool
+    ensures { result ≡ is_end code.0 }
+{
+    matches!(code.0, 0x000 | 0x0ff)
+}
+
+/// The size of the offsets behind an FCode.
+#[inline]
+fn size_behind(code: FCode, size: OffsetSize) -> OffsetSize
+    ensures { result ≡ size_behind code.0 size }
+{
+    match code.0 {
+        0x0cc => OffsetSize::Two,
+        _ => size,
+    }
+}
+
+/// Writes the lines behind the header. A token has a byte at least, so there are no more tokens
+/// than bytes.
+fn write_tokens(out: &mut Vec<u8>, stream: Stream<'_>) -> Result<(), DetokFault>
+    requires { 8 ≤ length stream.image.now }
+    ensures ok { OnOk result (text_behind out.old.items (lines_behind stream.entry.image.now) ≡ Ok out.new.items) }
+    ensures err { IfErr result (λ f. IsRefused (text_behind out.old.items (lines_behind stream.entry.image.now)) f) }
+{
+    let mut position = HEADER_LENGTH;
+    let mut size = stream.first_size();
+    for _ in 0..stream.image.len() {
+        let (token, next) = stream.token_at(position, size)?;
+        write_token_line(out, stream.image, position, size, token, next)?;
+        if is_end(token.code) {
+            write_trailing(out, stream.image, next)?;
+            return Ok(());
+        }
+        position = next;
+        size = size_behind(token.code, size);
+    }
+    Err(DetokFault::Stream(StreamFault::Ended(position)))
+}
+
+/// The listing of an image (IEEE 1275-1994, 5.2.2), a line for each token.
+///
+/// A line has its position in six digits (modulo 2^24), `: `, its bytes in hexadecimal, two spaces,
+/// the name and the operands. The first line is the header's, with the start word, and with the
+/// checksum and the length of the image where the header says others. Offsets have the size that
+/// holds at their token, in the order of the bytes. Bytes behind the end token are lines of up to
+/// sixteen bytes, named `trailing`.
+///
+/// Stream where the header, or a token up to the end token, can't be read; NoMemory.
+#[tactic(auto, unfolding(crate::specs::Listing::lines_of))]
+pub fn listing(alloc: Global, image: &[u8]) -> Result<Vec<u8>, DetokFault>
+    ensures ok { IfOk result (λ text. listed image.now ≡ Ok text.items) }
+    ensures err { IfErr result (λ f. IsRefused (listed image.now) f) }
+{
+    let stream = open(image)?;
+    let mut out = Vec::new(alloc);
+    write_header_line(&mut out, image)?;
+    write_tokens(&mut out, stream)?;
+    Ok(out)
+}
