@@ -1,10 +1,10 @@
 -- Digits read back.
-use Rattle.std.proofs.Common.{◌≡◌, ℕ, zero, suc, ◌+◌, ◌-◌, ◌*◌, ◌/◌, ◌%◌, ◌<◌, ◌≤◌, List, [], ◌∷◌, ◌++◌, codes, Option, Some, None, Bool, true, false, nat_eq, nat_lt, length, refl, sym, ap, ◌∙◌, arith}
+use Rattle.std.proofs.Common.{◌≡◌, ℕ, ◌+◌, ◌-◌, ◌*◌, ◌/◌, ◌%◌, ◌<◌, ◌≤◌, List, [], ◌∷◌, ◌++◌, codes, Some, Bool, true, false, nat_eq, nat_lt, length, refl, arith}
 use Rattle.std.proofs.lemmas.Bool.Decides.{nat_tests}
 use Rattle.std.specs.List.{AllByRecursion}
 use Rattle.std.specs.Str.{bytes_eq, str_to_ascii_lowercase, str_eq_ignore_ascii_case}
 use Rattle.of_detok.specs.Digits.{digit, digits, digit_value, pairs, place}
-use Rattle.of_detok.specs.Reading.{are_spaces, byte_of, byte_before, paired}
+use Rattle.of_detok.specs.Reading.{are_spaces, paired}
 
 value_low : (d : ℕ) → d < 10 → digit_value (48 + d) ≡ Some d
 value_low d h =

@@ -1,5 +1,5 @@
 -- A step of each loop, over variables.
-use Rattle.std.proofs.Common.{◌≡◌, ℕ, zero, suc, ◌+◌, ◌-◌, ◌*◌, ◌/◌, ◌%◌, ◌<◌, ◌≤◌, List, [], ◌∷◌, ◌++◌, length, take, drop, get_or, Option, Some, None, Result, Ok, Err, Bool, true, false, cond, nat_eq, nat_lt, refl, sym, ap, ◌∙◌, arith, append_assoc, codes}
+use Rattle.std.proofs.Common.{◌≡◌, ℕ, suc, ◌+◌, ◌-◌, ◌*◌, ◌/◌, ◌%◌, ◌<◌, ◌≤◌, List, [], ◌∷◌, ◌++◌, length, take, drop, get_or, Option, Some, None, Result, Ok, Err, Bool, true, false, cond, nat_eq, nat_lt, refl, sym, ap, ◌∙◌, arith, append_assoc, codes}
 use Rattle.std.proofs.lemmas.List.{drop_more, drop_all, drop-drop, take_all, length-append, append-nil}
 use Rattle.std.proofs.lemmas.Bool.Decides.{nat_tests}
 use Rattle.std.specs.List.{flat_map, position, position_or_len}
@@ -10,7 +10,7 @@ use Rattle.of_stream.specs.declared.stream.OffsetSize.{OffsetSize}
 use Rattle.of_stream.specs.Decoding.{Token, token_from}
 use Rattle.of_detok.specs.Digits.{digit, digit_value, pairs}
 use Rattle.of_detok.specs.Listing.{Line, line_text, line_before, text_behind, token_line, is_end, size_behind, lines_from, trailing, trailing_from}
-use Rattle.of_detok.specs.Reading.{paired, are_spaces, byte_of, byte_before, some_bytes, bytes_behind, text_lines, with_first}
+use Rattle.of_detok.specs.Reading.{paired, are_spaces, byte_of, byte_before, some_bytes, text_lines}
 
 -- one more byte as two digits
 pub pairs_more : (out bytes : List ℕ) (i d : ℕ) → i < length bytes
@@ -27,10 +27,6 @@ pairs_more out bytes i d h =
 pub pairs_end : (out bytes : List ℕ) (i : ℕ) → length bytes ≤ i → out ++ pairs (drop i bytes) ≡ out
 unfolding pairs
 pairs_end out bytes i h = ap (λ xs. out ++ pairs xs) (drop_all i bytes h) ∙ append-nil out
-
--- the bytes of a text behind others
-abbrev pub paired_behind : List ℕ → List ℕ → Option (List ℕ)
-paired_behind out text = option_map (λ bytes. out ++ bytes) (paired text)
 
 push_more : (out : List ℕ) (b : ℕ) (o : Option (List ℕ)) → option_map (λ bytes. out ++ bytes) (byte_before (Some b) o) ≡ option_map (λ bytes. (out ++ b ∷ []) ++ bytes) o
 push_more out b None = refl
@@ -89,18 +85,6 @@ pub none_by : (old : List ℕ) (o : Option (List ℕ)) → option_map (λ bytes.
     → option_map (λ bytes. old ++ bytes) (some_bytes o) ≡ None
 none_by old None h = refl
 none_by old (Some bytes) h = absurd cc
-
--- a line that was read, and what follows it
-pub line_read : (number : ℕ) (image new : List ℕ) (o : Option (List ℕ)) (next : List ℕ → Result (List ℕ) ℕ) → option_map (λ bytes. image ++ bytes) o ≡ Some new
-    → bytes_behind number image o next ≡ next new
-line_read number image new None next h = absurd cc
-line_read number image new (Some bytes) next h = let same : image ++ bytes ≡ new = cc in ap next same
-
--- a line that is none
-pub line_unread : (number : ℕ) (image : List ℕ) (o : Option (List ℕ)) (next : List ℕ → Result (List ℕ) ℕ) → option_map (λ bytes. image ++ bytes) o ≡ None
-    → bytes_behind number image o next ≡ Err number
-line_unread number image None next h = refl
-line_unread number image (Some bytes) next h = absurd cc
 
 -- no text
 pub no_lines : (text : List ℕ) → length text ≡ 0 → text_lines text ≡ []
@@ -190,13 +174,6 @@ pub tokens_cut : (text image : List ℕ) (n k position : ℕ) (size : OffsetSize
 tokens_cut text image n k position size l h =
     let less : n - k ≡ suc (n - (k + 1)) = omega arith in
     rw (less, h) refl
-
--- all bytes are read
-pub tokens_past : (text image : List ℕ) (n k position : ℕ) (size : OffsetSize) → n ≤ k
-    → text_behind text (lines_from image (n - k) position size) ≡ Err (Ended position)
-tokens_past text image n k position size l =
-    let none : n - k ≡ 0 = omega arith in
-    rw none refl
 
 -- one more line behind the end token
 pub trailing_more : (text image : List ℕ) (count k position : ℕ) → k < count

@@ -1,5 +1,5 @@
 -- No label has a newline.
-use Rattle.std.proofs.Common.{◌≡◌, ℕ, zero, suc, ◌+◌, ◌/◌, ◌%◌, ◌<◌, List, [], ◌∷◌, ◌++◌, map, codes, Option, Some, None, Bool, true, false, cond, ◌&&◌, nat_eq, nat_lt, length, slice_index, refl, sym, ap, ◌∙◌, arith}
+use Rattle.std.proofs.Common.{◌≡◌, ℕ, zero, suc, ◌/◌, ◌%◌, List, [], ◌∷◌, ◌++◌, map, codes, Option, Some, None, Bool, true, false, cond, ◌&&◌, nat_eq, length, slice_index, refl, arith}
 use Rattle.std.proofs.lemmas.Bool.Decides.{nat_tests}
 use Rattle.of_fcodes.specs.Rows.{Row, rows, first_rows, second_rows, third_rows, fourth_rows, fifth_rows, sixth_rows, seventh_rows}
 use Rattle.of_fcodes.specs.Lookup.{row_in, row_numbered, name_numbered}

@@ -1,5 +1,5 @@
 -- The text of lines that lie one behind another means their bytes.
-use Rattle.std.proofs.Common.{◌≡◌, ℕ, zero, suc, ◌+◌, ◌<◌, List, [], ◌∷◌, ◌++◌, length, take, drop, codes, Option, Some, None, Result, Ok, Err, true, false, nat_eq, get_or, refl, sym, ap, ◌∙◌, arith, append_assoc}
+use Rattle.std.proofs.Common.{◌≡◌, ℕ, suc, ◌+◌, ◌<◌, List, [], ◌∷◌, ◌++◌, length, take, drop, codes, Some, Result, Ok, Err, true, get_or, refl, sym, ap, ◌∙◌, arith, append_assoc}
 use Rattle.std.proofs.lemmas.List.{length-append, append-nil, take_at, drop_at}
 use Rattle.std.specs.List.{AllByRecursion, flat_map}
 use Rattle.of_stream.specs.declared.fault.StreamFault.{StreamFault}
@@ -8,7 +8,7 @@ use Rattle.of_detok.specs.Digits.{pairs, place}
 use Rattle.of_detok.specs.declared.fault.DetokFault.{DetokFault}
 use Rattle.of_detok.specs.declared.fault.DetokFault.TheVariants as fault
 use Rattle.of_detok.specs.Listing.{Line, line_text, lines_of, text_behind, IsRefused}
-use Rattle.of_detok.specs.Reading.{text_lines, with_first, some_bytes, paired, line_bytes, bytes_behind, read_lines, IsBytes, IsUnread, ListingReadsBack}
+use Rattle.of_detok.specs.Reading.{text_lines, some_bytes, line_bytes, bytes_behind, read_lines, IsBytes, IsUnread, ListingReadsBack}
 use Rattle.of_detok.proofs.Plain.{plain, plain_parts, plain_append, plain_place, plain_pairs}
 use Rattle.of_detok.proofs.Digits16.{paired-pairs, length-place, same_text}
 use Rattle.of_detok.proofs.Laid.{IsLaid, lines_laid}

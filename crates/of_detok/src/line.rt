@@ -33,17 +33,17 @@ fn last_digit(n: usize) -> u8
 pub fn place_of(before: usize) -> [u8; 8]
     ensures { result ≡ place before }
 {
-    let tens = before / 16;
-    let hundreds = tens / 16;
-    let thousands = hundreds / 16;
-    let fifth = thousands / 16;
+    let second = before / 16;
+    let third = second / 16;
+    let fourth = third / 16;
+    let fifth = fourth / 16;
     let sixth = fifth / 16;
     [
         last_digit(sixth),
         last_digit(fifth),
-        last_digit(thousands),
-        last_digit(hundreds),
-        last_digit(tens),
+        last_digit(fourth),
+        last_digit(third),
+        last_digit(second),
         last_digit(before),
         b':',
         b' ',

@@ -116,7 +116,7 @@ pub fn read_listing(alloc: Global, text: &[u8]) -> Result<Vec<u8>, DetokFault>
 {
     let mut image = Vec::new(alloc);
     let mut rest = text;
-    let mut number = 1;
+    let mut number = 1usize;
     while !rest.is_empty() {
         let (line, behind) = first_line(rest);
         if !read_line(&mut image, line)? {
