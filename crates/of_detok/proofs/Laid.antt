@@ -4,11 +4,11 @@ use Rattle.std.proofs.lemmas.List.{length-take, length-drop, length-append, take
 use Rattle.std.proofs.lemmas.Bool.Decides.{nat_tests}
 use Rattle.std.specs.Option.{option_map}
 use Rattle.of_stream.specs.declared.fault.StreamFault.{StreamFault}
-use Rattle.of_stream.specs.declared.fault.StreamFault.TheVariants.{Short}
+use Rattle.of_stream.specs.declared.fault.StreamFault.TheVariants.{Short, Ended}
 use Rattle.of_stream.specs.declared.stream.OffsetSize.{OffsetSize}
 use Rattle.of_stream.specs.Image.{header_fault, start_fault, first_size}
 use Rattle.of_stream.specs.Decoding.{Token, decoded, token_from, TokenStandsAlone}
-use Rattle.of_detok.specs.Listing.{Line, trailing, trailing_from, line_before, token_line, is_end, size_behind, token_lines, lines_from, lines_behind, header_line, lines_if, lines_of}
+use Rattle.of_detok.specs.Listing.{Line, trailing, trailing_from, line_before, token_line, is_end, size_behind, token_lines, lines_from, lines_behind, BoundCutsNothing, header_line, lines_if, lines_of}
 use Rattle.of_detok.proofs.Plain.{plain, plain_token, plain_header}
 
 -- these lines have these bytes, of which so many stand before the first
@@ -43,18 +43,50 @@ some_token : {A : Type 0} (a b : A) → Some a ≡ Some b → a ≡ b
 some_token a b h = cc
 
 rises_by : TokenStandsAlone → (image : List ℕ) (p : ℕ) (size : OffsetSize) (o : Option (Token × List ℕ)) (t : Token) (q : ℕ) → decoded size (drop p image) ≡ o
-    → option_map {U = Token × ℕ} (λ r. (r.0, length image - length r.1)) o ≡ Some (t, q) → p ≤ length image → Rises image p q
-rises_by law image p size None t q e h l = absurd cc
-rises_by law image p size (Some r) t q e h l =
+    → option_map {U = Token × ℕ} (λ r. (r.0, length image - length r.1)) o ≡ Some (t, q) → Rises image p q
+rises_by law image p size None t q e h = absurd cc
+rises_by law image p size (Some r) t q e h =
     let own = law size (drop p image) r.1 r.0 e in
     let at : length image - length r.1 ≡ q = ap (λ (x : Token × ℕ). x.1) (some_token (r.0, length image - length r.1) (t, q) h) in
     let whole : length (drop p image) ≡ length own.0 + length r.1 = ap length own.1 ∙ length-append own.0 r.1 in
     let some : 0 < length own.0 = own.2.some in
-    (omega (arith, at, whole, some, l, length-drop p image), omega (arith, at))
+    (omega (arith, at, whole, some, length-drop p image), omega (arith, at))
 
-rises : TokenStandsAlone → (image : List ℕ) (p : ℕ) (size : OffsetSize) (r : Token × ℕ) → token_from image p size ≡ Some r → p ≤ length image → Rises image p r.1
+rises : TokenStandsAlone → (image : List ℕ) (p : ℕ) (size : OffsetSize) (r : Token × ℕ) → token_from image p size ≡ Some r → Rises image p r.1
 unfolding token_from
-rises law image p size r h l = rises_by law image p size (decoded size (drop p image)) r.0 r.1 refl h l
+rises law image p size r h = rises_by law image p size (decoded size (drop p image)) r.0 r.1 refl h
+
+-- ---- the bound on the number of tokens
+
+past : TokenStandsAlone → (image : List ℕ) (n p : ℕ) (size : OffsetSize) (o : Option (Token × ℕ)) → token_from image p size ≡ o → length image ≤ p
+    → token_lines image p size o (lines_from image n) ≡ Err (Ended p)
+past law image n p size None e l = refl
+past law image n p size (Some r) e l = let up = rises law image p size r e in absurd (omega (arith, l, up.0, up.1))
+
+-- two bounds that are large enough
+abbrev Agree : List ℕ → ℕ → ℕ → Type 0
+Agree image m n = (p : ℕ) (size : OffsetSize) → length image ≤ p + m → length image ≤ p + n → lines_from image m p size ≡ lines_from image n p size
+
+step : TokenStandsAlone → (image : List ℕ) (m n p : ℕ) (size : OffsetSize) (o : Option (Token × ℕ)) → Agree image m n → token_from image p size ≡ o
+    → length image ≤ p + suc m → length image ≤ p + suc n
+    → token_lines image p size o (lines_from image m) ≡ token_lines image p size o (lines_from image n)
+step law image m n p size None agree e h k = refl
+step law image m n p size (Some r) agree e h k =
+    let up = rises law image p size r e in
+    let same = agree r.1 (size_behind r.0.code.0 size) (omega (arith, h, up.0)) (omega (arith, k, up.0)) in
+    ap (λ x. line_before (token_line image p size r) (cond (is_end r.0.code.0) (Ok (trailing_from image r.1)) x)) same
+
+agree_all : TokenStandsAlone → (image : List ℕ) (m n : ℕ) → Agree image m n
+agree_all law image zero zero p size h k = refl
+agree_all law image zero (suc n) p size h k = sym (past law image n p size (token_from image p size) refl (omega (arith, h)))
+agree_all law image (suc m) zero p size h k = past law image m p size (token_from image p size) refl (omega (arith, k))
+agree_all law image (suc m) (suc n) p size h k = step law image m n p size (token_from image p size) (agree_all law image m n) refl h k
+
+-- a larger bound gives the same lines
+pub cuts_nothing : TokenStandsAlone → BoundCutsNothing
+cuts_nothing law image n h = agree_all law image n (length image) 8 (first_size image) (omega (arith, h)) (omega arith)
+
+-- ---- one line behind another
 
 abbrev fine : List Line → Result (List Line) StreamFault
 fine lines = Ok lines
@@ -92,7 +124,7 @@ laid_token : TokenStandsAlone → (image : List ℕ) (p : ℕ) (size : OffsetSiz
     → token_lines image p size o next ≡ Ok lines → IsLaid p lines (drop p image)
 laid_token law image p size None next lines e l laid h = absurd cc
 laid_token law image p size (Some r) next lines e l laid h =
-    let up = rises law image p size r e l in
+    let up = rises law image p size r e in
     let long = length-cut image p r.1 up.0 up.1 in
     let at : p + length (take (r.1 - p) (drop p image)) ≡ r.1 = omega (arith, up.0, long) in
     let some : 0 < length (take (r.1 - p) (drop p image)) = omega (arith, up.0, long) in

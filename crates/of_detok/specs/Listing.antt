@@ -1,5 +1,5 @@
 -- The listing of an image, a line for each token (IEEE 1275-1994, 5.2.2).
-use Rattle.std.specs.Prelude.{◌≡◌, ℕ, zero, suc, ◌+◌, ◌-◌, ◌*◌, ◌/◌, ◌%◌, ℤ, pos, negsuc, ◌+ℤ◌, List, [], ◌∷◌, ◌++◌, map, length, take, drop, slice_index, slice_range, codes, Option, Some, None, Result, Ok, Err, Bool, ◌||◌, nat_eq, nat_lt, if◌then◌else◌}
+use Rattle.std.specs.Prelude.{◌≡◌, ℕ, zero, suc, ◌+◌, ◌-◌, ◌*◌, ◌/◌, ◌%◌, ℤ, pos, negsuc, ◌+ℤ◌, ◌≤◌, List, [], ◌∷◌, ◌++◌, map, length, take, drop, slice_index, slice_range, codes, Option, Some, None, Result, Ok, Err, Bool, ◌||◌, nat_eq, nat_lt, if◌then◌else◌}
 use Rattle.std.specs.List.{sum, flat_map}
 use Rattle.of_fcodes.specs.Lookup.{name_numbered}
 use Rattle.of_stream.specs.declared.fault.StreamFault.{StreamFault}
@@ -26,7 +26,7 @@ line_text l = place l.before ++ pairs l.bytes ++ codes "  " ++ l.label ++ codes 
 
 -- ---- the label of a token
 
--- an FCode of three digits that isn't listed
+-- the name, or the number of an FCode that isn't listed
 abbrev pub name_or : Option (List ℕ) → ℕ → List ℕ
 name_or (Some name) n = name
 name_or None n = codes "fcode-" ++ digits 3 n
@@ -144,9 +144,13 @@ abbrev pub lines_from : List ℕ → ℕ → ℕ → OffsetSize → Result (List
 lines_from image zero position size = Err (Ended position)
 lines_from image (suc n) position size = token_lines image position size (token_from image position size) (lines_from image n)
 
--- the lines behind the header's
+-- the lines behind the header's; a token has a byte at least, so there are no more tokens than bytes
 abbrev pub lines_behind : List ℕ → Result (List Line) StreamFault
 lines_behind image = lines_from image (length image) 8 (first_size image)
+
+-- the bound on the number of tokens cuts nothing: a larger one gives the same lines
+abbrev pub BoundCutsNothing : Type 0
+BoundCutsNothing = (image : List ℕ) (n : ℕ) → length image ≤ n → lines_from image n 8 (first_size image) ≡ lines_behind image
 
 -- the line of the header
 abbrev pub header_line : List ℕ → Line

@@ -1,5 +1,7 @@
+// A law has no parameters and does nothing: its contract is the law.
+
 ghost use Rattle.std.specs.Prelude.{◌≡◌, IfOk, IfErr};
-ghost use Rattle.of_detok.specs.Listing.{listed, IsRefused};
+ghost use Rattle.of_detok.specs.Listing.{BoundCutsNothing, listed, IsRefused};
 ghost use Rattle.of_detok.specs.Reading.{ListingReadsBack};
 
 use crate::fault::DetokFault;
@@ -8,7 +10,15 @@ use crate::reader::read_listing;
 use of_stream::tokens_stand_alone;
 use std::alloc::Global;
 
-/// A law: the listing of an image of bytes means that image.
+/// The definition of a listing bounds the number of tokens by that of the bytes, and the bound cuts
+/// nothing: with a larger one each image has the same lines.
+pub fn bound_cuts_nothing()
+    ensures { BoundCutsNothing }
+{
+    tokens_stand_alone();
+}
+
+/// The listing of an image of bytes means that image.
 pub fn listings_read_back()
     ensures { ListingReadsBack }
 {

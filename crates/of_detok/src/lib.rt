@@ -11,6 +11,6 @@ mod reader;
 mod tests;
 
 pub use fault::DetokFault;
-pub use laws::{listings_read_back, relisted};
+pub use laws::{bound_cuts_nothing, listings_read_back, relisted};
 pub use lister::listing;
 pub use reader::read_listing;

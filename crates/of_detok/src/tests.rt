@@ -3,6 +3,12 @@ use hex::decode;
 use of_stream::StreamFault;
 use std::test::Fail;
 
+/// The image of `2 3 + .`, and its listing.
+const FIVE: &[u8] = &[0xf1, 8, 2, 0x0a, 0, 0, 0, 13, 0xa7, 0xa8, 0x1e, 0x9d, 0];
+
+const FIVE_LISTED: &str =
+    "000000: f108020a0000000d  start1\n000008: a7  2\n000009: a8  3\n00000a: 1e  +\n00000b: 9d  .\n00000c: 00  end0\n";
+
 const OPERANDS: &str = "\
 000000: f308101b00000054  start4 (sum 101a) (bytes 00000053)
 000008: 1000000000  b(lit) 00000000
@@ -51,10 +57,7 @@ const SIZES: &str = "\
 
 /// Images in hexadecimal, and their listings.
 const LISTINGS: [(&str, &str); 6] = [
-    (
-        "f108020a0000000da7a81e9d00",
-        "000000: f108020a0000000d  start1\n000008: a7  2\n000009: a8  3\n00000a: 1e  +\n00000b: 9d  .\n00000c: 00  end0\n",
-    ),
+    ("f108020a0000000da7a81e9d00", FIVE_LISTED),
     (
         "f10806640000001cb50800b7140006a6130004b2a7b2c2a508009d00",
         EARLY_TARGETS,
@@ -87,6 +90,7 @@ fn listings(rt: HostRuntime) -> Result<(), Fail> {
         assert_eq!(rt; read, image, "{digits}");
         assert_eq!(rt; relisted(rt.alloc(), &image)?, image, "{digits}");
     }
+    bound_cuts_nothing();
     listings_read_back();
     Ok(())
 }
@@ -175,30 +179,32 @@ fn fault_texts(rt: HostRuntime) -> Result<(), Fail> {
     for (fault, text) in texts {
         assert_eq!(rt; format!(in alloc; "{fault}")?.as_str(), text);
     }
+    assert_eq!(rt;
+        DetokFault::from(StreamFault::Short),
+        DetokFault::Stream(StreamFault::Short)
+    );
     Ok(())
 }
 
 /// Whichever growth is refused, the answer is NoMemory, and a call with memory answers as ever.
 #[test]
-fn refused_memory(rt: HostRuntime) -> Result<(), Fail> {
-    let image = decode(rt.alloc(), LISTINGS[0].0)?;
+fn refused_memory(rt: HostRuntime) {
     for _ in 0..99 {
-        match listing(rt.alloc(), &image) {
+        match listing(rt.alloc(), FIVE) {
             Err(fault) => assert_eq!(rt; fault, DetokFault::NoMemory),
             Ok(text) => {
-                assert_eq!(rt; text.as_slice(), LISTINGS[0].1.as_bytes());
+                assert_eq!(rt; text.as_slice(), FIVE_LISTED.as_bytes());
                 break;
             }
         }
     }
     for _ in 0..99 {
-        match read_listing(rt.alloc(), LISTINGS[0].1.as_bytes()) {
+        match read_listing(rt.alloc(), FIVE_LISTED.as_bytes()) {
             Err(fault) => assert_eq!(rt; fault, DetokFault::NoMemory),
-            Ok(read) => {
-                assert_eq!(rt; read, image);
+            Ok(image) => {
+                assert_eq!(rt; image.as_slice(), FIVE);
                 break;
             }
         }
     }
-    Ok(())
 }
