@@ -26,6 +26,7 @@ abbrev pub byte_before : Option ℕ → Option (List ℕ) → Option (List ℕ)
 byte_before (Some b) (Some bytes) = Some (b ∷ bytes)
 byte_before _ _ = None
 
+-- two spaces
 abbrev pub are_spaces : ℕ → ℕ → Bool
 are_spaces a b = nat_eq a 0x20 && nat_eq b 0x20
 

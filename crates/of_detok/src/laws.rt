@@ -1,4 +1,4 @@
-// A law has no parameters and does nothing: its contract is the law.
+// A function without parameters does nothing: its contract is a law.
 
 ghost use Rattle.std.specs.Prelude.{◌≡◌, IfOk, IfErr};
 ghost use Rattle.of_detok.specs.Listing.{BoundCutsNothing, listed, IsRefused};

@@ -49,7 +49,6 @@ fn byte_of(high: u8, low: u8) -> Option<u8>
 }
 
 /// Appends the bytes of pairs of digits up to two spaces, and says whether two spaces end them.
-
 fn read_pairs(out: &mut Vec<u8>, mut text: &[u8]) -> Result<bool, AllocError>
     ensures { IfOk result (λ ended. option_map (λ bytes. out.old.items ++ bytes) (paired text.entry.now) ≡ (if ended then Some out.new.items else None)) }
 {

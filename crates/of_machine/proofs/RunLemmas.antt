@@ -1,9 +1,34 @@
 -- Runs of the abstract machine, turn by turn.
-use Rattle.std.proofs.Common.{◌≡◌, ℕ, ◌+◌, Bool, true, false, [], Option, Some, None, refl, ap, ◌∙◌, add-one, ◌&&◌, nat_lt, ◌-◌, ◌^◌}
-use Rattle.std.specs.Prelude.{is_some}
-use Rattle.of_machine.specs.States.{State, Running, stepped, running_step, can_step, Steps}
+use Rattle.std.proofs.Common.{◌≡◌, ℕ, ◌+◌, Bool, true, false, List, [], length, Option, Some, None, refl, ap, ◌∙◌, add-one, ◌&&◌, nat_lt, nat_le, ◌-◌, ◌^◌, arith}
+use Rattle.std.specs.Prelude.{is_some, codes}
+use Rattle.std.proofs.lemmas.Bool.Decides.{nat_tests}
+use Rattle.of_memory.specs.DataSpace.{fresh}
+use Rattle.of_memory.specs.Growth.{image_pushed}
+use Rattle.of_stream.specs.Image.{header_fault}
+use Rattle.of_machine.specs.declared.answers.Refusal.{Refusal}
+use Rattle.of_machine.specs.declared.machine.Running.{Running}
+use Rattle.of_machine.specs.States.{State, idle, stepped, running_step, can_step, load_refusal, image_refusal, start_refusal, room_refusal, or_next, Steps}
 use Rattle.of_machine.specs.declared.answers.Progress.TheVariants.{Done}
 use Rattle.of_machine.specs.Runs.{Feed, next, after}
+
+or_none : (r : Option Refusal) → or_next r None ≡ r
+or_none None = refl
+or_none (Some e) = refl
+
+-- an image that isn't too long finds room in an image region without images
+fits_fresh : (image : List ℕ) → nat_lt 0x40000 (length image) ≡ false → room_refusal (image_pushed fresh image) ≡ None
+unfolding fresh
+fits_fresh image short =
+    let room : nat_le (0x60_0000 + length image) 0x64_0000 ≡ true = grind (arith, nat_tests) in
+    rw room refl
+
+slot_refusal_by : (image : List ℕ) (long : Bool) → nat_lt 0x40000 (length image) ≡ long → load_refusal idle image (codes "/slot") ≡ image_refusal image
+slot_refusal_by image true e = rw e refl
+slot_refusal_by image false e = rw (e, fits_fresh image e) (or_none (start_refusal (header_fault image)))
+
+-- an idle machine refuses an image for `/slot` for the image alone
+pub slot_refusal : (image : List ℕ) → load_refusal idle image (codes "/slot") ≡ image_refusal image
+slot_refusal image = slot_refusal_by image (nat_lt 0x40000 (length image)) refl
 
 -- a machine and no lines
 abbrev pub feed_from : State → Feed

@@ -1,72 +1,96 @@
 -- The abstract machine: its states, and what each call makes of them.
 use Rattle.std.specs.Prelude.{◌≡◌, ◌⊎◌, ℕ, ◌+◌, ◌-◌, ◌^◌, Bool, true, false, List, [], ◌++◌, length, Option, Some, None, is_some, Result, Ok, Err, nat_lt, ◌&&◌, if◌then◌else◌, codes}
 use Rattle.std.specs.Str.{bytes_eq}
-use Rattle.of_cells.specs.declared.cells.Cell.{Cell}
 use Rattle.of_stacks.specs.declared.throws.Throw.{Throw}
 use Rattle.of_stream.specs.declared.fault.StreamFault.{StreamFault}
 use Rattle.of_stream.specs.Image.{header_fault, first_size}
+use Rattle.of_memory.specs.declared.fault.MemFault.{MemFault}
+use Rattle.of_memory.specs.declared.width.Width.TheVariants.{One}
+use Rattle.of_memory.specs.DataSpace.{DataSpace, fresh}
+use Rattle.of_memory.specs.Access.{read}
+use Rattle.of_memory.specs.Growth.{image_pushed, image_popped}
 use Rattle.of_machine.specs.declared.tokens.Source.{Source}
+use Rattle.of_machine.specs.declared.parts.Parts.{Parts}
+use Rattle.of_machine.specs.declared.machine.Running.{Running}
 use Rattle.of_machine.specs.declared.answers.Progress.{Progress}
 use Rattle.of_machine.specs.declared.answers.Progress.TheVariants.{Done, Ended}
 use Rattle.of_machine.specs.declared.answers.Refusal.{Refusal}
 use Rattle.of_machine.specs.declared.answers.Refusal.TheVariants.{Busy, ImageTooLong, BadStart, NoNode, NoMemory}
+use Rattle.of_machine.specs.Images.{image_bytes}
 use Rattle.of_machine.specs.Text.{fault_text}
-use Rattle.of_machine.specs.Words.{Parts, parts}
 use Rattle.of_machine.specs.Tokens.{After, source_entry, source_if}
-
--- an image that runs, and from where it is read on
-pub record Running : Type 0 where
-  pub image : List ℕ
-  pub source : Source
-
--- the image that runs, if one goes on
-abbrev pub running_of : List ℕ → Option Source → Option Running
-running_of image None = None
-running_of image (Some s) = Some (record { image = image; source = s })
-
--- the image of a machine, if it runs
-abbrev pub running_if : Bool → List ℕ → Source → Option Running
-running_if goes image s = running_of image (source_if goes s)
 
 -- a state of the machine
 pub record State : Type 0 where
-  -- the data stack, the top first
-  pub stack : List Cell
-  -- all bytes printed
-  pub console : List ℕ
-  -- what runs, if something does
+  -- what words work on: the data stack, the data space, the pictured text and the console
+  pub parts : Parts
+  -- the image that runs, if one does
   pub running : Option Running
   -- how many steps were made
   pub steps : ℕ
 
+-- the parts of a machine as it is made
+abbrev pub first_parts : Parts
+first_parts = record { stack = []; memory = fresh; pictured = 0; console = [] }
+
 -- a machine as it is made
 abbrev pub idle : State
-idle = record { stack = []; console = []; running = None; steps = 0 }
+idle = record { parts = first_parts; running = None; steps = 0 }
+
+-- ---- the image that runs
+
+-- the image, if it runs
+abbrev pub running_if : Bool → Running → Option Running
+running_if true r = Some r
+running_if false r = None
+
+-- the number that was read, if it was
+abbrev pub number_or_none : Result ℕ MemFault → Option ℕ
+number_or_none (Ok n) = Some n
+number_or_none (Err fault) = None
+
+-- the byte of an address, if it can be read
+abbrev pub byte_of : DataSpace → ℕ → Option ℕ
+byte_of m a = number_or_none (read One m a)
 
 -- ---- a step
 
 -- a throw that nothing catches empties the stack, prints its text and ends the image
 abbrev pub thrown : Throw → Parts → After
-thrown t m = record { parts = parts [] (m.console ++ fault_text t); source = None }
+thrown t m = record { parts = record m { stack = []; console = m.console ++ fault_text t }; source = None }
 
 abbrev pub settled : Result After Throw → Parts → After
 settled (Ok a) m = a
 settled (Err t) m = thrown t m
 
+-- what a token of an image led to: the parts, and whether and from where the image goes on
+abbrev pub Settles : List ℕ → Running → Running → Parts → Parts → Bool → Type 0
+Settles image r s old new goes =
+    (record { parts = new; source = source_if goes s.source } ≡ settled (source_entry image r.source old) old)
+    × (s.begin ≡ r.begin) × (s.size ≡ r.size)
+
+-- the image goes on from a source, if there is one
+abbrev pub going_from : Running → Option Source → Option Running
+going_from r None = None
+going_from r (Some on) = Some (record r { source = on })
+
+-- an image that ends is given back
+abbrev pub given_back : Option Source → DataSpace → DataSpace
+given_back None m = image_popped m
+given_back (Some on) m = m
+
 -- the state after a step that left this
-abbrev pub with_after : State → List ℕ → After → State
-with_after s image a = record {
-  stack = a.parts.stack;
-  console = a.parts.console;
-  running = running_of image a.source;
+abbrev pub with_after : State → Running → After → State
+with_after s r a = record {
+  parts = record a.parts { memory = given_back a.source a.parts.memory };
+  running = going_from r a.source;
   steps = s.steps + 1;
 }
 
 -- one step of an image that runs
 abbrev pub running_step : State → Option Running → State
 running_step s None = s
-running_step s (Some r) =
-    with_after s r.image (settled (source_entry r.image r.source (parts s.stack s.console)) (parts s.stack s.console))
+running_step s (Some r) = with_after s r (settled (source_entry (image_bytes s.parts.memory r.begin r.size) r.source s.parts) s.parts)
 
 -- one step
 unfoldable pub stepped : State → State
@@ -81,32 +105,53 @@ abbrev pub Steps : Progress → State → State → Type 0
 Steps Done old new = (can_step old ≡ true) × (new ≡ stepped old)
 Steps Ended old new = (can_step old ≡ false) × (new ≡ old)
 
--- what a token's answer led to: the parts, and whether the image goes on
-abbrev pub Settles : Result Bool Throw → Parts → Parts → Bool → Type 0
-Settles (Ok goes) old new result = (new ≡ old) × (result ≡ goes)
-Settles (Err t) old new result = (new ≡ (thrown t old).parts) × (result ≡ false)
-
 -- ---- loading
+
+-- where an image begins to run that stands at an address
+abbrev pub started : ℕ → List ℕ → Running
+started a image = record {
+  begin = record { 0 = a };
+  size = record { 0 = length image };
+  source = record { position = 8; size = first_size image };
+}
+
+-- the machine with the image at the address where it found room
+abbrev pub loaded_at : State → List ℕ → Result (ℕ × DataSpace) MemFault → State
+loaded_at s image (Ok found) =
+    record s { parts = record s.parts { memory = found.1 }; running = Some (started found.0 image) }
+loaded_at s image (Err fault) = s
 
 -- a machine with an image that has just been loaded
 abbrev pub loaded : State → List ℕ → State
-loaded s image = record s { running = Some (record { image = image; source = record { position = 8; size = first_size image } }) }
+loaded s image = loaded_at s image (image_pushed s.parts.memory image)
 
-abbrev pub start_refusal : Option StreamFault → Option Refusal → Option Refusal
-start_refusal (Some f) next = Some (BadStart f)
-start_refusal None next = next
+abbrev pub start_refusal : Option StreamFault → Option Refusal
+start_refusal (Some f) = Some (BadStart f)
+start_refusal None = None
 
--- why an image is refused, memory aside, or else the next reason
-abbrev pub image_refusal : List ℕ → Option Refusal → Option Refusal
-image_refusal image next = if nat_lt 0x40000 (length image) then Some ImageTooLong else start_refusal (header_fault image) next
+-- why an image is refused, if it is: its length, then its header
+abbrev pub image_refusal : List ℕ → Option Refusal
+image_refusal image = if nat_lt 0x40000 (length image) then Some ImageTooLong else start_refusal (header_fault image)
 
 -- the only package for which images are loaded yet
 abbrev pub path_refusal : List ℕ → Option Refusal
 path_refusal path = if bytes_eq path (codes "/slot") then None else Some NoNode
 
--- why a load is refused, memory aside: the first of busy, the image and the path
+-- an image that finds no room beside others is too long, too
+abbrev pub room_refusal : Result (ℕ × DataSpace) MemFault → Option Refusal
+room_refusal (Ok found) = None
+room_refusal (Err fault) = Some ImageTooLong
+
+-- the first reason of two
+abbrev pub or_next : Option Refusal → Option Refusal → Option Refusal
+or_next (Some e) next = Some e
+or_next None next = next
+
+-- why a load is refused, memory aside: the first of busy, the image, the path and the room
 abbrev pub load_refusal : State → List ℕ → List ℕ → Option Refusal
-load_refusal s image path = if is_some s.running then Some Busy else image_refusal image (path_refusal path)
+load_refusal s image path =
+    if is_some s.running then Some Busy
+    else or_next (image_refusal image) (or_next (path_refusal path) (room_refusal (image_pushed s.parts.memory image)))
 
 -- a refusal is for that reason, or for memory where there is no other
 abbrev pub Refuses : Option Refusal → Refusal → Type 0

@@ -1,28 +1,32 @@
--- What is printed (IEEE 1275-1994, 7.4.5; Forth 2012, 6.1.0180).
-use Rattle.std.specs.Prelude.{ℕ, zero, suc, ◌+◌, ◌/◌, ◌%◌, ℤ, pos, negsuc, List, [], ◌∷◌, ◌++◌, nat_lt, if◌then◌else◌, codes}
+-- What is printed (IEEE 1275-1994, 7.4.5; Forth 2012, 6.1.0180 and 6.2.0210).
+use Rattle.std.specs.Prelude.{ℕ, ◌-◌, ℤ, pos, negsuc, List, [], ◌∷◌, ◌++◌, length, replicate, codes}
 use Rattle.of_cells.specs.declared.cells.Cell.{Cell}
 use Rattle.of_cells.specs.Numbers.{signed}
 use Rattle.of_stacks.specs.declared.throws.Throw.{Throw}
 use Rattle.of_stacks.specs.Throws.{throw_text}
+use Rattle.of_format.specs.Digits.{number_text, unsigned_text}
 
--- the byte of a digit: 0 to 9, then a to z
-abbrev pub digit_byte : ℕ → ℕ
-digit_byte d = if nat_lt d 10 then 48 + d else 87 + d
-
--- the digits of a number in a base, at most `more` and one
-unfoldable pub digits : ℕ → ℕ → ℕ → List ℕ
-digits zero base n = digit_byte (n % base) ∷ []
-digits (suc more) base n =
-    if nat_lt n base then digit_byte (n % base) ∷ [] else digits more base (n / base) ++ digit_byte (n % base) ∷ []
-
--- a signed number in a base
-unfoldable pub number_text : ℕ → ℤ → List ℕ
-number_text base (pos n) = digits 31 base n
-number_text base (negsuc n) = 45 ∷ digits 31 base (n + 1)
+-- a text and a space
+abbrev pub spaced : List ℕ → List ℕ
+spaced text = text ++ 32 ∷ []
 
 -- a cell as `.` prints it
-abbrev pub cell_text : Cell → List ℕ
-cell_text x = number_text 16 (signed x) ++ 32 ∷ []
+abbrev pub cell_text : ℕ → Cell → List ℕ
+cell_text base x = spaced (number_text base (signed x))
+
+-- the cells of a stack, the top first, as `.s` prints them: the bottom first
+abbrev pub stack_text : ℕ → List Cell → List ℕ
+stack_text base [] = []
+stack_text base (x ∷ s) = stack_text base s ++ cell_text base x
+
+-- how many spaces stand before so many bytes in a width; a negative width wants none
+abbrev pub padding : ℤ → ℕ → ℕ
+padding (pos width) n = width - n
+padding (negsuc width) n = 0
+
+-- a text at the right end of a width, never cut
+abbrev pub at_right : ℤ → List ℕ → List ℕ
+at_right width text = replicate (padding width (length text)) 32 ++ text
 
 -- what a throw that nothing catches prints
 abbrev pub fault_text : Throw → List ℕ

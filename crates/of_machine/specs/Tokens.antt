@@ -13,7 +13,10 @@ use Rattle.of_stream.specs.declared.stream.OffsetSize.{OffsetSize}
 use Rattle.of_stream.specs.declared.stream.OffsetSize.TheVariants.{Two}
 use Rattle.of_stream.specs.Decoding.{Argument, Nothing, Literal, String, Code, Named, Offset, Token, token_from}
 use Rattle.of_machine.specs.declared.tokens.Source.{Source}
-use Rattle.of_machine.specs.Words.{Parts, word_entry}
+use Rattle.of_machine.specs.declared.parts.Parts.{Parts}
+use Rattle.of_machine.specs.declared.stop.Stop.{Stop}
+use Rattle.of_machine.specs.declared.stop.Stop.TheVariants.{Thrown, NoMemory}
+use Rattle.of_machine.specs.Words.{word_entry}
 
 -- what a token of the stream leaves: the data stack, and from where the image goes on, if it does
 pub record Move : Type 0 where
@@ -127,7 +130,8 @@ abbrev pub Moves : Result Move Throw → List Cell → List Cell → Source → 
 Moves entry old new source (Ok goes) = entry ≡ Ok (record { stack = new; source = source_if goes source })
 Moves entry old new source (Err t) = (entry ≡ Err t) × (new ≡ old)
 
--- a token left what comes after it, or threw and changed nothing of the parts
-abbrev pub GoesOn : Result After Throw → Parts → Parts → Source → Result Bool Throw → Type 0
+-- A token left what comes after it, or threw, or found no memory; then nothing of the parts has changed.
+abbrev pub GoesOn : Result After Throw → Parts → Parts → Source → Result Bool Stop → Type 0
 GoesOn entry old new source (Ok goes) = entry ≡ Ok (record { parts = new; source = source_if goes source })
-GoesOn entry old new source (Err t) = (entry ≡ Err t) × (new ≡ old)
+GoesOn entry old new source (Err (Thrown t)) = (entry ≡ Err t) × (new ≡ old)
+GoesOn entry old new source (Err NoMemory) = new ≡ old

@@ -2,11 +2,14 @@
 #![tactic(auto)]
 
 mod answers;
+mod console;
 mod machine;
+mod parts;
+mod printing;
 mod run;
+mod stop;
 #[cfg(test)]
 mod tests;
-mod text;
 mod tokens;
 mod words;
 

@@ -3,7 +3,7 @@ ghost use Rattle.of_machine.specs.States.{image_refusal, Refuses};
 ghost use Rattle.of_machine.specs.Runs.{RunsTo};
 
 use crate::answers::{End, Progress, Refusal};
-use crate::machine::Machine;
+use crate::machine::{Machine, check_image};
 use std::alloc::Global;
 
 /// Runs an image for `/slot` on a new machine, for at most `limit` steps.
@@ -11,13 +11,16 @@ use std::alloc::Global;
 /// The machine that it gives back is the abstract machine after as many steps as were made. The
 /// end is Done where nothing runs any more, else LimitReached. Refused are ImageTooLong over
 /// 256 KiB, then BadStart where the header can't be read, and NoMemory, which gives no machine.
-#[tactic(auto, using(crate::proofs::RunLemmas::run_begins))]
+#[tactic(auto, using(crate::proofs::RunLemmas::run_begins, crate::proofs::RunLemmas::slot_refusal))]
 pub fn run_script(alloc: Global, image: &[u8], limit: u64) -> Result<(Machine, End), Refusal>
-    ensures accepted { OnOk result (image_refusal image.now None ≡ None) }
+    ensures accepted { OnOk result (image_refusal image.now ≡ None) }
     ensures ok { IfOk result (λ r. RunsTo image.now limit r.0 r.1) }
-    ensures err { IfErr result (λ e. Refuses (image_refusal image.now None) e) }
+    ensures err { IfErr result (λ e. Refuses (image_refusal image.now) e) }
 {
-    let mut machine = Machine::new(alloc);
+    let _ = check_image(image)?;
+    let Ok(mut machine) = Machine::new(alloc) else {
+        return Err(Refusal::NoMemory);
+    };
     machine.load(image, "/slot")?;
     for _ in 0..limit {
         match machine.step() {

@@ -5,7 +5,7 @@ use of_stream::StreamFault;
 use std::test::Fail;
 
 /// Images in hexadecimal, what their runs print, and in how many steps.
-const ROWS: [(&str, &str, &str, u64); 8] = [
+const ROWS: [(&str, &str, &str, u64); 10] = [
     ("five", "f108020a0000000da7a81e9d00", "5 ", 5),
     ("five-start2", "f208020a0000000da7a81e9d00", "5 ", 5),
     ("empty-program", "f10800000000000900", "", 1),
@@ -32,6 +32,18 @@ const ROWS: [(&str, &str, &str, u64); 8] = [
         "f10801910000000c137fff00",
         "fault -257: image ended\n",
         1,
+    ),
+    (
+        "heap-address",
+        "f108013e0000001010000000088b9b00",
+        "400000 ",
+        4,
+    ),
+    (
+        "overlapping-move",
+        "f1080a270000001aa6d0a7d0a8d0ada81fada71fa878ad719d00",
+        "3 ",
+        18,
     ),
     (
         "version1-branch",
@@ -81,7 +93,7 @@ fn refusals(rt: HostRuntime) -> Result<(), Fail> {
         Some(Refusal::ImageTooLong)
     );
     let image = decode(rt.alloc(), ROWS[0].1)?;
-    let mut machine = Machine::new(rt.alloc());
+    let mut machine = Machine::new(rt.alloc())?;
     assert_eq!(rt; machine.step()?, Progress::Ended);
     assert_eq!(rt; machine.load(&image, "/"), Err(Refusal::NoNode));
     assert_eq!(rt; machine.load(&erased, "/slots"), Err(bad));
@@ -90,6 +102,94 @@ fn refusals(rt: HostRuntime) -> Result<(), Fail> {
     assert_eq!(rt; machine.is_running(), true);
     assert_eq!(rt; machine.step()?, Progress::Done);
     assert_eq!(rt; machine.stack(), [Cell(2)].as_slice());
+    Ok(())
+}
+
+/// A running image stands in the image region, and is given back at its end.
+#[test]
+fn images_stand_in_the_data_space(rt: HostRuntime) -> Result<(), Fail> {
+    let image = decode(rt.alloc(), ROWS[0].1)?;
+    let mut machine = Machine::new(rt.alloc())?;
+    assert_eq!(rt; machine.byte(Cell(0x60_0000)), Some(0));
+    assert_eq!(rt; machine.load(&image, "/slot"), Ok(()));
+    for (addr, byte) in (0x60_0000u32..).zip(&image) {
+        assert_eq!(rt; machine.byte(Cell(addr)), Some(*byte), "{addr:x}");
+    }
+    assert_eq!(rt; machine.byte(Cell(0x60_000d)), Some(0));
+    for _ in 0..5 {
+        assert_eq!(rt; machine.step()?, Progress::Done);
+    }
+    for addr in 0x60_0000..0x60_000d {
+        assert_eq!(rt; machine.byte(Cell(addr)), Some(0), "{addr:x}");
+    }
+    assert_eq!(rt; machine.byte(Cell(0x64_0000)), None);
+    assert_eq!(rt; machine.byte(Cell(0x50_0003)), Some(16));
+    assert_eq!(rt; machine.load(&image, "/slot"), Ok(()));
+    Ok(())
+}
+
+/// Tokens, and what they print: numbers in the base, at the right of a width, the whole stack,
+/// characters, and bytes of the image region.
+const PRINTED: [(&str, &[u8]); 19] = [
+    ("a49b", b"ffffffff "),
+    ("a49d", b"-1 "),
+    ("10 00000010 a8 9c", b" 10"),
+    ("a4 10 00000005 9e", b"   -1"),
+    ("10 00001234 a8 9e", b"1234"),
+    ("a7 a4 9e", b"2"),
+    ("9f", b""),
+    ("a6 a4 9f", b"1 -1 "),
+    ("10 00000141 8f", b"A"),
+    ("92", b"\n"),
+    ("10 00600000 a6 90", b"\xf1"),
+    ("10 00100000 a5 90", b""),
+    ("10 000000ff a7 a0 72 9d", b"11111111 "),
+    ("10 0000000a a0 72 10 000000ff 9d", b"255 "),
+    ("a5 96 9a 97 90", b"0"),
+    ("10 00001234 a5 96 c8 c9 90", b"1234"),
+    ("a5 8b a5 8b 9f", b"400000 400008 "),
+    ("a5 8b a5 8c", b""),
+    ("a6 a7 a8 4a 9f", b"2 3 1 "),
+];
+
+#[test]
+fn printing(rt: HostRuntime) -> Result<(), Fail> {
+    for (tokens, printed) in PRINTED {
+        let text = format!(in rt.alloc(); "f108000000000000{tokens}00")?;
+        let digits: String = text.chars().filter(|c| *c != ' ').collect(rt.alloc())?;
+        let image = decode(rt.alloc(), digits)?;
+        let (machine, _) = run_script(rt.alloc(), &image, 99)?;
+        assert_eq!(rt; machine.console(), printed, "{tokens}");
+    }
+    Ok(())
+}
+
+/// Tokens, and the throw that ends their image.
+const THROWN: [(&str, &str); 12] = [
+    ("9d", "fault -4: stack underflow\n"),
+    ("a69e", "fault -4: stack underflow\n"),
+    ("a690", "fault -4: stack underflow\n"),
+    ("8f", "fault -4: stack underflow\n"),
+    ("8b", "fault -4: stack underflow\n"),
+    ("a4a690", "fault -9: invalid memory address\n"),
+    ("a48b", "fault -8: dictionary overflow\n"),
+    ("0150", "fault -256: fcode not assigned\n"),
+    ("a6a5a0729d", "fault -24: invalid numeric argument\n"),
+    ("a6a0729d", "fault -4: stack underflow\n"),
+    ("a6a6a0729d", "fault -24: invalid numeric argument\n"),
+    ("a58c", "fault -4: stack underflow\n"),
+];
+
+#[test]
+fn throws(rt: HostRuntime) -> Result<(), Fail> {
+    for (tokens, printed) in THROWN {
+        let text = format!(in rt.alloc(); "f108000000000000{tokens}00")?;
+        let image = decode(rt.alloc(), text)?;
+        let (machine, end) = run_script(rt.alloc(), &image, 99)?;
+        assert_eq!(rt; machine.console(), printed.as_bytes(), "{tokens}");
+        assert_eq!(rt; machine.stack().len(), 0, "{tokens}");
+        assert_eq!(rt; end, End::Done, "{tokens}");
+    }
     Ok(())
 }
 
@@ -116,7 +216,9 @@ fn cuts(rt: HostRuntime) -> Result<(), Fail> {
 #[test]
 fn refused_memory(rt: HostRuntime) -> Result<(), Fail> {
     let image = decode(rt.alloc(), ROWS[0].1)?;
-    let mut machine = Machine::new(rt.alloc());
+    let Ok(mut machine) = Machine::new(rt.alloc()) else {
+        return Ok(());
+    };
     for _ in 0..9 {
         if machine.load(&image, "/slot") != Err(Refusal::NoMemory) {
             break;

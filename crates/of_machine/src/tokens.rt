@@ -1,15 +1,15 @@
-ghost use Rattle.std.specs.Prelude.{◌≡◌, ◌+◌, ◌<◌, ◌≤◌, pos, ◌+ℤ◌, Some, vec_len, vec_capacity};
-ghost use Rattle.of_stacks.specs.Stacks.{Becomes};
-ghost use Rattle.of_fcodes.specs.Lookup.{word_numbered};
-ghost use Rattle.of_stream.specs.Decoding.{argument_shown};
-ghost use Rattle.of_machine.specs.Words.{parts};
-ghost use Rattle.of_machine.specs.Tokens.{landing, going_to, branching, branch_entry, stream_entry, literal_entry, stream_of, offset_entry, code_entry, argument_entry, Moves, GoesOn};
+ghost use Rattle.std.specs.Prelude.{◌≡◌, ◌+◌, ◌<◌, pos, ◌+ℤ◌};
+ghost use Rattle.of_machine.specs.Tokens.{landing, going_to, branching, branch_entry, stream_entry, literal_entry, stream_of, offset_entry, code_entry, source_entry, Moves, GoesOn};
+ghost use Rattle.of_machine.specs.Images.{image_bytes};
 
+use crate::parts::Parts;
+use crate::stop::Stop;
 use crate::words::run_word;
 use of_cells::Cell;
 use of_fcodes::{StreamWord, Word, word_of};
+use of_memory::Memory;
 use of_stacks::{DataStack, Throw};
-use of_stream::{Argument, HEADER_LENGTH, OffsetSize, Token};
+use of_stream::{Argument, HEADER_LENGTH, OffsetSize, Stream};
 
 /// From where a running image is read on.
 #[derive(Clone, Copy, Debug, PartialEq, Eq)]
@@ -18,6 +18,17 @@ pub struct Source {
     pub position: usize,
     /// How many bytes its offset has, where it has one.
     pub size: OffsetSize,
+}
+
+/// The bytes of an image that stands in the data space, or none.
+#[inline]
+fn bytes_of(memory: &Memory, begin: Cell, size: Cell) -> &[u8]
+    ensures { result.now ≡ image_bytes memory.now begin size }
+{
+    match memory.slice(begin, size) {
+        Ok(bytes) => bytes,
+        Err(_) => &[],
+    }
 }
 
 /// The position to which an offset behind the FCode at `at` leads, or -257 where it lies before
@@ -142,55 +153,54 @@ fn run_offset(
     }
 }
 
-/// Runs an FCode without an operand; a throw changes nothing.
+/// Runs an FCode without an operand, and answers whether the image goes on; a stop changes
+/// nothing.
 #[inline]
-fn run_code(
-    word: Option<Word>,
-    source: &mut Source,
-    stack: &mut DataStack,
-    console: &mut Vec<u8>,
-) -> Result<bool, Throw>
-    requires { vec_len console.old + 34 ≤ vec_capacity console.old }
-    ensures entry { GoesOn (code_entry word source.old (parts stack.old console.old.items)) (parts stack.old console.old.items) (parts stack.new console.new.items) source.new result }
-    ensures capacity { vec_capacity console.new ≡ vec_capacity console.old }
-    ensures short { vec_len console.new ≤ vec_len console.old + 34 }
+pub fn run_code(word: Option<Word>, source: &mut Source, parts: &mut Parts) -> Result<bool, Stop>
+    ensures { GoesOn (code_entry word source.old parts.old) parts.old parts.new source.new result }
 {
     match word {
-        Some(Word::Stream(word)) => run_stream(word, source, stack),
+        Some(Word::Stream(word)) => Ok(run_stream(word, source, &mut parts.stack)?),
         Some(word) => {
-            run_word(word, stack, console)?;
+            run_word(word, parts)?;
             Ok(true)
         }
-        None => Err(Throw::NOT_ASSIGNED),
+        None => Err(Stop::Thrown(Throw::NOT_ASSIGNED)),
     }
 }
 
-/// Runs a token that stands at `at` in an image of `end` bytes, where `source` stands behind it
-/// already, and answers whether the image goes on; a throw changes nothing on the stack.
+/// Reads the token of an image from which it goes on, runs it, and answers whether the image goes
+/// on. A stop changes nothing of the parts.
 #[inline]
+#[tactic(auto, unfolding(crate::specs::Tokens::source_entry))]
 pub fn run_token(
-    token: Token,
-    end: usize,
-    at: usize,
+    begin: Cell,
+    size: Cell,
     source: &mut Source,
-    stack: &mut DataStack,
-    console: &mut Vec<u8>,
-) -> Result<bool, Throw>
-    requires within { at < end }
-    requires room { vec_len console.old + 34 ≤ vec_capacity console.old }
-    ensures entry { GoesOn (argument_entry (argument_shown token.entry.argument) (word_numbered token.entry.code.0) end at source.old (parts stack.old console.old.items)) (parts stack.old console.old.items) (parts stack.new console.new.items) source.new result }
-    ensures capacity { vec_capacity console.new ≡ vec_capacity console.old }
-    ensures short { vec_len console.new ≤ vec_len console.old + 34 }
+    parts: &mut Parts,
+) -> Result<bool, Stop>
+    ensures { GoesOn (source_entry (image_bytes parts.old.memory begin size) source.old parts.old) parts.old parts.new source.new result }
 {
-    match token.argument {
-        Argument::Nothing => run_code(word_of(token.code), source, stack, console),
-        Argument::Literal(x) => run_literal(x, source, stack),
-        Argument::Offset(by) => {
-            let target = land(end, at, by);
-            run_offset(word_of(token.code), target, source, stack)
+    let at = source.position;
+    let image = bytes_of(&parts.memory, begin, size);
+    let end = image.len();
+    let stream = Stream { image };
+    match stream.token_at(at, source.size) {
+        Ok((token, next)) => {
+            source.position = next;
+            match token.argument {
+                Argument::Nothing => run_code(word_of(token.code), source, parts),
+                Argument::Literal(x) => Ok(run_literal(x, source, &mut parts.stack)?),
+                Argument::Offset(by) => {
+                    let target = land(end, at, by);
+                    let word = word_of(token.code);
+                    Ok(run_offset(word, target, source, &mut parts.stack)?)
+                }
+                Argument::String(_) => Err(Stop::Thrown(Throw::NOT_ASSIGNED)),
+                Argument::FCode(_) => Err(Stop::Thrown(Throw::NOT_ASSIGNED)),
+                Argument::Named(_, _) => Err(Stop::Thrown(Throw::NOT_ASSIGNED)),
+            }
         }
-        Argument::String(_) => Err(Throw::NOT_ASSIGNED),
-        Argument::FCode(_) => Err(Throw::NOT_ASSIGNED),
-        Argument::Named(_, _) => Err(Throw::NOT_ASSIGNED),
+        Err(_) => Err(Stop::Thrown(Throw::IMAGE_ENDED)),
     }
 }

@@ -13,7 +13,7 @@ use of_stacks::Throw;
 /// What a word throws for a fault of the data space: -9 for an address, -23 for its alignment, -20
 /// for a region that programs may only read, -24 for a block, and -8 where no room is left.
 #[tactic(auto, unfolding(of_stacks::specs::Throws::is_listed, of_stacks::specs::Throws::listed_numbers))]
-fn throw_of(fault: MemFault) -> Throw
+pub fn throw_of(fault: MemFault) -> Throw
     ensures value { result ≡ throw_of fault }
     ensures listed { is_listed result ≡ true }
 {

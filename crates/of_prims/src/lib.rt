@@ -11,6 +11,7 @@ mod tests;
 mod texts;
 
 pub use addresses::locate;
+pub use faults::throw_of;
 pub use numbers::convert;
 pub use prims::prim;
 pub use storage::access;

@@ -1,4 +1,4 @@
-use crate::{access, convert, edit, locate, prim};
+use crate::{access, convert, edit, locate, prim, throw_of};
 use of_cells::Cell;
 use of_fcodes::AddressesWord::*;
 use of_fcodes::{
@@ -6,7 +6,7 @@ use of_fcodes::{
     StreamWord, TextWord, Word,
 };
 use of_format::Pictured;
-use of_memory::Memory;
+use of_memory::{MemFault, Memory};
 use of_stacks::{DataStack, Throw};
 use std::alloc::Global;
 use std::test::Fail;
@@ -538,6 +538,19 @@ const GROWING: [Word; 9] = [
     Word::Numbers(NumbersWord::Base),
     Word::Numbers(NumbersWord::Zero),
 ];
+
+#[test]
+fn faults_of_the_data_space(rt: HostRuntime) {
+    for (fault, code) in [
+        (MemFault::Address, -9),
+        (MemFault::Alignment, -23),
+        (MemFault::ReadOnly, -20),
+        (MemFault::Full, -8),
+        (MemFault::BadBlock, -24),
+    ] {
+        assert_eq!(rt; throw_of(fault), Throw(code), "{fault}");
+    }
+}
 
 #[test]
 fn full_stacks(rt: HostRuntime) -> Result<(), Fail> {

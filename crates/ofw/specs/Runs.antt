@@ -1,12 +1,16 @@
--- What the program prints of a file's run, and how it ends.
-use Rattle.std.specs.Prelude.{◌≡◌, ◌⊎◌, ℕ, List, take, Option, Result, Ok, Err, filter, not}
+-- What the program prints of a file's run or listing, and how it ends.
+use Rattle.std.specs.Prelude.{◌≡◌, ◌⊎◌, ℕ, zero, suc, ◌+◌, List, [], ◌∷◌, length, take, Option, Result, Ok, Err, IsErr, filter, not, nat_eq, if◌then◌else◌}
 use Rattle.std.specs.Char.{is_ascii_whitespace}
 use Rattle.std.specs.Io.KnownBytes.{Keeps, Appends}
 use Rattle.hex.specs.Hex.{decode_of}
+use Rattle.hex.specs.declared.error.FromHexError.{FromHexError}
+use Rattle.hex.specs.declared.error.FromHexError.TheVariants as hex
+use Rattle.of_detok.specs.declared.fault.DetokFault.TheVariants as detok
+use Rattle.of_detok.specs.Listing.{listed, IsRefused}
 use Rattle.of_machine.specs.declared.answers.End.{End}
 use Rattle.of_machine.specs.declared.answers.End.TheVariants as end
 use Rattle.of_machine.specs.declared.answers.Refusal.TheVariants as refusal
-use Rattle.of_machine.specs.States.{State}
+use Rattle.of_machine.specs.States.{State, image_refusal, Refuses}
 use Rattle.of_machine.specs.Runs.{RunsTo}
 use Rattle.ofw.specs.declared.fault.Fault.{Fault}
 use Rattle.ofw.specs.declared.fault.Fault.TheVariants as fault
@@ -26,11 +30,35 @@ abbrev pub status_of : Fault → Status
 status_of fault.ArgumentNotText = status.Usage
 status_of fault.NoMemory = status.NoMemory
 status_of (fault.Refused refusal.NoMemory) = status.NoMemory
+status_of (fault.Unlisted detok.NoMemory) = status.NoMemory
 status_of _ = status.Fault
 
 -- a text without its white space
 abbrev pub dense : List ℕ → List ℕ
 dense text = filter (λ b. not (is_ascii_whitespace b)) text
+
+-- where the byte stands that is no white space and has so many such bytes before it
+unfoldable pub digit_place : ℕ → List ℕ → ℕ
+digit_place n [] = 0
+digit_place zero (b ∷ text) = if is_ascii_whitespace b then suc (digit_place zero text) else 0
+digit_place (suc n) (b ∷ text) =
+    if is_ascii_whitespace b then suc (digit_place (suc n) text) else suc (digit_place n text)
+
+-- the line of a place in a text, from 1
+abbrev pub line_at : List ℕ → ℕ → ℕ
+line_at text place = 1 + length (filter (λ b. nat_eq b 10) (take place text))
+
+-- what is wrong with a text of hexadecimal digits
+abbrev pub fault_of : List ℕ → FromHexError → Fault
+fault_of text (hex.InvalidHexCharacter c i) = fault.BadDigit (line_at text (digit_place i text)) c
+fault_of text hex.OddLength = fault.OddDigits
+fault_of text hex.InvalidStringLength = fault.OddDigits
+fault_of text hex.OutOfMemory = fault.NoMemory
+
+-- the image of a text, or what is wrong with it
+abbrev pub image_in : List ℕ → Result (List ℕ) FromHexError → Result (List ℕ) Fault
+image_in text (Ok image) = Ok image
+image_in text (Err e) = Err (fault_of text e)
 
 -- the run of the image that a file has in hexadecimal
 abbrev pub RunsFile : List ℕ → ℕ → State → End → Type 0
@@ -42,20 +70,70 @@ AppendsPart old new bs = (n : ℕ) × Appends old new (take n bs)
 
 -- the run of the file printed all its console bytes
 abbrev pub PrintsRun : List ℕ → ℕ → Option (List ℕ) → Option (List ℕ) → End → Type 0
-PrintsRun file limit old new e = (m : State) × RunsFile file limit m e × Appends old new m.console
+PrintsRun file limit old new e = (m : State) × RunsFile file limit m e × Appends old new m.parts.console
 
 -- nothing was printed, or the first console bytes of the run
 abbrev pub PrintsPart : List ℕ → ℕ → Option (List ℕ) → Option (List ℕ) → Type 0
-PrintsPart file limit old new = Keeps old new ⊎ ((m : State) × ((e : End) × RunsFile file limit m e) × AppendsPart old new m.console)
+PrintsPart file limit old new = Keeps old new ⊎ ((m : State) × ((e : End) × RunsFile file limit m e) × AppendsPart old new m.parts.console)
 
+-- what the file has to do with a fault of its text or of its image
+abbrev pub FaultsFile : List ℕ → Fault → Type 0
+FaultsFile file (fault.BadDigit line c) = image_in file (decode_of (dense file)) ≡ Err (fault.BadDigit line c)
+FaultsFile file fault.OddDigits = image_in file (decode_of (dense file)) ≡ Err fault.OddDigits
+FaultsFile file (fault.Refused r) =
+    (image : List ℕ) × (decode_of (dense file) ≡ Ok image) × Refuses (image_refusal image) r
+FaultsFile file (fault.Unlisted f) =
+    (image : List ℕ) × (decode_of (dense file) ≡ Ok image) × IsRefused (listed image) f
+FaultsFile file fault.ArgumentNotText = Unit {0}
+FaultsFile file fault.Unopened = Unit {0}
+FaultsFile file fault.Unread = Unit {0}
+FaultsFile file fault.Endless = Unit {0}
+FaultsFile file fault.Unwritten = Unit {0}
+FaultsFile file fault.NoMemory = Unit {0}
+
+-- what was printed of the run, or of a part of it beside a fault
 abbrev pub Prints : List ℕ → ℕ → Option (List ℕ) → Option (List ℕ) → Result End Fault → Type 0
 Prints file limit old new (Ok e) = PrintsRun file limit old new e
-Prints file limit old new (Err f) = PrintsPart file limit old new
+Prints file limit old new (Err f) = PrintsPart file limit old new × FaultsFile file f
 
--- what each status says of the output
+-- the program gave up with a fault that has this status
+abbrev pub GivesUp : List ℕ → ℕ → Option (List ℕ) → Option (List ℕ) → Status → Type 0
+GivesUp file limit old new s =
+    PrintsPart file limit old new × ((f : Fault) × (status_of f ≡ s) × FaultsFile file f)
+
+-- what each status says of the output, and of the file
 abbrev pub EndsWith : List ℕ → ℕ → Option (List ℕ) → Option (List ℕ) → Status → Type 0
 EndsWith file limit old new status.Done = PrintsRun file limit old new end.Done
 EndsWith file limit old new status.LimitReached = PrintsRun file limit old new end.LimitReached
-EndsWith file limit old new status.Fault = PrintsPart file limit old new
-EndsWith file limit old new status.NoMemory = PrintsPart file limit old new
-EndsWith file limit old new status.Usage = PrintsPart file limit old new
+EndsWith file limit old new status.Fault = GivesUp file limit old new status.Fault
+EndsWith file limit old new status.NoMemory = GivesUp file limit old new status.NoMemory
+EndsWith file limit old new status.Usage = GivesUp file limit old new status.Usage
+
+-- ---- listings
+
+-- the listing of the image that a file has in hexadecimal
+abbrev pub ListsFile : List ℕ → List ℕ → Type 0
+ListsFile file lines = (image : List ℕ) × (decode_of (dense file) ≡ Ok image) × (listed image ≡ Ok lines)
+
+-- nothing was printed, or the first bytes of the listing
+abbrev pub ListsPart : List ℕ → Option (List ℕ) → Option (List ℕ) → Type 0
+ListsPart file old new = Keeps old new ⊎ ((lines : List ℕ) × ListsFile file lines × AppendsPart old new lines)
+
+-- the listing was printed
+abbrev pub ListsAll : List ℕ → Option (List ℕ) → Option (List ℕ) → Type 0
+ListsAll file old new = (lines : List ℕ) × ListsFile file lines × Appends old new lines
+
+abbrev pub Lists : List ℕ → Option (List ℕ) → Option (List ℕ) → Result (Unit {0}) Fault → Type 0
+Lists file old new (Ok _) = ListsAll file old new
+Lists file old new (Err f) = ListsPart file old new × FaultsFile file f
+
+-- what each status says of the output, and of the file
+abbrev pub ListsWith : List ℕ → Option (List ℕ) → Option (List ℕ) → Status → Type 0
+ListsWith file old new status.Done = ListsAll file old new
+ListsWith file old new status.LimitReached = ⊥
+ListsWith file old new status.Fault =
+    ListsPart file old new × ((f : Fault) × (status_of f ≡ status.Fault) × FaultsFile file f)
+ListsWith file old new status.NoMemory =
+    ListsPart file old new × ((f : Fault) × (status_of f ≡ status.NoMemory) × FaultsFile file f)
+ListsWith file old new status.Usage =
+    ListsPart file old new × ((f : Fault) × (status_of f ≡ status.Usage) × FaultsFile file f)

@@ -6,34 +6,57 @@ const DEFAULT_LIMIT: u64 = 1_000_000;
 
 /// What the arguments ask for.
 #[derive(Clone, Copy, Debug, PartialEq, Eq)]
-pub struct Request<'a> {
-    /// The path of the image.
-    pub image: &'a str,
-    /// How many steps the run makes at most.
-    pub limit: u64,
+pub enum Request<'a> {
+    /// Run an image.
+    Run {
+        /// The path of the image.
+        image: &'a str,
+        /// How many steps the run makes at most.
+        limit: u64,
+    },
+    /// List an image.
+    Detok {
+        /// The path of the image.
+        image: &'a str,
+    },
 }
 
-/// `ofw run IMAGE [--limit N]`
-fn command<'a>(alloc: Global) -> Result<Command<'a>, AllocError> {
-    let image = Arg::new(alloc, "image")
+/// The argument that is the path of an image.
+fn image_argument<'a>(alloc: Global) -> Arg<'a> {
+    Arg::new(alloc, "image")
         .value_name("IMAGE")
         .help("the image, in hexadecimal")
         .required(true)
-        .action(ArgAction::Set);
+        .action(ArgAction::Set)
+}
+
+/// `ofw run IMAGE [--limit N]`
+fn run_command<'a>(alloc: Global) -> Result<Command<'a>, AllocError> {
     let limit = Arg::new(alloc, "limit")
         .long("limit")
         .value_name("N")
         .help("the most steps, 0 to 1000000000 (1000000 where it is left out)")
         .action(ArgAction::Set)
         .value_parser(value_parser!(u64).range(0..=1_000_000_000));
-    let run = Command::new(alloc, "run")
+    Command::new(alloc, "run")
         .about("Runs an image and prints what it prints")
-        .arg(image)?
-        .arg(limit)?;
+        .arg(image_argument(alloc))?
+        .arg(limit)
+}
+
+/// `ofw detok IMAGE`
+fn detok_command<'a>(alloc: Global) -> Result<Command<'a>, AllocError> {
+    Command::new(alloc, "detok")
+        .about("Prints the listing of an image, a line for each token")
+        .arg(image_argument(alloc))
+}
+
+fn command<'a>(alloc: Global) -> Result<Command<'a>, AllocError> {
     Command::new(alloc, "ofw")
         .about("An Open Firmware boot monitor on a simulated board")
         .subcommand_required(true)
-        .subcommand(run)
+        .subcommand(run_command(alloc)?)?
+        .subcommand(detok_command(alloc)?)
 }
 
 /// What the words of a command line ask for, the program's name first.
@@ -43,11 +66,14 @@ pub fn parse<'a>(alloc: Global, words: &'a [String]) -> Result<Option<Request<'a
 }
 
 fn request_of<'a>(matches: &ArgMatches<'a>) -> Option<Request<'a>> {
-    let Some(("run", run)) = matches.subcommand() else {
-        return None;
-    };
-    Some(Request {
-        image: run.get_str("image")?,
-        limit: run.get_one::<u64>("limit").unwrap_or(DEFAULT_LIMIT),
-    })
+    match matches.subcommand()? {
+        ("run", run) => Some(Request::Run {
+            image: run.get_str("image")?,
+            limit: run.get_one::<u64>("limit").unwrap_or(DEFAULT_LIMIT),
+        }),
+        ("detok", detok) => Some(Request::Detok {
+            image: detok.get_str("image")?,
+        }),
+        _ => None,
+    }
 }

@@ -1,17 +1,19 @@
 ghost use Rattle.std.specs.Prelude.{◌≡◌, IfOk, IfErr, IfSome};
-ghost use Rattle.ofw.specs.Runs.{RunsFile, Prints, EndsWith};
+ghost use Rattle.ofw.specs.Runs.{RunsFile, FaultsFile, Prints, EndsWith, ListsFile, Lists, ListsWith};
 
 use crate::fault::Fault;
 use crate::input::{image_of, read_whole};
 use crate::output::{report, write_whole};
 use crate::status::Status;
+use of_detok::listing;
 use of_machine::{End, Machine, run_script};
 use std::alloc::Global;
 use std::io::{Read, Write};
 
 /// Runs the image of a text.
 fn run_text(alloc: Global, text: &[u8], limit: u64) -> Result<(Machine, End), Fault>
-    ensures { IfOk result (λ r. RunsFile text.now limit r.0 r.1) }
+    ensures ok { IfOk result (λ r. RunsFile text.now limit r.0 r.1) }
+    ensures err { IfErr result (λ f. FaultsFile text.now f) }
 {
     let image = image_of(alloc, text)?;
     match run_script(alloc, &image, limit) {
@@ -51,6 +53,45 @@ pub fn run<R: Read, W: Write, E: Write>(
     match print_run(alloc, image, limit, out) {
         Ok(End::Done) => Status::Done,
         Ok(End::LimitReached) => Status::LimitReached,
+        Err(fault) => report(fault, errors),
+    }
+}
+
+/// The listing of the image of a text.
+fn list_text(alloc: Global, text: &[u8]) -> Result<Vec<u8>, Fault>
+    ensures ok { IfOk result (λ lines. ListsFile text.now lines.items) }
+    ensures err { IfErr result (λ f. FaultsFile text.now f) }
+{
+    let image = image_of(alloc, text)?;
+    match listing(alloc, &image) {
+        Ok(lines) => Ok(lines),
+        Err(fault) => Err(Fault::Unlisted(fault)),
+    }
+}
+
+/// Lists the image of a file, and prints the listing.
+fn print_listing<R: Read, W: Write>(alloc: Global, image: &mut R, out: &mut W) -> Result<(), Fault>
+    ensures { IfSome (R.remaining image.old) (λ file. Lists file (W.contents out.old) (W.contents out.new) result) }
+{
+    let text = read_whole(alloc, image)?;
+    let lines = list_text(alloc, &text)?;
+    write_whole(out, &lines)
+}
+
+/// Prints the listing of an image, and gives the status.
+///
+/// The image is a text of hexadecimal digits. A fault is said on the error output, and before the
+/// listing nothing is printed.
+pub fn detok<R: Read, W: Write, E: Write>(
+    alloc: Global,
+    image: &mut R,
+    out: &mut W,
+    errors: &mut E,
+) -> Status
+    ensures { IfSome (R.remaining image.old) (λ file. ListsWith file (W.contents out.old) (W.contents out.new) result) }
+{
+    match print_listing(alloc, image, out) {
+        Ok(()) => Status::Done,
         Err(fault) => report(fault, errors),
     }
 }

@@ -1,6 +1,7 @@
 ghost use Rattle.std.specs.Prelude.{◌≡◌};
 
 use crate::status::Status;
+use of_detok::DetokFault;
 use of_machine::Refusal;
 use thiserror::Error;
 
@@ -33,6 +34,9 @@ pub enum Fault {
     /// The monitor refuses the image.
     #[error(transparent)]
     Refused(Refusal),
+    /// The image has no listing.
+    #[error(transparent)]
+    Unlisted(DetokFault),
     /// A write of the output failed.
     #[error("the output can't be written")]
     Unwritten,
@@ -52,6 +56,7 @@ impl Fault {
             Fault::ArgumentNotText => Status::Usage,
             Fault::NoMemory => Status::NoMemory,
             Fault::Refused(Refusal::NoMemory) => Status::NoMemory,
+            Fault::Unlisted(DetokFault::NoMemory) => Status::NoMemory,
             _ => Status::Fault,
         }
     }

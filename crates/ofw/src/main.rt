@@ -18,18 +18,22 @@ use std::fs::File;
 use std::process::ExitCode;
 use std::{env, io};
 
-/// Opens the image and runs it.
-fn run(rt: &HostRuntime, request: Request) -> Status {
-    let Ok(mut image) = File::open(rt, request.image) else {
+/// Opens the image, and runs it or lists it.
+fn answer(rt: &HostRuntime, request: Request) -> Status {
+    let path = match request {
+        Request::Run { image, .. } => image,
+        Request::Detok { image } => image,
+    };
+    let Ok(mut file) = File::open(rt, path) else {
         return report(Fault::Unopened, &mut rt.stderr());
     };
-    engine::run(
-        rt.alloc(),
-        &mut image,
-        request.limit,
-        &mut rt.stdout(),
-        &mut rt.stderr(),
-    )
+    let (mut out, mut errors) = (rt.stdout(), rt.stderr());
+    match request {
+        Request::Run { limit, .. } => {
+            engine::run(rt.alloc(), &mut file, limit, &mut out, &mut errors)
+        }
+        Request::Detok { .. } => engine::detok(rt.alloc(), &mut file, &mut out, &mut errors),
+    }
 }
 
 fn main(rt: HostRuntime) -> ExitCode {
@@ -41,7 +45,7 @@ fn main(rt: HostRuntime) -> ExitCode {
         Err(_) => return ExitCode::from(report(Fault::NoMemory, &mut rt.stderr()).code()),
     };
     match parse(rt.alloc(), &words) {
-        Ok(Some(request)) => ExitCode::from(run(&rt, request).code()),
+        Ok(Some(request)) => ExitCode::from(answer(&rt, request).code()),
         Ok(None) => ExitCode::from(Status::Usage.code()),
         Err(error) => {
             let _ = error.print(&rt);

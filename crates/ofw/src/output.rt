@@ -1,4 +1,4 @@
-ghost use Rattle.std.specs.Prelude.{◌≡◌, OnOk, OnErr};
+ghost use Rattle.std.specs.Prelude.{◌≡◌, IfErr, OnOk, OnErr};
 ghost use Rattle.std.specs.Io.KnownBytes.{Appends};
 ghost use Rattle.ofw.specs.Runs.{AppendsPart, status_of};
 
@@ -12,6 +12,7 @@ use std::io::Write;
 pub fn write_whole<W: Write>(out: &mut W, bytes: &[u8]) -> Result<(), Fault>
     ensures ok { OnOk result (Appends (W.contents out.old) (W.contents out.new) bytes.now) }
     ensures err { OnErr result (AppendsPart (W.contents out.old) (W.contents out.new) bytes.now) }
+    ensures fault { IfErr result (λ e. e ≡ Fault.Unwritten) }
 {
     let mut gone = 0usize;
     while gone < bytes.len() {

@@ -1,5 +1,5 @@
-use crate::arguments::parse;
-use crate::engine::run;
+use crate::arguments::{Request, parse};
+use crate::engine::{detok, run};
 use crate::fault::Fault;
 use crate::input::MOST_READS;
 use crate::output::report;
@@ -183,6 +183,55 @@ fn statuses(rt: HostRuntime) -> Result<()> {
     Ok(())
 }
 
+/// A file, the write that fails, and then what goes out, what is said and the status.
+const LISTINGS: [(&[u8], u32, &str, &str, Status); 4] = [
+    (
+        FIVE,
+        999,
+        "000000: f108020a0000000d  start1\n000008: a7  2\n000009: a8  3\n00000a: 1e  +\n00000b: 9d  .\n00000c: 00  end0\n",
+        "",
+        Status::Done,
+    ),
+    (
+        b"f10800a700000009a7",
+        999,
+        "",
+        "ofw: image ended in the token at 000009\n",
+        Status::Fault,
+    ),
+    (
+        b"f108\nx",
+        999,
+        "",
+        "ofw: an odd number of hexadecimal digits\n",
+        Status::Fault,
+    ),
+    (
+        FIVE,
+        2,
+        "00",
+        "ofw: the output can't be written\n",
+        Status::Fault,
+    ),
+];
+
+#[test]
+fn listings(rt: HostRuntime) -> Result<()> {
+    for (text, write, printed, said, status) in LISTINGS {
+        let mut file = Paper {
+            text,
+            reads: 0,
+            fails_at: 999,
+        };
+        let mut out = blank_screen(rt.alloc(), write);
+        let mut errors = blank_screen(rt.alloc(), 999);
+        assert_eq!(rt; detok(rt.alloc(), &mut file, &mut out, &mut errors), status);
+        assert_eq!(rt; out.text.as_slice(), printed.as_bytes());
+        assert_eq!(rt; errors.text.as_slice(), said.as_bytes());
+    }
+    Ok(())
+}
+
 #[test]
 fn endless_file(rt: HostRuntime) {
     let mut file = Endless { reads: 0 };
@@ -212,16 +261,21 @@ fn codes(rt: HostRuntime) {
     }
 }
 
-/// Words of a command line, and the image and the limit that they ask for.
-const LINES: [(&[&str], Option<(&str, u64)>); 7] = [
-    (&["ofw", "run", "a.hex"], Some(("a.hex", 1_000_000))),
-    (&["ofw", "run", "a.hex", "--limit", "0"], Some(("a.hex", 0))),
+/// Words of a command line, and what they ask for: the image, and for a run the limit.
+const LINES: [(&[&str], Option<(&str, Option<u64>)>); 9] = [
+    (&["ofw", "run", "a.hex"], Some(("a.hex", Some(1_000_000)))),
+    (
+        &["ofw", "run", "a.hex", "--limit", "0"],
+        Some(("a.hex", Some(0))),
+    ),
     (
         &["ofw", "run", "a.hex", "--limit", "1000000000"],
-        Some(("a.hex", 1_000_000_000)),
+        Some(("a.hex", Some(1_000_000_000))),
     ),
     (&["ofw", "run", "a.hex", "--limit", "1000000001"], None),
     (&["ofw", "run", "a.hex", "--steps", "5"], None),
+    (&["ofw", "detok", "a.hex"], Some(("a.hex", None))),
+    (&["ofw", "detok", "a.hex", "--limit", "5"], None),
     (&["ofw", "walk", "a.hex"], None),
     (&["ofw"], None),
 ];
@@ -234,7 +288,8 @@ fn arguments(rt: HostRuntime) -> std::result::Result<(), Fail> {
             line.push(String::from_str(rt.alloc(), word)?)?;
         }
         let asked = match parse(rt.alloc(), &line) {
-            Ok(Some(request)) => Some((request.image, request.limit)),
+            Ok(Some(Request::Run { image, limit })) => Some((image, Some(limit))),
+            Ok(Some(Request::Detok { image })) => Some((image, None)),
             _ => None,
         };
         assert_eq!(rt; asked.is_some(), wanted.is_some());

@@ -1,0 +1,17 @@
+use crate::console::Console;
+use of_format::Pictured;
+use of_memory::Memory;
+use of_stacks::DataStack;
+
+/// What words work on.
+#[derive(Drop)]
+pub struct Parts {
+    /// The data stack.
+    pub stack: DataStack,
+    /// The data space.
+    pub memory: Memory,
+    /// The pictured text.
+    pub pictured: Pictured,
+    /// What was printed.
+    pub console: Console,
+}
