@@ -1,4 +1,4 @@
--- Digits, and numbers as text in a base (IEEE 1275-1994, 7.4.5 and A.5.2; Forth 2012, 3.1.2.3 and 6.1.0050).
+-- Digits, and numbers as text in a base (IEEE 1275-1994, annex A; Forth 2012, 3.2.1.2 and 6.1.0050).
 use Rattle.std.specs.Prelude.{ℕ, zero, suc, ◌+◌, ◌-◌, ◌/◌, ◌%◌, ℤ, pos, negsuc, Bool, ◌&&◌, nat_lt, nat_le, List, [], ◌∷◌, ◌++◌, Option, Some, None, if◌then◌else◌}
 
 -- the byte of a digit: 0 to 9, then a to z

@@ -1,4 +1,4 @@
--- Pictured numeric output (Forth 2012, 6.1.0490 `<#`, 6.1.1670 `hold`, 6.1.0040 `#>`; IEEE 1275-1994, 7.4.5):
+-- Pictured numeric output (Forth 2012, 6.1.0490 `<#`, 6.1.1670 `hold`, 6.1.0040 `#>`; IEEE 1275-1994, annex A):
 -- a text of at most 128 bytes in the data space that grows downwards from 0x500100, and the cell `base`.
 use Rattle.std.specs.Prelude.{ℕ, ◌+◌, ◌-◌, ◌||◌, nat_lt, List, [], ◌∷◌, length, Result}
 use Rattle.of_stacks.specs.declared.throws.Throw.{Throw}

@@ -1,5 +1,5 @@
 -- What each word of the group Addresses makes of the data stack, the top first, or what it throws
--- (IEEE 1275-1994, A.5.2 and 7.3.3.2; Forth 2012, 6.1.0880, 6.1.0706, 6.1.1650).
+-- (IEEE 1275-1994, annex A; Forth 2012, 6.1.0880, 6.1.0706, 6.1.1650).
 use Rattle.std.specs.Prelude.{ℕ, ◌+◌, ◌*◌, ◌/◌, List, ◌∷◌, Result, Ok, Err}
 use Rattle.of_cells.specs.declared.cells.Cell.{Cell}
 use Rattle.of_cells.specs.Numbers.{cell}

@@ -1,5 +1,5 @@
 -- What each word of the group Memory makes of the data stack, the top first, and of the data space, or what it
--- throws (IEEE 1275-1994, 7.3.3.1 and A.5.2; Forth 2012, 6.1.0650, 6.1.0010, 6.1.1900, 6.1.1540, 17.6.1.0935).
+-- throws (IEEE 1275-1994, annex A; Forth 2012, 6.1.0650, 6.1.0010, 6.1.1900, 6.1.1540, 17.6.1.0935).
 use Rattle.std.specs.Prelude.{ℕ, ◌+◌, ◌-◌, ◌^◌, nat_lt, List, ◌∷◌, [], Result, Ok, Err, if◌then◌else◌}
 use Rattle.std.specs.Int.{bytes_high_first}
 use Rattle.of_cells.specs.declared.cells.Cell.{Cell}

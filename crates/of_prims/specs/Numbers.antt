@@ -1,5 +1,5 @@
 -- What each word of the group Numbers makes of the data stack, the top first, of the data space and of the pictured
--- text, or what it throws (IEEE 1275-1994, 7.4.5 and A.5.2; Forth 2012, 6.1.0490, 6.1.1670, 6.1.2210, 6.1.0030,
+-- text, or what it throws (IEEE 1275-1994, annex A; Forth 2012, 6.1.0490, 6.1.1670, 6.1.2210, 6.1.0030,
 -- 6.1.0050, 6.1.0040, 6.1.0750). The words that print are run elsewhere.
 use Rattle.std.specs.Prelude.{ℕ, ◌-◌, ◌/◌, ◌%◌, ◌^◌, Bool, true, false, List, ◌∷◌, [], Option, Some, None, Result, Ok, Err}
 use Rattle.of_cells.specs.declared.cells.Cell.{Cell}

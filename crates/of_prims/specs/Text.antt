@@ -1,5 +1,5 @@
 -- What each word of the group Text makes of the data stack, the top first, and of the data space, or what it throws
--- (IEEE 1275-1994, 7.3.4 and A.5.2; Forth 2012, 6.1.0980, 6.1.0770). The words that print or ask are run elsewhere.
+-- (IEEE 1275-1994, annex A; Forth 2012, 6.1.0980, 6.1.0770). The words that print or ask are run elsewhere.
 use Rattle.std.specs.Prelude.{ℕ, ◌+◌, ◌-◌, ◌==◌, min, nat_lt, List, ◌∷◌, [], length, take, drop, Option, Some, None, Result, Ok, Err, if◌then◌else◌}
 use Rattle.of_cells.specs.declared.cells.Cell.{Cell}
 use Rattle.of_cells.specs.Arithmetic.{plus}
