@@ -4,7 +4,7 @@ use Rattle.of_cells.specs.declared.cells.Cell.{Cell}
 use Rattle.of_cells.specs.Numbers.{signed}
 use Rattle.of_stacks.specs.declared.throws.Throw.{Throw}
 use Rattle.of_stacks.specs.Throws.{throw_text}
-use Rattle.of_format.specs.Digits.{number_text, unsigned_text}
+use Rattle.of_format.specs.Digits.{number_text}
 
 -- a text and a space
 abbrev pub spaced : List ℕ → List ℕ

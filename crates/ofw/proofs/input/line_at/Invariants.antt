@@ -1,5 +1,5 @@
 use Rattle.std.proofs.Common.{◌≡◌, ◌+◌, ◌≤◌, length}
-use Rattle.std.specs.Prelude.{filter, nat_eq, take}
+use Rattle.std.specs.Prelude.{filter, nat_eq}
 use Rattle.ofw.specs.Runs.{line_at}
 use Rattle.ofw.proofs.input.line_at.Given as goal
 
