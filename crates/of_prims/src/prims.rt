@@ -23,6 +23,7 @@ use of_stacks::{DataStack, Throw};
 /// Of several faults the first of the order of throws counts: what is missing on the stack, then
 /// addresses and numbers, and what finds no room last.
 #[tactic(auto, unfolding(of_stacks::specs::Throws::is_listed, of_stacks::specs::Throws::listed_numbers))]
+#[inline(always)]
 pub fn prim(
     word: Word,
     stack: &mut DataStack,

@@ -11,7 +11,7 @@ use of_cells::Cell;
 use of_fcodes::{FCode, Operand};
 
 /// An FCode of one byte, or of two where the first is 0x01 to 0x0F.
-#[inline]
+#[inline(always)]
 pub fn read_code(bytes: &[u8]) -> Option<(FCode, &[u8])>
     ensures read { option_map code_read result ≡ code bytes.now }
     ensures shorter { IfSome result (λ r. length r.1.now < length bytes.now) }
@@ -33,7 +33,7 @@ pub fn read_code(bytes: &[u8]) -> Option<(FCode, &[u8])>
 }
 
 /// A cell of four bytes.
-#[inline]
+#[inline(always)]
 fn read_literal(bytes: &[u8]) -> Option<(Cell, &[u8])>
     ensures read { option_map literal_read result ≡ literal bytes.now }
     ensures shorter { IfSome result (λ r. length r.1.now ≤ length bytes.now) }
@@ -45,7 +45,7 @@ fn read_literal(bytes: &[u8]) -> Option<(Cell, &[u8])>
 }
 
 /// A string behind the byte of its length.
-#[inline]
+#[inline(always)]
 fn read_string(bytes: &[u8]) -> Option<(&[u8], &[u8])>
     ensures read { option_map counted_read result ≡ counted bytes.now }
     ensures shorter { IfSome result (λ r. length r.1.now ≤ length bytes.now) }
@@ -63,7 +63,7 @@ fn read_string(bytes: &[u8]) -> Option<(&[u8], &[u8])>
 }
 
 /// A signed offset.
-#[inline]
+#[inline(always)]
 fn read_offset(size: OffsetSize, bytes: &[u8]) -> Option<(i16, &[u8])>
     ensures read { option_map offset_read result ≡ offset size bytes.now }
     ensures shorter { IfSome result (λ r. length r.1.now ≤ length bytes.now) }
@@ -81,7 +81,7 @@ fn read_offset(size: OffsetSize, bytes: &[u8]) -> Option<(i16, &[u8])>
 }
 
 /// What stands behind an FCode of this operand.
-#[inline]
+#[inline(always)]
 pub fn read_argument(
     operand: Operand,
     size: OffsetSize,

@@ -63,7 +63,7 @@ impl<'a> Stream<'a> {
 
     /// The token at a position, and the position behind it; Ended with the position where the
     /// image ends before the token does.
-    #[inline]
+    #[inline(always)]
     pub fn token_at(
         self,
         position: usize,
@@ -82,7 +82,7 @@ impl<'a> Stream<'a> {
 }
 
 /// The token at a position and the position behind it, where the image doesn't end before.
-#[inline]
+#[inline(always)]
 #[tactic(auto, unfolding(crate::specs::Decoding::token_from, crate::specs::Decoding::decoded))]
 fn token_in(image: &[u8], position: usize, size: OffsetSize) -> Option<(Token<'_>, usize)>
     ensures token { option_map (λ r. (token_shown r.0, r.1)) result ≡ token_from image.now position size }
