@@ -1,4 +1,4 @@
--- What is printed (IEEE 1275-1994, 7.4.5; Forth 2012, 6.1.0180 and 6.2.0210).
+-- What is printed (IEEE 1275-1994, annex A; Forth 2012, 6.1.0180 and 6.2.0210).
 use Rattle.std.specs.Prelude.{ℕ, ◌-◌, ℤ, pos, negsuc, List, [], ◌∷◌, ◌++◌, length, replicate, codes}
 use Rattle.of_cells.specs.declared.cells.Cell.{Cell}
 use Rattle.of_cells.specs.Numbers.{signed}
