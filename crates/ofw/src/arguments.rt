@@ -1,3 +1,8 @@
+ghost use Rattle.std.specs.Prelude.{◌≡◌, IfOk, codes, false, map, option_map};
+ghost use Rattle.clap.specs.Words.{fault_of, first_of, rule_of, FailsBy, found_of, rows_of};
+ghost use Rattle.std.specs.String.{string_bytes};
+ghost use Rattle.ofw.specs.CommandLine.{IsBuilt, asked, asked_by, asks, detok_app, image_rule, limit_in, limit_rule, ofw_app, run_app};
+
 use clap::{Arg, ArgAction, ArgMatches, Command, Error, value_parser};
 use std::alloc::{AllocError, Global};
 
@@ -22,7 +27,9 @@ pub enum Request<'a> {
 }
 
 /// The argument that is the path of an image.
-fn image_argument<'a>(alloc: Global) -> Arg<'a> {
+fn image_argument<'a>(alloc: Global) -> Arg<'a>
+    ensures { (rule_of result ≡ image_rule) × (result.global ≡ false) }
+{
     Arg::new(alloc, "image")
         .value_name("IMAGE")
         .help("the image, in hexadecimal")
@@ -30,28 +37,41 @@ fn image_argument<'a>(alloc: Global) -> Arg<'a> {
         .action(ArgAction::Set)
 }
 
-/// `ofw run IMAGE [--limit N]`
-fn run_command<'a>(alloc: Global) -> Result<Command<'a>, AllocError> {
-    let limit = Arg::new(alloc, "limit")
+/// `--limit N`, from 0 to 1,000,000,000
+fn limit_argument<'a>(alloc: Global) -> Arg<'a>
+    ensures { (rule_of result ≡ limit_rule) × (result.global ≡ false) }
+{
+    Arg::new(alloc, "limit")
         .long("limit")
         .value_name("N")
         .help("the most steps, 0 to 1000000000 (1000000 where it is left out)")
         .action(ArgAction::Set)
-        .value_parser(value_parser!(u64).range(0..=1_000_000_000));
+        .value_parser(value_parser!(u64).range(0..=1_000_000_000))
+}
+
+/// `ofw run IMAGE [--limit N]`
+fn run_command<'a>(alloc: Global) -> Result<Command<'a>, AllocError>
+    ensures { IfOk result (IsBuilt run_app) }
+{
     Command::new(alloc, "run")
         .about("Runs an image and prints what it prints")
         .arg(image_argument(alloc))?
-        .arg(limit)
+        .arg(limit_argument(alloc))
 }
 
 /// `ofw detok IMAGE`
-fn detok_command<'a>(alloc: Global) -> Result<Command<'a>, AllocError> {
+fn detok_command<'a>(alloc: Global) -> Result<Command<'a>, AllocError>
+    ensures { IfOk result (IsBuilt detok_app) }
+{
     Command::new(alloc, "detok")
         .about("Prints the listing of an image, a line for each token")
         .arg(image_argument(alloc))
 }
 
-fn command<'a>(alloc: Global) -> Result<Command<'a>, AllocError> {
+/// `ofw`, with one of its subcommands
+fn command<'a>(alloc: Global) -> Result<Command<'a>, AllocError>
+    ensures { IfOk result (IsBuilt ofw_app) }
+{
     Command::new(alloc, "ofw")
         .about("An Open Firmware boot monitor on a simulated board")
         .subcommand_required(true)
@@ -59,21 +79,48 @@ fn command<'a>(alloc: Global) -> Result<Command<'a>, AllocError> {
         .subcommand(detok_command(alloc)?)
 }
 
-/// What the words of a command line ask for, the program's name first.
-pub fn parse<'a>(alloc: Global, words: &'a [String]) -> Result<Option<Request<'a>>, Error> {
-    let matches = command(alloc)?.try_get_matches_from(words)?;
-    Ok(request_of(&matches))
+/// The path of the image that a subcommand was given.
+fn image_path<'a>(matches: &ArgMatches<'a>) -> Option<&'a str>
+    ensures { option_map (λ path. path.now) result ≡ first_of (codes "image") (rows_of (found_of matches.now)) }
+{
+    matches.get_str("image")
 }
 
-fn request_of<'a>(matches: &ArgMatches<'a>) -> Option<Request<'a>> {
-    match matches.subcommand()? {
-        ("run", run) => Some(Request::Run {
-            image: run.get_str("image")?,
-            limit: run.get_one::<u64>("limit").unwrap_or(DEFAULT_LIMIT),
+/// The limit that a subcommand was given, or the one that stands where it is left out.
+fn step_limit(matches: &ArgMatches) -> u64
+    ensures { result ≡ limit_in (rows_of (found_of matches.now)) }
+{
+    matches.get_one::<u64>("limit").unwrap_or(DEFAULT_LIMIT)
+}
+
+/// What a subcommand asks for.
+fn request_of<'a>(name: &str, matches: &ArgMatches<'a>) -> Option<Request<'a>>
+    ensures { option_map asked result ≡ asked_by (name.now, rows_of (found_of matches.now)) }
+{
+    let image = image_path(matches)?;
+    match name {
+        "run" => Some(Request::Run {
+            image,
+            limit: step_limit(matches),
         }),
-        ("detok", detok) => Some(Request::Detok {
-            image: detok.get_str("image")?,
-        }),
+        "detok" => Some(Request::Detok { image }),
         _ => None,
+    }
+}
+
+/// What the words of a command line ask for, the program's name first.
+///
+/// An error is a call for help or a fault of the words: another subcommand or option, a word too
+/// many, no image, a limit given twice or one that is no number from 0 to 1,000,000,000. `None`
+/// stands for a subcommand that asks for nothing, and all that the command line has ask.
+#[tactic(auto, using(crate::proofs::Requests::ofw_is_simple, crate::proofs::Requests::ofw_is_free))]
+pub fn parse<'a>(alloc: Global, words: &'a [String]) -> Result<Option<Request<'a>>, Error>
+    ensures ok { IfOk result (λ request. option_map asked request ≡ asks (map string_bytes words.now)) }
+    ensures err { FailsBy (fault_of ofw_app (map string_bytes words.now)) result }
+{
+    let matches = command(alloc)?.try_get_matches_from(words)?;
+    match matches.subcommand() {
+        Some((name, matches)) => Ok(request_of(name, matches)),
+        None => Ok(None),
     }
 }

@@ -1,0 +1,82 @@
+-- What a command line asks for, in the terms of the parser of command lines: an application has rules
+-- for its words, and a parse gives rows of values that it found.
+use Rattle.std.specs.Prelude.{◌≡◌, false, ℕ, List, Option, Some, None, true, codes, option_and_then, unwrap_or, if◌then◌else◌}
+use Rattle.std.specs.Str.{bytes_eq}
+use Rattle.std.specs.Str.Parse.{digits_value, without_leading_plus}
+use Rattle.clap.specs.ValueTests.{is_unsigned_in}
+use Rattle.clap.specs.Words.{App, app_of, Rule, Row, Text, first_of, one_of, new_app, new_rule, subcommand_of, with_rule, with_subcommand}
+use Rattle.clap.specs.declared.builder.command.Command.{Command}
+use Rattle.clap.specs.declared.builder.command.Command.TheViews.{out-Command}
+use Rattle.clap.specs.declared.builder.action.ArgAction.TheVariants.{Set}
+use Rattle.clap.specs.declared.builder.value_parser.ValueParser.TheVariants as value
+use Rattle.ofw.specs.declared.arguments.Request.{Request}
+use Rattle.ofw.specs.declared.arguments.Request.TheVariants as request
+
+-- ---- the command line
+
+-- `IMAGE`
+abbrev pub image_rule : Rule
+image_rule = record (new_rule (codes "image")) { value_names = 1; required = true; action = Some Set }
+
+-- `--limit N`, from 0 to 1,000,000,000
+abbrev pub limit_rule : Rule
+limit_rule = record (new_rule (codes "limit")) {
+  long = Some (codes "limit");
+  value_names = 1;
+  action = Some Set;
+  parser = Some (value.Unsigned 0 1000000000);
+}
+
+-- `run IMAGE [--limit N]`
+abbrev pub run_app : App
+run_app = with_rule (with_rule (new_app (codes "run")) image_rule) limit_rule
+
+-- `detok IMAGE`
+abbrev pub detok_app : App
+detok_app = with_rule (new_app (codes "detok")) image_rule
+
+-- the application refuses a line with no subcommand
+abbrev pub needing_subcommand : App → App
+needing_subcommand a = record a { top = record a.top { subcommand_required = true } }
+
+-- `ofw`, with one of the two
+abbrev pub ofw_app : App
+ofw_app = with_subcommand (with_subcommand (needing_subcommand (new_app (codes "ofw"))) run_app.top) detok_app.top
+
+-- the command has this shape, and no argument that all its subcommands share
+abbrev pub IsBuilt : App → Command → Type 0
+IsBuilt a c = (app_of c ≡ a) × ((out-Command c).has_globals ≡ false)
+
+-- ---- what is asked
+
+-- the run of the image at a path, for so many steps at most, or its listing
+pub data Asked : Type 0 where
+  a_run : Text → ℕ → Asked
+  a_listing : Text → Asked
+
+abbrev pub asked : Request → Asked
+asked (request.Run image limit) = a_run image.now limit
+asked (request.Detok image) = a_listing image.now
+
+-- the number that a text has in decimal digits, where it is one of 64 bits
+abbrev pub number_in : Text → Option ℕ
+number_in text =
+    if is_unsigned_in 0 18446744073709551615 text then Some (digits_value 10 (without_leading_plus text)) else None
+
+-- the limit that is given, or 1,000,000
+abbrev pub limit_in : List Row → ℕ
+limit_in rows = unwrap_or (option_and_then number_in (one_of (codes "limit") rows)) 1000000
+
+-- what a subcommand of this name asks for with a limit and an image
+abbrev pub asked_as : Text → ℕ → Text → Option Asked
+asked_as name limit image =
+    if bytes_eq name (codes "run") then Some (a_run image limit)
+    else (if bytes_eq name (codes "detok") then Some (a_listing image) else None)
+
+-- what a subcommand asks for, by its name and the rows that were found for it
+abbrev pub asked_by : Text × List Row → Option Asked
+asked_by p = option_and_then (asked_as p.0 (limit_in p.1)) (first_of (codes "image") p.1)
+
+-- what a command line asks for, the program's name first
+abbrev pub asks : List Text → Option Asked
+asks words = option_and_then asked_by (subcommand_of ofw_app words)
