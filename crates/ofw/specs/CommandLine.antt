@@ -1,10 +1,10 @@
 -- What a command line asks for, in the terms of the parser of command lines: an application has rules
 -- for its words, and a parse gives rows of values that it found.
-use Rattle.std.specs.Prelude.{◌≡◌, false, ℕ, List, Option, Some, None, true, codes, option_and_then, unwrap_or, if◌then◌else◌}
+use Rattle.std.specs.Prelude.{◌≡◌, ◌==◌, ◌∷◌, [], not, Bool, ℕ, List, false, Option, Some, None, true, codes, option_and_then, unwrap_or, if◌then◌else◌}
 use Rattle.std.specs.Str.{bytes_eq}
 use Rattle.std.specs.Str.Parse.{digits_value, without_leading_plus}
 use Rattle.clap.specs.ValueTests.{is_unsigned_in}
-use Rattle.clap.specs.Words.{App, app_of, Rule, Row, Text, first_of, one_of, new_app, new_rule, subcommand_of, with_rule, with_subcommand}
+use Rattle.clap.specs.Words.{App, fault_of, app_of, Rule, Row, Text, first_of, one_of, new_app, new_rule, subcommand_of, with_rule, with_subcommand}
 use Rattle.clap.specs.declared.builder.command.Command.{Command}
 use Rattle.clap.specs.declared.builder.command.Command.TheViews.{out-Command}
 use Rattle.clap.specs.declared.builder.action.ArgAction.TheVariants.{Set}
@@ -80,3 +80,32 @@ asked_by p = option_and_then (asked_as p.0 (limit_in p.1)) (first_of (codes "ima
 -- what a command line asks for, the program's name first
 abbrev pub asks : List Text → Option Asked
 asks words = option_and_then asked_by (subcommand_of ofw_app words)
+
+-- ---- lines in plain words
+
+-- a word that is no option: it has a first byte, and that is no hyphen
+abbrev pub is_plain : Text → Bool
+is_plain [] = false
+is_plain (b ∷ rest) = not (b == 45)
+
+-- the line asks for this, and has no fault
+abbrev pub Asks : List Text → Asked → Type 0
+Asks words what = (asks words ≡ Some what) × (fault_of ofw_app words ≡ [])
+
+-- a run of an image with no limit given
+abbrev pub AsksToRun : Text → Text → Type 0
+AsksToRun program image = Asks (program ∷ codes "run" ∷ image ∷ []) (a_run image 1000000)
+
+-- a run with a limit given
+abbrev pub AsksForLimit : Text → Text → Text → Type 0
+AsksForLimit program image limit =
+    Asks (program ∷ codes "run" ∷ image ∷ codes "--limit" ∷ limit ∷ []) (a_run image (digits_value 10 (without_leading_plus limit)))
+
+-- a listing of an image
+abbrev pub AsksToList : Text → Text → Type 0
+AsksToList program image = Asks (program ∷ codes "detok" ∷ image ∷ []) (a_listing image)
+
+-- what the lines of the usage text ask for
+abbrev pub LinesAsk : Type 0
+LinesAsk = (program image : Text) → is_plain image ≡ true → AsksToRun program image × AsksToList program image
+    × ((limit : Text) → is_plain limit ≡ true → is_unsigned_in 0 1000000000 limit ≡ true → AsksForLimit program image limit)

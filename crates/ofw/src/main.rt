@@ -5,6 +5,7 @@ mod arguments;
 pub mod engine;
 mod fault;
 mod input;
+mod laws;
 mod output;
 mod status;
 #[cfg(test)]

@@ -2,6 +2,7 @@ use crate::arguments::{Request, parse};
 use crate::engine::{detok, run};
 use crate::fault::Fault;
 use crate::input::MOST_READS;
+use crate::laws::lines_ask;
 use crate::output::report;
 use crate::status::Status;
 use std::alloc::Global;
@@ -282,6 +283,7 @@ const LINES: [(&[&str], Option<(&str, Option<u64>)>); 9] = [
 
 #[test]
 fn arguments(rt: HostRuntime) -> std::result::Result<(), Fail> {
+    lines_ask();
     for (words, wanted) in LINES {
         let mut line = Vec::new(rt.alloc());
         for word in words {
