@@ -4,21 +4,22 @@ use Rattle.std.proofs.lemmas.List.{drop_more, drop_all, drop-drop, take_all, len
 use Rattle.std.proofs.lemmas.Bool.Decides.{nat_tests}
 use Rattle.std.specs.List.{flat_map, position, position_or_len}
 use Rattle.std.specs.Option.{option_map}
+use Rattle.std.specs.Char.{digit_char}
 use Rattle.of_stream.specs.declared.fault.StreamFault.{StreamFault}
 use Rattle.of_stream.specs.declared.fault.StreamFault.TheVariants.{Ended}
 use Rattle.of_stream.specs.declared.stream.OffsetSize.{OffsetSize}
 use Rattle.of_stream.specs.Decoding.{Token, token_from}
-use Rattle.of_detok.specs.Digits.{digit, digit_value, pairs}
+use Rattle.of_detok.specs.Digits.{digit_value, pairs}
 use Rattle.of_detok.specs.Listing.{Line, line_text, line_before, text_behind, token_line, is_end, size_behind, lines_from, trailing, trailing_from}
 use Rattle.of_detok.specs.Reading.{paired, are_spaces, byte_of, byte_before, some_bytes, text_lines}
 
 -- one more byte as two digits
 pub pairs_more : (out bytes : List ℕ) (i d : ℕ) → i < length bytes
-    → ((out ++ digit (get_or bytes i d / 16) ∷ []) ++ digit (get_or bytes i d % 16) ∷ []) ++ pairs (drop (i + 1) bytes) ≡ out ++ pairs (drop i bytes)
+    → ((out ++ digit_char (get_or bytes i d / 16) ∷ []) ++ digit_char (get_or bytes i d % 16) ∷ []) ++ pairs (drop (i + 1) bytes) ≡ out ++ pairs (drop i bytes)
 unfolding pairs
 pairs_more out bytes i d h =
-    let high = digit (get_or bytes i d / 16) in
-    let low = digit (get_or bytes i d % 16) in
+    let high = digit_char (get_or bytes i d / 16) in
+    let low = digit_char (get_or bytes i d % 16) in
     append_assoc (out ++ high ∷ []) (low ∷ []) (pairs (drop (i + 1) bytes))
     ∙ append_assoc out (high ∷ []) (low ∷ pairs (drop (i + 1) bytes))
     ∙ ap (λ xs. out ++ pairs xs) (sym (drop_more bytes i d h))

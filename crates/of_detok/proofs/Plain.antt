@@ -1,12 +1,13 @@
 -- No label has a newline.
 use Rattle.std.proofs.Common.{◌≡◌, ℕ, zero, suc, ◌/◌, ◌%◌, List, [], ◌∷◌, ◌++◌, map, codes, Option, Some, None, Bool, true, false, cond, ◌&&◌, nat_eq, length, slice_index, refl, arith}
 use Rattle.std.proofs.lemmas.Bool.Decides.{nat_tests}
+use Rattle.std.specs.Option.{option_map}
+use Rattle.std.specs.Char.{digit_char}
 use Rattle.of_fcodes.specs.Rows.{Row, rows, first_rows, second_rows, third_rows, fourth_rows, fifth_rows, sixth_rows, seventh_rows}
 use Rattle.of_fcodes.specs.Lookup.{row_in, row_numbered, name_numbered}
-use Rattle.std.specs.Option.{option_map}
 use Rattle.of_stream.specs.declared.stream.OffsetSize.{OffsetSize}
 use Rattle.of_stream.specs.Decoding.{Argument, Nothing, Literal, String, Code, Named, Offset, Token}
-use Rattle.of_detok.specs.Digits.{digit, digits, pairs, place}
+use Rattle.of_detok.specs.Digits.{digits, pairs, place}
 use Rattle.of_detok.specs.Listing.{name_or, name, shown, quoted, target, operands, token_label, start_name, said_sum, actual_sum, said_length, unless_said, header_label}
 
 -- whether a text has no newline
@@ -31,19 +32,19 @@ plain_append [] b h k = k
 plain_append (x ∷ a) b h k = let first = plain_parts x a h in plain_cons x (a ++ b) first.0 (plain_append a b first.1 k)
 
 -- of a digit
-pub digit_plain : (d : ℕ) → nat_eq (digit d) 10 ≡ false
+pub digit_plain : (d : ℕ) → nat_eq (digit_char d) 10 ≡ false
 digit_plain d = grind (arith, nat_tests)
 
 pub plain_digits : (n k : ℕ) → plain (digits n k) ≡ true
 unfolding digits
 plain_digits zero k = refl
-plain_digits (suc n) k = plain_append (digits n (k / 16)) (digit (k % 16) ∷ []) (plain_digits n (k / 16)) (plain_cons (digit (k % 16)) [] (digit_plain (k % 16)) refl)
+plain_digits (suc n) k = plain_append (digits n (k / 16)) (digit_char (k % 16) ∷ []) (plain_digits n (k / 16)) (plain_cons (digit_char (k % 16)) [] (digit_plain (k % 16)) refl)
 
 pub plain_pairs : (bytes : List ℕ) → plain (pairs bytes) ≡ true
 unfolding pairs
 plain_pairs [] = refl
 plain_pairs (b ∷ bytes) =
-    plain_cons (digit (b / 16)) (digit (b % 16) ∷ pairs bytes) (digit_plain (b / 16)) (plain_cons (digit (b % 16)) (pairs bytes) (digit_plain (b % 16)) (plain_pairs bytes))
+    plain_cons (digit_char (b / 16)) (digit_char (b % 16) ∷ pairs bytes) (digit_plain (b / 16)) (plain_cons (digit_char (b % 16)) (pairs bytes) (digit_plain (b % 16)) (plain_pairs bytes))
 
 pub plain_place : (before : ℕ) → plain (place before) ≡ true
 unfolding place

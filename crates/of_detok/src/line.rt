@@ -2,7 +2,8 @@
 // writes puts its text behind what stands there.
 
 ghost use Rattle.std.specs.Prelude.{◌≡◌, ◌%◌, ◌<◌, ◌++◌, codes, OnOk};
-ghost use Rattle.of_detok.specs.Digits.{digit, digits, pairs, place};
+ghost use Rattle.std.specs.Char.{digit_char};
+ghost use Rattle.of_detok.specs.Digits.{digits, pairs, place};
 
 use std::alloc::AllocError;
 
@@ -10,19 +11,18 @@ use std::alloc::AllocError;
 #[inline]
 fn digit(value: u8) -> u8
     requires { value < 16 }
-    ensures { result ≡ digit value }
+    ensures { result ≡ digit_char value }
 {
-    if value < 10 {
-        b'0' + value
-    } else {
-        b'a' - 10 + value
+    match char::from_digit(u32::from(value), 16) {
+        Some(digit) => digit as u8,
+        None => b'0',
     }
 }
 
 /// The last digit of a number.
 #[inline]
 fn last_digit(n: usize) -> u8
-    ensures { result ≡ digit (n % 16) }
+    ensures { result ≡ digit_char (n % 16) }
 {
     digit((n % 16) as u8)
 }

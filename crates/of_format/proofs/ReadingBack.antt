@@ -5,17 +5,23 @@ use Rattle.std.specs.Int.{w32}
 use Rattle.std.proofs.lemmas.Int.{to_z_pos}
 use Rattle.std.proofs.lemmas.Bool.{cases_lt}
 use Rattle.std.proofs.lemmas.Bool.Decides.{nat_tests}
+use Rattle.std.specs.Char.{digit_char}
+use Rattle.std.proofs.lemmas.Str.{digit_value-digit_char}
 use Rattle.of_cells.specs.declared.cells.Cell.{Cell}
 use Rattle.of_cells.specs.Numbers.{cell, signed}
 use Rattle.of_cells.specs.Splitting.{IsCell}
-use Rattle.of_format.specs.Digits.{digit_byte, digit_of, digit_value, digits, number_text, unsigned_text}
+use Rattle.of_format.specs.Digits.{digit_of, digit_value, digits, number_text, unsigned_text}
 use Rattle.of_format.specs.Reading.{with_digit, with_digits, at_most, digits_read, number_read, ReadsBack}
 use Rattle.of_format.proofs.Numbers.{no_more_digits}
 
 -- a digit's byte has its value
-digit_back : (base d : ℕ) → d < base → base ≤ 36 → digit_value base (digit_byte d) ≡ Some d
+digit_back : (base d : ℕ) → d < base → base ≤ 36 → digit_value base (digit_char d) ≡ Some d
 unfolding digit_of
-digit_back base d l b = grind (arith, nat_tests)
+digit_back base d l b =
+    let value = digit_value-digit_char d (omega arith) in
+    let small : nat_lt d 36 ≡ true = grind (arith, nat_tests) in
+    let below : nat_lt d base ≡ true = grind (arith, nat_tests) in
+    rw (value, small, below) refl
 
 -- a minus sign is no digit
 minus_digit : (base : ℕ) → digit_value base 45 ≡ None
@@ -27,11 +33,11 @@ with_digits-append base n [] ys = refl
 with_digits-append base n (x ∷ xs) ys = with_digits-append base (with_digit base n (digit_value base x)) xs ys
 
 -- one more digit
-last_digit : (base n m : ℕ) (xs : List ℕ) → 2 ≤ base → base ≤ 36 → with_digits base (Some 0) xs ≡ Some m → m ≡ n / base → with_digits base (Some 0) (xs ++ digit_byte (n % base) ∷ []) ≡ Some n
+last_digit : (base n m : ℕ) (xs : List ℕ) → 2 ≤ base → base ≤ 36 → with_digits base (Some 0) xs ≡ Some m → m ≡ n / base → with_digits base (Some 0) (xs ++ digit_char (n % base) ∷ []) ≡ Some n
 last_digit base n m xs low high e q =
-    let d : digit_value base (digit_byte (n % base)) ≡ Some (n % base) = digit_back base (n % base) (omega arith) high in
+    let d : digit_value base (digit_char (n % base)) ≡ Some (n % base) = digit_back base (n % base) (omega arith) high in
     let back : base * (n / base) + n % base ≡ n = div-add-mod n base in
-    rw (with_digits-append base (Some 0) xs (digit_byte (n % base) ∷ []), e, d, q) (ap Some (omega arith))
+    rw (with_digits-append base (Some 0) xs (digit_char (n % base) ∷ []), e, d, q) (ap Some (omega arith))
 
 quotient_small : (base n p : ℕ) → 2 ≤ base → n < 2 * p → n / base < p
 quotient_small base n p low l =

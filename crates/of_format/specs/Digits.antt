@@ -1,15 +1,12 @@
 -- Digits, and numbers as text in a base (IEEE 1275-1994, annex A; Forth 2012, 3.2.1.2 and 6.1.0050).
-use Rattle.std.specs.Prelude.{ℕ, zero, suc, ◌+◌, ◌-◌, ◌/◌, ◌%◌, ℤ, pos, negsuc, Bool, ◌&&◌, nat_lt, nat_le, List, [], ◌∷◌, ◌++◌, Option, Some, None, if◌then◌else◌}
-
--- the byte of a digit: 0 to 9, then a to z
-abbrev pub digit_byte : ℕ → ℕ
-digit_byte d = if nat_lt d 10 then 48 + d else 87 + d
+use Rattle.std.specs.Prelude.{ℕ, zero, suc, ◌+◌, ◌/◌, ◌%◌, ℤ, pos, negsuc, nat_lt, List, [], ◌∷◌, ◌++◌, Option, Some, None, if◌then◌else◌}
+use Rattle.std.specs.Char.{digit_char, digit_value as code_value}
 
 -- the digits of a number in a base, at most `more` and one
 unfoldable pub digits : ℕ → ℕ → ℕ → List ℕ
-digits zero base n = digit_byte (n % base) ∷ []
+digits zero base n = digit_char (n % base) ∷ []
 digits (suc more) base n =
-    if nat_lt n base then digit_byte (n % base) ∷ [] else digits more base (n / base) ++ digit_byte (n % base) ∷ []
+    if nat_lt n base then digit_char (n % base) ∷ [] else digits more base (n / base) ++ digit_char (n % base) ∷ []
 
 -- a cell's number in a base, unsigned
 abbrev pub unsigned_text : ℕ → ℕ → List ℕ
@@ -24,17 +21,9 @@ unfoldable pub number_text : ℕ → ℤ → List ℕ
 number_text base (pos n) = digits 31 base n
 number_text base (negsuc n) = 45 ∷ digits 31 base (n + 1)
 
--- the character lies in the range, both ends in
-abbrev pub is_in : ℕ → ℕ → ℕ → Bool
-is_in low high char = nat_le low char && nat_le char high
-
 -- what a character stands for as a digit: 0 to 9, and letters of either case from 10 on
 unfoldable pub digit_of : ℕ → Option ℕ
-digit_of char =
-    if is_in 48 57 char then Some (char - 48)
-    else if is_in 65 90 char then Some (char - 55)
-    else if is_in 97 122 char then Some (char - 87)
-    else None
+digit_of char = if nat_lt (code_value char) 36 then Some (code_value char) else None
 
 -- a digit, if it is below the base
 abbrev pub below_base : ℕ → Option ℕ → Option ℕ

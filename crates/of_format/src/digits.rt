@@ -1,15 +1,15 @@
 ghost use Rattle.std.specs.Prelude.{◌≡◌, ◌<◌};
-ghost use Rattle.of_format.specs.Digits.{digit_byte, digit_of, digit_value};
+ghost use Rattle.std.specs.Char.{digit_char};
+ghost use Rattle.of_format.specs.Digits.{digit_of, digit_value};
 
 /// The byte of a digit: `0` to `9`, then `a` to `z`.
 pub fn digit_byte(value: u32) -> u8
     requires { value < 36 }
-    ensures { result ≡ digit_byte value }
+    ensures { result ≡ digit_char value }
 {
-    if value < 10 {
-        b'0' + value as u8
-    } else {
-        b'a' - 10 + value as u8
+    match char::from_digit(value, 36) {
+        Some(digit) => digit as u8,
+        None => b'0',
     }
 }
 
@@ -18,12 +18,10 @@ pub fn digit_byte(value: u32) -> u8
 fn digit_of(char: u32) -> Option<u32>
     ensures { result ≡ digit_of char }
 {
-    match char {
-        48..=57 => Some(char - 48),
-        65..=90 => Some(char - 55),
-        97..=122 => Some(char - 87),
-        _ => None,
+    if char >= 0x80 {
+        return None;
     }
+    char::from(char as u8).to_digit(36)
 }
 
 /// The value of a character as a digit in a base (IEEE 1275-1994, `digit`): `0` to `9`, then the

@@ -2,6 +2,7 @@
 -- text, or what it throws (IEEE 1275-1994, annex A; Forth 2012, 6.1.0490, 6.1.1670, 6.1.2210, 6.1.0030,
 -- 6.1.0050, 6.1.0040, 6.1.0750). The words that print are run elsewhere.
 use Rattle.std.specs.Prelude.{ℕ, ◌-◌, ◌/◌, ◌%◌, ◌^◌, Bool, true, false, List, ◌∷◌, [], Option, Some, None, Result, Ok, Err}
+use Rattle.std.specs.Char.{digit_char}
 use Rattle.of_cells.specs.declared.cells.Cell.{Cell}
 use Rattle.of_cells.specs.Numbers.{flag}
 use Rattle.of_cells.specs.Comparing.{is_less}
@@ -16,7 +17,7 @@ use Rattle.of_memory.specs.DataSpace.{DataSpace, bytes_from}
 use Rattle.of_memory.specs.declared.width.Width.TheVariants.{One as OneByte}
 use Rattle.of_fcodes.specs.declared.words.NumbersWord.{NumbersWord}
 use Rattle.of_fcodes.specs.declared.words.NumbersWord.TheVariants.{Begin, Hold, Sign, NextDigit, AllDigits, End, UnsignedDigit, UnsignedDigits, UnsignedEnd, Dot, UnsignedDot, DotRight, UnsignedDotRight, DotStack, Base, ParseNumber, Digit, MinusOne, Zero, One, Two, Three, Noop, FcodeRevision}
-use Rattle.of_format.specs.Digits.{digit_byte, digit_value, unsigned_text, double_text}
+use Rattle.of_format.specs.Digits.{digit_value, unsigned_text, double_text}
 use Rattle.of_format.specs.Pictured.{held, base_in, text_address}
 use Rattle.of_format.specs.Reading.{number_read}
 use Rattle.of_prims.specs.Data.{Data, data_of, number, unless_fault}
@@ -34,7 +35,7 @@ holding s (Err t) = Err t
 -- the last digit of a double is held, and the rest of the double stays
 abbrev pub next_digit : ℕ → List Cell → DataSpace → ℕ → Result ℕ Throw → Result Data Throw
 next_digit n s m count (Ok base) =
-    holding (with_double (double (n / base)) s) (held m count (digit_byte (n % base) ∷ []))
+    holding (with_double (double (n / base)) s) (held m count (digit_char (n % base) ∷ []))
 next_digit n s m count (Err t) = Err t
 
 -- all digits of a double are held, and 0 stays
@@ -45,7 +46,7 @@ all_digits n s m count (Err t) = Err t
 -- the same two for one cell
 abbrev pub next_unsigned_digit : ℕ → List Cell → DataSpace → ℕ → Result ℕ Throw → Result Data Throw
 next_unsigned_digit n s m count (Ok base) =
-    holding (number (n / base) ∷ s) (held m count (digit_byte (n % base) ∷ []))
+    holding (number (n / base) ∷ s) (held m count (digit_char (n % base) ∷ []))
 next_unsigned_digit n s m count (Err t) = Err t
 
 abbrev pub all_unsigned_digits : ℕ → List Cell → DataSpace → ℕ → Result ℕ Throw → Result Data Throw

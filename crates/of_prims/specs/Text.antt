@@ -1,6 +1,7 @@
 -- What each word of the group Text makes of the data stack, the top first, and of the data space, or what it throws
 -- (IEEE 1275-1994, annex A; Forth 2012, 6.1.0980, 6.1.0770). The words that print or ask are run elsewhere.
 use Rattle.std.specs.Prelude.{ℕ, ◌+◌, ◌-◌, ◌==◌, min, nat_lt, List, ◌∷◌, [], length, take, drop, Option, Some, None, Result, Ok, Err, if◌then◌else◌}
+use Rattle.std.specs.Char.{to_ascii_uppercase, to_ascii_lowercase}
 use Rattle.of_cells.specs.declared.cells.Cell.{Cell}
 use Rattle.of_cells.specs.Arithmetic.{plus}
 use Rattle.of_cells.specs.Splitting.{low_byte}
@@ -13,17 +14,16 @@ use Rattle.of_memory.specs.DataSpace.{DataSpace, bytes_from, written}
 use Rattle.of_memory.specs.declared.width.Width.TheVariants.{One}
 use Rattle.of_fcodes.specs.declared.words.TextWord.{TextWord}
 use Rattle.of_fcodes.specs.declared.words.TextWord.TheVariants.{UpperCase, LowerCase, Pack, Count, KeyReady, Key, Emit, «Type», CarriageReturn, Blank, Backspace, Bell, LeftParseString, ParseTwoInts}
-use Rattle.of_format.specs.Digits.{is_in}
 use Rattle.of_format.specs.Reading.{number_read}
 use Rattle.of_prims.specs.Data.{Space, number, unless_fault, over}
 
 -- a character with an ASCII letter in upper case
 abbrev pub upper_case : Cell → Cell
-upper_case char = if is_in 97 122 char.0 then number (char.0 - 32) else char
+upper_case char = number (to_ascii_uppercase char.0)
 
 -- a character with an ASCII letter in lower case
 abbrev pub lower_case : Cell → Cell
-lower_case char = if is_in 65 90 char.0 then number (char.0 + 32) else char
+lower_case char = number (to_ascii_lowercase char.0)
 
 -- how many bytes of a text stand before the first that is the byte
 abbrev pub before : ℕ → List ℕ → ℕ

@@ -1,12 +1,12 @@
 -- What the lines of the usage text ask for.
 use Rattle.std.proofs.Common.{not, true≢false, cond, ◌==◌, ◌∷◌, [], codes, ◌≡◌, ◌∙◌, ℕ, Bool, List, Option, Some, None, true, false, arith, refl, sym, ap}
 use Rattle.std.specs.Str.Parse.{digits_value, without_leading_plus}
+use Rattle.std.specs.Str.{bytes_eq}
+use Rattle.std.specs.Option.{option_map_or}
 use Rattle.clap.specs.Faults.{other_fault, flag_word_fault, bundle_fault, word_fault}
 use Rattle.clap.specs.Simple.{Shape, built_leaf, inherited}
 use Rattle.clap.specs.Lexer.{long_of, short_of}
 use Rattle.clap.specs.Walk.{word_met, option, Rule, Waiting, Held, trailing, Text, plain_word, subcommand_or_other, long_or_other, short_or_plain, idle, nothing_held, value}
-use Rattle.std.specs.Str.{bytes_eq}
-use Rattle.std.specs.Option.{option_map_or}
 use Rattle.clap.specs.declared.parser.matches.ValueSource.TheVariants.{CommandLine}
 use Rattle.clap.specs.declared.builder.value_parser.Reading.TheVariants.{AsWritten}
 use Rattle.clap.proofs.OnLiterals.{clap_on_literals}
