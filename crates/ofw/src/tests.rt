@@ -263,7 +263,7 @@ fn codes(rt: HostRuntime) {
 }
 
 /// Words of a command line, and what they ask for: the image, and for a run the limit.
-const LINES: [(&[&str], Option<(&str, Option<u64>)>); 9] = [
+const LINES: [(&[&str], Option<(&str, Option<u64>)>); 14] = [
     (&["ofw", "run", "a.hex"], Some(("a.hex", Some(1_000_000)))),
     (
         &["ofw", "run", "a.hex", "--limit", "0"],
@@ -278,6 +278,20 @@ const LINES: [(&[&str], Option<(&str, Option<u64>)>); 9] = [
     (&["ofw", "detok", "a.hex"], Some(("a.hex", None))),
     (&["ofw", "detok", "a.hex", "--limit", "5"], None),
     (&["ofw", "walk", "a.hex"], None),
+    (
+        &["ofw", "run", "a.hex", "--limit=7"],
+        Some(("a.hex", Some(7))),
+    ),
+    (
+        &["ofw", "run", "a.hex", "--limit", "7", "--limit", "8"],
+        None,
+    ),
+    (&["ofw", "run", "a.hex", "b.hex"], None),
+    (&["ofw", "run", "-a.hex"], None),
+    (
+        &["ofw", "run", "./-a.hex"],
+        Some(("./-a.hex", Some(1_000_000))),
+    ),
     (&["ofw"], None),
 ];
 
