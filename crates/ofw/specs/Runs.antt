@@ -1,5 +1,5 @@
 -- What the program prints of a file's run or listing, and how it ends.
-use Rattle.std.specs.Prelude.{◌≡◌, ◌⊎◌, ℕ, zero, suc, ◌+◌, List, [], ◌∷◌, length, take, Option, Result, Ok, Err, filter, not, nat_eq, if◌then◌else◌}
+use Rattle.std.specs.Prelude.{◌≡◌, ◌≤◌, ◌⊎◌, ℕ, zero, suc, ◌+◌, List, [], ◌∷◌, length, take, Option, Result, Ok, Err, filter, not, nat_eq, if◌then◌else◌}
 use Rattle.std.specs.Char.{is_ascii_whitespace}
 use Rattle.std.specs.Io.KnownBytes.{Keeps, Appends}
 use Rattle.hex.specs.Hex.{decode_of}
@@ -87,7 +87,7 @@ FaultsFile file (fault.Unlisted f) =
 FaultsFile file fault.ArgumentNotText = Unit {0}
 FaultsFile file fault.Unopened = Unit {0}
 FaultsFile file fault.Unread = Unit {0}
-FaultsFile file fault.Endless = Unit {0}
+FaultsFile file fault.Endless = 16777216 ≤ length file
 FaultsFile file fault.Unwritten = Unit {0}
 FaultsFile file fault.NoMemory = Unit {0}
 
