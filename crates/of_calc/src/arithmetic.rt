@@ -1,77 +1,195 @@
-ghost use Rattle.std.specs.Prelude.{◌≡◌, true, IfErr};
-ghost use Rattle.of_stacks.specs.Throws.{is_listed};
+ghost use Rattle.std.specs.Prelude.{◌≡◌, ◌≢◌};
 ghost use Rattle.of_stacks.specs.Stacks.{Becomes};
-ghost use Rattle.of_calc.specs.Arithmetic.{arithmetic_entry};
+ghost use Rattle.of_calc.specs.Arithmetic.{arithmetic_entry, calculation};
+ghost use Rattle.of_calc.specs.Shapes.{made, shape_of, of_one, of_two, quotient_of, rest_of, wide_of, wide_quotient_of, wide_rest_of, of_doubles};
 
+use crate::shapes::Shape;
 use of_cells::{Cell, Double};
 use of_fcodes::ArithmeticWord;
 use of_stacks::{DataStack, Throw};
 
-// ( x -- y )
-macro_rules! one_to_one {
-    ($stack:ident, $operation:ident) => {{
-        let x = $stack.peek()?;
-        $stack.replace_top(x.$operation());
-    }};
+/// What the word takes and leaves.
+#[tactic(auto, unfolding(crate::specs::Arithmetic::calculation))]
+#[inline]
+fn shape_of(word: ArithmeticWord) -> Shape
+    ensures { result ≡ shape_of (calculation word) }
+{
+    match word {
+        ArithmeticWord::Plus => Shape::Two,
+        ArithmeticWord::Minus => Shape::Two,
+        ArithmeticWord::Times => Shape::Two,
+        ArithmeticWord::And => Shape::Two,
+        ArithmeticWord::Or => Shape::Two,
+        ArithmeticWord::Xor => Shape::Two,
+        ArithmeticWord::Min => Shape::Two,
+        ArithmeticWord::Max => Shape::Two,
+        ArithmeticWord::Slash => Shape::Quotient,
+        ArithmeticWord::Mod => Shape::Quotient,
+        ArithmeticWord::SlashMod => Shape::Parts,
+        ArithmeticWord::UnsignedSlashMod => Shape::Parts,
+        ArithmeticWord::Invert => Shape::One,
+        ArithmeticWord::Negate => Shape::One,
+        ArithmeticWord::Abs => Shape::One,
+        ArithmeticWord::Half => Shape::One,
+        ArithmeticWord::UnsignedHalf => Shape::One,
+        ArithmeticWord::Twice => Shape::One,
+        ArithmeticWord::LeftShift => Shape::Two,
+        ArithmeticWord::RightShift => Shape::Two,
+        ArithmeticWord::SignedShift => Shape::Two,
+        ArithmeticWord::WideTimes => Shape::Wide,
+        ArithmeticWord::WideSlashMod => Shape::WideParts,
+        ArithmeticWord::DoublePlus => Shape::Doubles,
+        ArithmeticWord::DoubleMinus => Shape::Doubles,
+    }
 }
 
-// ( x -- y ) by a count of one
-macro_rules! one_by_one {
-    ($stack:ident, $operation:ident) => {{
-        let x = $stack.peek()?;
-        $stack.replace_top(x.$operation(Cell::ONE));
-    }};
+/// What the word makes of a cell; words of other shapes are not asked.
+#[tactic(auto, unfolding(crate::specs::Arithmetic::calculation))]
+#[inline]
+fn of_one(word: ArithmeticWord, x: Cell) -> Cell
+    ensures { result ≡ of_one (calculation word) x }
+{
+    match word {
+        ArithmeticWord::Invert => x.invert(),
+        ArithmeticWord::Negate => x.negate(),
+        ArithmeticWord::Abs => x.abs(),
+        ArithmeticWord::Half => x.shift_right_keeping_sign(Cell::ONE),
+        ArithmeticWord::UnsignedHalf => x.shift_right(Cell::ONE),
+        ArithmeticWord::Twice => x.shift_left(Cell::ONE),
+        _ => x,
+    }
 }
 
-// ( x y -- z )
-macro_rules! two_to_one {
-    ($stack:ident, $operation:ident) => {{
-        let (x, y) = $stack.top_two()?;
-        $stack.replace_two(x.$operation(y));
-    }};
+/// What the word makes of two cells; words of other shapes are not asked.
+#[tactic(auto, unfolding(crate::specs::Arithmetic::calculation))]
+#[inline]
+fn of_two(word: ArithmeticWord, x: Cell, y: Cell) -> Cell
+    ensures { result ≡ of_two (calculation word) x y }
+{
+    match word {
+        ArithmeticWord::Plus => x.add(y),
+        ArithmeticWord::Minus => x.sub(y),
+        ArithmeticWord::Times => x.mul(y),
+        ArithmeticWord::And => x.and(y),
+        ArithmeticWord::Or => x.or(y),
+        ArithmeticWord::Xor => x.xor(y),
+        ArithmeticWord::Min => x.min(y),
+        ArithmeticWord::Max => x.max(y),
+        ArithmeticWord::LeftShift => x.shift_left(y),
+        ArithmeticWord::RightShift => x.shift_right(y),
+        ArithmeticWord::SignedShift => x.shift_right_keeping_sign(y),
+        _ => x,
+    }
 }
 
-// ( n d -- q ) by a divisor, which throws -10 where it is 0
-macro_rules! divided {
-    ($stack:ident, $operation:ident) => {{
-        let (n, d) = $stack.top_two()?;
-        if d.0 == 0 {
-            return Err(Throw::DIVISION_BY_ZERO);
-        }
-        $stack.replace_two(n.$operation(d));
-    }};
+/// The quotient that the word gives; words of other shapes are not asked.
+#[tactic(auto, unfolding(crate::specs::Arithmetic::calculation))]
+#[inline]
+fn quotient_of(word: ArithmeticWord, n: Cell, d: Cell) -> Cell
+    requires { d.0 ≢ 0 }
+    ensures { result ≡ quotient_of (calculation word) n d }
+{
+    match word {
+        ArithmeticWord::Slash => n.div(d),
+        ArithmeticWord::Mod => n.modulo(d),
+        ArithmeticWord::SlashMod => n.div(d),
+        ArithmeticWord::UnsignedSlashMod => n.unsigned_div(d),
+        _ => n,
+    }
 }
 
-// ( n d -- rest quotient ) by a divisor, which throws -10 where it is 0
-macro_rules! divided_with_rest {
-    ($stack:ident, $rest:ident, $quotient:ident) => {{
-        let (n, d) = $stack.top_two()?;
-        if d.0 == 0 {
-            return Err(Throw::DIVISION_BY_ZERO);
-        }
-        $stack.replace_two(n.$rest(d));
-        $stack.push(n.$quotient(d));
-    }};
+/// The rest that the word gives; words of other shapes are not asked.
+#[tactic(auto, unfolding(crate::specs::Arithmetic::calculation))]
+#[inline]
+fn rest_of(word: ArithmeticWord, n: Cell, d: Cell) -> Cell
+    requires { d.0 ≢ 0 }
+    ensures { result ≡ rest_of (calculation word) n d }
+{
+    match word {
+        ArithmeticWord::SlashMod => n.modulo(d),
+        ArithmeticWord::UnsignedSlashMod => n.unsigned_modulo(d),
+        _ => n,
+    }
 }
 
-/// ( x y -- d ) the product of two unsigned cells
-#[tactic(auto, unfolding(crate::specs::Arithmetic::arithmetic_entry, of_stacks::specs::Throws::is_listed, of_stacks::specs::Throws::listed_numbers))]
-fn multiply_wide(stack: &mut DataStack) -> Result<(), Throw>
-    ensures entry { Becomes (arithmetic_entry ArithmeticWord.WideTimes stack.old) stack.old stack.new result }
-    ensures listed { IfErr result (λ t. is_listed t ≡ true) }
+/// The double that the word makes of two cells; words of other shapes are not asked.
+#[tactic(auto, unfolding(crate::specs::Arithmetic::calculation))]
+fn wide_of(word: ArithmeticWord, x: Cell, y: Cell) -> Double
+    ensures { result ≡ wide_of (calculation word) x y }
+{
+    match word {
+        ArithmeticWord::WideTimes => Double::product(x, y),
+        _ => Double { low: x, high: y },
+    }
+}
+
+/// The quotient of a double that the word gives; words of other shapes are not asked.
+#[tactic(auto, unfolding(crate::specs::Arithmetic::calculation))]
+fn wide_quotient_of(word: ArithmeticWord, n: Double, d: Cell) -> Cell
+    requires { d.0 ≢ 0 }
+    ensures { result ≡ wide_quotient_of (calculation word) n d }
+{
+    match word {
+        ArithmeticWord::WideSlashMod => n.div(d),
+        _ => d,
+    }
+}
+
+/// The rest of a double that the word gives; words of other shapes are not asked.
+#[tactic(auto, unfolding(crate::specs::Arithmetic::calculation))]
+fn wide_rest_of(word: ArithmeticWord, n: Double, d: Cell) -> Cell
+    requires { d.0 ≢ 0 }
+    ensures { result ≡ wide_rest_of (calculation word) n d }
+{
+    match word {
+        ArithmeticWord::WideSlashMod => n.modulo(d),
+        _ => d,
+    }
+}
+
+/// The double that the word makes of two; words of other shapes are not asked.
+#[tactic(auto, unfolding(crate::specs::Arithmetic::calculation))]
+#[inline]
+fn of_doubles(word: ArithmeticWord, x: Double, y: Double) -> Double
+    ensures { result ≡ of_doubles (calculation word) x y }
+{
+    match word {
+        ArithmeticWord::DoublePlus => x.add(y),
+        ArithmeticWord::DoubleMinus => x.sub(y),
+        _ => x,
+    }
+}
+
+/// ( n d -- rest quotient )
+#[inline(never)]
+fn divide_with_rest(word: ArithmeticWord, stack: &mut DataStack) -> Result<(), Throw>
+    ensures { Becomes (made Shape.Parts (calculation word) stack.old) stack.old stack.new result }
+{
+    let (n, d) = stack.top_two()?;
+    if d.0 == 0 {
+        return Err(Throw::DIVISION_BY_ZERO);
+    }
+    stack.replace_two(rest_of(word, n, d));
+    stack.push(quotient_of(word, n, d));
+    Ok(())
+}
+
+/// ( x y -- d )
+#[inline(never)]
+fn multiply_wide(word: ArithmeticWord, stack: &mut DataStack) -> Result<(), Throw>
+    ensures { Becomes (made Shape.Wide (calculation word) stack.old) stack.old stack.new result }
 {
     let (x, y) = stack.top_two()?;
-    let product = Double::product(x, y);
+    let product = wide_of(word, x, y);
     stack.replace_two(product.low);
     stack.push(product.high);
     Ok(())
 }
 
-/// ( d u -- rest quotient ) unsigned, with the quotient modulo 2^32
-#[tactic(auto, unfolding(crate::specs::Arithmetic::arithmetic_entry, of_stacks::specs::Throws::is_listed, of_stacks::specs::Throws::listed_numbers))]
-fn divide_wide(stack: &mut DataStack) -> Result<(), Throw>
-    ensures entry { Becomes (arithmetic_entry ArithmeticWord.WideSlashMod stack.old) stack.old stack.new result }
-    ensures listed { IfErr result (λ t. is_listed t ≡ true) }
+/// ( d u -- rest quotient )
+#[inline(never)]
+fn divide_wide(word: ArithmeticWord, stack: &mut DataStack) -> Result<(), Throw>
+    ensures { Becomes (made Shape.WideParts (calculation word) stack.old) stack.old stack.new result }
 {
     let (low, high, divisor) = stack.top_three()?;
     if divisor.0 == 0 {
@@ -79,85 +197,64 @@ fn divide_wide(stack: &mut DataStack) -> Result<(), Throw>
     }
     let dividend = Double { low, high };
     stack.drop_top(3);
-    stack.push(dividend.modulo(divisor));
-    stack.push(dividend.div(divisor));
+    stack.push(wide_rest_of(word, dividend, divisor));
+    stack.push(wide_quotient_of(word, dividend, divisor));
     Ok(())
 }
 
-/// ( d d -- d ) the sum
-#[tactic(auto, unfolding(crate::specs::Arithmetic::arithmetic_entry, of_stacks::specs::Throws::is_listed, of_stacks::specs::Throws::listed_numbers))]
-fn add_doubles(stack: &mut DataStack) -> Result<(), Throw>
-    ensures entry { Becomes (arithmetic_entry ArithmeticWord.DoublePlus stack.old) stack.old stack.new result }
-    ensures listed { IfErr result (λ t. is_listed t ≡ true) }
+/// ( d d -- d )
+#[inline(never)]
+fn calculate_doubles(word: ArithmeticWord, stack: &mut DataStack) -> Result<(), Throw>
+    ensures { Becomes (made Shape.Doubles (calculation word) stack.old) stack.old stack.new result }
 {
     let (low, high, other_low, other_high) = stack.top_four()?;
     let other = Double {
         low: other_low,
         high: other_high,
     };
-    let sum = Double { low, high }.add(other);
+    let answer = of_doubles(word, Double { low, high }, other);
     stack.drop_top(4);
-    stack.push(sum.low);
-    stack.push(sum.high);
+    stack.push(answer.low);
+    stack.push(answer.high);
     Ok(())
 }
 
-/// ( d d -- d ) the difference
-#[tactic(auto, unfolding(crate::specs::Arithmetic::arithmetic_entry, of_stacks::specs::Throws::is_listed, of_stacks::specs::Throws::listed_numbers))]
-fn subtract_doubles(stack: &mut DataStack) -> Result<(), Throw>
-    ensures entry { Becomes (arithmetic_entry ArithmeticWord.DoubleMinus stack.old) stack.old stack.new result }
-    ensures listed { IfErr result (λ t. is_listed t ≡ true) }
+/// Runs a word of a shape.
+#[inline]
+fn calculate_shape(shape: Shape, word: ArithmeticWord, stack: &mut DataStack) -> Result<(), Throw>
+    ensures { Becomes (made shape (calculation word) stack.old) stack.old stack.new result }
 {
-    let (low, high, other_low, other_high) = stack.top_four()?;
-    let other = Double {
-        low: other_low,
-        high: other_high,
-    };
-    let difference = Double { low, high }.sub(other);
-    stack.drop_top(4);
-    stack.push(difference.low);
-    stack.push(difference.high);
+    match shape {
+        Shape::One => {
+            let x = stack.peek()?;
+            stack.replace_top(of_one(word, x));
+        }
+        Shape::Two => {
+            let (x, y) = stack.top_two()?;
+            stack.replace_two(of_two(word, x, y));
+        }
+        Shape::Quotient => {
+            let (n, d) = stack.top_two()?;
+            if d.0 == 0 {
+                return Err(Throw::DIVISION_BY_ZERO);
+            }
+            stack.replace_two(quotient_of(word, n, d));
+        }
+        Shape::Parts => divide_with_rest(word, stack)?,
+        Shape::Wide => multiply_wide(word, stack)?,
+        Shape::WideParts => divide_wide(word, stack)?,
+        Shape::Doubles => calculate_doubles(word, stack)?,
+    }
     Ok(())
 }
 
 /// Runs a word of the group Arithmetic over the data stack; a throw changes nothing.
 ///
 /// -4 where a cell is missing, and then -10 where a divisor is 0.
-#[tactic(auto, unfolding(crate::specs::Arithmetic::arithmetic_entry, of_stacks::specs::Throws::is_listed, of_stacks::specs::Throws::listed_numbers))]
+#[tactic(auto, using(crate::proofs::ShapeLemmas::calculated_made))]
+#[inline]
 pub fn calculate(word: ArithmeticWord, stack: &mut DataStack) -> Result<(), Throw>
-    ensures entry { Becomes (arithmetic_entry word stack.old) stack.old stack.new result }
-    ensures listed { IfErr result (λ t. is_listed t ≡ true) }
+    ensures { Becomes (arithmetic_entry word stack.old) stack.old stack.new result }
 {
-    match word {
-        ArithmeticWord::Plus => two_to_one!(stack, add),
-        ArithmeticWord::Minus => two_to_one!(stack, sub),
-        ArithmeticWord::Times => two_to_one!(stack, mul),
-        ArithmeticWord::And => two_to_one!(stack, and),
-        ArithmeticWord::Or => two_to_one!(stack, or),
-        ArithmeticWord::Xor => two_to_one!(stack, xor),
-        ArithmeticWord::Min => two_to_one!(stack, min),
-        ArithmeticWord::Max => two_to_one!(stack, max),
-        ArithmeticWord::Slash => divided!(stack, div),
-        ArithmeticWord::Mod => divided!(stack, modulo),
-        ArithmeticWord::SlashMod => divided_with_rest!(stack, modulo, div),
-        ArithmeticWord::UnsignedSlashMod => divided_with_rest!(
-            stack,
-            unsigned_modulo,
-            unsigned_div
-        ),
-        ArithmeticWord::Invert => one_to_one!(stack, invert),
-        ArithmeticWord::Negate => one_to_one!(stack, negate),
-        ArithmeticWord::Abs => one_to_one!(stack, abs),
-        ArithmeticWord::Half => one_by_one!(stack, shift_right_keeping_sign),
-        ArithmeticWord::UnsignedHalf => one_by_one!(stack, shift_right),
-        ArithmeticWord::Twice => one_by_one!(stack, shift_left),
-        ArithmeticWord::LeftShift => two_to_one!(stack, shift_left),
-        ArithmeticWord::RightShift => two_to_one!(stack, shift_right),
-        ArithmeticWord::SignedShift => two_to_one!(stack, shift_right_keeping_sign),
-        ArithmeticWord::WideTimes => multiply_wide(stack)?,
-        ArithmeticWord::WideSlashMod => divide_wide(stack)?,
-        ArithmeticWord::DoublePlus => add_doubles(stack)?,
-        ArithmeticWord::DoubleMinus => subtract_doubles(stack)?,
-    }
-    Ok(())
+    calculate_shape(shape_of(word), word, stack)
 }

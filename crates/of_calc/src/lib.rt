@@ -4,11 +4,12 @@
 mod arithmetic;
 mod arranging;
 mod comparing;
+mod laws;
+mod shapes;
 mod splitting;
-#[cfg(test)]
-mod tests;
 
 pub use arithmetic::calculate;
 pub use arranging::arrange;
-pub use comparing::compare;
+pub use comparing::{compare, is_below, is_equal, is_less, is_zero};
+pub use laws::calculations_throw_listed;
 pub use splitting::split;

@@ -1,5 +1,4 @@
-ghost use Rattle.std.specs.Prelude.{◌≡◌, true, IfErr};
-ghost use Rattle.of_stacks.specs.Throws.{is_listed};
+ghost use Rattle.std.specs.Prelude.{◌≡◌};
 ghost use Rattle.of_stacks.specs.Stacks.{Becomes};
 ghost use Rattle.of_calc.specs.Splitting.{splitting_entry};
 
@@ -36,10 +35,10 @@ macro_rules! joined {
 /// Runs a word of the group Splitting over the data stack; a throw changes nothing.
 ///
 /// -4 where a cell is missing, -3 where there is no room for the parts.
-#[tactic(auto, unfolding(crate::specs::Splitting::splitting_entry, of_stacks::specs::Throws::is_listed, of_stacks::specs::Throws::listed_numbers))]
+#[tactic(auto, unfolding(crate::specs::Splitting::splitting_entry))]
+#[inline]
 pub fn split(word: SplittingWord, stack: &mut DataStack) -> Result<(), Throw>
-    ensures entry { Becomes (splitting_entry word stack.old) stack.old stack.new result }
-    ensures listed { IfErr result (λ t. is_listed t ≡ true) }
+    ensures { Becomes (splitting_entry word stack.old) stack.old stack.new result }
 {
     match word {
         SplittingWord::Lwsplit => split_in_two!(stack, low_half, high_half),

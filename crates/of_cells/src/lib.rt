@@ -9,8 +9,6 @@ mod comparisons;
 mod division;
 mod doubles;
 mod laws;
-#[cfg(test)]
-mod tests;
 
 pub use cells::Cell;
 pub use doubles::Double;

@@ -1,2 +1,5 @@
+-- Agreement, TableLemmas: places lead from FCodes to their rows, for the look-ups by number and `names_and_numbers`.
+-- WrittenLemmas: `written_words_are_found`.
 pub mod Agreement
 pub mod TableLemmas
+pub mod WrittenLemmas

@@ -1,2 +1,5 @@
 pub mod Rows
 pub mod Lookup
+pub mod Words
+pub mod Numbers
+pub mod Finding

@@ -3,7 +3,8 @@ use Rattle.std.specs.Prelude.{ℕ, List, [], ◌∷◌, ◌++◌, codes}
 use Rattle.of_fcodes.specs.declared.operand.Operand.{Operand}
 use Rattle.of_fcodes.specs.declared.operand.Operand.TheVariants.{Nothing, Literal, String, FCode, Named, Offset}
 use Rattle.of_fcodes.specs.declared.words.Word.{Word}
-use Rattle.of_fcodes.specs.declared.words.Word.TheVariants.{Stream, Arithmetic, Comparing, Stacks, Addresses, Memory, Splitting, Text, Numbers, Dictionary, Throws, Properties, Tree, Devices}
+use Rattle.of_fcodes.specs.declared.words.Word.TheVariants.{Stream, Primitive, Printing, Heap, Keys, Returns, Dictionary, Throws, Properties, Tree, Devices}
+use Rattle.of_fcodes.specs.declared.words.PrimitiveWord.TheVariants.{Arithmetic, Comparing, Stacks, Addresses, Memory, Splitting, Text, Numbers}
 use Rattle.of_fcodes.specs.declared.words.StreamWord.TheVariants as stream
 use Rattle.of_fcodes.specs.declared.words.ArithmeticWord.TheVariants as arithmetic
 use Rattle.of_fcodes.specs.declared.words.ComparingWord.TheVariants as comparing
@@ -13,6 +14,10 @@ use Rattle.of_fcodes.specs.declared.words.MemoryWord.TheVariants as memory
 use Rattle.of_fcodes.specs.declared.words.SplittingWord.TheVariants as splitting
 use Rattle.of_fcodes.specs.declared.words.TextWord.TheVariants as text
 use Rattle.of_fcodes.specs.declared.words.NumbersWord.TheVariants as numbers
+use Rattle.of_fcodes.specs.declared.words.PrintingWord.TheVariants as printing
+use Rattle.of_fcodes.specs.declared.words.HeapWord.TheVariants as heap
+use Rattle.of_fcodes.specs.declared.words.KeysWord.TheVariants as keys
+use Rattle.of_fcodes.specs.declared.words.ReturnsWord.TheVariants as returns
 use Rattle.of_fcodes.specs.declared.words.DictionaryWord.TheVariants as dictionary
 use Rattle.of_fcodes.specs.declared.words.ThrowsWord.TheVariants as throws
 use Rattle.of_fcodes.specs.declared.words.PropertiesWord.TheVariants as properties
@@ -45,164 +50,164 @@ first_rows =
     row 0x016 (codes "b(+loop)") (Stream stream.PlusLoop) Offset ∷
     row 0x017 (codes "b(do)") (Stream stream.Do) Offset ∷
     row 0x018 (codes "b(?do)") (Stream stream.QuestionDo) Offset ∷
-    plain 0x019 (codes "i") (Stacks stacks.Index) ∷
-    plain 0x01a (codes "j") (Stacks stacks.OuterIndex) ∷
+    plain 0x019 (codes "i") (Returns returns.Index) ∷
+    plain 0x01a (codes "j") (Returns returns.OuterIndex) ∷
     plain 0x01b (codes "b(leave)") (Stream stream.Leave) ∷
     row 0x01c (codes "b(of)") (Stream stream.Of) Offset ∷
-    plain 0x01d (codes "execute") (Stacks stacks.Execute) ∷
-    plain 0x01e (codes "+") (Arithmetic arithmetic.Plus) ∷
-    plain 0x01f (codes "-") (Arithmetic arithmetic.Minus) ∷
-    plain 0x020 (codes "*") (Arithmetic arithmetic.Times) ∷
-    plain 0x021 (codes "/") (Arithmetic arithmetic.Slash) ∷
-    plain 0x022 (codes "mod") (Arithmetic arithmetic.Mod) ∷
-    plain 0x023 (codes "and") (Arithmetic arithmetic.And) ∷
-    plain 0x024 (codes "or") (Arithmetic arithmetic.Or) ∷
-    plain 0x025 (codes "xor") (Arithmetic arithmetic.Xor) ∷
-    plain 0x026 (codes "invert") (Arithmetic arithmetic.Invert) ∷
-    plain 0x027 (codes "lshift") (Arithmetic arithmetic.LeftShift) ∷
-    plain 0x028 (codes "rshift") (Arithmetic arithmetic.RightShift) ∷
-    plain 0x029 (codes ">>a") (Arithmetic arithmetic.SignedShift) ∷
-    plain 0x02a (codes "/mod") (Arithmetic arithmetic.SlashMod) ∷
-    plain 0x02b (codes "u/mod") (Arithmetic arithmetic.UnsignedSlashMod) ∷
-    plain 0x02c (codes "negate") (Arithmetic arithmetic.Negate) ∷
-    plain 0x02d (codes "abs") (Arithmetic arithmetic.Abs) ∷
-    plain 0x02e (codes "min") (Arithmetic arithmetic.Min) ∷
-    plain 0x02f (codes "max") (Arithmetic arithmetic.Max) ∷
-    plain 0x030 (codes ">r") (Stacks stacks.ToReturn) ∷
-    plain 0x031 (codes "r>") (Stacks stacks.FromReturn) ∷
-    plain 0x032 (codes "r@") (Stacks stacks.FetchReturn) ∷
-    plain 0x033 (codes "exit") (Stacks stacks.Exit) ∷
-    plain 0x034 (codes "0=") (Comparing comparing.IsZero) ∷
-    plain 0x035 (codes "0<>") (Comparing comparing.IsNotZero) ∷
-    plain 0x036 (codes "0<") (Comparing comparing.IsNegative) ∷
+    plain 0x01d (codes "execute") (Returns returns.Execute) ∷
+    plain 0x01e (codes "+") (Primitive (Arithmetic arithmetic.Plus)) ∷
+    plain 0x01f (codes "-") (Primitive (Arithmetic arithmetic.Minus)) ∷
+    plain 0x020 (codes "*") (Primitive (Arithmetic arithmetic.Times)) ∷
+    plain 0x021 (codes "/") (Primitive (Arithmetic arithmetic.Slash)) ∷
+    plain 0x022 (codes "mod") (Primitive (Arithmetic arithmetic.Mod)) ∷
+    plain 0x023 (codes "and") (Primitive (Arithmetic arithmetic.And)) ∷
+    plain 0x024 (codes "or") (Primitive (Arithmetic arithmetic.Or)) ∷
+    plain 0x025 (codes "xor") (Primitive (Arithmetic arithmetic.Xor)) ∷
+    plain 0x026 (codes "invert") (Primitive (Arithmetic arithmetic.Invert)) ∷
+    plain 0x027 (codes "lshift") (Primitive (Arithmetic arithmetic.LeftShift)) ∷
+    plain 0x028 (codes "rshift") (Primitive (Arithmetic arithmetic.RightShift)) ∷
+    plain 0x029 (codes ">>a") (Primitive (Arithmetic arithmetic.SignedShift)) ∷
+    plain 0x02a (codes "/mod") (Primitive (Arithmetic arithmetic.SlashMod)) ∷
+    plain 0x02b (codes "u/mod") (Primitive (Arithmetic arithmetic.UnsignedSlashMod)) ∷
+    plain 0x02c (codes "negate") (Primitive (Arithmetic arithmetic.Negate)) ∷
+    plain 0x02d (codes "abs") (Primitive (Arithmetic arithmetic.Abs)) ∷
+    plain 0x02e (codes "min") (Primitive (Arithmetic arithmetic.Min)) ∷
+    plain 0x02f (codes "max") (Primitive (Arithmetic arithmetic.Max)) ∷
+    plain 0x030 (codes ">r") (Returns returns.ToReturn) ∷
+    plain 0x031 (codes "r>") (Returns returns.FromReturn) ∷
+    plain 0x032 (codes "r@") (Returns returns.FetchReturn) ∷
+    plain 0x033 (codes "exit") (Returns returns.Exit) ∷
+    plain 0x034 (codes "0=") (Primitive (Comparing comparing.IsZero)) ∷
+    plain 0x035 (codes "0<>") (Primitive (Comparing comparing.IsNotZero)) ∷
+    plain 0x036 (codes "0<") (Primitive (Comparing comparing.IsNegative)) ∷
     []
 
 unfoldable pub second_rows : List Row
 second_rows =
-    plain 0x037 (codes "0<=") (Comparing comparing.IsNotPositive) ∷
-    plain 0x038 (codes "0>") (Comparing comparing.IsPositive) ∷
-    plain 0x039 (codes "0>=") (Comparing comparing.IsNotNegative) ∷
-    plain 0x03a (codes "<") (Comparing comparing.IsLess) ∷
-    plain 0x03b (codes ">") (Comparing comparing.IsGreater) ∷
-    plain 0x03c (codes "=") (Comparing comparing.IsEqual) ∷
-    plain 0x03d (codes "<>") (Comparing comparing.IsNotEqual) ∷
-    plain 0x03e (codes "u>") (Comparing comparing.IsAbove) ∷
-    plain 0x03f (codes "u<=") (Comparing comparing.IsNotAbove) ∷
-    plain 0x040 (codes "u<") (Comparing comparing.IsBelow) ∷
-    plain 0x041 (codes "u>=") (Comparing comparing.IsNotBelow) ∷
-    plain 0x042 (codes ">=") (Comparing comparing.IsAtLeast) ∷
-    plain 0x043 (codes "<=") (Comparing comparing.IsAtMost) ∷
-    plain 0x044 (codes "between") (Comparing comparing.Between) ∷
-    plain 0x045 (codes "within") (Comparing comparing.Within) ∷
-    plain 0x046 (codes "drop") (Stacks stacks.Drop) ∷
-    plain 0x047 (codes "dup") (Stacks stacks.Dup) ∷
-    plain 0x048 (codes "over") (Stacks stacks.Over) ∷
-    plain 0x049 (codes "swap") (Stacks stacks.Swap) ∷
-    plain 0x04a (codes "rot") (Stacks stacks.Rot) ∷
-    plain 0x04b (codes "-rot") (Stacks stacks.MinusRot) ∷
-    plain 0x04c (codes "tuck") (Stacks stacks.Tuck) ∷
-    plain 0x04d (codes "nip") (Stacks stacks.Nip) ∷
-    plain 0x04e (codes "pick") (Stacks stacks.Pick) ∷
-    plain 0x04f (codes "roll") (Stacks stacks.Roll) ∷
-    plain 0x050 (codes "?dup") (Stacks stacks.QuestionDup) ∷
-    plain 0x051 (codes "depth") (Stacks stacks.Depth) ∷
-    plain 0x052 (codes "2drop") (Stacks stacks.TwoDrop) ∷
-    plain 0x053 (codes "2dup") (Stacks stacks.TwoDup) ∷
-    plain 0x054 (codes "2over") (Stacks stacks.TwoOver) ∷
-    plain 0x055 (codes "2swap") (Stacks stacks.TwoSwap) ∷
-    plain 0x056 (codes "2rot") (Stacks stacks.TwoRot) ∷
-    plain 0x057 (codes "2/") (Arithmetic arithmetic.Half) ∷
-    plain 0x058 (codes "u2/") (Arithmetic arithmetic.UnsignedHalf) ∷
-    plain 0x059 (codes "2*") (Arithmetic arithmetic.Twice) ∷
-    plain 0x05a (codes "/c") (Addresses addresses.ByteSize) ∷
-    plain 0x05b (codes "/w") (Addresses addresses.WordSize) ∷
-    plain 0x05c (codes "/l") (Addresses addresses.LongSize) ∷
-    plain 0x05d (codes "/n") (Addresses addresses.CellSize) ∷
-    plain 0x05e (codes "ca+") (Addresses addresses.ByteIndexed) ∷
+    plain 0x037 (codes "0<=") (Primitive (Comparing comparing.IsNotPositive)) ∷
+    plain 0x038 (codes "0>") (Primitive (Comparing comparing.IsPositive)) ∷
+    plain 0x039 (codes "0>=") (Primitive (Comparing comparing.IsNotNegative)) ∷
+    plain 0x03a (codes "<") (Primitive (Comparing comparing.IsLess)) ∷
+    plain 0x03b (codes ">") (Primitive (Comparing comparing.IsGreater)) ∷
+    plain 0x03c (codes "=") (Primitive (Comparing comparing.IsEqual)) ∷
+    plain 0x03d (codes "<>") (Primitive (Comparing comparing.IsNotEqual)) ∷
+    plain 0x03e (codes "u>") (Primitive (Comparing comparing.IsAbove)) ∷
+    plain 0x03f (codes "u<=") (Primitive (Comparing comparing.IsNotAbove)) ∷
+    plain 0x040 (codes "u<") (Primitive (Comparing comparing.IsBelow)) ∷
+    plain 0x041 (codes "u>=") (Primitive (Comparing comparing.IsNotBelow)) ∷
+    plain 0x042 (codes ">=") (Primitive (Comparing comparing.IsAtLeast)) ∷
+    plain 0x043 (codes "<=") (Primitive (Comparing comparing.IsAtMost)) ∷
+    plain 0x044 (codes "between") (Primitive (Comparing comparing.Between)) ∷
+    plain 0x045 (codes "within") (Primitive (Comparing comparing.Within)) ∷
+    plain 0x046 (codes "drop") (Primitive (Stacks stacks.Drop)) ∷
+    plain 0x047 (codes "dup") (Primitive (Stacks stacks.Dup)) ∷
+    plain 0x048 (codes "over") (Primitive (Stacks stacks.Over)) ∷
+    plain 0x049 (codes "swap") (Primitive (Stacks stacks.Swap)) ∷
+    plain 0x04a (codes "rot") (Primitive (Stacks stacks.Rot)) ∷
+    plain 0x04b (codes "-rot") (Primitive (Stacks stacks.MinusRot)) ∷
+    plain 0x04c (codes "tuck") (Primitive (Stacks stacks.Tuck)) ∷
+    plain 0x04d (codes "nip") (Primitive (Stacks stacks.Nip)) ∷
+    plain 0x04e (codes "pick") (Primitive (Stacks stacks.Pick)) ∷
+    plain 0x04f (codes "roll") (Primitive (Stacks stacks.Roll)) ∷
+    plain 0x050 (codes "?dup") (Primitive (Stacks stacks.QuestionDup)) ∷
+    plain 0x051 (codes "depth") (Primitive (Stacks stacks.Depth)) ∷
+    plain 0x052 (codes "2drop") (Primitive (Stacks stacks.TwoDrop)) ∷
+    plain 0x053 (codes "2dup") (Primitive (Stacks stacks.TwoDup)) ∷
+    plain 0x054 (codes "2over") (Primitive (Stacks stacks.TwoOver)) ∷
+    plain 0x055 (codes "2swap") (Primitive (Stacks stacks.TwoSwap)) ∷
+    plain 0x056 (codes "2rot") (Primitive (Stacks stacks.TwoRot)) ∷
+    plain 0x057 (codes "2/") (Primitive (Arithmetic arithmetic.Half)) ∷
+    plain 0x058 (codes "u2/") (Primitive (Arithmetic arithmetic.UnsignedHalf)) ∷
+    plain 0x059 (codes "2*") (Primitive (Arithmetic arithmetic.Twice)) ∷
+    plain 0x05a (codes "/c") (Primitive (Addresses addresses.ByteSize)) ∷
+    plain 0x05b (codes "/w") (Primitive (Addresses addresses.WordSize)) ∷
+    plain 0x05c (codes "/l") (Primitive (Addresses addresses.LongSize)) ∷
+    plain 0x05d (codes "/n") (Primitive (Addresses addresses.CellSize)) ∷
+    plain 0x05e (codes "ca+") (Primitive (Addresses addresses.ByteIndexed)) ∷
     []
 
 unfoldable pub third_rows : List Row
 third_rows =
-    plain 0x05f (codes "wa+") (Addresses addresses.WordIndexed) ∷
-    plain 0x060 (codes "la+") (Addresses addresses.LongIndexed) ∷
-    plain 0x061 (codes "na+") (Addresses addresses.CellIndexed) ∷
-    plain 0x062 (codes "char+") (Addresses addresses.NextByte) ∷
-    plain 0x063 (codes "wa1+") (Addresses addresses.NextWord) ∷
-    plain 0x064 (codes "la1+") (Addresses addresses.NextLong) ∷
-    plain 0x065 (codes "cell+") (Addresses addresses.NextCell) ∷
-    plain 0x066 (codes "chars") (Addresses addresses.Bytes) ∷
-    plain 0x067 (codes "/w*") (Addresses addresses.Words) ∷
-    plain 0x068 (codes "/l*") (Addresses addresses.Longs) ∷
-    plain 0x069 (codes "cells") (Addresses addresses.Cells) ∷
-    plain 0x06a (codes "on") (Memory memory.On) ∷
-    plain 0x06b (codes "off") (Memory memory.Off) ∷
-    plain 0x06c (codes "+!") (Memory memory.PlusStore) ∷
-    plain 0x06d (codes "@") (Memory memory.Fetch) ∷
-    plain 0x06e (codes "l@") (Memory memory.FetchLong) ∷
-    plain 0x06f (codes "w@") (Memory memory.FetchWord) ∷
-    plain 0x070 (codes "<w@") (Memory memory.FetchSignedWord) ∷
-    plain 0x071 (codes "c@") (Memory memory.FetchByte) ∷
-    plain 0x072 (codes "!") (Memory memory.Store) ∷
-    plain 0x073 (codes "l!") (Memory memory.StoreLong) ∷
-    plain 0x074 (codes "w!") (Memory memory.StoreWord) ∷
-    plain 0x075 (codes "c!") (Memory memory.StoreByte) ∷
-    plain 0x076 (codes "2@") (Memory memory.FetchTwo) ∷
-    plain 0x077 (codes "2!") (Memory memory.StoreTwo) ∷
-    plain 0x078 (codes "move") (Memory memory.Move) ∷
-    plain 0x079 (codes "fill") (Memory memory.Fill) ∷
-    plain 0x07a (codes "comp") (Memory memory.Compare) ∷
-    plain 0x07b (codes "noop") (Numbers numbers.Noop) ∷
-    plain 0x07c (codes "lwsplit") (Splitting splitting.Lwsplit) ∷
-    plain 0x07d (codes "wljoin") (Splitting splitting.Wljoin) ∷
-    plain 0x07e (codes "lbsplit") (Splitting splitting.Lbsplit) ∷
-    plain 0x07f (codes "bljoin") (Splitting splitting.Bljoin) ∷
-    plain 0x080 (codes "wbflip") (Splitting splitting.Wbflip) ∷
-    plain 0x081 (codes "upc") (Text text.UpperCase) ∷
-    plain 0x082 (codes "lcc") (Text text.LowerCase) ∷
-    plain 0x083 (codes "pack") (Text text.Pack) ∷
-    plain 0x084 (codes "count") (Text text.Count) ∷
+    plain 0x05f (codes "wa+") (Primitive (Addresses addresses.WordIndexed)) ∷
+    plain 0x060 (codes "la+") (Primitive (Addresses addresses.LongIndexed)) ∷
+    plain 0x061 (codes "na+") (Primitive (Addresses addresses.CellIndexed)) ∷
+    plain 0x062 (codes "char+") (Primitive (Addresses addresses.NextByte)) ∷
+    plain 0x063 (codes "wa1+") (Primitive (Addresses addresses.NextWord)) ∷
+    plain 0x064 (codes "la1+") (Primitive (Addresses addresses.NextLong)) ∷
+    plain 0x065 (codes "cell+") (Primitive (Addresses addresses.NextCell)) ∷
+    plain 0x066 (codes "chars") (Primitive (Addresses addresses.Bytes)) ∷
+    plain 0x067 (codes "/w*") (Primitive (Addresses addresses.Words)) ∷
+    plain 0x068 (codes "/l*") (Primitive (Addresses addresses.Longs)) ∷
+    plain 0x069 (codes "cells") (Primitive (Addresses addresses.Cells)) ∷
+    plain 0x06a (codes "on") (Primitive (Memory memory.On)) ∷
+    plain 0x06b (codes "off") (Primitive (Memory memory.Off)) ∷
+    plain 0x06c (codes "+!") (Primitive (Memory memory.PlusStore)) ∷
+    plain 0x06d (codes "@") (Primitive (Memory memory.Fetch)) ∷
+    plain 0x06e (codes "l@") (Primitive (Memory memory.FetchLong)) ∷
+    plain 0x06f (codes "w@") (Primitive (Memory memory.FetchWord)) ∷
+    plain 0x070 (codes "<w@") (Primitive (Memory memory.FetchSignedWord)) ∷
+    plain 0x071 (codes "c@") (Primitive (Memory memory.FetchByte)) ∷
+    plain 0x072 (codes "!") (Primitive (Memory memory.Store)) ∷
+    plain 0x073 (codes "l!") (Primitive (Memory memory.StoreLong)) ∷
+    plain 0x074 (codes "w!") (Primitive (Memory memory.StoreWord)) ∷
+    plain 0x075 (codes "c!") (Primitive (Memory memory.StoreByte)) ∷
+    plain 0x076 (codes "2@") (Primitive (Memory memory.FetchTwo)) ∷
+    plain 0x077 (codes "2!") (Primitive (Memory memory.StoreTwo)) ∷
+    plain 0x078 (codes "move") (Primitive (Memory memory.Move)) ∷
+    plain 0x079 (codes "fill") (Primitive (Memory memory.Fill)) ∷
+    plain 0x07a (codes "comp") (Primitive (Memory memory.Compare)) ∷
+    plain 0x07b (codes "noop") (Primitive (Numbers numbers.Noop)) ∷
+    plain 0x07c (codes "lwsplit") (Primitive (Splitting splitting.Lwsplit)) ∷
+    plain 0x07d (codes "wljoin") (Primitive (Splitting splitting.Wljoin)) ∷
+    plain 0x07e (codes "lbsplit") (Primitive (Splitting splitting.Lbsplit)) ∷
+    plain 0x07f (codes "bljoin") (Primitive (Splitting splitting.Bljoin)) ∷
+    plain 0x080 (codes "wbflip") (Primitive (Splitting splitting.Wbflip)) ∷
+    plain 0x081 (codes "upc") (Primitive (Text text.UpperCase)) ∷
+    plain 0x082 (codes "lcc") (Primitive (Text text.LowerCase)) ∷
+    plain 0x083 (codes "pack") (Primitive (Text text.Pack)) ∷
+    plain 0x084 (codes "count") (Primitive (Text text.Count)) ∷
     plain 0x085 (codes "body>") (Dictionary dictionary.FromBody) ∷
     plain 0x086 (codes ">body") (Dictionary dictionary.ToBody) ∷
     []
 
 unfoldable pub fourth_rows : List Row
 fourth_rows =
-    plain 0x087 (codes "fcode-revision") (Numbers numbers.FcodeRevision) ∷
-    plain 0x089 (codes "unloop") (Stacks stacks.Unloop) ∷
-    plain 0x08b (codes "alloc-mem") (Memory memory.AllocMem) ∷
-    plain 0x08c (codes "free-mem") (Memory memory.FreeMem) ∷
-    plain 0x08d (codes "key?") (Text text.KeyReady) ∷
-    plain 0x08e (codes "key") (Text text.Key) ∷
-    plain 0x08f (codes "emit") (Text text.Emit) ∷
-    plain 0x090 (codes "type") (Text text.Type) ∷
-    plain 0x092 (codes "cr") (Text text.CarriageReturn) ∷
-    plain 0x095 (codes "hold") (Numbers numbers.Hold) ∷
-    plain 0x096 (codes "<#") (Numbers numbers.Begin) ∷
-    plain 0x097 (codes "u#>") (Numbers numbers.UnsignedEnd) ∷
-    plain 0x098 (codes "sign") (Numbers numbers.Sign) ∷
-    plain 0x099 (codes "u#") (Numbers numbers.UnsignedDigit) ∷
-    plain 0x09a (codes "u#s") (Numbers numbers.UnsignedDigits) ∷
-    plain 0x09b (codes "u.") (Numbers numbers.UnsignedDot) ∷
-    plain 0x09c (codes "u.r") (Numbers numbers.UnsignedDotRight) ∷
-    plain 0x09d (codes ".") (Numbers numbers.Dot) ∷
-    plain 0x09e (codes ".r") (Numbers numbers.DotRight) ∷
-    plain 0x09f (codes ".s") (Numbers numbers.DotStack) ∷
-    plain 0x0a0 (codes "base") (Numbers numbers.Base) ∷
-    plain 0x0a2 (codes "$number") (Numbers numbers.ParseNumber) ∷
-    plain 0x0a3 (codes "digit") (Numbers numbers.Digit) ∷
-    plain 0x0a4 (codes "-1") (Numbers numbers.MinusOne) ∷
-    plain 0x0a5 (codes "0") (Numbers numbers.Zero) ∷
-    plain 0x0a6 (codes "1") (Numbers numbers.One) ∷
-    plain 0x0a7 (codes "2") (Numbers numbers.Two) ∷
-    plain 0x0a8 (codes "3") (Numbers numbers.Three) ∷
-    plain 0x0a9 (codes "bl") (Text text.Blank) ∷
-    plain 0x0aa (codes "bs") (Text text.Backspace) ∷
-    plain 0x0ab (codes "bell") (Text text.Bell) ∷
-    plain 0x0ac (codes "bounds") (Addresses addresses.Bounds) ∷
-    plain 0x0ad (codes "here") (Addresses addresses.Here) ∷
-    plain 0x0ae (codes "aligned") (Addresses addresses.Aligned) ∷
-    plain 0x0af (codes "wbsplit") (Splitting splitting.Wbsplit) ∷
-    plain 0x0b0 (codes "bwjoin") (Splitting splitting.Bwjoin) ∷
+    plain 0x087 (codes "fcode-revision") (Primitive (Numbers numbers.FcodeRevision)) ∷
+    plain 0x089 (codes "unloop") (Returns returns.Unloop) ∷
+    plain 0x08b (codes "alloc-mem") (Heap heap.AllocMem) ∷
+    plain 0x08c (codes "free-mem") (Primitive (Memory memory.FreeMem)) ∷
+    plain 0x08d (codes "key?") (Keys keys.KeyReady) ∷
+    plain 0x08e (codes "key") (Keys keys.Key) ∷
+    plain 0x08f (codes "emit") (Printing printing.Emit) ∷
+    plain 0x090 (codes "type") (Printing printing.«Type») ∷
+    plain 0x092 (codes "cr") (Printing printing.CarriageReturn) ∷
+    plain 0x095 (codes "hold") (Primitive (Numbers numbers.Hold)) ∷
+    plain 0x096 (codes "<#") (Primitive (Numbers numbers.Begin)) ∷
+    plain 0x097 (codes "u#>") (Primitive (Numbers numbers.UnsignedEnd)) ∷
+    plain 0x098 (codes "sign") (Primitive (Numbers numbers.Sign)) ∷
+    plain 0x099 (codes "u#") (Primitive (Numbers numbers.UnsignedDigit)) ∷
+    plain 0x09a (codes "u#s") (Primitive (Numbers numbers.UnsignedDigits)) ∷
+    plain 0x09b (codes "u.") (Printing printing.UnsignedDot) ∷
+    plain 0x09c (codes "u.r") (Printing printing.UnsignedDotRight) ∷
+    plain 0x09d (codes ".") (Printing printing.Dot) ∷
+    plain 0x09e (codes ".r") (Printing printing.DotRight) ∷
+    plain 0x09f (codes ".s") (Printing printing.DotStack) ∷
+    plain 0x0a0 (codes "base") (Primitive (Numbers numbers.Base)) ∷
+    plain 0x0a2 (codes "$number") (Primitive (Numbers numbers.ParseNumber)) ∷
+    plain 0x0a3 (codes "digit") (Primitive (Numbers numbers.Digit)) ∷
+    plain 0x0a4 (codes "-1") (Primitive (Numbers numbers.MinusOne)) ∷
+    plain 0x0a5 (codes "0") (Primitive (Numbers numbers.Zero)) ∷
+    plain 0x0a6 (codes "1") (Primitive (Numbers numbers.One)) ∷
+    plain 0x0a7 (codes "2") (Primitive (Numbers numbers.Two)) ∷
+    plain 0x0a8 (codes "3") (Primitive (Numbers numbers.Three)) ∷
+    plain 0x0a9 (codes "bl") (Primitive (Text text.Blank)) ∷
+    plain 0x0aa (codes "bs") (Primitive (Text text.Backspace)) ∷
+    plain 0x0ab (codes "bell") (Primitive (Text text.Bell)) ∷
+    plain 0x0ac (codes "bounds") (Primitive (Addresses addresses.Bounds)) ∷
+    plain 0x0ad (codes "here") (Primitive (Addresses addresses.Here)) ∷
+    plain 0x0ae (codes "aligned") (Primitive (Addresses addresses.Aligned)) ∷
+    plain 0x0af (codes "wbsplit") (Primitive (Splitting splitting.Wbsplit)) ∷
+    plain 0x0b0 (codes "bwjoin") (Primitive (Splitting splitting.Bwjoin)) ∷
     plain 0x0b1 (codes "b(<mark)") (Stream stream.Mark) ∷
     plain 0x0b2 (codes "b(>resolve)") (Stream stream.Resolve) ∷
     row 0x0b5 (codes "new-token") (Stream stream.NewToken) FCode ∷
@@ -225,21 +230,21 @@ fifth_rows =
     plain 0x0c4 (codes "b(case)") (Stream stream.Case) ∷
     plain 0x0c5 (codes "b(endcase)") (Stream stream.EndCase) ∷
     row 0x0c6 (codes "b(endof)") (Stream stream.EndOf) Offset ∷
-    plain 0x0c7 (codes "#") (Numbers numbers.NextDigit) ∷
-    plain 0x0c8 (codes "#s") (Numbers numbers.AllDigits) ∷
-    plain 0x0c9 (codes "#>") (Numbers numbers.End) ∷
+    plain 0x0c7 (codes "#") (Primitive (Numbers numbers.NextDigit)) ∷
+    plain 0x0c8 (codes "#s") (Primitive (Numbers numbers.AllDigits)) ∷
+    plain 0x0c9 (codes "#>") (Primitive (Numbers numbers.End)) ∷
     row 0x0ca (codes "external-token") (Stream stream.ExternalToken) Named ∷
     plain 0x0cb (codes "$find") (Dictionary dictionary.Find) ∷
     plain 0x0cc (codes "offset16") (Stream stream.Offset16) ∷
     plain 0x0cd (codes "evaluate") (Dictionary dictionary.Evaluate) ∷
-    plain 0x0d0 (codes "c,") (Memory memory.CommaByte) ∷
-    plain 0x0d1 (codes "w,") (Memory memory.CommaWord) ∷
-    plain 0x0d2 (codes "l,") (Memory memory.CommaLong) ∷
-    plain 0x0d3 (codes ",") (Memory memory.Comma) ∷
-    plain 0x0d4 (codes "um*") (Arithmetic arithmetic.WideTimes) ∷
-    plain 0x0d5 (codes "um/mod") (Arithmetic arithmetic.WideSlashMod) ∷
-    plain 0x0d8 (codes "d+") (Arithmetic arithmetic.DoublePlus) ∷
-    plain 0x0d9 (codes "d-") (Arithmetic arithmetic.DoubleMinus) ∷
+    plain 0x0d0 (codes "c,") (Primitive (Memory memory.CommaByte)) ∷
+    plain 0x0d1 (codes "w,") (Primitive (Memory memory.CommaWord)) ∷
+    plain 0x0d2 (codes "l,") (Primitive (Memory memory.CommaLong)) ∷
+    plain 0x0d3 (codes ",") (Primitive (Memory memory.Comma)) ∷
+    plain 0x0d4 (codes "um*") (Primitive (Arithmetic arithmetic.WideTimes)) ∷
+    plain 0x0d5 (codes "um/mod") (Primitive (Arithmetic arithmetic.WideSlashMod)) ∷
+    plain 0x0d8 (codes "d+") (Primitive (Arithmetic arithmetic.DoublePlus)) ∷
+    plain 0x0d9 (codes "d-") (Primitive (Arithmetic arithmetic.DoubleMinus)) ∷
     plain 0x0da (codes "get-token") (Dictionary dictionary.GetToken) ∷
     plain 0x0db (codes "set-token") (Dictionary dictionary.SetToken) ∷
     plain 0x0dc (codes "state") (Dictionary dictionary.State) ∷
@@ -262,7 +267,7 @@ sixth_rows =
     plain 0x116 (codes "reg") (Properties properties.Reg) ∷
     plain 0x119 (codes "model") (Properties properties.Model) ∷
     plain 0x11a (codes "device-type") (Properties properties.DeviceType) ∷
-    plain 0x11b (codes "parse-2int") (Text text.ParseTwoInts) ∷
+    plain 0x11b (codes "parse-2int") (Primitive (Text text.ParseTwoInts)) ∷
     plain 0x11f (codes "new-device") (Tree tree.NewDevice) ∷
     plain 0x125 (codes "get-msecs") (Devices devices.Milliseconds) ∷
     plain 0x126 (codes "ms") (Devices devices.Wait) ∷
@@ -301,8 +306,8 @@ unfoldable pub seventh_rows : List Row
 seventh_rows =
     plain 0x224 (codes "wpoke") (Devices devices.PokeWord) ∷
     plain 0x225 (codes "lpoke") (Devices devices.PokeLong) ∷
-    plain 0x226 (codes "lwflip") (Splitting splitting.Lwflip) ∷
-    plain 0x227 (codes "lbflip") (Splitting splitting.Lbflip) ∷
+    plain 0x226 (codes "lwflip") (Primitive (Splitting splitting.Lwflip)) ∷
+    plain 0x227 (codes "lbflip") (Primitive (Splitting splitting.Lbflip)) ∷
     plain 0x230 (codes "rb@") (Devices devices.ReadByte) ∷
     plain 0x231 (codes "rb!") (Devices devices.WriteByte) ∷
     plain 0x232 (codes "rw@") (Devices devices.ReadWord) ∷
@@ -314,7 +319,7 @@ seventh_rows =
     plain 0x23d (codes "next-property") (Properties properties.NextProperty) ∷
     plain 0x23e (codes "byte-load") (Dictionary dictionary.ByteLoad) ∷
     plain 0x23f (codes "set-args") (Tree tree.SetArgs) ∷
-    plain 0x240 (codes "left-parse-string") (Text text.LeftParseString) ∷
+    plain 0x240 (codes "left-parse-string") (Primitive (Text text.LeftParseString)) ∷
     []
 
 -- all of them

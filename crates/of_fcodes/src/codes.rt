@@ -76,19 +76,19 @@ pub fn name_of(code: FCode) -> Option<&'static str>
     }
 }
 
-/// Whether two names differ at most in the case of their letters.
-fn is_same_name(name: &str, other: &str) -> bool
+/// Whether two names differ at most in the case of their ASCII letters.
+pub fn is_same_name(name: &[u8], other: &[u8]) -> bool
     ensures { result ≡ str_eq_ignore_ascii_case name.now other.now }
 {
     name.eq_ignore_ascii_case(other)
 }
 
 /// The number of the row that bears a name, whatever the case of its letters.
-fn number_in(mut rows: &[Row], name: &str) -> Option<u16>
+fn number_in(mut rows: &[Row], name: &[u8]) -> Option<u16>
     ensures { result ≡ number_in (map row_shown rows.entry.now) name.now }
 {
     while let [row, rest @ ..] = rows {
-        if is_same_name(row.1, name) {
+        if is_same_name(row.1.as_bytes(), name) {
             return Some(row.0);
         }
         rows = rest;
@@ -96,8 +96,8 @@ fn number_in(mut rows: &[Row], name: &str) -> Option<u16>
     None
 }
 
-/// The FCode of a name, whatever the case of its letters, if it is listed.
-pub fn fcode_of(name: &str) -> Option<FCode>
+/// The FCode of a name, whatever the case of its ASCII letters, if it is listed.
+pub fn fcode_of(name: &[u8]) -> Option<FCode>
     ensures { option_map (λ code. code.0) result ≡ number_named name.now }
 {
     match number_in(table(), name) {

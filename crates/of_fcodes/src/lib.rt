@@ -1,20 +1,25 @@
-//! The FCodes: their numbers and names, the words that they name, and what stands behind each in
-//! an image.
+//! The written words: their numbers, execution tokens, names and classes; and the FCodes, the words
+//! that they name, and what stands behind each in an image.
 #![tactic(auto)]
 
+mod class;
 mod codes;
+mod console_words;
 mod laws;
+mod list;
 mod operand;
 mod table;
-#[cfg(test)]
-mod tests;
 mod words;
+mod written;
 
+pub use class::Class;
 pub use codes::{FCode, fcode_of, name_of, operand_of, word_of};
-pub use laws::names_and_numbers;
+pub use console_words::{CompilingWord, ConsoleWord, ParsingWord};
+pub use laws::{names_and_numbers, written_words_are_found};
 pub use operand::Operand;
 pub use words::{
-    AddressesWord, ArithmeticWord, ComparingWord, DevicesWord, DictionaryWord, MemoryWord,
-    NumbersWord, PropertiesWord, SplittingWord, StacksWord, StreamWord, TextWord, ThrowsWord,
-    TreeWord, Word,
+    AddressesWord, ArithmeticWord, ComparingWord, DevicesWord, DictionaryWord, HeapWord, KeysWord,
+    MemoryWord, NumbersWord, PrimitiveWord, PrintingWord, PropertiesWord, ReturnsWord,
+    SplittingWord, StacksWord, StreamWord, TextWord, ThrowsWord, TreeWord, Word,
 };
+pub use written::{FIRST_OWN, FIRST_WRITTEN, word_with_name, word_with_xt};

@@ -1,27 +1,23 @@
-/// A word that an FCode names, by its group.
+use crate::console_words::{CompilingWord, ConsoleWord, ParsingWord};
+
+/// A written word, by its group.
 #[derive(Clone, Copy, Debug, PartialEq, Eq)]
 pub enum Word {
     /// Stream, control and defining tokens: they act on the image that is read.
     Stream(StreamWord),
-    /// Arithmetic and logic over the data stack.
-    Arithmetic(ArithmeticWord),
-    /// Comparisons, which give flags.
-    Comparing(ComparingWord),
-    /// The data stack and the return stack.
-    Stacks(StacksWord),
-    /// Sizes and addresses.
-    Addresses(AddressesWord),
-    /// Reads and writes of memory.
-    Memory(MemoryWord),
-    /// Cells, halves and bytes split and joined.
-    Splitting(SplittingWord),
-    /// Characters and strings.
-    Text(TextWord),
-    /// Numbers as text, and the numbers that have FCodes of their own.
-    Numbers(NumbersWord),
+    /// Words over the data stack, the data space and the pictured text.
+    Primitive(PrimitiveWord),
+    /// What prints to the console.
+    Printing(PrintingWord),
+    /// What takes a block of the heap.
+    Heap(HeapWord),
+    /// What asks for input.
+    Keys(KeysWord),
+    /// The return stack, and what begins or ends a word.
+    Returns(ReturnsWord),
     /// Words, tokens and their tables.
     Dictionary(DictionaryWord),
-    /// `catch` and `throw`.
+    /// `abort`, `catch` and `throw`.
     Throws(ThrowsWord),
     /// Properties of packages.
     Properties(PropertiesWord),
@@ -29,586 +25,651 @@ pub enum Word {
     Tree(TreeWord),
     /// Accesses to devices, and time.
     Devices(DevicesWord),
+    /// Further ordinary words of the console, which have no FCode.
+    Console(ConsoleWord),
+    /// Words of the console that read more of its text.
+    Parsing(ParsingWord),
+    /// Words of the console that serve while a definition is compiled, and only then.
+    Compiling(CompilingWord),
+}
+
+/// A word over the data stack, the data space and the pictured text, by its group.
+#[derive(Clone, Copy, Debug, PartialEq, Eq)]
+pub enum PrimitiveWord {
+    /// Arithmetic and logic over the data stack.
+    Arithmetic(ArithmeticWord),
+    /// Comparisons, which give flags.
+    Comparing(ComparingWord),
+    /// The data stack alone.
+    Stacks(StacksWord),
+    /// Sizes and addresses.
+    Addresses(AddressesWord),
+    /// Reads and writes of the data space.
+    Memory(MemoryWord),
+    /// Splits and joins of cells.
+    Splitting(SplittingWord),
+    /// Characters and strings.
+    Text(TextWord),
+    /// Numbers as text, and the numbers that have FCodes of their own.
+    Numbers(NumbersWord),
 }
 
 /// Stream, control and defining tokens: they act on the image that is read.
+/// Each has its number in the list of written words.
 #[derive(Clone, Copy, Debug, PartialEq, Eq)]
 pub enum StreamWord {
     /// `end0`
-    End0,
+    End0 = 0,
     /// `end1`
-    End1,
+    End1 = 1,
     /// `b(lit)`
-    Literal,
+    Literal = 2,
     /// `b(')`
-    Tick,
+    Tick = 3,
     /// `b(")`
-    String,
+    String = 4,
     /// `bbranch`
-    Branch,
+    Branch = 5,
     /// `b?branch`
-    BranchIfZero,
+    BranchIfZero = 6,
     /// `b(loop)`
-    Loop,
+    Loop = 7,
     /// `b(+loop)`
-    PlusLoop,
+    PlusLoop = 8,
     /// `b(do)`
-    Do,
+    Do = 9,
     /// `b(?do)`
-    QuestionDo,
+    QuestionDo = 10,
     /// `b(leave)`
-    Leave,
+    Leave = 11,
     /// `b(case)`
-    Case,
+    Case = 12,
     /// `b(of)`
-    Of,
+    Of = 13,
     /// `b(endof)`
-    EndOf,
+    EndOf = 14,
     /// `b(endcase)`
-    EndCase,
+    EndCase = 15,
     /// `b(<mark)`
-    Mark,
+    Mark = 16,
     /// `b(>resolve)`
-    Resolve,
+    Resolve = 17,
     /// `new-token`
-    NewToken,
+    NewToken = 18,
     /// `named-token`
-    NamedToken,
+    NamedToken = 19,
     /// `external-token`
-    ExternalToken,
+    ExternalToken = 20,
     /// `b(:)`
-    Colon,
+    Colon = 21,
     /// `b(;)`
-    Semicolon,
+    Semicolon = 22,
     /// `b(value)`
-    Value,
+    Value = 23,
     /// `b(constant)`
-    Constant,
+    Constant = 24,
     /// `b(variable)`
-    Variable,
+    Variable = 25,
     /// `b(create)`
-    Create,
+    Create = 26,
     /// `b(defer)`
-    Defer,
+    Defer = 27,
     /// `b(buffer:)`
-    Buffer,
+    Buffer = 28,
     /// `b(field)`
-    Field,
+    Field = 29,
     /// `b(to)`
-    To,
+    To = 30,
     /// `offset16`
-    Offset16,
+    Offset16 = 31,
 }
 
 /// Arithmetic and logic over the data stack.
+/// Each has its number in the list of written words.
 #[derive(Clone, Copy, Debug, PartialEq, Eq)]
 pub enum ArithmeticWord {
     /// `+`
-    Plus,
+    Plus = 32,
     /// `-`
-    Minus,
+    Minus = 33,
     /// `*`
-    Times,
+    Times = 34,
     /// `and`
-    And,
+    And = 35,
     /// `or`
-    Or,
+    Or = 36,
     /// `xor`
-    Xor,
+    Xor = 37,
     /// `min`
-    Min,
+    Min = 38,
     /// `max`
-    Max,
+    Max = 39,
     /// `/`
-    Slash,
+    Slash = 40,
     /// `mod`
-    Mod,
+    Mod = 41,
     /// `/mod`
-    SlashMod,
+    SlashMod = 42,
     /// `u/mod`
-    UnsignedSlashMod,
+    UnsignedSlashMod = 43,
     /// `invert`
-    Invert,
+    Invert = 44,
     /// `negate`
-    Negate,
+    Negate = 45,
     /// `abs`
-    Abs,
+    Abs = 46,
     /// `2/`
-    Half,
+    Half = 47,
     /// `u2/`
-    UnsignedHalf,
+    UnsignedHalf = 48,
     /// `2*`
-    Twice,
+    Twice = 49,
     /// `lshift`
-    LeftShift,
+    LeftShift = 50,
     /// `rshift`
-    RightShift,
+    RightShift = 51,
     /// `>>a`
-    SignedShift,
+    SignedShift = 52,
     /// `um*`
-    WideTimes,
+    WideTimes = 53,
     /// `um/mod`
-    WideSlashMod,
+    WideSlashMod = 54,
     /// `d+`
-    DoublePlus,
+    DoublePlus = 55,
     /// `d-`
-    DoubleMinus,
+    DoubleMinus = 56,
 }
 
 /// Comparisons, which give flags.
+/// Each has its number in the list of written words.
 #[derive(Clone, Copy, Debug, PartialEq, Eq)]
 pub enum ComparingWord {
     /// `0=`
-    IsZero,
+    IsZero = 57,
     /// `0<>`
-    IsNotZero,
+    IsNotZero = 58,
     /// `0<`
-    IsNegative,
+    IsNegative = 59,
     /// `0<=`
-    IsNotPositive,
+    IsNotPositive = 60,
     /// `0>`
-    IsPositive,
+    IsPositive = 61,
     /// `0>=`
-    IsNotNegative,
+    IsNotNegative = 62,
     /// `<`
-    IsLess,
+    IsLess = 63,
     /// `>`
-    IsGreater,
+    IsGreater = 64,
     /// `=`
-    IsEqual,
+    IsEqual = 65,
     /// `<>`
-    IsNotEqual,
+    IsNotEqual = 66,
     /// `>=`
-    IsAtLeast,
+    IsAtLeast = 67,
     /// `<=`
-    IsAtMost,
+    IsAtMost = 68,
     /// `u>`
-    IsAbove,
+    IsAbove = 69,
     /// `u<=`
-    IsNotAbove,
+    IsNotAbove = 70,
     /// `u<`
-    IsBelow,
+    IsBelow = 71,
     /// `u>=`
-    IsNotBelow,
+    IsNotBelow = 72,
     /// `between`
-    Between,
+    Between = 73,
     /// `within`
-    Within,
+    Within = 74,
 }
 
-/// The data stack and the return stack.
+/// The data stack alone.
+/// Each has its number in the list of written words.
 #[derive(Clone, Copy, Debug, PartialEq, Eq)]
 pub enum StacksWord {
     /// `drop`
-    Drop,
+    Drop = 75,
     /// `dup`
-    Dup,
+    Dup = 76,
     /// `over`
-    Over,
+    Over = 77,
     /// `swap`
-    Swap,
+    Swap = 78,
     /// `rot`
-    Rot,
+    Rot = 79,
     /// `-rot`
-    MinusRot,
+    MinusRot = 80,
     /// `tuck`
-    Tuck,
+    Tuck = 81,
     /// `nip`
-    Nip,
+    Nip = 82,
     /// `pick`
-    Pick,
+    Pick = 83,
     /// `roll`
-    Roll,
+    Roll = 84,
     /// `?dup`
-    QuestionDup,
+    QuestionDup = 85,
     /// `depth`
-    Depth,
+    Depth = 86,
     /// `2drop`
-    TwoDrop,
+    TwoDrop = 87,
     /// `2dup`
-    TwoDup,
+    TwoDup = 88,
     /// `2over`
-    TwoOver,
+    TwoOver = 89,
     /// `2swap`
-    TwoSwap,
+    TwoSwap = 90,
     /// `2rot`
-    TwoRot,
-    /// `>r`
-    ToReturn,
-    /// `r>`
-    FromReturn,
-    /// `r@`
-    FetchReturn,
-    /// `unloop`
-    Unloop,
-    /// `i`
-    Index,
-    /// `j`
-    OuterIndex,
-    /// `exit`
-    Exit,
-    /// `execute`
-    Execute,
+    TwoRot = 91,
 }
 
 /// Sizes and addresses.
+/// Each has its number in the list of written words.
 #[derive(Clone, Copy, Debug, PartialEq, Eq)]
 pub enum AddressesWord {
     /// `/c`
-    ByteSize,
+    ByteSize = 100,
     /// `/w`
-    WordSize,
+    WordSize = 101,
     /// `/l`
-    LongSize,
+    LongSize = 102,
     /// `/n`
-    CellSize,
+    CellSize = 103,
     /// `ca+`
-    ByteIndexed,
+    ByteIndexed = 104,
     /// `wa+`
-    WordIndexed,
+    WordIndexed = 105,
     /// `la+`
-    LongIndexed,
+    LongIndexed = 106,
     /// `na+`
-    CellIndexed,
+    CellIndexed = 107,
     /// `char+`
-    NextByte,
+    NextByte = 108,
     /// `wa1+`
-    NextWord,
+    NextWord = 109,
     /// `la1+`
-    NextLong,
+    NextLong = 110,
     /// `cell+`
-    NextCell,
+    NextCell = 111,
     /// `chars`
-    Bytes,
+    Bytes = 112,
     /// `/w*`
-    Words,
+    Words = 113,
     /// `/l*`
-    Longs,
+    Longs = 114,
     /// `cells`
-    Cells,
+    Cells = 115,
     /// `aligned`
-    Aligned,
+    Aligned = 116,
     /// `here`
-    Here,
+    Here = 117,
     /// `bounds`
-    Bounds,
+    Bounds = 118,
 }
 
-/// Reads and writes of memory.
+/// Reads and writes of the data space.
+/// Each has its number in the list of written words.
 #[derive(Clone, Copy, Debug, PartialEq, Eq)]
 pub enum MemoryWord {
     /// `on`
-    On,
+    On = 119,
     /// `off`
-    Off,
+    Off = 120,
     /// `+!`
-    PlusStore,
+    PlusStore = 121,
     /// `@`
-    Fetch,
+    Fetch = 122,
     /// `l@`
-    FetchLong,
+    FetchLong = 123,
     /// `w@`
-    FetchWord,
+    FetchWord = 124,
     /// `<w@`
-    FetchSignedWord,
+    FetchSignedWord = 125,
     /// `c@`
-    FetchByte,
+    FetchByte = 126,
     /// `!`
-    Store,
+    Store = 127,
     /// `l!`
-    StoreLong,
+    StoreLong = 128,
     /// `w!`
-    StoreWord,
+    StoreWord = 129,
     /// `c!`
-    StoreByte,
+    StoreByte = 130,
     /// `2@`
-    FetchTwo,
+    FetchTwo = 131,
     /// `2!`
-    StoreTwo,
+    StoreTwo = 132,
     /// `move`
-    Move,
+    Move = 133,
     /// `fill`
-    Fill,
+    Fill = 134,
     /// `comp`
-    Compare,
+    Compare = 135,
     /// `c,`
-    CommaByte,
+    CommaByte = 136,
     /// `w,`
-    CommaWord,
+    CommaWord = 137,
     /// `l,`
-    CommaLong,
+    CommaLong = 138,
     /// `,`
-    Comma,
-    /// `alloc-mem`
-    AllocMem,
+    Comma = 139,
     /// `free-mem`
-    FreeMem,
+    FreeMem = 141,
 }
 
-/// Cells, halves and bytes split and joined.
+/// Splits and joins of cells.
+/// Each has its number in the list of written words.
 #[derive(Clone, Copy, Debug, PartialEq, Eq)]
 pub enum SplittingWord {
     /// `lwsplit`
-    Lwsplit,
+    Lwsplit = 142,
     /// `wljoin`
-    Wljoin,
+    Wljoin = 143,
     /// `lbsplit`
-    Lbsplit,
+    Lbsplit = 144,
     /// `bljoin`
-    Bljoin,
+    Bljoin = 145,
     /// `wbsplit`
-    Wbsplit,
+    Wbsplit = 146,
     /// `bwjoin`
-    Bwjoin,
+    Bwjoin = 147,
     /// `wbflip`
-    Wbflip,
+    Wbflip = 148,
     /// `lwflip`
-    Lwflip,
+    Lwflip = 149,
     /// `lbflip`
-    Lbflip,
+    Lbflip = 150,
 }
 
 /// Characters and strings.
+/// Each has its number in the list of written words.
 #[derive(Clone, Copy, Debug, PartialEq, Eq)]
 pub enum TextWord {
     /// `upc`
-    UpperCase,
+    UpperCase = 151,
     /// `lcc`
-    LowerCase,
+    LowerCase = 152,
     /// `pack`
-    Pack,
+    Pack = 153,
     /// `count`
-    Count,
-    /// `key?`
-    KeyReady,
-    /// `key`
-    Key,
-    /// `emit`
-    Emit,
-    /// `type`
-    Type,
-    /// `cr`
-    CarriageReturn,
+    Count = 154,
     /// `bl`
-    Blank,
+    Blank = 160,
     /// `bs`
-    Backspace,
+    Backspace = 161,
     /// `bell`
-    Bell,
+    Bell = 162,
     /// `left-parse-string`
-    LeftParseString,
+    LeftParseString = 163,
     /// `parse-2int`
-    ParseTwoInts,
+    ParseTwoInts = 164,
 }
 
 /// Numbers as text, and the numbers that have FCodes of their own.
+/// Each has its number in the list of written words.
 #[derive(Clone, Copy, Debug, PartialEq, Eq)]
 pub enum NumbersWord {
     /// `<#`
-    Begin,
+    Begin = 165,
     /// `hold`
-    Hold,
+    Hold = 166,
     /// `sign`
-    Sign,
+    Sign = 167,
     /// `#`
-    NextDigit,
+    NextDigit = 168,
     /// `#s`
-    AllDigits,
+    AllDigits = 169,
     /// `#>`
-    End,
+    End = 170,
     /// `u#`
-    UnsignedDigit,
+    UnsignedDigit = 171,
     /// `u#s`
-    UnsignedDigits,
+    UnsignedDigits = 172,
     /// `u#>`
-    UnsignedEnd,
-    /// `.`
-    Dot,
-    /// `u.`
-    UnsignedDot,
-    /// `.r`
-    DotRight,
-    /// `u.r`
-    UnsignedDotRight,
-    /// `.s`
-    DotStack,
+    UnsignedEnd = 173,
     /// `base`
-    Base,
+    Base = 179,
     /// `$number`
-    ParseNumber,
+    ParseNumber = 180,
     /// `digit`
-    Digit,
+    Digit = 181,
     /// `-1`
-    MinusOne,
+    MinusOne = 182,
     /// `0`
-    Zero,
+    Zero = 183,
     /// `1`
-    One,
+    One = 184,
     /// `2`
-    Two,
+    Two = 185,
     /// `3`
-    Three,
+    Three = 186,
     /// `noop`
-    Noop,
+    Noop = 187,
     /// `fcode-revision`
-    FcodeRevision,
+    FcodeRevision = 188,
+}
+
+/// What prints to the console.
+/// Each has its number in the list of written words.
+#[derive(Clone, Copy, Debug, PartialEq, Eq)]
+pub enum PrintingWord {
+    /// `emit`
+    Emit = 157,
+    /// `type`
+    Type = 158,
+    /// `cr`
+    CarriageReturn = 159,
+    /// `.`
+    Dot = 174,
+    /// `u.`
+    UnsignedDot = 175,
+    /// `.r`
+    DotRight = 176,
+    /// `u.r`
+    UnsignedDotRight = 177,
+    /// `.s`
+    DotStack = 178,
+}
+
+/// What takes a block of the heap.
+/// Each has its number in the list of written words.
+#[derive(Clone, Copy, Debug, PartialEq, Eq)]
+pub enum HeapWord {
+    /// `alloc-mem`
+    AllocMem = 140,
+}
+
+/// What asks for input.
+/// Each has its number in the list of written words.
+#[derive(Clone, Copy, Debug, PartialEq, Eq)]
+pub enum KeysWord {
+    /// `key?`
+    KeyReady = 155,
+    /// `key`
+    Key = 156,
+}
+
+/// The return stack, and what begins or ends a word.
+/// Each has its number in the list of written words.
+#[derive(Clone, Copy, Debug, PartialEq, Eq)]
+pub enum ReturnsWord {
+    /// `>r`
+    ToReturn = 92,
+    /// `r>`
+    FromReturn = 93,
+    /// `r@`
+    FetchReturn = 94,
+    /// `unloop`
+    Unloop = 95,
+    /// `i`
+    Index = 96,
+    /// `j`
+    OuterIndex = 97,
+    /// `exit`
+    Exit = 98,
+    /// `execute`
+    Execute = 99,
 }
 
 /// Words, tokens and their tables.
+/// Each has its number in the list of written words.
 #[derive(Clone, Copy, Debug, PartialEq, Eq)]
 pub enum DictionaryWord {
     /// `body>`
-    FromBody,
+    FromBody = 189,
     /// `>body`
-    ToBody,
+    ToBody = 190,
     /// `$find`
-    Find,
+    Find = 191,
     /// `evaluate`
-    Evaluate,
+    Evaluate = 192,
     /// `get-token`
-    GetToken,
+    GetToken = 193,
     /// `set-token`
-    SetToken,
+    SetToken = 194,
     /// `state`
-    State,
+    State = 195,
     /// `compile,`
-    CompileComma,
+    CompileComma = 196,
     /// `behavior`
-    Behavior,
+    Behavior = 197,
     /// `instance`
-    Instance,
+    Instance = 198,
     /// `ferror`
-    Error,
+    Error = 199,
     /// `byte-load`
-    ByteLoad,
+    ByteLoad = 200,
 }
 
-/// `catch` and `throw`.
+/// `abort`, `catch` and `throw`.
+/// Each has its number in the list of written words.
 #[derive(Clone, Copy, Debug, PartialEq, Eq)]
 pub enum ThrowsWord {
     /// `abort`
-    Abort,
+    Abort = 201,
     /// `catch`
-    Catch,
+    Catch = 202,
     /// `throw`
-    Throw,
+    Throw = 203,
 }
 
 /// Properties of packages.
+/// Each has its number in the list of written words.
 #[derive(Clone, Copy, Debug, PartialEq, Eq)]
 pub enum PropertiesWord {
     /// `property`
-    Property,
+    Property = 204,
     /// `encode-int`
-    EncodeInt,
+    EncodeInt = 205,
     /// `encode-string`
-    EncodeString,
+    EncodeString = 206,
     /// `encode-bytes`
-    EncodeBytes,
+    EncodeBytes = 207,
     /// `encode-phys`
-    EncodePhys,
+    EncodePhys = 208,
     /// `encode+`
-    EncodePlus,
+    EncodePlus = 209,
     /// `decode-int`
-    DecodeInt,
+    DecodeInt = 210,
     /// `decode-string`
-    DecodeString,
+    DecodeString = 211,
     /// `decode-phys`
-    DecodePhys,
+    DecodePhys = 212,
     /// `reg`
-    Reg,
+    Reg = 213,
     /// `model`
-    Model,
+    Model = 214,
     /// `device-type`
-    DeviceType,
+    DeviceType = 215,
     /// `device-name`
-    DeviceName,
+    DeviceName = 216,
     /// `get-my-property`
-    GetMyProperty,
+    GetMyProperty = 217,
     /// `get-inherited-property`
-    GetInheritedProperty,
+    GetInheritedProperty = 218,
     /// `get-package-property`
-    GetPackageProperty,
+    GetPackageProperty = 219,
     /// `delete-property`
-    DeleteProperty,
+    DeleteProperty = 220,
     /// `next-property`
-    NextProperty,
+    NextProperty = 221,
 }
 
 /// Packages and instances.
+/// Each has its number in the list of written words.
 #[derive(Clone, Copy, Debug, PartialEq, Eq)]
 pub enum TreeWord {
     /// `new-device`
-    NewDevice,
+    NewDevice = 222,
     /// `finish-device`
-    FinishDevice,
+    FinishDevice = 223,
     /// `child`
-    Child,
+    Child = 224,
     /// `peer`
-    Peer,
+    Peer = 225,
     /// `find-package`
-    FindPackage,
+    FindPackage = 226,
     /// `open-package`
-    OpenPackage,
+    OpenPackage = 227,
     /// `$open-package`
-    OpenNamedPackage,
+    OpenNamedPackage = 228,
     /// `close-package`
-    ClosePackage,
+    ClosePackage = 229,
     /// `find-method`
-    FindMethod,
+    FindMethod = 230,
     /// `call-package`
-    CallPackage,
+    CallPackage = 231,
     /// `$call-parent`
-    CallParent,
+    CallParent = 232,
     /// `$call-method`
-    CallMethod,
+    CallMethod = 233,
     /// `my-self`
-    MySelf,
+    MySelf = 234,
     /// `my-parent`
-    MyParent,
+    MyParent = 235,
     /// `ihandle>phandle`
-    PackageOf,
+    PackageOf = 236,
     /// `my-args`
-    MyArgs,
+    MyArgs = 237,
     /// `set-args`
-    SetArgs,
+    SetArgs = 238,
     /// `my-unit`
-    MyUnit,
+    MyUnit = 239,
     /// `my-address`
-    MyAddress,
+    MyAddress = 240,
     /// `my-space`
-    MySpace,
+    MySpace = 241,
 }
 
 /// Accesses to devices, and time.
+/// Each has its number in the list of written words.
 #[derive(Clone, Copy, Debug, PartialEq, Eq)]
 pub enum DevicesWord {
     /// `cpeek`
-    PeekByte,
+    PeekByte = 242,
     /// `wpeek`
-    PeekWord,
+    PeekWord = 243,
     /// `lpeek`
-    PeekLong,
+    PeekLong = 244,
     /// `cpoke`
-    PokeByte,
+    PokeByte = 245,
     /// `wpoke`
-    PokeWord,
+    PokeWord = 246,
     /// `lpoke`
-    PokeLong,
+    PokeLong = 247,
     /// `rb@`
-    ReadByte,
+    ReadByte = 248,
     /// `rw@`
-    ReadWord,
+    ReadWord = 249,
     /// `rl@`
-    ReadLong,
+    ReadLong = 250,
     /// `rb!`
-    WriteByte,
+    WriteByte = 251,
     /// `rw!`
-    WriteWord,
+    WriteWord = 252,
     /// `rl!`
-    WriteLong,
+    WriteLong = 253,
     /// `get-msecs`
-    Milliseconds,
+    Milliseconds = 254,
     /// `ms`
-    Wait,
+    Wait = 255,
 }

@@ -69,3 +69,17 @@ pub reverse_refill : {X : Type 0} (xs ys : List X) (n : ℕ) (x : X) → ys ≡ 
     → reverse (refill (length xs) xs (set ys (n - 1) x)) ≡ x ∷ drop 1 (reverse xs)
 reverse_refill xs ys n x e f h =
     rw (e, f) (ap reverse (refill_same xs (set xs (length xs - 1) x) (length-set xs (length xs - 1) x)) ∙ reverse_set xs x h)
+
+-- a write under the last element, which then goes
+pub reverse_set_two : {X : Type 0} (xs ys : List X) (n : ℕ) (x : X) → ys ≡ xs → n ≡ length xs → 2 ≤ length xs
+    → reverse (take (length (refill (length xs) xs (set ys (n - 1 - 1) x)) - 1) (refill (length xs) xs (set ys (n - 1 - 1) x)))
+    ≡ x ∷ drop 2 (reverse xs)
+reverse_set_two xs ys n x e f h =
+    let place : length xs - 1 - 1 ≡ length xs - 2 = omega arith in
+    let next : length xs - 1 ≡ length xs - 2 + 1 = omega arith in
+    let within : length xs - 2 < length xs = omega arith in
+    let whole : refill (length xs) xs (set xs (length xs - 2) x) ≡ set xs (length xs - 2) x =
+    refill_same xs (set xs (length xs - 2) x) (length-set xs (length xs - 2) x) in
+    rw (e, f, place, whole, length-set xs (length xs - 2) x)
+    (ap reverse (take-set_at xs (length xs - 2) (length xs - 1) x next within)
+    ∙ reverse-append (take (length xs - 2) xs) (x ∷ []) ∙ ap (λ zs. x ∷ zs) (reverse_take xs 2 h))

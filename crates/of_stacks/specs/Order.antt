@@ -1,7 +1,8 @@
 -- Of several faults of one word, the one that it throws.
-use Rattle.std.specs.Prelude.{ℕ, ℤ, Bool, true, false, nat_le, List, [], ◌∷◌, Option, Some, None, Result, Ok, Err, if◌then◌else◌}
+use Rattle.std.specs.Prelude.{◌≡◌, ℕ, ◌≤◌, ℤ, Bool, false, nat_le, List, [], ◌∷◌, ◌++◌, map, Option, Some, None, Result, Ok, Err, if◌then◌else◌}
+use Rattle.std.specs.List.{Contains, list_any}
 use Rattle.of_stacks.specs.declared.throws.Throw.{Throw}
-use Rattle.of_stacks.specs.Throws.{is_minus}
+use Rattle.of_stacks.specs.Throws.{is_minus, throw}
 
 -- where a throw stands in the order, from the addresses on
 unfoldable pub later_rank : ℤ → ℕ
@@ -40,22 +41,55 @@ rank code =
 abbrev pub first_of : Throw → Throw → Throw
 first_of t u = if nat_le (rank t.0) (rank u.0) then t else u
 
--- the fault that counts, with one more where it was found
-abbrev pub with_fault : Bool → Throw → Option Throw → Option Throw
-with_fault false t o = o
-with_fault true t None = Some t
-with_fault true t (Some u) = Some (first_of t u)
+-- a fault, where it is found
+abbrev pub fault_if : Bool → Throw → Option Throw
+fault_if found t = if found then Some t else None
 
--- of the faults that were found, the one that counts
-abbrev pub first_fault : List (Bool × Throw) → Option Throw
-first_fault [] = None
-first_fault (test ∷ tests) = with_fault test.0 test.1 (first_fault tests)
+-- the fault that counts of one that may be found and of those behind it
+abbrev pub counted : Option Throw → Option Throw → Option Throw
+counted None later = later
+counted (Some t) None = Some t
+counted (Some t) (Some u) = Some (first_of t u)
 
--- the value, unless there is a fault
+-- of the faults that a word finds, the one that it throws
+abbrev pub counting : List (Option Throw) → Option Throw
+counting [] = None
+counting (fault ∷ faults) = counted fault (counting faults)
+
+-- the value, unless something is thrown
 abbrev pub unless : {A : Type 0} → Option Throw → A → Result A Throw
 unless None x = Ok x
 unless (Some t) x = Err t
 
--- the value, or the first of the faults that were found
-abbrev pub first_in : {A : Type 0} → List (Bool × Throw) → A → Result A Throw
-first_in tests x = unless (first_fault tests) x
+-- the value, unless the one fault that there can be is found
+abbrev pub refused_if : {A : Type 0} → Bool → Throw → A → Result A Throw
+refused_if found t x = unless (fault_if found t) x
+
+-- ---- laws
+
+-- the fault that counts is found, and none that is found stands before it
+pub record FirstCounts : Type 0 where
+  pub found : (faults : List (Option Throw)) (t : Throw) → counting faults ≡ Some t → Contains faults (Some t)
+  pub first :
+      (faults : List (Option Throw)) (t u : Throw) →
+      counting faults ≡ Some t → Contains faults (Some u) → rank t.0 ≤ rank u.0
+  pub none : (faults : List (Option Throw)) (u : Throw) → counting faults ≡ None → Contains faults (Some u) → ⊥
+
+-- the faults that stand before all others, in their order: what can't be used here, what is missing
+-- on a stack, handles, addresses, names and numbers
+abbrev pub first_faults : List ℕ
+first_faults =
+    14 ∷ 29 ∷ 4 ∷ 6 ∷ 25 ∷ 26 ∷ 259 ∷ 260 ∷ 263 ∷ 261 ∷ 9 ∷ 23 ∷ 20 ∷ 16 ∷ 13 ∷ 19 ∷ 32 ∷ 24 ∷ 262 ∷ []
+
+-- those that stand behind all others: what finds no room
+abbrev pub last_faults : List ℕ
+last_faults = 5 ∷ 8 ∷ 3 ∷ []
+
+abbrev pub ranks_of : List ℕ → List ℕ
+ranks_of numbers = map (λ n. rank (throw n).0) numbers
+
+-- the ranks are the places in the written order
+pub record OrderIsWritten : Type 0 where
+  pub first : ranks_of first_faults ≡ 0 ∷ 1 ∷ 2 ∷ 3 ∷ 4 ∷ 5 ∷ 6 ∷ 7 ∷ 8 ∷ 9 ∷ 10 ∷ 11 ∷ 12 ∷ 13 ∷ 14 ∷ 15 ∷ 16 ∷ 17 ∷ 18 ∷ []
+  pub others : (t : Throw) → list_any (λ n. is_minus n t.0) (first_faults ++ last_faults) ≡ false → rank t.0 ≡ 19
+  pub last : ranks_of last_faults ≡ 20 ∷ 21 ∷ 22 ∷ []

@@ -1,5 +1,5 @@
 -- What words throw (Forth 2012, table 9.1; below -255 the numbers of this board), and the text of each.
-use Rattle.std.specs.Prelude.{ℕ, List, [], ◌∷◌, ℤ, pos, neg_ℤ, Bool, if◌then◌else◌, codes}
+use Rattle.std.specs.Prelude.{◌≡◌, true, Result, Ok, Err, ℕ, List, [], ◌∷◌, ℤ, pos, neg_ℤ, Bool, if◌then◌else◌, codes}
 use Rattle.std.specs.List.{list_any}
 use Rattle.std.specs.Ordering.{int_eq}
 use Rattle.of_stacks.specs.declared.throws.Throw.{Throw}
@@ -151,3 +151,8 @@ listed_numbers =
 -- the throw is one of those
 unfoldable pub is_listed : Throw → Bool
 is_listed t = list_any (λ n. is_minus n t.0) listed_numbers
+
+-- a throw of this answer is a listed one
+abbrev pub ThrowsListed : {A : Type 0} → Result A Throw → Type 0
+ThrowsListed (Ok x) = Unit {0}
+ThrowsListed (Err t) = is_listed t ≡ true

@@ -173,8 +173,9 @@ impl DataStack {
         ensures depth { length self.new + count ≡ length self.old }
         ensures room { length self.old ≤ 256 }
     {
-        let depth = self.cells.len();
-        self.cells.truncate(depth - count);
+        for _dropped in 0..count {
+            let _ = self.cells.pop();
+        }
     }
 
     /// Puts a cell in the place of the top one, which must be there.
@@ -194,8 +195,9 @@ impl DataStack {
         ensures cells { self.new ≡ x ∷ drop 2 self.old }
         ensures room { length self.new < 256 }
     {
-        let _ = self.pop();
-        self.replace_top(x);
+        let last = self.cells.len() - 1;
+        self.cells[last - 1] = x;
+        let _ = self.cells.pop();
     }
 
     /// The cell under `count` others, or -4 where there is none.

@@ -1,5 +1,5 @@
 ghost use Rattle.std.specs.Prelude.{◌≡◌};
-ghost use Rattle.of_stacks.specs.Order.{rank, later_rank};
+ghost use Rattle.of_stacks.specs.Order.{rank, later_rank, counted};
 
 /// What a word throws: a number by which the fault is known (Forth 2012, 9.3.5, table 9.1, and
 /// below -255 the numbers of this board).
@@ -7,7 +7,8 @@ ghost use Rattle.of_stacks.specs.Order.{rank, later_rank};
 pub struct Throw(pub i32);
 
 impl Throw {
-    ghost use Rattle.of_stacks.specs.Order.{first_of};
+    ghost use Rattle.std.specs.Prelude.{Some, None};
+    ghost use Rattle.of_stacks.specs.Order.{first_of, counting};
 
     /// `abort` was executed.
     pub const ABORT: Throw = Throw(-1);
@@ -111,6 +112,27 @@ impl Throw {
         } else {
             other
         }
+    }
+
+    /// Of the faults that a word finds, the one that it throws, if there is one.
+    pub fn counting(faults: &[Option<Throw>]) -> Option<Throw>
+        ensures { result ≡ counting faults.now }
+    {
+        match faults {
+            [] => None,
+            [fault, others @ ..] => counted(*fault, Throw::counting(others)),
+        }
+    }
+}
+
+/// The fault that counts of one that may be found and of those behind it.
+fn counted(fault: Option<Throw>, later: Option<Throw>) -> Option<Throw>
+    ensures { result ≡ counted fault later }
+{
+    match (fault, later) {
+        (None, later) => later,
+        (Some(fault), None) => Some(fault),
+        (Some(fault), Some(later)) => Some(fault.first_of(later)),
     }
 }
 

@@ -1,0 +1,9 @@
+//! Tests of the public calls of the lowest crates, a file for each.
+#![tactic(auto)]
+
+#[cfg(test)]
+mod cells;
+#[cfg(test)]
+mod fcodes;
+#[cfg(test)]
+mod stacks;

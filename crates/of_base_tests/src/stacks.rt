@@ -1,0 +1,193 @@
+use of_cells::Cell;
+use of_stacks::{CAPACITY, DataStack, Throw, first_fault_counts, order_is_written, text_of};
+use std::test::Fail;
+
+/// Makes a call on the stack, and answers the cell that it gives, or 0.
+fn call(stack: &mut DataStack, name: &str, n: u32) -> Result<Cell, Throw> {
+    let depth = stack.depth();
+    match name {
+        "push" => {
+            stack.try_push(Cell(n))?;
+            return Ok(Cell::ZERO);
+        }
+        "pop" => return stack.pop(),
+        "peek" => return stack.peek(),
+        "under" => return stack.under(n as usize),
+        "clear" => stack.clear(),
+        "replace-top" if depth >= 1 => stack.replace_top(Cell(n)),
+        "replace-two" if depth >= 2 => stack.replace_two(Cell(n)),
+        "drop" if n as usize <= depth => stack.drop_top(n as usize),
+        "take-out" if (n as usize) < depth => return Ok(stack.take_out(n as usize)),
+        "room" if n <= 256 => {
+            stack.room_for(n as usize)?;
+            return Ok(Cell::ZERO);
+        }
+        _ => return Err(Throw::ABORT),
+    }
+    Ok(Cell::ZERO)
+}
+
+/// Calls in turn on one stack: the call, its number, the cell or throw that it answers, and the
+/// stack that it leaves, the top last.
+const CALLS: &str = "\
+pop 0 -4
+peek 0 -4
+push 7 0 7
+push 8 0 7 8
+push 9 0 7 8 9
+peek 0 9 7 8 9
+under 0 9 7 8 9
+under 2 7 7 8 9
+under 3 -4 7 8 9
+room 253 0 7 8 9
+room 254 -3 7 8 9
+take-out 1 8 7 9
+replace-top 4 0 7 4
+push 5 0 7 4 5
+replace-two 6 0 7 6
+push 3 0 7 6 3
+drop 2 0 7
+pop 0 7
+push 1 0 1
+clear 0 0
+";
+
+/// Makes the call of a line, and answers what it gives.
+fn answer(stack: &mut DataStack, line: &str) -> Result<i64, Fail> {
+    let mut words = line.split_whitespace();
+    let name = words.next().unwrap_or("");
+    let n: u32 = words.next().unwrap_or("").parse()?;
+    match call(stack, name, n) {
+        Ok(x) => Ok(i64::from(x.0)),
+        Err(t) => Ok(i64::from(t.0)),
+    }
+}
+
+/// What the call of a line gives, and the stack that it leaves.
+fn wanted(line: &str) -> Result<(i64, DataStack), Fail> {
+    let mut words = line.split_whitespace().skip(2);
+    let answer: i64 = words.next().unwrap_or("").parse()?;
+    let mut left = DataStack::new();
+    for word in words {
+        left.try_push(Cell(word.parse()?))?;
+    }
+    Ok((answer, left))
+}
+
+#[test]
+fn calls(rt: HostRuntime) -> Result<(), Fail> {
+    let mut stack = DataStack::new();
+    for line in CALLS.lines() {
+        let given = answer(&mut stack, line)?;
+        let (wanted, left) = wanted(line)?;
+        assert_eq!(rt; given, wanted, "{line}");
+        assert_eq!(rt; stack.cells(), left.cells(), "{line}");
+    }
+    Ok(())
+}
+
+#[test]
+fn top_cells(rt: HostRuntime) {
+    let mut stack = DataStack::new();
+    assert_eq!(rt; stack.top_two(), Err(Throw(-4)));
+    stack.push(Cell(1));
+    stack.push(Cell(2));
+    stack.push(Cell(3));
+    assert_eq!(rt; stack.top_two(), Ok((Cell(2), Cell(3))));
+    assert_eq!(rt; stack.top_three(), Ok((Cell(1), Cell(2), Cell(3))));
+    assert_eq!(rt; stack.top_four(), Err(Throw(-4)));
+    stack.push(Cell(4));
+    assert_eq!(rt; stack.top_four(), Ok((Cell(1), Cell(2), Cell(3), Cell(4))));
+}
+
+#[test]
+fn holds_256_cells(rt: HostRuntime) {
+    let mut stack = DataStack::new();
+    for _ in 0..CAPACITY {
+        assert_eq!(rt; stack.try_push(Cell(7)), Ok(()));
+    }
+    assert_eq!(rt; stack.try_push(Cell(8)), Err(Throw(-3)));
+    assert_eq!(rt; stack.depth(), 256);
+}
+
+/// The texts of the throws, as the table of this board has them.
+const TEXTS: &str = "\
+-1 abort
+-3 stack overflow
+-4 stack underflow
+-5 return stack overflow
+-6 return stack underflow
+-8 dictionary overflow
+-9 invalid memory address
+-10 division by zero
+-13 undefined word
+-14 compile-only word
+-16 zero-length name
+-17 pictured output overflow
+-19 name too long
+-20 write to a read-only location
+-22 control structure mismatch
+-23 address alignment exception
+-24 invalid numeric argument
+-25 return stack imbalance
+-26 loop parameters unavailable
+-29 compiler nesting
+-31 not a created word
+-32 invalid name argument
+-256 fcode not assigned
+-257 image ended
+-258 bus fault
+-259 no such node
+-260 no such instance
+-261 no such method
+-262 property value too short
+-263 bad handle
+7 thrown by the program
+-2147483648 thrown by the program
+";
+
+#[test]
+fn texts(rt: HostRuntime) -> Result<(), Fail> {
+    for line in TEXTS.lines() {
+        let Some((code, text)) = line.split_once(' ') else {
+            continue;
+        };
+        assert_eq!(rt; text_of(code.parse()?), text, "{line}");
+    }
+    Ok(())
+}
+
+/// The faults that a word finds, and the one that it throws.
+const FAULTS: &str = "\
+-10 -4 throws -4
+-3 -8 throws -8
+-20 -9 throws -9
+-3 -24 -20 -9 throws -9
+-8 -263 -29 -4 throws -29
+-10 throws -10
+";
+
+#[test]
+fn the_first_fault_counts(rt: HostRuntime) -> Result<(), Fail> {
+    for line in FAULTS.lines() {
+        let mut found = Vec::new(rt.alloc());
+        let mut first = None;
+        let mut words = line.split_whitespace();
+        while let Some(word) = words.next() {
+            if word == "throws" {
+                break;
+            }
+            let fault = Throw(word.parse()?);
+            first = Some(first.map_or(fault, |other: Throw| other.first_of(fault)));
+            found.push(Some(fault))?;
+            found.push(None)?;
+        }
+        let wanted = Some(Throw(words.next().unwrap_or("").parse()?));
+        assert_eq!(rt; Throw::counting(&found), wanted, "{line}");
+        assert_eq!(rt; first, wanted, "{line}");
+    }
+    assert_eq!(rt; Throw::counting(&[None]), None);
+    first_fault_counts();
+    order_is_written();
+    Ok(())
+}
