@@ -6,4 +6,6 @@ mod cells;
 #[cfg(test)]
 mod fcodes;
 #[cfg(test)]
+mod memory;
+#[cfg(test)]
 mod stacks;

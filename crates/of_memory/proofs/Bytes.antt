@@ -1,15 +1,16 @@
 -- The data space as a map from address to byte.
-use Rattle.std.proofs.Common.{◌≡◌, ℕ, ◌+◌, ◌-◌, ◌<◌, ◌≤◌, nat_le, nat_lt, Bool, true, false, ◌&&◌, inl, inr, List, [], ◌∷◌, length, get_or, take, drop, Some, add-zero, refl, sym, ap, ◌∙◌, arith}
+use Rattle.std.proofs.Common.{◌≡◌, ℕ, ◌+◌, ◌*◌, ◌-◌, ◌<◌, ◌≤◌, nat_le, nat_lt, Bool, true, false, ◌&&◌, inl, inr, List, [], ◌∷◌, length, get_or, take, drop, Some, add-zero, refl, sym, ap, ◌∙◌, arith}
 use Rattle.std.proofs.lemmas.Grind.{common_steps}
 use Rattle.std.proofs.lemmas.List.{places}
 use Rattle.std.proofs.lemmas.Bool.{cases_lt}
-use Rattle.of_memory.specs.Regions.{place_of}
+use Rattle.of_memory.specs.Regions.{place_of, byte_count}
 use Rattle.of_memory.specs.DataSpace.{DataSpace, byte_at, bytes_from, is_readable, written, splice}
-use Rattle.of_memory.specs.Access.{are_readable}
-use Rattle.of_memory.specs.Laws.{map_with, WritesChangeTheirBytes, ReadsGiveTheBytes}
+use Rattle.of_memory.specs.Access.{IsPlaced, are_readable, every, spread_over}
+use Rattle.of_memory.specs.Laws.{map_with, WritesChangeTheirBytes, ReadsGiveTheBytes, SpreadsGiveTheBytes}
 use Rattle.of_memory.proofs.AllFrom.{all_true, all_at}
-use Rattle.of_memory.proofs.Readable.{IsPlaced, range_placed}
+use Rattle.of_memory.proofs.Readable.{range_placed}
 use Rattle.of_memory.proofs.Nothing.{written_none}
+use Rattle.of_memory.proofs.Spread.{over_some, every_at, place_within}
 
 -- an element of a list with other elements in it
 splice_within : (xs ys : List ℕ) (i k : ℕ) → i + length ys ≤ length xs → k < length ys → get_or (splice xs i ys) (i + k) 0 ≡ get_or ys k 0
@@ -46,7 +47,7 @@ kept m a x ys h = go (is_readable m x) refl
     go true e = rw e (ap Some (h e))
     go false e = rw e refl
 
-byte_at-written : (m : DataSpace) (a x : ℕ) (ys : List ℕ) → length m.bytes ≡ 1572864 → 0 < length ys → are_readable m a (length ys) ≡ true → byte_at (written m a ys) x ≡ map_with m a ys x
+byte_at-written : (m : DataSpace) (a x : ℕ) (ys : List ℕ) → length m.bytes ≡ byte_count → 0 < length ys → are_readable m a (length ys) ≡ true → byte_at (written m a ys) x ≡ map_with m a ys x
 byte_at-written m a x ys room some e =
     let at = range_placed m a (length ys) e some in
     let fits : place_of a + length ys ≤ length m.bytes = omega (arith, at.some, at.last, at.within) in
@@ -83,4 +84,15 @@ reads_give_the_bytes m a n k e l =
     let place : place_of (a + k) ≡ place_of a + k = omega (arith, at.some, at.within) in
     let value : get_or m.bytes (place_of (a + k)) 0 ≡ get_or (bytes_from m a n) k 0 =
     rw place (sym (part_at m.bytes (place_of a) n k l)) in
+    rw r (ap Some value)
+
+pub spreads_give_the_bytes : SpreadsGiveTheBytes
+spreads_give_the_bytes m a n s k e l =
+    let over : spread_over n s ≡ (n - 1) * s + 1 = over_some n s (omega arith) in
+    let at = range_placed m a (spread_over n s) e (omega arith) in
+    let in_it : a + k * s < a + spread_over n s = place_within a n s k l in
+    let r : is_readable m (a + k * s) ≡ true = all_at (is_readable m) a (spread_over n s) (k * s) e (omega arith) in
+    let place : place_of (a + k * s) ≡ place_of a + k * s = omega (arith, at.some, at.within) in
+    let value : get_or m.bytes (place_of (a + k * s)) 0 ≡ get_or (every m.bytes (place_of a) n s) k 0 =
+    rw place (sym (every_at m.bytes (place_of a) n s k l)) in
     rw r (ap Some value)

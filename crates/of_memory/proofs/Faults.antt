@@ -1,13 +1,13 @@
 -- The fault of a read or a write, case by case.
-use Rattle.std.proofs.Common.{◌≡◌, ◌≢◌, ℕ, ◌%◌, ◌<◌, true, false, eqb, Option, Some, None, Ok, Err, refl, arith}
+use Rattle.std.proofs.Common.{◌≡◌, ◌≢◌, ℕ, ◌%◌, ◌<◌, Bool, true, false, ◌⊎◌, inl, inr, eqb, Option, Some, None, Ok, Err, refl, arith}
 use Rattle.std.proofs.lemmas.Grind.{common_steps}
 use Rattle.of_memory.specs.declared.fault.MemFault.{MemFault}
 use Rattle.of_memory.specs.declared.fault.MemFault.TheVariants.{Address, Alignment, ReadOnly}
 use Rattle.of_memory.specs.declared.width.Width.{Width}
 use Rattle.of_memory.specs.Width.{bytes_in}
-use Rattle.of_memory.specs.Regions.{region_of, may_write}
+use Rattle.of_memory.specs.Regions.{region_of, may_write, longest}
 use Rattle.of_memory.specs.DataSpace.{DataSpace}
-use Rattle.of_memory.specs.Access.{are_readable, read_fault, write_fault, unless}
+use Rattle.of_memory.specs.Access.{IsPlaced, are_readable, read_fault, write_fault, unless}
 use Rattle.of_memory.proofs.Readable.{range_placed}
 
 some_not_none : (n : ℕ) → 0 < n → eqb n 0 ≡ false
@@ -50,6 +50,22 @@ pub no_write_fault : (m : DataSpace) (a n : ℕ) (w : Width) (x y : ℕ) → 0 <
 unfolding write_fault
 no_write_fault m a n w x y some h test =
     let f = unless_ok (read_fault m a n w) x y h in rw (f, some_not_none n some, test) refl
+
+true_or_false : (p : Bool) → (p ≡ true) ⊎ (p ≡ false)
+true_or_false true = inl refl
+true_or_false false = inr refl
+
+-- no range is longer than a region
+pub long_fault : (m : DataSpace) (a n : ℕ) (w : Width) → longest < n → read_fault m a n w ≡ Some Address
+long_fault m a n w long =
+    elim (true_or_false (are_readable m a n)) [
+      | inl e ↦ let at : IsPlaced a n = range_placed m a n e (omega arith) in absurd (omega (arith, at.within))
+      | inr e ↦ address_fault m a n w (omega arith) e
+    ]
+
+pub long_write_fault : (m : DataSpace) (a n : ℕ) (w : Width) → longest < n → write_fault m a n w ≡ Some Address
+unfolding write_fault
+long_write_fault m a n w long = rw (long_fault m a n w long) refl
 
 -- what a read and a write need
 pub ruleset read_faults = (address_fault, alignment_fault, no_fault, range_placed)

@@ -5,7 +5,7 @@ use Rattle.std.proofs.lemmas.Grind.{common_steps}
 use Rattle.std.proofs.lemmas.List.Edits.{length-insert}
 use Rattle.std.proofs.lemmas.Bool.{cases_lt}
 use Rattle.of_memory.specs.declared.blocks.Block.{Block}
-use Rattle.of_memory.specs.Blocks.{AreLaid, IsFree, meets_none, with_block, least_free}
+use Rattle.of_memory.specs.Blocks.{AreLaid, IsLaid, IsFree, meets_none, with_block, least_free}
 use Rattle.of_memory.specs.BlockSearch.{IsGap, block_at}
 use Rattle.of_memory.proofs.Laid.{laid_ordered, laid_count}
 use Rattle.of_memory.proofs.Free.{le_true, le_false, sides, meets_rest, above, least_free_some, least_free_none}
@@ -29,8 +29,8 @@ pub record IsGapFrom (low high size i j a : ℕ) (bs : List Block) : Type 0 wher
 beyond : (low high : ℕ) (bs : List Block) (x size : ℕ) → AreLaid low high bs → x + size ≤ low → meets_none bs size x ≡ true
 beyond low high [] x size h l = refl
 beyond low high (b ∷ bs) x size h l =
-    let rest : meets_none bs size x ≡ true = beyond (b.at + b.size) high bs x size h.5 (omega (arith, h.0)) in
-    rw (le_true (x + size) b.at (omega (arith, h.0))) rest
+    let rest : meets_none bs size x ≡ true = beyond (b.at + b.size) high bs x size h.1 (omega (arith, h.0.above)) in
+    rw (le_true (x + size) b.at (omega (arith, h.0.above))) rest
 
 no_pair : (x : ℕ × ℕ) → None ≡ Some x → ⊥
 no_pair x e = cc
@@ -61,7 +61,7 @@ later low high size i j a b bs laid beyond_it g =
     record {
       free = record {
         aligned = g.free.aligned;
-        from = omega (arith, laid.0, g.free.from);
+        from = omega (arith, laid.0.above, g.free.from);
         to = g.free.to;
         apart = above b bs size a g.free.from g.free.apart;
       };
@@ -71,12 +71,32 @@ later low high size i j a b bs laid beyond_it g =
       ];
       index = omega (arith, g.index);
       within = omega (arith, g.within);
-      laid = rw one (laid.0, laid.1, laid.2, laid.3, laid.4, g.laid);
+      laid = rw one (laid.0, g.laid);
       ordered = rw one (rw (not_before a b g.free.from) (ap (λ bs'. b ∷ bs') g.ordered));
     }
   where
     not_before : (x : ℕ) (c : Block) → c.at + c.size ≤ x → nat_lt x c.at ≡ false
     not_before x c h = grind (arith, common_steps)
+
+-- a new block right at the low end
+at_low : (low size : ℕ) → low % 8 ≡ 0 → 0 < size → size % 8 ≡ 0 → IsLaid low (block_at low size)
+at_low low size eighth some eighths = record {
+  above = omega arith;
+  low_eighth = eighth;
+  eighth = eighth;
+  some = some;
+  eighths = eighths;
+}
+
+-- and the block after it
+next_laid : (low size : ℕ) (b : Block) → low + size ≤ b.at → size % 8 ≡ 0 → IsLaid low b → IsLaid (low + size) b
+next_laid low size b fits eighths h = record {
+  above = fits;
+  low_eighth = omega (arith, h.low_eighth);
+  eighth = h.eighth;
+  some = h.some;
+  eighths = h.eighths;
+}
 
 moved : (low high size i j a : ℕ) (bs : List Block) → i ≡ j → low ≡ a → IsGapFrom low high size i i low bs → IsGapFrom low high size i j a bs
 moved low high size i j a bs e f g =
@@ -90,19 +110,19 @@ gap_some low high size i j a [] laid some eighths e =
       | inl l ↦ absurd (no_pair (j, a) (rw (le_false (low + size) high l) at e))
       | inr l ↦
           let yes : ◌≡◌ {A = Option (ℕ × ℕ)} (Some (i, low)) (Some (j, a)) = rw (le_true (low + size) high l) at e in
-          moved low high size i j a [] (same_index i low j a yes) (same_address i low j a yes) (here low high size i [] laid.1 l refl (omega arith, laid.1, laid.1, some, eighths, (l, omega (arith, laid.1))) refl)
+          moved low high size i j a [] (same_index i low j a yes) (same_address i low j a yes) (here low high size i [] laid.1 l refl (at_low low size laid.1 some eighths, (l, omega (arith, laid.1))) refl)
     ]
 gap_some low high size i j a (b ∷ bs) laid some eighths e =
     elim (cases_lt b.at (low + size)) [
       | inl l ↦
           let on : gap high size (i + 1) (b.at + b.size) bs ≡ Some (j, a) = rw (le_false (low + size) b.at l) at e in
-          later low high size i j a b bs laid l (gap_some (b.at + b.size) high size (i + 1) j a bs laid.5 some eighths on)
+          later low high size i j a b bs laid l (gap_some (b.at + b.size) high size (i + 1) j a bs laid.1 some eighths on)
       | inr l ↦
           let yes : ◌≡◌ {A = Option (ℕ × ℕ)} (Some (i, low)) (Some (j, a)) = rw (le_true (low + size) b.at l) at e in
-          let end : b.at + b.size ≤ high = laid_ordered (b.at + b.size) high bs laid.5 in
-          moved low high size i j a (b ∷ bs) (same_index i low j a yes) (same_address i low j a yes) (here low high size i (b ∷ bs) laid.1 (omega arith)
-          (beyond (low + size) high (b ∷ bs) low size (l, omega (arith, laid.1), laid.2, laid.3, laid.4, laid.5) (omega arith))
-          (omega arith, laid.1, laid.1, some, eighths, (l, omega (arith, laid.1), laid.2, laid.3, laid.4, laid.5))
+          let end : b.at + b.size ≤ high = laid_ordered (b.at + b.size) high bs laid.1 in
+          moved low high size i j a (b ∷ bs) (same_index i low j a yes) (same_address i low j a yes) (here low high size i (b ∷ bs) laid.0.low_eighth (omega arith)
+          (beyond (low + size) high (b ∷ bs) low size (next_laid low size b l eighths laid.0, laid.1) (omega arith))
+          (at_low low size laid.0.low_eighth some eighths, (next_laid low size b l eighths laid.0, laid.1))
           (rw (before low b (omega arith)) refl))
     ]
   where
@@ -121,7 +141,7 @@ gap_none low high size i (b ∷ bs) laid some e x f =
           let on : gap high size (i + 1) (b.at + b.size) bs ≡ None = rw (le_false (low + size) b.at l) at e in
           elim (sides b bs size x f.apart) [
             | inl k ↦ omega (arith, f.from)
-            | inr k ↦ gap_none (b.at + b.size) high size (i + 1) bs laid.5 some on x (record { aligned = f.aligned; from = k; to = f.to; apart = meets_rest b bs size x f.apart })
+            | inr k ↦ gap_none (b.at + b.size) high size (i + 1) bs laid.1 some on x (record { aligned = f.aligned; from = k; to = f.to; apart = meets_rest b bs size x f.apart })
           ]
       | inr l ↦ no_pair (i, low) (sym (rw (le_true (low + size) b.at l) at e))
     ]
@@ -141,9 +161,9 @@ gap_full high size i low bs e l = rw (e, le_false (low + size) high l) refl
 pub gap_step : (high size i low : ℕ) (b : Block) (bs rest : List Block) → bs ≡ b ∷ rest → b.at < low + size → gap high size (i + 1) (b.at + b.size) rest ≡ gap high size i low bs
 gap_step high size i low b bs rest e l = rw (e, le_false (low + size) b.at l) refl
 
-low_eighth : (low high : ℕ) (bs : List Block) → AreLaid low high bs → low % 8 ≡ 0
+pub low_eighth : (low high : ℕ) (bs : List Block) → AreLaid low high bs → low % 8 ≡ 0
 low_eighth low high [] h = h.1
-low_eighth low high (b ∷ bs) h = h.1
+low_eighth low high (b ∷ bs) h = h.0.low_eighth
 
 pub is_gap : (low high size j a : ℕ) (bs : List Block) → AreLaid low high bs → 0 < size → size % 8 ≡ 0 → gap high size 0 low bs ≡ Some (j, a) → IsGap low high bs size j a
 is_gap low high size j a bs laid some eighths e =

@@ -3,8 +3,9 @@ use Rattle.std.proofs.Common.{◌≡◌, ℕ, ◌+◌, ◌*◌, ◌%◌, ◌<◌
 use Rattle.std.proofs.lemmas.Grind.{common_steps}
 use Rattle.std.specs.List.{remove, position}
 use Rattle.std.proofs.lemmas.List.Quantifiers.{position-Some}
+use Rattle.of_memory.specs.Regions.{heap_limit, heap_start}
 use Rattle.of_memory.specs.declared.blocks.Block.{Block}
-use Rattle.of_memory.specs.Blocks.{AreLaid, is_block}
+use Rattle.of_memory.specs.Blocks.{AreLaid, IsLaid, is_block}
 
 pub record IsWithin (lo hi : ℕ) (b : Block) : Type 0 where
   pub low : lo ≤ b.at
@@ -15,22 +16,22 @@ pub record IsWithin (lo hi : ℕ) (b : Block) : Type 0 where
 
 pub laid_ordered : (low high : ℕ) (bs : List Block) → AreLaid low high bs → low ≤ high
 laid_ordered low high [] h = h.0
-laid_ordered low high (b ∷ bs) h = let e : b.at + b.size ≤ high = laid_ordered (b.at + b.size) high bs h.5 in omega (arith, h.0)
+laid_ordered low high (b ∷ bs) h = let e : b.at + b.size ≤ high = laid_ordered (b.at + b.size) high bs h.1 in omega (arith, h.0.above)
 
 -- each block lies between the ends
 pub laid_at : (low high : ℕ) (bs : List Block) (i : ℕ) (d : Block) → AreLaid low high bs → i < length bs → IsWithin low high (get_or bs i d)
 laid_at low high [] i d h l = absurd (omega arith)
 laid_at low high (b ∷ bs) zero d h l = record {
-  low = h.0;
-  high = laid_ordered (b.at + b.size) high bs h.5;
-  some = h.3;
-  at8 = h.2;
-  size8 = h.4;
+  low = h.0.above;
+  high = laid_ordered (b.at + b.size) high bs h.1;
+  some = h.0.some;
+  at8 = h.0.eighth;
+  size8 = h.0.eighths;
 }
 laid_at low high (b ∷ bs) (suc i) d h l =
-    let r : IsWithin (b.at + b.size) high (get_or bs i d) = laid_at (b.at + b.size) high bs i d h.5 (omega arith) in
+    let r : IsWithin (b.at + b.size) high (get_or bs i d) = laid_at (b.at + b.size) high bs i d h.1 (omega arith) in
     record {
-      low = omega (arith, h.0, r.low);
+      low = omega (arith, h.0.above, r.low);
       high = r.high;
       some = r.some;
       at8 = r.at8;
@@ -38,19 +39,27 @@ laid_at low high (b ∷ bs) (suc i) d h l =
     }
 
 -- a block of the heap ends with it
-pub heap_block : (bs : List Block) (i : ℕ) (d : Block) → AreLaid 4194304 4456448 bs → i < length bs → (get_or bs i d).at + (get_or bs i d).size ≤ 4456448
-heap_block bs i d h l = let w : IsWithin 4194304 4456448 (get_or bs i d) = laid_at 4194304 4456448 bs i d h l in w.high
+pub heap_block : (bs : List Block) (i : ℕ) (d : Block) → AreLaid heap_start heap_limit bs → i < length bs → (get_or bs i d).at + (get_or bs i d).size ≤ heap_limit
+heap_block bs i d h l = let w : IsWithin heap_start heap_limit (get_or bs i d) = laid_at heap_start heap_limit bs i d h l in w.high
 
 laid_lower : (low mid high : ℕ) (bs : List Block) → low ≤ mid → low % 8 ≡ 0 → AreLaid mid high bs → AreLaid low high bs
 laid_lower low mid high [] le e h = (omega (arith, h.0), e)
-laid_lower low mid high (b ∷ bs) le e h = (omega (arith, h.0), e, h.2, h.3, h.4, h.5)
+laid_lower low mid high (b ∷ bs) le e h =
+    let first : IsLaid low b = record {
+      above = omega (arith, h.0.above);
+      low_eighth = e;
+      eighth = h.0.eighth;
+      some = h.0.some;
+      eighths = h.0.eighths;
+    } in
+    (first, h.1)
 
 -- one block fewer
 pub laid_remove : (low high : ℕ) (bs : List Block) (i : ℕ) → AreLaid low high bs → AreLaid low high (remove bs i)
 laid_remove low high [] zero h = h
 laid_remove low high [] (suc i) h = h
-laid_remove low high (b ∷ bs) zero h = laid_lower low (b.at + b.size) high bs (omega (arith, h.0)) h.1 h.5
-laid_remove low high (b ∷ bs) (suc i) h = (h.0, h.1, h.2, h.3, h.4, laid_remove (b.at + b.size) high bs i h.5)
+laid_remove low high (b ∷ bs) zero h = laid_lower low (b.at + b.size) high bs (omega (arith, h.0.above)) h.0.low_eighth h.1
+laid_remove low high (b ∷ bs) (suc i) h = (h.0, laid_remove (b.at + b.size) high bs i h.1)
 
 -- no block is longer than its region
 pub no_long : (low high a size : ℕ) (bs : List Block) → AreLaid low high bs → high < low + size → position (is_block a size) bs ≡ None
@@ -71,5 +80,5 @@ no_long low high a size bs h long = go (position (is_block a size) bs) refl
 pub laid_count : (low high : ℕ) (bs : List Block) → AreLaid low high bs → low + 8 * length bs ≤ high
 laid_count low high [] h = omega (arith, h.0)
 laid_count low high (b ∷ bs) h =
-    let r : b.at + b.size + 8 * length bs ≤ high = laid_count (b.at + b.size) high bs h.5 in
-    omega (arith, h.0, h.3, h.4)
+    let r : b.at + b.size + 8 * length bs ≤ high = laid_count (b.at + b.size) high bs h.1 in
+    omega (arith, h.0.above, h.0.some, h.0.eighths)

@@ -1,10 +1,17 @@
 pub mod AllFrom
+pub mod Splices
 pub mod Laid
 pub mod Reach
 pub mod Free
 pub mod Gap
+pub mod Room
 pub mod Readable
 pub mod Faults
 pub mod Nothing
 pub mod Sound
 pub mod Bytes
+pub mod Spread
+pub mod Gathered
+pub mod Grown
+pub mod Ranges
+pub mod Joined

@@ -1,16 +1,14 @@
 -- How far the live blocks hold every address.
-use Rattle.std.proofs.Common.{◌≡◌, ℕ, ◌+◌, ◌-◌, ◌<◌, ◌≤◌, nat_le, Bool, true, false, ◌||◌, if◌then◌else◌, List, [], ◌∷◌, ◌⊎◌, inl, inr, refl, sym, subst, ◌∙◌, arith}
+use Rattle.std.proofs.Common.{◌≡◌, ℕ, zero, suc, length, get_or, drop, find, None, add-one, ◌+◌, ◌-◌, ◌<◌, ◌≤◌, nat_le, Bool, true, false, ◌||◌, List, [], ◌∷◌, ◌⊎◌, inl, inr, refl, sym, subst, ◌∙◌, arith}
 use Rattle.std.proofs.lemmas.Grind.{common_steps}
 use Rattle.std.proofs.lemmas.Bool.{cases_lt}
+use Rattle.of_memory.specs.Regions.{heap_limit, heap_start}
 use Rattle.of_memory.specs.declared.blocks.Block.{Block}
 use Rattle.of_memory.specs.Access.{all_from}
-use Rattle.of_memory.specs.Blocks.{AreLaid, holds, is_live}
+use Rattle.of_memory.specs.BlockSearch.{reach}
+use Rattle.of_memory.specs.Blocks.{AreLaid, IsLaid, holds, is_live}
+use Rattle.of_memory.proofs.Laid.{IsWithin, laid_at}
 use Rattle.of_memory.proofs.AllFrom.{all_true, all_false}
-
--- the first address from x on that no block holds, where the blocks are laid
-abbrev pub reach : List Block → ℕ → ℕ
-reach [] x = x
-reach (b ∷ bs) x = reach bs (if holds x b then b.at + b.size else x)
 
 -- what `holds` decides
 pub holds_true : (x : ℕ) (b : Block) → b.at ≤ x → x < b.at + b.size → holds x b ≡ true
@@ -38,7 +36,7 @@ where_is x b =
 pub reach_below : (low high : ℕ) (bs : List Block) (x : ℕ) → AreLaid low high bs → x < low → reach bs x ≡ x
 reach_below low high [] x h l = refl
 reach_below low high (b ∷ bs) x h l =
-    rw (holds_before x b (omega (arith, h.0))) (reach_below (b.at + b.size) high bs x h.5 (omega (arith, h.0)))
+    rw (holds_before x b (omega (arith, h.0.above))) (reach_below (b.at + b.size) high bs x h.1 (omega (arith, h.0.above)))
 
 pub reach_ge : (bs : List Block) (x : ℕ) → x ≤ reach bs x
 reach_ge [] x = omega arith
@@ -88,32 +86,69 @@ reach_end low high [] x h = refl
 reach_end low high (b ∷ bs) x h =
     elim (where_is x b) [
       | inl k ↦
-          let e : reach bs x ≡ x = reach_below (b.at + b.size) high bs x h.5 (omega arith) in
-          ends_at b bs x (reach bs x) (reach_skips b bs x (holds_before x b k)) (holds_before (reach bs x) b (omega arith)) (reach_end (b.at + b.size) high bs x h.5)
+          let e : reach bs x ≡ x = reach_below (b.at + b.size) high bs x h.1 (omega arith) in
+          ends_at b bs x (reach bs x) (reach_skips b bs x (holds_before x b k)) (holds_before (reach bs x) b (omega arith)) (reach_end (b.at + b.size) high bs x h.1)
       | inr w ↦ elim w [
         | inl k ↦
-            ends_at b bs x (reach bs (b.at + b.size)) (reach_takes b bs x k) (holds_after (reach bs (b.at + b.size)) b (reach_ge bs (b.at + b.size))) (reach_end (b.at + b.size) high bs (b.at + b.size) h.5)
+            ends_at b bs x (reach bs (b.at + b.size)) (reach_takes b bs x k) (holds_after (reach bs (b.at + b.size)) b (reach_ge bs (b.at + b.size))) (reach_end (b.at + b.size) high bs (b.at + b.size) h.1)
         | inr k ↦
             let ge : x ≤ reach bs x = reach_ge bs x in
-            ends_at b bs x (reach bs x) (reach_skips b bs x (holds_after x b k)) (holds_after (reach bs x) b (omega arith)) (reach_end (b.at + b.size) high bs x h.5)
+            ends_at b bs x (reach bs x) (reach_skips b bs x (holds_after x b k)) (holds_after (reach bs x) b (omega arith)) (reach_end (b.at + b.size) high bs x h.1)
       ]
     ]
 
-over : (x y : ℕ) → y < x → nat_le x y ≡ false
+pub over : (x y : ℕ) → y < x → nat_le x y ≡ false
 over x y l = grind (arith, common_steps)
 
-within : (x y : ℕ) → x ≤ y → nat_le x y ≡ true
+pub within : (x y : ℕ) → x ≤ y → nat_le x y ≡ true
 within x y l = grind (arith, common_steps)
 
+-- blocks that end by the address are no matter
+pub reach_drop : (low high : ℕ) (bs : List Block) (i x : ℕ) (d : Block) → AreLaid low high bs → i < length bs → (get_or bs i d).at + (get_or bs i d).size ≤ x → reach (drop (i + 1) bs) x ≡ reach bs x
+reach_drop low high [] i x d h l e = absurd (omega arith)
+reach_drop low high (b ∷ bs) zero x d h l e = rw (holds_after x b e) refl
+reach_drop low high (b ∷ bs) (suc i) x d h l e =
+    let w : IsWithin (b.at + b.size) high (get_or bs i d) = laid_at (b.at + b.size) high bs i d h.1 (omega arith) in
+    let later : reach (drop (i + 1) bs) x ≡ reach bs x = reach_drop (b.at + b.size) high bs i x d h.1 (omega arith) e in
+    rw (add-one, holds_after x b (omega (arith, w.low, w.some))) (rw add-one at later)
+
+pub find_drop : (low high : ℕ) (bs : List Block) (i x : ℕ) (d : Block) → AreLaid low high bs → i < length bs → (get_or bs i d).at + (get_or bs i d).size ≤ x → find (holds x) (drop (i + 1) bs) ≡ find (holds x) bs
+find_drop low high [] i x d h l e = absurd (omega arith)
+find_drop low high (b ∷ bs) zero x d h l e = rw (holds_after x b e) refl
+find_drop low high (b ∷ bs) (suc i) x d h l e =
+    let w : IsWithin (b.at + b.size) high (get_or bs i d) = laid_at (b.at + b.size) high bs i d h.1 (omega arith) in
+    let later : find (holds x) (drop (i + 1) bs) ≡ find (holds x) bs = find_drop (b.at + b.size) high bs i x d h.1 (omega arith) e in
+    rw (add-one, holds_after x b (omega (arith, w.low, w.some))) (rw add-one at later)
+
+-- nor are those that begin beyond it
+pub find_below : (low high : ℕ) (bs : List Block) (x : ℕ) → AreLaid low high bs → x < low → find (holds x) bs ≡ None
+find_below low high [] x h l = refl
+find_below low high (b ∷ bs) x h l =
+    rw (holds_before x b (omega (arith, h.0.above))) (find_below (b.at + b.size) high bs x h.1 (omega (arith, h.0.above)))
+
+-- what is laid from some block on
+pub laid_drop : (low high : ℕ) (bs : List Block) (i : ℕ) (d : Block) → AreLaid low high bs → i < length bs → AreLaid (get_or bs i d).at high (drop i bs)
+laid_drop low high [] i d h l = absurd (omega arith)
+laid_drop low high (b ∷ bs) zero d h l =
+    let first : IsLaid b.at b = record {
+      above = omega arith;
+      low_eighth = h.0.eighth;
+      eighth = h.0.eighth;
+      some = h.0.some;
+      eighths = h.0.eighths;
+    } in
+    (first, h.1)
+laid_drop low high (b ∷ bs) (suc i) d h l = laid_drop (b.at + b.size) high bs i d h.1 (omega arith)
+
 -- a range is live exactly where it ends no later than its blocks
-pub all_live : (bs : List Block) (a n : ℕ) → AreLaid 4194304 4456448 bs → all_from (is_live bs) a n ≡ nat_le (a + n) (reach bs a)
+pub all_live : (bs : List Block) (a n : ℕ) → AreLaid heap_start heap_limit bs → all_from (is_live bs) a n ≡ nat_le (a + n) (reach bs a)
 all_live bs a n laid =
     let ge : a ≤ reach bs a = reach_ge bs a in
     elim (cases_lt (reach bs a) (a + n)) [
       | inl l ↦
           let k = reach bs a - a in
           let at : a + k ≡ reach bs a = omega arith in
-          let dead : is_live bs (a + k) ≡ false = rw at (reach_end 4194304 4456448 bs a laid) in
+          let dead : is_live bs (a + k) ≡ false = rw at (reach_end heap_start heap_limit bs a laid) in
           all_false (is_live bs) a n k (omega arith) dead ∙ sym (over (a + n) (reach bs a) l)
       | inr l ↦
           all_true (is_live bs) a n (λ k h. reach_live bs a (a + k) (omega arith) (omega arith))

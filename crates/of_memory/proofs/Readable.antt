@@ -4,13 +4,13 @@ use Rattle.std.proofs.lemmas.Grind.{common_steps}
 use Rattle.std.proofs.lemmas.Bool.{cases_lt, false≢true}
 use Rattle.of_memory.specs.declared.regions.Region.{Region}
 use Rattle.of_memory.specs.declared.regions.Region.TheVariants.{Data, Properties, Instances, Heap, Scratch, Image}
-use Rattle.of_memory.specs.Regions.{region_of, region_numbered, size_of, is_heap}
+use Rattle.of_memory.specs.Regions.{region_of, region_numbered, size_of, is_heap, longest, span}
 use Rattle.of_memory.specs.Blocks.{is_live}
 use Rattle.of_memory.specs.DataSpace.{DataSpace, is_readable}
-use Rattle.of_memory.specs.Access.{all_from, are_readable}
+use Rattle.of_memory.specs.Access.{IsPlaced, all_from, are_readable}
 use Rattle.of_memory.proofs.AllFrom.{all_true, all_false, all_same}
 
-pub size_bound : (r : Region) → size_of r ≤ 262144
+pub size_bound : (r : Region) → size_of r ≤ longest
 size_bound Data = lit≤ tt
 size_bound Properties = lit≤ tt
 size_bound Instances = lit≤ tt
@@ -18,17 +18,17 @@ size_bound Heap = lit≤ tt
 size_bound Scratch = lit≤ tt
 size_bound Image = lit≤ tt
 
-reads_at : (m : DataSpace) (x w : ℕ) (r : Region) → region_of x ≡ Some r → x % 1048576 ≡ w → is_readable m x ≡ (nat_lt w (size_of r) && (not (is_heap r) || is_live m.heap x))
+reads_at : (m : DataSpace) (x w : ℕ) (r : Region) → region_of x ≡ Some r → x % span ≡ w → is_readable m x ≡ (nat_lt w (size_of r) && (not (is_heap r) || is_live m.heap x))
 reads_at m x w r e f = rw (e, f) refl
 
 -- the place of a byte of a range in its region
 record IsInSpan (a x : ℕ) : Type 0 where
   same : region_of x ≡ region_of a
-  within : x % 1048576 ≡ a % 1048576 + (x - a)
+  within : x % span ≡ a % span + (x - a)
 
-in_span : (a k : ℕ) → a % 1048576 + k < 1048576 → IsInSpan a (a + k)
+in_span : (a k : ℕ) → a % span + k < span → IsInSpan a (a + k)
 in_span a k l =
-    let q : (a + k) / 1048576 ≡ a / 1048576 = omega arith in
+    let q : (a + k) / span ≡ a / span = omega arith in
     record { same = rw q refl; within = omega arith }
 
 inside : (w s : ℕ) → w < s → nat_lt w s ≡ true
@@ -38,42 +38,42 @@ beyond : (w s : ℕ) (b : Bool) → s ≤ w → (nat_lt w s && b) ≡ false
 beyond w s b l = grind (arith, common_steps)
 
 -- a range in a region other than the heap
-pub plain : (m : DataSpace) (a n : ℕ) (r : Region) → region_of a ≡ Some r → is_heap r ≡ false → a % 1048576 + n ≤ size_of r → are_readable m a n ≡ true
+pub plain : (m : DataSpace) (a n : ℕ) (r : Region) → region_of a ≡ Some r → is_heap r ≡ false → a % span + n ≤ size_of r → are_readable m a n ≡ true
 plain m a n r e h fits =
     all_true (is_readable m) a n (λ k l.
-    let small : size_of r ≤ 262144 = size_bound r in
+    let small : size_of r ≤ longest = size_bound r in
     let s = in_span a k (omega arith) in
-    reads_at m (a + k) ((a + k) % 1048576) r (s.same ∙ e) refl ∙ rw (h, inside ((a + k) % 1048576) (size_of r) (omega (arith, s.within))) refl)
+    reads_at m (a + k) ((a + k) % span) r (s.same ∙ e) refl ∙ rw (h, inside ((a + k) % span) (size_of r) (omega (arith, s.within))) refl)
 
 -- a range that begins in no region
 pub nowhere : (m : DataSpace) (a n : ℕ) → region_of a ≡ None → 0 < n → are_readable m a n ≡ false
 nowhere m a n e some = all_false (is_readable m) a n 0 some (rw (add-zero, e) refl)
 
 -- a range that leaves its region
-pub outside : (m : DataSpace) (a n : ℕ) (r : Region) → region_of a ≡ Some r → 0 < n → size_of r < a % 1048576 + n → are_readable m a n ≡ false
+pub outside : (m : DataSpace) (a n : ℕ) (r : Region) → region_of a ≡ Some r → 0 < n → size_of r < a % span + n → are_readable m a n ≡ false
 outside m a n r e some past =
-    let small : size_of r ≤ 262144 = size_bound r in
-    elim (cases_lt (a % 1048576) (size_of r)) [
+    let small : size_of r ≤ longest = size_bound r in
+    elim (cases_lt (a % span) (size_of r)) [
       | inl l ↦
-          let k = size_of r - a % 1048576 in
+          let k = size_of r - a % span in
           let s = in_span a k (omega arith) in
-          let w : size_of r ≤ (a + k) % 1048576 = omega (arith, s.within) in
+          let w : size_of r ≤ (a + k) % span = omega (arith, s.within) in
           all_false (is_readable m) a n k (omega arith)
-          (reads_at m (a + k) ((a + k) % 1048576) r (s.same ∙ e) refl ∙ beyond ((a + k) % 1048576) (size_of r) (not (is_heap r) || is_live m.heap (a + k)) w)
+          (reads_at m (a + k) ((a + k) % span) r (s.same ∙ e) refl ∙ beyond ((a + k) % span) (size_of r) (not (is_heap r) || is_live m.heap (a + k)) w)
       | inr l ↦
           let z : a + 0 ≡ a = add-zero a in
-          all_false (is_readable m) a n 0 some (rw z (reads_at m a (a % 1048576) r e refl ∙ beyond (a % 1048576) (size_of r) (not (is_heap r) || is_live m.heap a) l))
+          all_false (is_readable m) a n 0 some (rw z (reads_at m a (a % span) r e refl ∙ beyond (a % span) (size_of r) (not (is_heap r) || is_live m.heap a) l))
     ]
 
 -- a range in the heap's region
-pub in_heap : (m : DataSpace) (a n : ℕ) (r : Region) → region_of a ≡ Some r → is_heap r ≡ true → a % 1048576 + n ≤ size_of r → are_readable m a n ≡ all_from (is_live m.heap) a n
+pub in_heap : (m : DataSpace) (a n : ℕ) (r : Region) → region_of a ≡ Some r → is_heap r ≡ true → a % span + n ≤ size_of r → are_readable m a n ≡ all_from (is_live m.heap) a n
 in_heap m a n r e h fits =
     all_same (is_readable m) (is_live m.heap) a n (λ k l.
-    let small : size_of r ≤ 262144 = size_bound r in
+    let small : size_of r ≤ longest = size_bound r in
     let s = in_span a k (omega arith) in
-    reads_at m (a + k) ((a + k) % 1048576) r (s.same ∙ e) refl ∙ rw (h, inside ((a + k) % 1048576) (size_of r) (omega (arith, s.within))) refl)
+    reads_at m (a + k) ((a + k) % span) r (s.same ∙ e) refl ∙ rw (h, inside ((a + k) % span) (size_of r) (omega (arith, s.within))) refl)
 
-heap_size : (r : Region) → is_heap r ≡ true → size_of r ≡ 262144
+heap_size : (r : Region) → is_heap r ≡ true → size_of r ≡ longest
 heap_size Data e = absurd (false≢true e)
 heap_size Properties e = absurd (false≢true e)
 heap_size Instances e = absurd (false≢true e)
@@ -89,20 +89,15 @@ pub heap_number : (n : ℕ) (r : Region) → region_numbered n ≡ Some r → is
 heap_number n r e h = grind (arith, common_steps)
 
 -- a range that can be read stands in a region
-pub record IsPlaced (a n : ℕ) : Type 0 where
-  pub some : 1 ≤ a / 1048576
-  pub last : a / 1048576 ≤ 6
-  pub within : a % 1048576 + n ≤ 262144
-
 pub range_placed : (m : DataSpace) (a n : ℕ) → are_readable m a n ≡ true → 0 < n → IsPlaced a n
 range_placed m a n e some = go (region_of a) refl
   where
     go : (o : Option Region) → region_of a ≡ o → IsPlaced a n
     go None f = absurd (false≢true (sym (nowhere m a n f some) ∙ e))
     go (Some r) f =
-        let p = numbered (a / 1048576) r f in
-        let small : size_of r ≤ 262144 = size_bound r in
-        elim (cases_lt (size_of r) (a % 1048576 + n)) [
+        let p = numbered (a / span) r f in
+        let small : size_of r ≤ longest = size_bound r in
+        elim (cases_lt (size_of r) (a % span + n)) [
           | inl l ↦ absurd (false≢true (sym (outside m a n r f some l) ∙ e))
           | inr l ↦ record { some = p.0; last = p.1; within = omega arith }
         ]

@@ -1,25 +1,13 @@
--- What stays true of a data space when a list of blocks changes.
-use Rattle.std.proofs.Common.{List}
-use Rattle.of_memory.specs.declared.blocks.Block.{Block}
-use Rattle.of_memory.specs.Blocks.{AreLaid}
+-- What stays true of a data space when its bytes change.
+use Rattle.std.proofs.Common.{◌≡◌, ℕ, List, length}
+use Rattle.of_memory.specs.Regions.{byte_count}
+use Rattle.of_memory.proofs.Splices.{AreBytes}
 use Rattle.of_memory.specs.DataSpace.{DataSpace, IsSound}
 
-pub sound_heap : (m : DataSpace) (bs : List Block) → IsSound m → AreLaid 4194304 4456448 bs → IsSound (record m { heap = bs })
-sound_heap m bs s laid = record {
-  bytes = s.bytes;
-  here_from = s.here_from;
-  here_to = s.here_to;
-  properties_from = s.properties_from;
-  properties_to = s.properties_to;
-  images = s.images;
-  few = s.few;
-  heap = laid;
-  instances = s.instances;
-}
-
-pub sound_instances : (m : DataSpace) (bs : List Block) → IsSound m → AreLaid 3145728 3276800 bs → IsSound (record m { instances = bs })
-sound_instances m bs s laid = record {
-  bytes = s.bytes;
+pub sound_bytes : (m : DataSpace) (bs : List ℕ) → IsSound m → length bs ≡ byte_count → AreBytes bs → IsSound (record m { bytes = bs })
+sound_bytes m bs s len small = record {
+  bytes = len;
+  small = small;
   here_from = s.here_from;
   here_to = s.here_to;
   properties_from = s.properties_from;
@@ -27,5 +15,5 @@ sound_instances m bs s laid = record {
   images = s.images;
   few = s.few;
   heap = s.heap;
-  instances = laid;
+  instances = s.instances;
 }

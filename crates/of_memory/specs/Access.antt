@@ -1,9 +1,9 @@
 -- Reads and writes: their faults, in the order of the checks, and what they give.
-use Rattle.std.specs.Prelude.{ℕ, ◌+◌, ◌-◌, ◌%◌, zero, suc, Bool, true, ◌&&◌, ◌||◌, ◌==◌, not, nat_lt, find, List, replicate, Option, Some, None, Result, Ok, Err, if◌then◌else◌}
+use Rattle.std.specs.Prelude.{ℕ, ◌+◌, ◌-◌, ◌/◌, ◌%◌, ◌≤◌, zero, suc, Bool, true, ◌&&◌, ◌||◌, ◌==◌, not, nat_lt, find, List, [], ◌∷◌, length, replicate, slice_index, ◌*◌, Option, Some, None, Result, Ok, Err, if◌then◌else◌}
 use Rattle.byteorder.specs.Endian.{big_number, big_bytes}
 use Rattle.of_cells.specs.declared.cells.Cell.{Cell}
 use Rattle.of_memory.specs.Width.{bytes_in}
-use Rattle.of_memory.specs.Regions.{region_of, size_of, is_heap, may_write}
+use Rattle.of_memory.specs.Regions.{region_of, size_of, is_heap, may_write, place_of, span, longest}
 use Rattle.of_memory.specs.Blocks.{holds}
 use Rattle.of_memory.specs.DataSpace.{DataSpace, is_readable, bytes_from, written}
 use Rattle.of_memory.specs.declared.blocks.Block.{Block}
@@ -35,6 +35,12 @@ abbrev pub or_fault : Option MemFault → Option MemFault → Option MemFault
 or_fault (Some first) second = Some first
 or_fault None second = second
 
+-- n bytes from the address on lie in the bytes that are kept for one region
+pub record IsPlaced (a n : ℕ) : Type 0 where
+  pub some : 1 ≤ a / span
+  pub last : a / span ≤ 6
+  pub within : a % span + n ≤ longest
+
 -- The fault of a write: that of a read, or else the region's. Bytes that can be read lie in one region.
 unfoldable pub write_fault : DataSpace → ℕ → ℕ → Width → Option MemFault
 write_fault m a n w =
@@ -65,11 +71,34 @@ write w m a x = unless (write_fault m a (bytes_in w) w) (written m a (big_bytes 
 abbrev pub read_bytes : DataSpace → ℕ → ℕ → Result (List ℕ) MemFault
 read_bytes m a n = unless (read_fault m a n One) (bytes_from m a n)
 
+-- n bytes of a list, the first at place i and each s places after the one before
+abbrev pub every : List ℕ → ℕ → ℕ → ℕ → List ℕ
+every xs i zero s = []
+every xs i (suc n) s = slice_index xs i ∷ every xs (i + s) n s
+
+-- how many bytes there are from the first to the last of n bytes, each s after the one before
+abbrev pub spread_over : ℕ → ℕ → ℕ
+spread_over zero s = 0
+spread_over (suc n) s = n * s + 1
+
+-- what a read of n bytes gives, the first at the address and each s after the one before
+abbrev pub read_spread : DataSpace → ℕ → ℕ → ℕ → Result (List ℕ) MemFault
+read_spread m a n s = unless (read_fault m a (spread_over n s) One) (every m.bytes (place_of a) n s)
+
+-- what is done with bytes that were read, or the fault of the read
+abbrev pub with_read : {A : Type 0} → Result (List ℕ) MemFault → (List ℕ → Result A MemFault) → Result A MemFault
+with_read (Ok xs) f = f xs
+with_read (Err fault) f = Err fault
+
+-- what a write of bytes leaves; no bytes can always be written
+abbrev pub bytes_written : DataSpace → ℕ → List ℕ → Result DataSpace MemFault
+bytes_written m a ys = unless (write_fault m a (length ys) One) (written m a ys)
+
 -- what filling a range with one byte leaves
 abbrev pub filled : DataSpace → ℕ → ℕ → ℕ → Result DataSpace MemFault
 filled m a n x = unless (write_fault m a n One) (written m a (replicate n x))
 
--- What a copy leaves: the bytes that the source held before. Its faults come first.
+-- What a copy leaves: the bytes that the source held before. The source's faults come first.
 abbrev pub copied : DataSpace → ℕ → ℕ → ℕ → Result DataSpace MemFault
 copied m from to n =
     unless (or_fault (read_fault m from n One) (write_fault m to n One)) (written m to (bytes_from m from n))
@@ -84,7 +113,7 @@ abbrev pub end_in : DataSpace → ℕ → Option Region → Result Cell MemFault
 end_in m a None = Err Address
 end_in m a (Some r) =
     if is_heap r then end_found (find (holds a) m.heap)
-    else if nat_lt (a % 0x10_0000) (size_of r) then Ok (record { 0 = a - a % 0x10_0000 + size_of r })
+    else if nat_lt (a % span) (size_of r) then Ok (record { 0 = a - a % span + size_of r })
     else Err Address
 
 -- the same for the address's own region

@@ -1,10 +1,9 @@
--- Where a block finds room in a list of live blocks, and what taking one there leaves.
-use Rattle.std.specs.Prelude.{ℕ, ◌+◌, ◌≤◌, ◌≡◌, List, length, Some, None, Result, Ok, Err}
+-- Where a block finds room in a list of live blocks.
+use Rattle.std.specs.Prelude.{ℕ, ◌≤◌, ◌+◌, ◌≡◌, if◌then◌else◌, Bool, true, false, List, [], ◌∷◌, length, Some, None}
 use Rattle.std.specs.List.{insert}
-use Rattle.of_memory.specs.Blocks.{AreLaid, IsLeastFree, least_free, with_block}
+use Rattle.of_cells.specs.declared.cells.Cell.{Cell}
+use Rattle.of_memory.specs.Blocks.{AreLaid, holds, IsLeastFree, least_free, rounded, with_block}
 use Rattle.of_memory.specs.declared.blocks.Block.{Block}
-use Rattle.of_memory.specs.declared.fault.MemFault.{MemFault}
-use Rattle.of_memory.specs.declared.fault.MemFault.TheVariants.{Address, Alignment, ReadOnly, Full, BadBlock, NoMemory}
 
 abbrev pub block_at : ℕ → ℕ → Block
 block_at a size = record { at = a; size = size }
@@ -17,13 +16,16 @@ pub record IsGap (low high : ℕ) (blocks : List Block) (size i a : ℕ) : Type 
   pub inserted : insert blocks i (block_at a size) ≡ with_block (block_at a size) blocks
   pub laid : AreLaid low high (with_block (block_at a size) blocks)
 
--- what taking a block answered, and the blocks that it left
-abbrev pub IsTaken : ℕ → ℕ → ℕ → List Block → List Block → Result ℕ MemFault → Type 0
-IsTaken low high size old new (Ok a) =
-    (least_free low high old size ≡ Some a) × (new ≡ with_block (block_at a size) old) × (low ≤ a) × (a + size ≤ high)
-IsTaken low high size old new (Err NoMemory) = new ≡ old
-IsTaken low high size old new (Err Full) = (least_free low high old size ≡ None) × (new ≡ old)
-IsTaken low high size old new (Err Address) = ⊥
-IsTaken low high size old new (Err Alignment) = ⊥
-IsTaken low high size old new (Err ReadOnly) = ⊥
-IsTaken low high size old new (Err BadBlock) = ⊥
+-- the first address from x on that no block holds, where the blocks are laid
+abbrev pub reach : List Block → ℕ → ℕ
+reach [] x = x
+reach (b ∷ bs) x = reach bs (if holds x b then b.at + b.size else x)
+
+-- blocks for all lengths find room, taken one after another
+abbrev pub find_room : ℕ → ℕ → List Block → List Cell → Bool
+find_room low high blocks [] = true
+find_room low high blocks (n ∷ ns) =
+    elim (least_free low high blocks (rounded n.0)) [
+      | None ↦ false
+      | Some a ↦ find_room low high (with_block (block_at a (rounded n.0)) blocks) ns
+    ]

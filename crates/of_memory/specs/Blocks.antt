@@ -50,9 +50,15 @@ with_block b (c ∷ cs) = if nat_lt b.at c.at then b ∷ c ∷ cs else c ∷ wit
 abbrev pub is_block : ℕ → ℕ → Block → Bool
 is_block a size b = b.at == a && b.size == size
 
+-- a block stands at or above the low end, both at multiples of 8, and has some bytes, a multiple of 8
+pub record IsLaid (low : ℕ) (b : Block) : Type 0 where
+  pub above : low ≤ b.at
+  pub low_eighth : low % 8 ≡ 0
+  pub eighth : b.at % 8 ≡ 0
+  pub some : 0 < b.size
+  pub eighths : b.size % 8 ≡ 0
+
 -- the blocks stand in order between low and high, at multiples of 8, and none meets another
 abbrev pub AreLaid : ℕ → ℕ → List Block → Type 0
 AreLaid low high [] = (low ≤ high) × (low % 8 ≡ 0)
-AreLaid low high (b ∷ bs) =
-    (low ≤ b.at) × (low % 8 ≡ 0) × (b.at % 8 ≡ 0) × (0 < b.size) × (b.size % 8 ≡ 0)
-    × AreLaid (b.at + b.size) high bs
+AreLaid low high (b ∷ bs) = IsLaid low b × AreLaid (b.at + b.size) high bs

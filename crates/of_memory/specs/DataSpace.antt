@@ -1,12 +1,13 @@
 -- The data space: its bytes, what is taken of each region, and the map from address to byte.
-use Rattle.std.specs.Prelude.{ℕ, ◌+◌, ◌≤◌, ◌≡◌, ◌%◌, Bool, false, ◌&&◌, ◌||◌, not, nat_lt, List, [], ◌∷◌, ◌++◌, length, take, drop, replicate, slice_index, slice_set, Option, Some, None, if◌then◌else◌}
-use Rattle.of_memory.specs.Regions.{region_of, size_of, is_heap, place_of}
+use Rattle.std.specs.List.{All}
+use Rattle.std.specs.Prelude.{ℕ, ◌+◌, ◌≤◌, ◌<◌, ◌≡◌, ◌%◌, Bool, false, ◌&&◌, ◌||◌, not, nat_lt, List, [], ◌∷◌, ◌++◌, length, take, drop, replicate, slice_index, slice_set, Option, Some, None, if◌then◌else◌}
+use Rattle.of_memory.specs.Regions.{region_of, size_of, is_heap, place_of, span, byte_count, data_start, data_limit, first_property, property_limit, instance_start, instance_limit, heap_start, heap_limit, scratch_start, image_start, image_limit, image_count}
 use Rattle.of_memory.specs.Blocks.{AreLaid, is_live}
 use Rattle.of_memory.specs.declared.blocks.Block.{Block}
 use Rattle.of_memory.specs.declared.regions.Region.{Region}
 
 pub record DataSpace : Type 0 where
-  -- the bytes of all regions, 0x40000 for each
+  -- the bytes of all regions, one region after another
   pub bytes : List ℕ
   -- the next free address of the data region
   pub here : ℕ
@@ -21,7 +22,7 @@ pub record DataSpace : Type 0 where
 -- a byte of a region, and of a live block if the region is the heap, can be read
 abbrev pub reads_in : DataSpace → ℕ → Option Region → Bool
 reads_in m a None = false
-reads_in m a (Some r) = nat_lt (a % 0x10_0000) (size_of r) && (not (is_heap r) || is_live m.heap a)
+reads_in m a (Some r) = nat_lt (a % span) (size_of r) && (not (is_heap r) || is_live m.heap a)
 
 -- the byte of the address can be read
 abbrev pub is_readable : DataSpace → ℕ → Bool
@@ -49,36 +50,38 @@ written m a ys = with_bytes m (place_of a) ys
 
 -- where the image region is free, by the ends of the images that run
 abbrev pub free_after : List ℕ → ℕ
-free_after [] = 0x60_0000
+free_after [] = image_start
 free_after (end ∷ ends) = end
 
 -- each image ends in the region, no earlier than those before it
 abbrev pub AreStacked : List ℕ → Type 0
 AreStacked [] = Unit {0}
-AreStacked (end ∷ ends) = (0x60_0000 ≤ free_after ends) × (free_after ends ≤ end) × (end ≤ 0x64_0000) × AreStacked ends
+AreStacked (end ∷ ends) =
+    (image_start ≤ free_after ends) × (free_after ends ≤ end) × (end ≤ image_limit) × AreStacked ends
 
 -- what is true of each data space
 pub record IsSound (m : DataSpace) : Type 0 where
-  pub bytes : length m.bytes ≡ 1572864
-  pub here_from : 0x10_0000 ≤ m.here
-  pub here_to : m.here ≤ 0x14_0000
-  pub properties_from : 0x20_0010 ≤ m.properties_end
-  pub properties_to : m.properties_end ≤ 0x22_0000
+  pub bytes : length m.bytes ≡ byte_count
+  pub small : All (λ b. b < 256) m.bytes
+  pub here_from : data_start ≤ m.here
+  pub here_to : m.here ≤ data_limit
+  pub properties_from : first_property ≤ m.properties_end
+  pub properties_to : m.properties_end ≤ property_limit
   pub images : AreStacked m.images
-  pub few : length m.images ≤ 256
-  pub heap : AreLaid 0x40_0000 0x44_0000 m.heap
-  pub instances : AreLaid 0x30_0000 0x32_0000 m.instances
+  pub few : length m.images ≤ image_count
+  pub heap : AreLaid heap_start heap_limit m.heap
+  pub instances : AreLaid instance_start instance_limit m.instances
 
--- n zeros, but x at place i; never computed
-unfoldable pub zeros_but : ℕ → ℕ → ℕ → List ℕ
-zeros_but n i x = slice_set (replicate n 0) i x
+-- so many zeros, but with this value at this place; never computed
+unfoldable pub zeros_with : (count place value : ℕ) → List ℕ
+zeros_with count place value = slice_set (replicate count 0) place value
 
--- The data space at first. All bytes are 0, but the last of the cell `base` at 0x500000 is 16.
+-- The data space at first. All bytes are 0, but the last of the cell `base`, where scratch begins, is 16.
 unfoldable pub fresh : DataSpace
 fresh = record {
-  bytes = zeros_but 1572864 (place_of 0x50_0003) 16;
-  here = 0x10_0000;
-  properties_end = 0x20_0010;
+  bytes = zeros_with byte_count (place_of (scratch_start + 3)) 16;
+  here = data_start;
+  properties_end = first_property;
   images = [];
   heap = [];
   instances = [];

@@ -1,19 +1,20 @@
 -- What grows in the data, property and image regions.
-use Rattle.std.specs.Prelude.{ℕ, ◌+◌, ◌-◌, ◌*◌, ◌/◌, ◌^◌, Bool, ◌&&◌, nat_lt, nat_le, List, [], ◌∷◌, length, replicate, Result, Ok, Err, if◌then◌else◌}
+use Rattle.std.specs.Prelude.{ℕ, ◌+◌, ◌-◌, ◌*◌, ◌/◌, ◌^◌, Bool, ◌&&◌, nat_lt, nat_le, List, [], ◌∷◌, ◌++◌, length, replicate, Result, Ok, Err, if◌then◌else◌}
 use Rattle.byteorder.specs.Endian.{big_bytes}
 use Rattle.of_cells.specs.Numbers.{flag}
 use Rattle.of_memory.specs.DataSpace.{DataSpace, written, free_after}
-use Rattle.of_memory.specs.Access.{read_bytes}
+use Rattle.of_memory.specs.Access.{read_bytes, read_spread, with_read}
+use Rattle.of_memory.specs.Regions.{data_start, data_limit, property_start, property_limit, image_limit, image_count}
 use Rattle.of_memory.specs.declared.fault.MemFault.{MemFault}
 use Rattle.of_memory.specs.declared.fault.MemFault.TheVariants.{Full}
 
--- an address moved up by a signed cell, or down where that is negative, to 0 at least
+-- an address moved up by a signed cell, or down where that is negative, to 0 at least; the sum isn't wrapped
 abbrev pub moved : ℕ → ℕ → ℕ
 moved a n = if nat_lt n (2 ^ 31) then a + n else a - (2 ^ 32 - n)
 
 -- the data space with `here` at the address, which must lie in the data region or at its end
 abbrev pub with_here : DataSpace → ℕ → Result DataSpace MemFault
-with_here m a = if nat_le 0x10_0000 a && nat_le a 0x14_0000 then Ok (record m { here = a }) else Err Full
+with_here m a = if nat_le data_start a && nat_le a data_limit then Ok (record m { here = a }) else Err Full
 
 -- what moving `here` by a signed cell leaves
 abbrev pub allotted : DataSpace → ℕ → Result DataSpace MemFault
@@ -22,9 +23,13 @@ allotted m n = with_here m (moved m.here n)
 -- what storing bytes at `here` answers and leaves
 abbrev pub appended : DataSpace → List ℕ → Result (ℕ × DataSpace) MemFault
 appended m xs =
-    if nat_le (m.here + length xs) 0x14_0000
+    if nat_le (m.here + length xs) data_limit
     then Ok (m.here, record (written m m.here xs) { here = m.here + length xs })
     else Err Full
+
+-- what storing n bytes of memory and then a tail at `here` answers and leaves
+abbrev pub append_copied : DataSpace → ℕ → ℕ → List ℕ → Result (ℕ × DataSpace) MemFault
+append_copied m a n tail = with_read (read_bytes m a n) (λ xs. appended m (xs ++ tail))
 
 -- up to a multiple of 4
 abbrev pub aligned : ℕ → ℕ
@@ -33,7 +38,7 @@ aligned a = (a + 3) / 4 * 4
 -- what storing a property's value at an address answers and leaves
 abbrev pub property_put_at : DataSpace → List ℕ → ℕ → Result (ℕ × DataSpace) MemFault
 property_put_at m xs a =
-    if nat_le (a + length xs) 0x22_0000
+    if nat_le (a + length xs) property_limit
     then Ok (a, record (written m a xs) { properties_end = a + length xs })
     else Err Full
 
@@ -41,33 +46,50 @@ property_put_at m xs a =
 abbrev pub property_put : DataSpace → List ℕ → Result (ℕ × DataSpace) MemFault
 property_put m xs = property_put_at m xs (aligned m.properties_end)
 
--- what storing bytes that were read answers and leaves
-abbrev pub property_put_read : DataSpace → Result (List ℕ) MemFault → Result (ℕ × DataSpace) MemFault
-property_put_read m (Ok xs) = property_put m xs
-property_put_read m (Err fault) = Err fault
+-- what storing n bytes of memory and then a tail, as a property's value, answers and leaves
+abbrev pub property_copied : DataSpace → ℕ → ℕ → List ℕ → Result (ℕ × DataSpace) MemFault
+property_copied m a n tail = with_read (read_bytes m a n) (λ xs. property_put m (xs ++ tail))
 
--- what storing n bytes of memory as a property's value answers and leaves
-abbrev pub property_copied : DataSpace → ℕ → ℕ → Result (ℕ × DataSpace) MemFault
-property_copied m a n = property_put_read m (read_bytes m a n)
+-- one address before another, where there is one
+abbrev pub with_name : ℕ → Result (ℕ × DataSpace) MemFault → Result (ℕ × ℕ × DataSpace) MemFault
+with_name a (Err fault) = Err fault
+with_name a (Ok x) = Ok (a, x.0, x.1)
+
+-- what storing a value behind a name that was stored answers and leaves
+abbrev pub value_put : List ℕ → Result (ℕ × DataSpace) MemFault → Result (ℕ × ℕ × DataSpace) MemFault
+value_put value (Err fault) = Err fault
+value_put value (Ok x) = with_name x.0 (property_put x.1 value)
+
+-- what storing a property's name and then its value answers and leaves
+abbrev pub named_put : DataSpace → List ℕ → List ℕ → Result (ℕ × ℕ × DataSpace) MemFault
+named_put m name value = value_put value (property_put m name)
+
+-- the same where the value is n bytes of memory, as they were before, and then a tail
+abbrev pub named_copied : DataSpace → List ℕ → ℕ → ℕ → List ℕ → Result (ℕ × ℕ × DataSpace) MemFault
+named_copied m name a n tail = with_read (read_bytes m a n) (λ xs. named_put m name (xs ++ tail))
 
 -- the data space with the cell `state` true or false
 abbrev pub with_state : DataSpace → Bool → DataSpace
-with_state m compiling = written m 0x20_0000 (big_bytes 4 (flag compiling).0)
+with_state m compiling = written m property_start (big_bytes 4 (flag compiling).0)
 
 -- how many bytes of the image region are free
 abbrev pub image_room : DataSpace → ℕ
-image_room m = 0x64_0000 - free_after m.images
+image_room m = image_limit - free_after m.images
 
 -- what an image at the address, after those that run, answers and leaves
 abbrev pub image_pushed_at : DataSpace → List ℕ → ℕ → Result (ℕ × DataSpace) MemFault
 image_pushed_at m xs a =
-    if nat_le (a + length xs) 0x64_0000 && nat_lt (length m.images) 256
+    if nat_le (a + length xs) image_limit && nat_lt (length m.images) image_count
     then Ok (a, record (written m a xs) { images = (a + length xs) ∷ m.images })
     else Err Full
 
 -- what an image after those that run answers and leaves
 abbrev pub image_pushed : DataSpace → List ℕ → Result (ℕ × DataSpace) MemFault
 image_pushed m xs = image_pushed_at m xs (free_after m.images)
+
+-- the same of an image of n bytes of memory, as they were before, each s after the one before
+abbrev pub image_pushed_from : DataSpace → ℕ → ℕ → ℕ → Result (ℕ × DataSpace) MemFault
+image_pushed_from m a n s = with_read (read_spread m a n s) (image_pushed m)
 
 -- the data space without the first image of the list of ends: its bytes are 0 again
 abbrev pub without_image : DataSpace → List ℕ → DataSpace

@@ -1,7 +1,8 @@
 -- The data space as a finite map from address to byte.
-use Rattle.std.specs.Prelude.{ℕ, ◌+◌, ◌-◌, ◌<◌, ◌≡◌, ◌&&◌, true, nat_le, nat_lt, List, length, slice_index, Option, Some, if◌then◌else◌}
+use Rattle.std.specs.Prelude.{ℕ, ◌+◌, ◌*◌, ◌-◌, ◌<◌, ◌≡◌, ◌&&◌, true, nat_le, nat_lt, List, length, slice_index, Option, Some, if◌then◌else◌}
 use Rattle.of_memory.specs.DataSpace.{DataSpace, IsSound, byte_at, bytes_from, written}
-use Rattle.of_memory.specs.Access.{are_readable}
+use Rattle.of_memory.specs.Access.{are_readable, every, spread_over}
+use Rattle.of_memory.specs.Regions.{place_of}
 
 -- the map with the bytes ys from address a on
 abbrev pub map_with : DataSpace → ℕ → List ℕ → ℕ → Option ℕ
@@ -19,3 +20,10 @@ abbrev pub ReadsGiveTheBytes : Type 0
 ReadsGiveTheBytes =
     (m : DataSpace) (a n k : ℕ)
     → are_readable m a n ≡ true → k < n → byte_at m (a + k) ≡ Some (slice_index (bytes_from m a n) k)
+
+-- so are those that stand apart, each s after the one before
+abbrev pub SpreadsGiveTheBytes : Type 0
+SpreadsGiveTheBytes =
+    (m : DataSpace) (a n s k : ℕ)
+    → are_readable m a (spread_over n s) ≡ true → k < n
+    → byte_at m (a + k * s) ≡ Some (slice_index (every m.bytes (place_of a) n s) k)

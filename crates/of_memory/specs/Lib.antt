@@ -8,3 +8,4 @@ pub mod Outcomes
 pub mod Growth
 pub mod BlockCalls
 pub mod Laws
+pub mod RangeLaws

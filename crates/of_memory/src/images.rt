@@ -1,6 +1,8 @@
 ghost use Rattle.std.specs.Prelude.{◌≡◌, ◌<◌, [], ◌∷◌, length, MatchOption};
+ghost use Rattle.of_memory.specs.Regions.{image_count};
 ghost use Rattle.of_memory.specs.DataSpace.{free_after};
 
+use crate::regions::IMAGE_START;
 use arrayvec::ArrayVec;
 use std::marker::Model;
 
@@ -16,12 +18,13 @@ pub(crate) struct ImageEnds {
 // Clauses see the ends, the latest first.
 impl Model for ImageEnds {
     ghost use Rattle.std.specs.Prelude.{List, ℕ, reverse, length, ◌≤◌};
+    ghost use Rattle.of_memory.specs.Regions.{image_count};
 
     ghost Value = { List ℕ };
 
     ghost view = { λ s. reverse s.ends.items };
 
-    ghost invariant = { λ s. length s.ends.items ≤ 256 };
+    ghost invariant = { λ s. length s.ends.items ≤ image_count };
 }
 
 impl ImageEnds {
@@ -46,12 +49,12 @@ impl ImageEnds {
     {
         match self.ends.last() {
             Some(end) => *end,
-            None => 0x60_0000,
+            None => IMAGE_START,
         }
     }
 
     pub(crate) fn push(&mut self, end: u32)
-        requires { length self.old < 256 }
+        requires { length self.old < image_count }
         ensures { self.new ≡ end ∷ self.old }
     {
         self.ends.push(end);

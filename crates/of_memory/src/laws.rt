@@ -1,4 +1,5 @@
-ghost use Rattle.of_memory.specs.Laws.{WritesChangeTheirBytes, ReadsGiveTheBytes};
+ghost use Rattle.of_memory.specs.Laws.{WritesChangeTheirBytes, ReadsGiveTheBytes, SpreadsGiveTheBytes};
+ghost use Rattle.of_memory.specs.RangeLaws.{PartsAreGood, FaultsStay, RangesArePlaced, ScratchIsOpen, WritesJoin};
 
 /// A write to bytes that can be read changes exactly these bytes of the map from address to byte.
 #[tactic(auto, using(crate::proofs::Bytes::writes_change_their_bytes))]
@@ -10,4 +11,40 @@ pub fn writes_change_their_bytes()
 #[tactic(auto, using(crate::proofs::Bytes::reads_give_the_bytes))]
 pub fn reads_give_the_bytes()
     ensures { ReadsGiveTheBytes }
+{}
+
+/// Bytes of such a range that stand apart are the map's.
+#[tactic(auto, using(crate::proofs::Bytes::spreads_give_the_bytes))]
+pub fn spreads_give_the_bytes()
+    ensures { SpreadsGiveTheBytes }
+{}
+
+/// A part of a range that can be read or written can be, and what can be written can be read.
+#[tactic(auto, using(crate::proofs::Ranges::parts_are_good))]
+pub fn parts_are_good()
+    ensures { PartsAreGood }
+{}
+
+/// A write changes no later fault.
+#[tactic(auto, using(crate::proofs::Ranges::faults_stay))]
+pub fn faults_stay()
+    ensures { FaultsStay }
+{}
+
+/// A range that can be read lies in one region and ends far below 2^32.
+#[tactic(auto, using(crate::proofs::Ranges::ranges_are_placed))]
+pub fn ranges_are_placed()
+    ensures { RangesArePlaced }
+{}
+
+/// The scratch region can always be read and written.
+#[tactic(auto, using(crate::proofs::Ranges::scratch_is_open))]
+pub fn scratch_is_open()
+    ensures { ScratchIsOpen }
+{}
+
+/// What was written reads back, and two writes side by side are one.
+#[tactic(auto, using(crate::proofs::Joined::writes_join))]
+pub fn writes_join()
+    ensures { WritesJoin }
 {}

@@ -3,6 +3,7 @@
 
 mod blocks;
 mod fault;
+mod gather;
 mod images;
 mod laws;
 mod memory;
@@ -10,6 +11,9 @@ mod regions;
 mod width;
 
 pub use fault::MemFault;
-pub use laws::{reads_give_the_bytes, writes_change_their_bytes};
+pub use laws::{
+    faults_stay, parts_are_good, ranges_are_placed, reads_give_the_bytes, scratch_is_open,
+    spreads_give_the_bytes, writes_change_their_bytes, writes_join,
+};
 pub use memory::Memory;
 pub use width::Width;

@@ -1,10 +1,14 @@
-ghost use Rattle.std.specs.Prelude.{◌≡◌, ◌+◌, ◌<◌, ◌≤◌, length, take, drop, replicate, IfOk};
+ghost use Rattle.std.specs.Prelude.{◌≡◌, ◌+◌, ◌<◌, ◌≤◌, ◌++◌, length, take, drop, replicate, IfOk};
 ghost use Rattle.byteorder.specs.Endian.{big_bytes};
-ghost use Rattle.of_memory.specs.DataSpace.{fresh, zeros_but, with_bytes};
+ghost use Rattle.std.specs.List.{All};
+ghost use Rattle.of_memory.specs.Regions.{byte_count};
+ghost use Rattle.of_memory.specs.Access.{every, spread_over};
+ghost use Rattle.of_memory.specs.DataSpace.{fresh, zeros_with, with_bytes};
 
 use crate::blocks::Block;
+use crate::gather::{gather, shift};
 use crate::images::ImageEnds;
-use crate::regions::place;
+use crate::regions::{BASE_LOW, BYTES, DATA_START, FIRST_PROPERTY, place};
 use byteorder::{BigEndian, ByteOrder};
 use std::alloc::{AllocError, Global};
 use std::marker::Model;
@@ -17,9 +21,6 @@ mod image;
 mod instances;
 mod properties;
 mod ranges;
-
-/// How many bytes are kept: 0x40000 for each of six regions.
-const BYTES: usize = 1572864;
 
 /// How many blocks find room in the instance region.
 const MARKS: usize = 16384;
@@ -40,6 +41,7 @@ pub struct Memory {
 
 impl Model for Memory {
     ghost use Rattle.std.specs.Prelude.{◌≤◌, vec_capacity};
+    ghost use Rattle.of_memory.specs.Regions.{instance_blocks};
     ghost use Rattle.of_memory.specs.DataSpace.{DataSpace, IsSound};
 
     ghost Value = { DataSpace };
@@ -60,15 +62,16 @@ impl Model for Memory {
       images = m.images;
       heap = m.heap.items;
       instances = m.instances.items;
-    }) × (16384 ≤ vec_capacity m.instances) };
+    }) × (instance_blocks ≤ vec_capacity m.instances) };
 }
 
 /// So many zeros, but for one byte.
-#[tactic(auto, unfolding(crate::specs::DataSpace::zeros_but))]
-fn zeros_but(alloc: Global, count: usize, at: usize, value: u8) -> Result<Vec<u8>, AllocError>
+#[tactic(auto, unfolding(crate::specs::DataSpace::zeros_with))]
+fn zeros_with(alloc: Global, count: usize, at: usize, value: u8) -> Result<Vec<u8>, AllocError>
     requires { at < count }
-    ensures items { IfOk result (λ v. v.items ≡ zeros_but count at value) }
+    ensures items { IfOk result (λ v. v.items ≡ zeros_with count at value) }
     ensures len { IfOk result (λ v. length v.items ≡ count) }
+    ensures small { IfOk result (λ v. All (λ b. b < 256) v.items) }
 {
     let mut bytes = vec![in alloc; 0u8; count]?;
     bytes[at] = value;
@@ -83,12 +86,12 @@ impl Memory {
     pub fn new(alloc: Global) -> Result<Memory, AllocError>
         ensures { IfOk result (λ m. m ≡ fresh) }
     {
-        let bytes = zeros_but(alloc, BYTES, place(0x50_0003), 16)?;
+        let bytes = zeros_with(alloc, BYTES, place(BASE_LOW), 16)?;
         let instances = Vec::with_capacity(alloc, MARKS)?;
         Ok(Memory {
             bytes,
-            here: 0x10_0000,
-            properties_end: 0x20_0010,
+            here: DATA_START,
+            properties_end: FIRST_PROPERTY,
             images: ImageEnds::new(),
             heap: Vec::new(alloc),
             instances,
@@ -98,7 +101,7 @@ impl Memory {
     /// Overwrites the bytes from a place on.
     #[inline]
     fn put(&mut self, at: usize, new: &[u8])
-        requires { at + length new.now ≤ 1572864 }
+        requires { at + length new.now ≤ byte_count }
         ensures { self.new ≡ with_bytes self.old at new.now }
     {
         let end = at + new.len();
@@ -108,7 +111,7 @@ impl Memory {
     /// Overwrites four bytes from a place on with a number, the high byte first.
     #[inline]
     fn put_cell(&mut self, at: usize, value: u32)
-        requires { at + 4 ≤ 1572864 }
+        requires { at + 4 ≤ byte_count }
         ensures { self.new ≡ with_bytes self.old at (big_bytes 4 value) }
     {
         let mut new = [0; 4];
@@ -118,7 +121,7 @@ impl Memory {
 
     /// Sets `len` bytes from a place on to one value.
     fn set_all(&mut self, at: usize, len: usize, value: u8)
-        requires { at + len ≤ 1572864 }
+        requires { at + len ≤ byte_count }
         ensures { self.new ≡ with_bytes self.old at (replicate len value) }
     {
         self.bytes[at..at + len].fill(value);
@@ -126,13 +129,34 @@ impl Memory {
 
     /// Copies `len` bytes from one place to another, as if by way of a third.
     fn shift(&mut self, from: usize, to: usize, len: usize)
-        requires from { from + len ≤ 1572864 }
-        requires to { to + len ≤ 1572864 }
+        requires from { from + len ≤ byte_count }
+        requires to { to + len ≤ byte_count }
         ensures { self.new ≡ with_bytes self.old to (take len (drop from self.old.bytes)) }
     {
-        self.bytes.as_mut_slice().copy_within(from..from + len, to);
+        shift(&mut self.bytes, from, to, len);
+    }
+
+    /// Copies `len` bytes from one place to another, as `shift` does, and then overwrites what
+    /// follows with the tail.
+    fn shift_with_tail(&mut self, from: usize, to: usize, len: usize, tail: &[u8])
+        requires from { from + len ≤ byte_count }
+        requires to { to + len + length tail.now ≤ byte_count }
+        ensures { self.new ≡ with_bytes self.old to (take len (drop from self.old.bytes) ++ tail.now) }
+    {
+        // With a field used, the invariant is known: the bytes are as many as they are.
+        let _ = &self.bytes;
+        self.shift(from, to, len);
+        self.put(to + len, tail);
+    }
+
+    /// Copies `len` bytes, the first at a place and each `spread` after the one before, to another
+    /// place, as if by way of a third.
+    fn gather(&mut self, from: usize, to: usize, len: usize, spread: usize)
+        requires some { 1 ≤ spread }
+        requires from { from + spread_over len spread ≤ byte_count }
+        requires to { to + len ≤ byte_count }
+        ensures { self.new ≡ with_bytes self.old to (every self.old.bytes from len spread) }
+    {
+        gather(&mut self.bytes, from, to, len, spread);
     }
 }
-
-#[cfg(test)]
-mod tests;

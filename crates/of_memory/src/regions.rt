@@ -1,8 +1,50 @@
 ghost use Rattle.std.specs.Prelude.{◌≡◌, ◌≤◌};
-ghost use Rattle.of_memory.specs.Regions.{region_of, size_of, is_heap, is_writable, may_write, place_of};
+ghost use Rattle.of_memory.specs.Regions.{region_of, size_of, is_heap, is_writable, may_write, place_of, longest, span};
 
 /// How far apart the regions begin.
 pub(crate) const SPAN: u32 = 0x10_0000;
+
+/// How many bytes are kept for each region: no region is longer.
+pub(crate) const LONGEST: u32 = 0x4_0000;
+
+/// How many bytes are kept for all six.
+pub(crate) const BYTES: usize = 0x18_0000;
+
+/// Where the data region begins.
+pub(crate) const DATA_START: u32 = 0x10_0000;
+
+/// Where the data region ends.
+pub(crate) const DATA_LIMIT: u32 = 0x14_0000;
+
+/// Where the property region begins: the cell `state`.
+pub(crate) const PROPERTY_START: u32 = 0x20_0000;
+
+/// Where names and values of properties begin.
+pub(crate) const FIRST_PROPERTY: u32 = 0x20_0010;
+
+/// Where the property region ends.
+pub(crate) const PROPERTY_LIMIT: u32 = 0x22_0000;
+
+/// Where the instance region begins.
+pub(crate) const INSTANCE_START: u32 = 0x30_0000;
+
+/// Where the instance region ends.
+pub(crate) const INSTANCE_LIMIT: u32 = 0x32_0000;
+
+/// Where the heap begins.
+pub(crate) const HEAP_START: u32 = 0x40_0000;
+
+/// Where the heap ends.
+pub(crate) const HEAP_LIMIT: u32 = 0x44_0000;
+
+/// The last byte of the cell `base`, with which the scratch region begins.
+pub(crate) const BASE_LOW: u32 = 0x50_0003;
+
+/// Where the image region begins.
+pub(crate) const IMAGE_START: u32 = 0x60_0000;
+
+/// Where the image region ends.
+pub(crate) const IMAGE_LIMIT: u32 = 0x64_0000;
 
 /// A region of the data space.
 #[derive(Clone, Copy)]
@@ -47,7 +89,7 @@ impl Region {
     #[inline]
     pub(crate) fn size(self) -> u32
         ensures value { result ≡ size_of self }
-        ensures bound { result ≤ 0x4_0000 }
+        ensures bound { result ≤ longest }
     {
         match self {
             Region::Data => 0x4_0000,
@@ -104,8 +146,8 @@ pub(crate) fn may_write(addr: u32) -> bool
 /// Where the byte of an address stands among the bytes of all regions.
 #[inline]
 pub(crate) fn place(addr: u32) -> usize
-    requires { 0x10_0000 ≤ addr }
+    requires { span ≤ addr }
     ensures { result ≡ place_of addr }
 {
-    (addr / SPAN - 1) as usize * 0x4_0000 + (addr % SPAN) as usize
+    (addr / SPAN - 1) as usize * LONGEST as usize + (addr % SPAN) as usize
 }

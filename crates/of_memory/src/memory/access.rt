@@ -1,5 +1,6 @@
 ghost use Rattle.std.specs.Prelude.{◌≡◌};
 ghost use Rattle.of_memory.specs.Access.{read, read_cell, write};
+ghost use Rattle.of_memory.specs.DataSpace.{IsSound};
 ghost use Rattle.of_memory.specs.Outcomes.{Becomes, TakesNoMemory};
 
 use super::Memory;
@@ -15,8 +16,11 @@ impl Memory {
     #[inline]
     pub fn read8(&self, addr: Cell) -> Result<u8, MemFault>
         ensures value { result ≡ read Width.One self.now addr.0 }
+        ensures sound { IsSound self.now }
         ensures memory { TakesNoMemory result }
     {
+        // With a field used, the invariant is known: `sound`.
+        let _ = &self.bytes;
         let at = self.to_read(addr.0, 1, Width::One)?;
         Ok(self.bytes[at])
     }
@@ -27,8 +31,11 @@ impl Memory {
     #[inline]
     pub fn read16(&self, addr: Cell) -> Result<u16, MemFault>
         ensures value { result ≡ read Width.Two self.now addr.0 }
+        ensures sound { IsSound self.now }
         ensures memory { TakesNoMemory result }
     {
+        // With a field used, the invariant is known: `sound`.
+        let _ = &self.bytes;
         let at = self.to_read(addr.0, 2, Width::Two)?;
         Ok(BigEndian::read_u16(&self.bytes[at..at + 2]))
     }
@@ -39,8 +46,11 @@ impl Memory {
     #[inline]
     pub fn read32(&self, addr: Cell) -> Result<Cell, MemFault>
         ensures value { result ≡ read_cell self.now addr.0 }
+        ensures sound { IsSound self.now }
         ensures memory { TakesNoMemory result }
     {
+        // With a field used, the invariant is known: `sound`.
+        let _ = &self.bytes;
         let at = self.to_read(addr.0, 4, Width::Four)?;
         Ok(Cell(BigEndian::read_u32(&self.bytes[at..at + 4])))
     }

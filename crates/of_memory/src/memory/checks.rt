@@ -1,12 +1,13 @@
-ghost use Rattle.std.specs.Prelude.{◌≡◌, ◌+◌, ◌<◌, ◌≤◌, Some, None, IfOk, MatchResult};
-ghost use Rattle.of_memory.specs.Regions.{place_of};
-ghost use Rattle.of_memory.specs.Access.{are_readable, read_fault, write_fault, unless, end_of};
+ghost use Rattle.std.specs.Prelude.{◌≡◌, ◌+◌, ◌*◌, ◌-◌, ◌<◌, ◌≤◌, take, drop, Some, None, Ok, Err, IfOk, MatchResult};
+ghost use Rattle.of_memory.specs.Regions.{place_of, byte_count};
+ghost use Rattle.of_memory.specs.DataSpace.{IsSound};
+ghost use Rattle.of_memory.specs.Access.{are_readable, read_fault, write_fault, read_bytes, read_spread, every, spread_over, unless, end_of};
 ghost use Rattle.of_memory.specs.Outcomes.{TakesNoMemory};
 
 use super::Memory;
 use crate::blocks::{block_end, covers};
 use crate::fault::MemFault;
-use crate::regions::{Region, SPAN, may_write, place};
+use crate::regions::{LONGEST, Region, SPAN, may_write, place};
 use crate::width::Width;
 use of_cells::Cell;
 
@@ -38,7 +39,7 @@ impl Memory {
     pub(super) fn to_read(&self, addr: u32, len: u32, width: Width) -> Result<usize, MemFault>
         requires { 0 < len }
         ensures value { result ≡ unless (read_fault self.now addr len width) (place_of addr) }
-        ensures within { IfOk result (λ at. at + len ≤ 1572864) }
+        ensures within { IfOk result (λ at. at + len ≤ byte_count) }
         ensures memory { TakesNoMemory result }
     {
         if !self.is_readable(addr, len) {
@@ -56,7 +57,7 @@ impl Memory {
     pub(super) fn to_write(&self, addr: u32, len: u32, width: Width) -> Result<usize, MemFault>
         requires { 0 < len }
         ensures value { result ≡ unless (write_fault self.now addr len width) (place_of addr) }
-        ensures within { IfOk result (λ at. at + len ≤ 1572864) }
+        ensures within { IfOk result (λ at. at + len ≤ byte_count) }
         ensures memory { TakesNoMemory result }
     {
         let at = self.to_read(addr, len, width)?;
@@ -66,6 +67,39 @@ impl Memory {
         Ok(at)
     }
 
+    /// Where the bytes of a range stand, or any place where it has none.
+    #[tactic(auto, using(crate::proofs::Nothing::slice_none))]
+    pub(super) fn source(&self, addr: u32, len: u32) -> Result<usize, MemFault>
+        ensures value { let bytes = read_bytes self.now addr len in
+            MatchResult result (λ at. bytes ≡ Ok (take len (drop at self.now.bytes))) (λ e. bytes ≡ Err e) }
+        ensures within { IfOk result (λ at. at + len ≤ byte_count) }
+        ensures memory { TakesNoMemory result }
+    {
+        if len == 0 {
+            return Ok(0);
+        }
+        self.to_read(addr, len, Width::One)
+    }
+
+    /// Where the first stands of `len` bytes, each `spread` after the one before, or any place where
+    /// there are none.
+    #[tactic(auto, using(crate::proofs::Spread::over_some, crate::proofs::Spread::spread_none, crate::proofs::Faults::long_fault))]
+    pub(super) fn spread_source(&self, addr: u32, len: u32, spread: u32) -> Result<usize, MemFault>
+        ensures value { let bytes = read_spread self.now addr len spread in
+            MatchResult result (λ at. bytes ≡ Ok (every self.now.bytes at len spread)) (λ e. bytes ≡ Err e) }
+        ensures within { IfOk result (λ at. at + spread_over len spread ≤ byte_count) }
+        ensures memory { TakesNoMemory result }
+    {
+        if len == 0 {
+            return Ok(0);
+        }
+        let over = u64::from(len - 1) * u64::from(spread) + 1;
+        if over > u64::from(LONGEST) {
+            return Err(MemFault::Address);
+        }
+        self.to_read(addr, over as u32, Width::One)
+    }
+
     /// Whether a read of `len` bytes at a multiple of `width` would succeed, without making it.
     ///
     /// No bytes can always be read. Else the first of these counts: Address, if a byte can't be
@@ -73,8 +107,11 @@ impl Memory {
     #[tactic(auto, using(crate::proofs::Nothing::no_read_fault))]
     pub fn check_read(&self, addr: Cell, len: Cell, width: Width) -> Result<(), MemFault>
         ensures value { result ≡ unless (read_fault self.now addr.0 len.0 width) tt }
+        ensures sound { IsSound self.now }
         ensures memory { TakesNoMemory result }
     {
+        // With a field used, the invariant is known: `sound`.
+        let _ = &self.bytes;
         if len.0 == 0 {
             return Ok(());
         }
@@ -90,8 +127,11 @@ impl Memory {
     #[tactic(auto, using(crate::proofs::Nothing::no_write_fault))]
     pub fn check_write(&self, addr: Cell, len: Cell, width: Width) -> Result<(), MemFault>
         ensures value { result ≡ unless (write_fault self.now addr.0 len.0 width) tt }
+        ensures sound { IsSound self.now }
         ensures memory { TakesNoMemory result }
     {
+        // With a field used, the invariant is known: `sound`.
+        let _ = &self.bytes;
         if len.0 == 0 {
             return Ok(());
         }

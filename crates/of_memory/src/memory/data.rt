@@ -1,16 +1,17 @@
 ghost use Rattle.std.specs.Prelude.{◌≡◌, ◌≤◌};
 ghost use Rattle.of_memory.specs.Outcomes.{Answers, Becomes, TakesNoMemory};
 ghost use Rattle.of_memory.specs.DataSpace.{IsSound};
-ghost use Rattle.of_memory.specs.Growth.{allotted, appended, moved};
+ghost use Rattle.of_memory.specs.Regions.{data_limit};
+ghost use Rattle.of_memory.specs.Growth.{allotted, append_copied, appended, moved};
 
 use super::Memory;
 use crate::fault::MemFault;
-use crate::regions::place;
+use crate::regions::{DATA_LIMIT, DATA_START, place};
 use of_cells::Cell;
 
 /// Where an address comes by a signed cell, at least 0.
 fn moved_by(addr: u32, n: Cell) -> u32
-    requires { addr ≤ 0x14_0000 }
+    requires { addr ≤ data_limit }
     ensures { result ≡ moved addr n.0 }
 {
     if n.0 < 1 << 31 {
@@ -38,7 +39,7 @@ impl Memory {
         ensures memory { TakesNoMemory result }
     {
         let here = moved_by(self.here, n);
-        if here < 0x10_0000 || here > 0x14_0000 {
+        if here < DATA_START || here > DATA_LIMIT {
             return Err(MemFault::Full);
         }
         self.here = here;
@@ -53,11 +54,31 @@ impl Memory {
         ensures memory { TakesNoMemory result }
     {
         let at = self.here;
-        if new.len() > (0x14_0000 - at) as usize {
+        if new.len() > (DATA_LIMIT - at) as usize {
             return Err(MemFault::Full);
         }
         self.here = at + new.len() as u32;
         self.put(place(at), new);
+        Ok(Cell(at))
+    }
+
+    /// Stores `len` bytes of memory and then the tail at `here`, as `append` does: the bytes that
+    /// the range held before.
+    ///
+    /// Address, if one of them can't be read; else Full, if they would leave the data region.
+    #[tactic(auto, using(crate::proofs::Splices::part_length))]
+    pub fn append_copy(&mut self, from: Cell, len: Cell, tail: &[u8]) -> Result<Cell, MemFault>
+        ensures value { Answers result self.old self.new (append_copied self.old from.0 len.0 tail.now) }
+        ensures memory { TakesNoMemory result }
+    {
+        let source = self.source(from.0, len.0)?;
+        let at = self.here;
+        let room = DATA_LIMIT - at;
+        if len.0 > room || tail.len() > (room - len.0) as usize {
+            return Err(MemFault::Full);
+        }
+        self.here = at + len.0 + tail.len() as u32;
+        self.shift_with_tail(source, place(at), len.0 as usize, tail);
         Ok(Cell(at))
     }
 }

@@ -1,12 +1,13 @@
 ghost use Rattle.std.specs.Prelude.{◌≡◌, IfOk};
+ghost use Rattle.of_memory.specs.Regions.{heap_start, heap_limit};
 ghost use Rattle.of_memory.specs.Blocks.{IsLeastFree, rounded};
 ghost use Rattle.of_memory.specs.BlockCalls.{heap_taken, heap_given};
 ghost use Rattle.of_memory.specs.Outcomes.{Takes, Becomes, TakesNoMemory};
 
 use super::Memory;
-use crate::blocks::{block_index, block_size, take_block};
+use crate::blocks::{block_size, give_block, take_block};
 use crate::fault::MemFault;
-use crate::regions::place;
+use crate::regions::{HEAP_LIMIT, HEAP_START, place};
 use of_cells::Cell;
 
 impl Memory {
@@ -15,19 +16,14 @@ impl Memory {
     /// least 8.
     ///
     /// Full, if there is no such address; NoMemory, if the list of blocks can't grow.
-    #[tactic(auto, using(crate::proofs::Free::too_long))]
     pub fn heap_take(&mut self, len: Cell) -> Result<Cell, MemFault>
         ensures taken { Takes result self.old self.new (heap_taken self.old len.0) }
         ensures least { let size = rounded len.0 in
-            IfOk result (λ a. IsLeastFree 0x40_0000 0x44_0000 self.old.heap size a.0) }
+            IfOk result (λ a. IsLeastFree heap_start heap_limit self.old.heap size a.0) }
     {
-        if len.0 > 0x4_0000 {
-            return Err(MemFault::Full);
-        }
-        let size = block_size(len.0);
-        let at = take_block(&mut self.heap, 0x40_0000, 0x44_0000, size)?;
-        self.set_all(place(at), size as usize, 0);
-        Ok(Cell(at))
+        let at = take_block(&mut self.heap, HEAP_START, HEAP_LIMIT, len.0)?;
+        self.set_all(place(at.0), block_size(len.0) as usize, 0);
+        Ok(at)
     }
 
     /// Gives back the live block of the heap at the address.
@@ -37,14 +33,6 @@ impl Memory {
         ensures given { Becomes result self.old self.new (heap_given self.old addr.0 len.0) }
         ensures memory { TakesNoMemory result }
     {
-        let _ = &self.heap;
-        if len.0 > 0x4_0000 {
-            return Err(MemFault::BadBlock);
-        }
-        let Some(i) = block_index(&self.heap, addr.0, block_size(len.0)) else {
-            return Err(MemFault::BadBlock);
-        };
-        self.heap.remove(i);
-        Ok(())
+        give_block(&mut self.heap, HEAP_START, HEAP_LIMIT, addr.0, len.0)
     }
 }

@@ -1,11 +1,11 @@
-ghost use Rattle.std.specs.Prelude.{◌≡◌};
+ghost use Rattle.std.specs.Prelude.{◌≡◌, ◌≤◌};
 ghost use Rattle.of_memory.specs.Outcomes.{Answers, TakesNoMemory};
-ghost use Rattle.of_memory.specs.Growth.{image_room, image_pushed, image_popped};
+ghost use Rattle.of_memory.specs.Growth.{image_room, image_pushed, image_pushed_from, image_popped};
 
 use super::Memory;
 use crate::fault::MemFault;
 use crate::images::LIMIT;
-use crate::regions::place;
+use crate::regions::{IMAGE_LIMIT, place};
 use of_cells::Cell;
 
 impl Memory {
@@ -13,7 +13,7 @@ impl Memory {
     pub fn image_room(&self) -> Cell
         ensures { result.0 ≡ image_room self.now }
     {
-        Cell(0x64_0000 - self.images.free())
+        Cell(IMAGE_LIMIT - self.images.free())
     }
 
     /// Copies an image into the image region after those that run, and answers its address.
@@ -24,11 +24,33 @@ impl Memory {
         ensures memory { TakesNoMemory result }
     {
         let at = self.images.free();
-        if image.len() > (0x64_0000 - at) as usize || self.images.count() >= LIMIT {
+        if image.len() > (IMAGE_LIMIT - at) as usize || self.images.count() >= LIMIT {
             return Err(MemFault::Full);
         }
         self.images.push(at + image.len() as u32);
         self.put(place(at), image);
+        Ok(Cell(at))
+    }
+
+    /// Copies an image of `len` bytes of memory, the first at the address and each `spread` after
+    /// the one before, into the image region as `image_push` does: the bytes that stood there
+    /// before, also where they overlap with the image.
+    ///
+    /// Address, if the range from the first to the last of them can't be read; else Full, if the
+    /// image doesn't fit, or 256 images run.
+    #[tactic(auto, using(crate::proofs::Spread::every_length))]
+    pub fn image_push_from(&mut self, from: Cell, len: Cell, spread: Cell) -> Result<Cell, MemFault>
+        requires { 1 ≤ spread.0 }
+        ensures value { Answers result self.old self.new (image_pushed_from self.old from.0 len.0 spread.0) }
+        ensures memory { TakesNoMemory result }
+    {
+        let source = self.spread_source(from.0, len.0, spread.0)?;
+        let at = self.images.free();
+        if len.0 > IMAGE_LIMIT - at || self.images.count() >= LIMIT {
+            return Err(MemFault::Full);
+        }
+        self.images.push(at + len.0);
+        self.gather(source, place(at), len.0 as usize, spread.0 as usize);
         Ok(Cell(at))
     }
 

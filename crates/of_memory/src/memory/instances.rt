@@ -1,12 +1,13 @@
-ghost use Rattle.std.specs.Prelude.{◌≡◌, IfOk};
+ghost use Rattle.std.specs.Prelude.{◌≡◌, length, IfOk};
+ghost use Rattle.of_memory.specs.Regions.{instance_start, instance_limit};
 ghost use Rattle.of_memory.specs.Blocks.{IsLeastFree, rounded};
-ghost use Rattle.of_memory.specs.BlockCalls.{instance_taken, instance_given};
+ghost use Rattle.of_memory.specs.BlockCalls.{instance_taken, instances_taken, instance_given};
 ghost use Rattle.of_memory.specs.Outcomes.{Answers, Becomes, TakesNoMemory};
 
 use super::Memory;
-use crate::blocks::{block_index, block_size, take_block};
+use crate::blocks::{block_size, give_block, has_room, take_block};
 use crate::fault::MemFault;
-use crate::regions::place;
+use crate::regions::{INSTANCE_LIMIT, INSTANCE_START, place};
 use of_cells::Cell;
 
 impl Memory {
@@ -15,20 +16,42 @@ impl Memory {
     /// at least 8.
     ///
     /// Full, if there is no such address.
-    #[tactic(auto, using(crate::proofs::Free::too_long))]
     pub fn instance_take(&mut self, len: Cell) -> Result<Cell, MemFault>
         ensures taken { Answers result self.old self.new (instance_taken self.old len.0) }
         ensures least { let size = rounded len.0 in
-            IfOk result (λ a. IsLeastFree 0x30_0000 0x32_0000 self.old.instances size a.0) }
+            IfOk result (λ a. IsLeastFree instance_start instance_limit self.old.instances size a.0) }
         ensures memory { TakesNoMemory result }
     {
-        if len.0 > 0x4_0000 {
+        let at = take_block(&mut self.instances, INSTANCE_START, INSTANCE_LIMIT, len.0)?;
+        self.set_all(place(at.0), block_size(len.0) as usize, 0);
+        Ok(at)
+    }
+
+    /// Takes a block of the instance region for each of the lengths, in their order, as so many
+    /// calls of `instance_take` do, and writes the addresses.
+    ///
+    /// Full, if one of the blocks finds no room; then nothing is taken, and the addresses stay.
+    pub fn instance_take_all(
+        &mut self,
+        lengths: &[Cell],
+        addresses: &mut [Cell],
+    ) -> Result<(), MemFault>
+        requires { length lengths.now ≡ length addresses.old }
+        ensures taken { let after = instances_taken self.old lengths.now in
+            Becomes result (addresses.old, self.old) (addresses.new, self.new) after }
+        ensures memory { TakesNoMemory result }
+    {
+        if !has_room(&mut self.instances, INSTANCE_START, INSTANCE_LIMIT, lengths) {
             return Err(MemFault::Full);
         }
-        let size = block_size(len.0);
-        let at = take_block(&mut self.instances, 0x30_0000, 0x32_0000, size)?;
-        self.set_all(place(at), size as usize, 0);
-        Ok(Cell(at))
+        for i in 0..lengths.len() {
+            // Each block finds the room that it found before.
+            let Ok(at) = self.instance_take(lengths[i]) else {
+                return Err(MemFault::Full);
+            };
+            addresses[i] = at;
+        }
+        Ok(())
     }
 
     /// Gives back the live block of the instance region at the address. Its bytes stay as they are
@@ -39,14 +62,12 @@ impl Memory {
         ensures given { Becomes result self.old self.new (instance_given self.old addr.0 len.0) }
         ensures memory { TakesNoMemory result }
     {
-        let _ = &self.instances;
-        if len.0 > 0x4_0000 {
-            return Err(MemFault::BadBlock);
-        }
-        let Some(i) = block_index(&self.instances, addr.0, block_size(len.0)) else {
-            return Err(MemFault::BadBlock);
-        };
-        self.instances.remove(i);
-        Ok(())
+        give_block(
+            &mut self.instances,
+            INSTANCE_START,
+            INSTANCE_LIMIT,
+            addr.0,
+            len.0,
+        )
     }
 }

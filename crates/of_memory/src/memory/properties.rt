@@ -1,16 +1,16 @@
 ghost use Rattle.std.specs.Prelude.{◌≡◌, ◌≤◌};
-ghost use Rattle.of_memory.specs.Outcomes.{Answers, TakesNoMemory};
-ghost use Rattle.of_memory.specs.Growth.{aligned, property_put, property_copied, with_state};
+ghost use Rattle.of_memory.specs.Outcomes.{Answers, AnswersTwo, TakesNoMemory};
+ghost use Rattle.of_memory.specs.Regions.{property_limit};
+ghost use Rattle.of_memory.specs.Growth.{aligned, property_put, property_copied, named_put, named_copied, with_state};
 
 use super::Memory;
 use crate::fault::MemFault;
-use crate::regions::place;
-use crate::width::Width;
+use crate::regions::{PROPERTY_LIMIT, PROPERTY_START, place};
 use of_cells::Cell;
 
 /// The address, up to a multiple of 4.
 fn aligned(addr: u32) -> u32
-    requires { addr ≤ 0x22_0000 }
+    requires { addr ≤ property_limit }
     ensures { result ≡ aligned addr }
 {
     (addr + 3) / 4 * 4
@@ -26,7 +26,7 @@ impl Memory {
         ensures memory { TakesNoMemory result }
     {
         let at = aligned(self.properties_end);
-        if new.len() > (0x22_0000 - at) as usize {
+        if new.len() > (PROPERTY_LIMIT - at) as usize {
             return Err(MemFault::Full);
         }
         self.properties_end = at + new.len() as u32;
@@ -34,31 +34,84 @@ impl Memory {
         Ok(Cell(at))
     }
 
-    /// Copies `len` bytes of memory as `put_property` does.
+    /// Copies a property's name and then its value to the property region, as `put_property` does
+    /// with each, and answers their addresses.
     ///
-    /// Address, if one of them can't be read; else Full, if they don't fit.
-    #[tactic(auto, using(crate::proofs::Nothing::slice_none))]
-    pub fn copy_property(&mut self, addr: Cell, len: Cell) -> Result<Cell, MemFault>
-        ensures value { Answers result self.old self.new (property_copied self.old addr.0 len.0) }
+    /// Full, if they don't both fit; then neither is put.
+    pub fn put_named(&mut self, name: &[u8], value: &[u8]) -> Result<(Cell, Cell), MemFault>
+        ensures value { AnswersTwo result self.old self.new (named_put self.old name.now value.now) }
         ensures memory { TakesNoMemory result }
     {
-        if len.0 == 0 {
-            return self.put_property(&[]);
-        }
-        let from = self.to_read(addr.0, len.0, Width::One)?;
         let at = aligned(self.properties_end);
-        if len.0 > 0x22_0000 - at {
+        if name.len() > (PROPERTY_LIMIT - at) as usize {
             return Err(MemFault::Full);
         }
-        self.properties_end = at + len.0;
-        self.shift(from, place(at), len.0 as usize);
+        let value_at = aligned(at + name.len() as u32);
+        if value.len() > (PROPERTY_LIMIT - value_at) as usize {
+            return Err(MemFault::Full);
+        }
+        self.properties_end = value_at + value.len() as u32;
+        self.put(place(at), name);
+        self.put(place(value_at), value);
+        Ok((Cell(at), Cell(value_at)))
+    }
+
+    /// Copies `len` bytes of memory and then the tail, as `put_property` does: the bytes that the
+    /// range held before.
+    ///
+    /// Address, if one of them can't be read; else Full, if they don't fit.
+    #[tactic(auto, using(crate::proofs::Splices::part_length))]
+    pub fn copy_property(&mut self, from: Cell, len: Cell, tail: &[u8]) -> Result<Cell, MemFault>
+        ensures value { Answers result self.old self.new (property_copied self.old from.0 len.0 tail.now) }
+        ensures memory { TakesNoMemory result }
+    {
+        let source = self.source(from.0, len.0)?;
+        let at = aligned(self.properties_end);
+        let room = PROPERTY_LIMIT - at;
+        if len.0 > room || tail.len() > (room - len.0) as usize {
+            return Err(MemFault::Full);
+        }
+        self.properties_end = at + len.0 + tail.len() as u32;
+        self.shift_with_tail(source, place(at), len.0 as usize, tail);
         Ok(Cell(at))
+    }
+
+    /// Copies a property's name, and as its value `len` bytes of memory and then the tail, as
+    /// `put_named` does: the bytes that the range held before.
+    ///
+    /// Address, if one of them can't be read; else Full, if name and value don't both fit. Then
+    /// neither is put.
+    #[tactic(auto, using(crate::proofs::Splices::part_length))]
+    pub fn copy_named(
+        &mut self,
+        name: &[u8],
+        from: Cell,
+        len: Cell,
+        tail: &[u8],
+    ) -> Result<(Cell, Cell), MemFault>
+        ensures value { AnswersTwo result self.old self.new (named_copied self.old name.now from.0 len.0 tail.now) }
+        ensures memory { TakesNoMemory result }
+    {
+        let source = self.source(from.0, len.0)?;
+        let at = aligned(self.properties_end);
+        if name.len() > (PROPERTY_LIMIT - at) as usize {
+            return Err(MemFault::Full);
+        }
+        let value_at = aligned(at + name.len() as u32);
+        let room = PROPERTY_LIMIT - value_at;
+        if len.0 > room || tail.len() > (room - len.0) as usize {
+            return Err(MemFault::Full);
+        }
+        self.properties_end = value_at + len.0 + tail.len() as u32;
+        self.shift_with_tail(source, place(value_at), len.0 as usize, tail);
+        self.put(place(at), name);
+        Ok((Cell(at), Cell(value_at)))
     }
 
     /// Sets the cell `state`, at the beginning of the property region: true while compiling.
     pub fn set_state(&mut self, compiling: bool)
         ensures { self.new ≡ with_state self.old compiling }
     {
-        self.put_cell(place(0x20_0000), Cell::flag(compiling).0);
+        self.put_cell(place(PROPERTY_START), Cell::flag(compiling).0);
     }
 }

@@ -1,9 +1,11 @@
 ghost use Rattle.std.specs.Prelude.{◌≡◌, Ok, Err, MatchResult};
-ghost use Rattle.of_memory.specs.Access.{read_bytes, filled, copied};
+ghost use Rattle.of_memory.specs.Access.{read_bytes, bytes_written, filled, copied};
+ghost use Rattle.of_memory.specs.DataSpace.{IsSound};
 ghost use Rattle.of_memory.specs.Outcomes.{Becomes, TakesNoMemory};
 
 use super::Memory;
 use crate::fault::MemFault;
+use crate::regions::LONGEST;
 use crate::width::Width;
 use of_cells::Cell;
 
@@ -15,13 +17,36 @@ impl Memory {
     pub fn slice(&self, addr: Cell, len: Cell) -> Result<&[u8], MemFault>
         ensures value { let bytes = read_bytes self.now addr.0 len.0 in
             MatchResult result (λ s. bytes ≡ Ok s.now) (λ e. bytes ≡ Err e) }
+        ensures sound { IsSound self.now }
         ensures memory { TakesNoMemory result }
     {
+        // With a field used, the invariant is known: `sound`.
+        let _ = &self.bytes;
         if len.0 == 0 {
             return Ok(&[]);
         }
         let at = self.to_read(addr.0, len.0, Width::One)?;
         Ok(&self.bytes[at..at + len.0 as usize])
+    }
+
+    /// Stores bytes from the address on.
+    ///
+    /// Address, if one of the bytes there can't be read; ReadOnly, if programs may only read the
+    /// region. No bytes can always be written.
+    #[tactic(auto, using(crate::proofs::Nothing::write_none, crate::proofs::Faults::long_write_fault))]
+    pub fn write_bytes(&mut self, addr: Cell, new: &[u8]) -> Result<(), MemFault>
+        ensures value { Becomes result self.old self.new (bytes_written self.old addr.0 new.now) }
+        ensures memory { TakesNoMemory result }
+    {
+        if new.is_empty() {
+            return Ok(());
+        }
+        if new.len() > LONGEST as usize {
+            return Err(MemFault::Address);
+        }
+        let at = self.to_write(addr.0, new.len() as u32, Width::One)?;
+        self.put(at, new);
+        Ok(())
     }
 
     /// Stores one byte in each of the `len` bytes from the address on.

@@ -1,0 +1,469 @@
+use of_cells::Cell;
+use of_memory::MemFault::{self, Address, Alignment, BadBlock, Full, NoMemory, ReadOnly};
+use of_memory::{Memory, Width};
+use std::alloc::Global;
+use std::process::Abort;
+use std::test::Fail;
+
+/// A call that reads or writes one number, and what it answers.
+fn access(memory: &mut Memory, word: &str, x: Cell, y: Cell) -> Result<Cell, MemFault> {
+    match word {
+        "read8" => Ok(Cell(u32::from(memory.read8(x)?))),
+        "read16" => Ok(Cell(u32::from(memory.read16(x)?))),
+        "read32" => memory.read32(x),
+        "write8" => memory.write8(x, y.0 as u8).map(|()| Cell(0)),
+        "write16" => memory.write16(x, y.0 as u16).map(|()| Cell(0)),
+        "write32" => memory.write32(x, y).map(|()| Cell(0)),
+        "read" => memory.check_read(x, y, Width::Four).map(|()| Cell(0)),
+        "write" => memory.check_write(x, y, Width::Four).map(|()| Cell(0)),
+        _ => memory.check_write(x, y, Width::Two).map(|()| Cell(0)),
+    }
+}
+
+/// A call that changes what is taken of a region, and what it answers.
+fn region(memory: &mut Memory, word: &str, x: Cell, y: Cell) -> Result<Cell, MemFault> {
+    match word {
+        "take" => memory.heap_take(x),
+        "give" => memory.heap_give(x, y).map(|()| Cell(0)),
+        "instance" => memory.instance_take(x),
+        "release" => memory.instance_give(x, y).map(|()| Cell(0)),
+        "allot" => memory.allot(x).map(|()| Cell(0)),
+        "here" => Ok(memory.here()),
+        "room" => Ok(memory.image_room()),
+        "end" => memory.end_of(x),
+        "pop" => {
+            memory.image_pop();
+            Ok(Cell(0))
+        }
+        _ => {
+            memory.set_state(x.0 != 0);
+            Ok(Cell(0))
+        }
+    }
+}
+
+/// A call on a range, and what it answers.
+fn range(memory: &mut Memory, word: &str, x: Cell, y: Cell, z: Cell) -> Result<Cell, MemFault> {
+    match word {
+        "fill" => memory.fill(x, y, z.0 as u8).map(|()| Cell(0)),
+        "copy" => memory.copy(x, y, z).map(|()| Cell(0)),
+        _ => memory.image_push_from(x, y, Cell(z.0.max(1))),
+    }
+}
+
+/// A call that is passed a text, and what it answers; of two addresses the second.
+fn put(memory: &mut Memory, word: &str, x: Cell, y: Cell, text: &[u8]) -> Result<Cell, MemFault> {
+    match word {
+        "append" => memory.append(text),
+        "append-copy" => memory.append_copy(x, y, text),
+        "store" => memory.write_bytes(x, text).map(|()| Cell(0)),
+        "property" => memory.put_property(text),
+        "property-copy" => memory.copy_property(x, y, text),
+        "named" => memory.put_named(text, b"val").map(|pair| pair.1),
+        "named-copy" => memory.copy_named(text, x, y, b"\0").map(|pair| pair.1),
+        _ => memory.image_push(text),
+    }
+}
+
+/// One call in turn, by the group of its word.
+fn call(memory: &mut Memory, line: &[&str], x: Cell, y: Cell, z: Cell) -> Result<Cell, MemFault> {
+    let [group, word, _, _, _, text, ..] = line else {
+        return Err(NoMemory);
+    };
+    let text = if *text == "-" { "" } else { text };
+    match *group {
+        "access" => access(memory, word, x, y),
+        "region" => region(memory, word, x, y),
+        "range" => range(memory, word, x, y, z),
+        _ => put(memory, word, x, y, text.as_bytes()),
+    }
+}
+
+/// Calls in turn on a new memory, a line each: the group, the word, three cells, a text, and what
+/// the call answers, in hexadecimal, or a fault by its name. An empty text is `-`.
+fn run(rt: &impl Abort, alloc: Global, lines: &str) -> Result<(), Fail> {
+    let mut memory = Memory::new(alloc)?;
+    for line in lines.lines() {
+        let words: Vec<&str> = line.split_whitespace().collect(alloc)?;
+        let [_, _, x, y, z, _, wanted] = words.as_slice() else {
+            return Err(Fail::new("a line of another form"));
+        };
+        let x = Cell(u32::from_str_radix(x, 16)?);
+        let y = Cell(u32::from_str_radix(y, 16)?);
+        let z = Cell(u32::from_str_radix(z, 16)?);
+        let answer = match call(&mut memory, words.as_slice(), x, y, z) {
+            Ok(answer) => format!(in alloc; "{:x}", answer.0)?,
+            Err(fault) => format!(in alloc; "{fault:?}")?,
+        };
+        assert_eq!(rt; answer.as_str(), *wanted, "{line}");
+    }
+    Ok(())
+}
+
+/// The first and the last bytes of each region, and what lies beside them.
+const EDGES: &str = "\
+access read8 0 0 0 - Address
+access read8 fffff 0 0 - Address
+access read8 100000 0 0 - 0
+access read8 13ffff 0 0 - 0
+access read8 140000 0 0 - Address
+access read8 1fffff 0 0 - Address
+access read8 21ffff 0 0 - 0
+access read8 220000 0 0 - Address
+access read8 300000 0 0 - 0
+access read8 31ffff 0 0 - 0
+access read8 320000 0 0 - Address
+access read8 400000 0 0 - Address
+access read8 43ffff 0 0 - Address
+access read8 500fff 0 0 - 0
+access read8 501000 0 0 - Address
+access read8 63ffff 0 0 - 0
+access read8 640000 0 0 - Address
+access read8 700000 0 0 - Address
+access read8 80000000 0 0 - Address
+access read8 c0000000 0 0 - Address
+access read8 ffffffff 0 0 - Address
+access read16 13fffe 0 0 - 0
+access read16 13ffff 0 0 - Address
+access read16 100001 0 0 - Alignment
+access read32 13fffc 0 0 - 0
+access read32 13fffe 0 0 - Address
+access read32 13fffa 0 0 - Alignment
+access read32 fffffffc 0 0 - Address
+access write8 21ffff 1 0 - ReadOnly
+access write8 600000 1 0 - ReadOnly
+access write8 31ffff 1 0 - 0
+access write16 200001 1 0 - Alignment
+access write16 200000 1 0 - ReadOnly
+access write32 13fffc 1 0 - 0
+access write32 13fffe 1 0 - Address
+access write32 63fffc 1 0 - ReadOnly
+region end 100000 0 0 - 140000
+region end 13ffff 0 0 - 140000
+region end 21ffff 0 0 - 220000
+region end 300004 0 0 - 320000
+region end 500fff 0 0 - 501000
+region end 501000 0 0 - Address
+region end 600000 0 0 - 640000
+region end 400000 0 0 - Address
+region end 0 0 0 - Address
+";
+
+/// Numbers of one, two and four bytes, the highest byte first; the checks; the cell `base` at first.
+const NUMBERS: &str = "\
+access read32 500000 0 0 - 10
+access read32 500004 0 0 - 0
+access write32 100000 1020304 0 - 0
+access write16 100004 abcd 0 - 0
+access write8 100007 ef 0 - 0
+access read8 100000 0 0 - 1
+access read16 100002 0 0 - 304
+access read8 100004 0 0 - ab
+access read32 100004 0 0 - abcd00ef
+access read 100000 8 0 - 0
+access read 13fffc 8 0 - Address
+access read 13fffa 8 0 - Address
+access read 100002 8 0 - Alignment
+access read c0000001 0 0 - 0
+access write 100000 8 0 - 0
+access write 200000 8 0 - ReadOnly
+access write 600002 8 0 - Alignment
+access write 600001 0 0 - 0
+access write-two 100001 2 0 - Alignment
+access write-two 100002 2 0 - 0
+";
+
+/// Ranges: filled, copied also where they overlap, and stored from a text.
+const RANGES: &str = "\
+access write32 100000 1020304 0 - 0
+range copy 100000 100001 4 - 0
+access read32 100000 0 0 - 1010203
+access read8 100004 0 0 - 4
+range copy 100002 100000 3 - 0
+access read32 100000 0 0 - 2030403
+range fill 100001 2 9 - 0
+access read32 100000 0 0 - 2090903
+range copy 200000 100000 4 - 0
+range copy 100000 200000 4 - ReadOnly
+range copy c0000000 200000 4 - Address
+range copy 100000 21ffff 2 - Address
+range copy 13ffff 100000 2 - Address
+range copy c0000000 200000 0 - 0
+range fill 13ffff 2 1 - Address
+range fill 600000 1 1 - ReadOnly
+range fill c0000000 0 1 - 0
+range fill 100000 ffffffff 1 - Address
+access read8 13ffff 0 0 - 0
+put store 100008 0 0 abcd 0
+access read32 100008 0 0 - 61626364
+put store 13fffd 0 0 abcd Address
+put store 200000 0 0 a ReadOnly
+put store c0000000 0 0 - 0
+access read8 13fffd 0 0 - 0
+";
+
+/// The heap: the least gap is taken, a given block can't be read, and one that is taken again is
+/// zero. A range may cross from a live block into the next one, and not beyond the last.
+const HEAP: &str = "\
+region take 9 0 0 - 400000
+region take 8 0 0 - 400010
+region take 0 0 0 - 400018
+region take 1 0 0 - 400020
+range fill 400000 28 7 - 0
+range fill 400000 29 7 - Address
+region end 400012 0 0 - 400018
+region give 400000 8 0 - BadBlock
+region give 400008 8 0 - BadBlock
+region give 400000 ffffffff 0 - BadBlock
+region give 400010 5 0 - 0
+region give 400000 10 0 - 0
+access read8 400000 0 0 - Address
+access read8 400018 0 0 - 7
+region give 400000 10 0 - BadBlock
+region take 19 0 0 - 400028
+region take 11 0 0 - 400000
+access read32 400014 0 0 - 0
+region take 3ffb9 0 0 - Full
+region take ffffffff 0 0 - Full
+region take 3ffb8 0 0 - 400048
+region take 0 0 0 - Full
+region give 400020 1 0 - 0
+region take 9 0 0 - Full
+region take 8 0 0 - 400020
+";
+
+/// Blocks of the instance region: given back, their bytes stay until they are taken again.
+const INSTANCES: &str = "\
+region instance 4 0 0 - 300000
+region instance c 0 0 - 300008
+access write32 300000 5 0 - 0
+region release 300000 9 0 - BadBlock
+region release 300000 8 0 - 0
+access read32 300000 0 0 - 5
+region instance 8 0 0 - 300000
+access read32 300000 0 0 - 0
+region instance 1ffe9 0 0 - Full
+region instance 1ffe8 0 0 - 300018
+region instance 1 0 0 - Full
+";
+
+/// The data region: `here` moves within it, and bytes are appended from a text or from memory.
+const DATA: &str = "\
+region here 0 0 0 - 100000
+put append 0 0 0 abc 100000
+put append 0 0 0 de 100003
+access read32 100000 0 0 - 61626364
+put append-copy 100001 3 0 xy 100005
+access read32 100004 0 0 - 65626364
+access read16 100008 0 0 - 7879
+region here 0 0 0 - 10000a
+put append-copy 400000 1 0 - Address
+put append-copy 100000 3ffff 0 - Full
+put append-copy c0000000 0 0 z 10000a
+region allot fffffffd 0 0 - 0
+region here 0 0 0 - 100008
+region allot fffffff7 0 0 - Full
+region allot 80000000 0 0 - Full
+region allot 7fffffff 0 0 - Full
+region allot 3fff9 0 0 - Full
+region allot 3fff7 0 0 - 0
+put append 0 0 0 ab Full
+put append 0 0 0 a 13ffff
+put append 0 0 0 - 140000
+put append 0 0 0 a Full
+region allot fffc0000 0 0 - 0
+region here 0 0 0 - 100000
+";
+
+/// Properties: a name and a value are put together or not at all, and a value is copied as it was
+/// before its name was put.
+const PROPERTIES: &str = "\
+put property 0 0 0 name 200010
+put property 0 0 0 board 200014
+put named 0 0 0 ab 200020
+access read16 20001c 0 0 - 6162
+access read32 200020 0 0 - 76616c00
+put property-copy 200014 5 0 ! 200024
+access read32 200024 0 0 - 626f6172
+access read16 200028 0 0 - 6421
+put named-copy 200010 4 0 xyz 200030
+access read32 20002c 0 0 - 78797a00
+access read32 200030 0 0 - 6e616d65
+access read8 200034 0 0 - 0
+put named-copy 200038 8 0 pqrs 20003c
+access read32 200038 0 0 - 70717273
+access read32 20003c 0 0 - 0
+put property-copy 440000 1 0 - Address
+put named-copy 440000 1 0 a Address
+put property-copy 100000 1ffb9 0 - Full
+put property-copy 100000 1ffb4 0 - 200048
+put named 0 0 0 ab Full
+access read32 21fffc 0 0 - 0
+put property 0 0 0 a 21fffc
+put property 0 0 0 a Full
+put property-copy c0000000 0 0 - 220000
+region state 1 0 0 - 0
+access read32 200000 0 0 - ffffffff
+region state 0 0 0 - 0
+access read32 200000 0 0 - 0
+";
+
+/// Images, one after another. Of bytes that stand apart the first is taken, and then each so many
+/// behind; the last image is copied to where its own bytes stand.
+const IMAGES: &str = "\
+put image 0 0 0 abc 600000
+put image 0 0 0 de 600003
+region room 0 0 0 - 3fffb
+region pop 0 0 0 - 0
+access read32 600000 0 0 - 61626300
+put store 100000 0 0 p-q-r-s 0
+range from 100000 4 2 - 600003
+access read32 600000 0 0 - 61626370
+access read32 600004 0 0 - 71727300
+region pop 0 0 0 - 0
+access read32 600004 0 0 - 0
+range from 100000 1 ffffffff - 600003
+range from 13ffff 2 1 - Address
+range from 13fffd 2 2 - 600004
+range from 13fffe 2 2 - Address
+range from c0000000 0 1 - 600006
+region pop 0 0 0 - 0
+region pop 0 0 0 - 0
+region pop 0 0 0 - 0
+range from 600000 5 1 - 600003
+access read32 600000 0 0 - 61626361
+access read32 600004 0 0 - 62630000
+region pop 0 0 0 - 0
+region pop 0 0 0 - 0
+access read32 600000 0 0 - 0
+region pop 0 0 0 - 0
+put image 0 0 0 abcdefgh 600000
+range from 600004 5 2 - 600008
+access read32 600004 0 0 - 65666768
+access read32 600008 0 0 - 65670000
+access read32 60000c 0 0 - 0
+";
+
+#[test]
+fn edges_of_the_regions(rt: HostRuntime) -> Result<(), Fail> {
+    run(&rt, rt.alloc(), EDGES)
+}
+
+#[test]
+fn numbers_and_ranges(rt: HostRuntime) -> Result<(), Fail> {
+    run(&rt, rt.alloc(), NUMBERS)?;
+    run(&rt, rt.alloc(), RANGES)
+}
+
+#[test]
+fn blocks(rt: HostRuntime) -> Result<(), Fail> {
+    run(&rt, rt.alloc(), HEAP)?;
+    run(&rt, rt.alloc(), INSTANCES)
+}
+
+#[test]
+fn what_grows(rt: HostRuntime) -> Result<(), Fail> {
+    run(&rt, rt.alloc(), DATA)?;
+    run(&rt, rt.alloc(), PROPERTIES)?;
+    run(&rt, rt.alloc(), IMAGES)
+}
+
+/// Two instances with blocks of 8, 16 and 8 bytes where 48 are free: the first finds room, and the
+/// second leaves the region byte for byte.
+#[test]
+fn instances_of_a_full_region(rt: HostRuntime) -> Result<(), Fail> {
+    let mut memory = Memory::new(rt.alloc())?;
+    memory.instance_take(Cell(0x1_ffd0))?;
+    memory.fill(Cell(0x31_ffd0), Cell(0x30), 7)?;
+    let lengths = [Cell(8), Cell(9), Cell(0)];
+    let mut addresses = [Cell(1); 3];
+    memory.instance_take_all(&lengths, &mut addresses)?;
+    assert_eq!(rt; addresses, [Cell(0x31_ffd0), Cell(0x31_ffd8), Cell(0x31_ffe8)]);
+    let mut others = [Cell(1); 3];
+    assert_eq!(rt; memory.instance_take_all(&lengths, &mut others), Err(Full));
+    assert_eq!(rt; others, [Cell(1); 3]);
+    let mut wanted = [0u8; 48];
+    wanted[32..].fill(7);
+    assert_eq!(rt; memory.slice(Cell(0x31_ffd0), Cell(0x30))?, wanted.as_slice());
+    Ok(())
+}
+
+#[test]
+fn every_mark_of_the_instance_region(rt: HostRuntime) -> Result<(), Fail> {
+    let mut memory = Memory::new(rt.alloc())?;
+    for _ in 0..16384 {
+        let _ = memory.instance_take(Cell(8))?;
+    }
+    assert_eq!(rt; memory.instance_take(Cell(8)), Err(Full));
+    Ok(())
+}
+
+#[test]
+fn images_are_256_at_most(rt: HostRuntime) -> Result<(), Fail> {
+    let mut memory = Memory::new(rt.alloc())?;
+    for _ in 0..256 {
+        assert_eq!(rt; memory.image_push(&[])?, Cell(0x60_0000));
+    }
+    assert_eq!(rt; memory.image_push(&[]), Err(Full));
+    assert_eq!(rt; memory.image_push_from(Cell(0), Cell(0), Cell(1)), Err(Full));
+    Ok(())
+}
+
+#[test]
+fn an_image_fills_its_region(rt: HostRuntime) -> Result<(), Fail> {
+    let mut memory = Memory::new(rt.alloc())?;
+    let image = vec![in rt.alloc(); 1u8; 0x4_0000]?;
+    assert_eq!(rt; memory.image_push(&image)?, Cell(0x60_0000));
+    assert_eq!(rt; memory.image_push(&[1]), Err(Full));
+    memory.image_pop();
+    assert_eq!(rt; memory.read8(Cell(0x63_ffff))?, 0);
+    Ok(())
+}
+
+/// With each allocation refused in turn, making answers its error, and a refused block leaves the
+/// heap as it was.
+#[test]
+fn refused_growth_changes_nothing(rt: HostRuntime) -> Result<(), Fail> {
+    let Ok(mut memory) = Memory::new(rt.alloc()) else {
+        return Ok(());
+    };
+    match memory.heap_take(Cell(8)) {
+        Ok(addr) => assert_eq!(rt; addr, Cell(0x40_0000)),
+        Err(fault) => assert_eq!(rt; fault, NoMemory),
+    }
+    let taken = memory.read8(Cell(0x40_0000)).is_ok();
+    let next = memory.heap_take(Cell(8))?;
+    assert_eq!(rt; next, Cell(if taken { 0x40_0008 } else { 0x40_0000 }));
+    Ok(())
+}
+
+#[test]
+fn texts_of_faults(rt: HostRuntime) -> Result<(), Fail> {
+    let faults = [Address, Alignment, ReadOnly, Full, BadBlock, NoMemory];
+    let text = "invalid memory address,address alignment exception,write to a read-only location,\
+                no room in the region,no such block,out of memory";
+    for (fault, wanted) in faults.iter().zip(text.split(',')) {
+        assert_eq!(rt; format!(in rt.alloc(); "{fault}")?.as_str(), wanted);
+    }
+    Ok(())
+}
+
+#[test]
+fn widths(rt: HostRuntime) {
+    assert_eq!(rt;
+        [Width::One.bytes(), Width::Two.bytes(), Width::Four.bytes()],
+        [1, 2, 4]
+    );
+}
+
+#[test]
+fn laws() {
+    of_memory::writes_change_their_bytes();
+    of_memory::reads_give_the_bytes();
+    of_memory::spreads_give_the_bytes();
+    of_memory::parts_are_good();
+    of_memory::faults_stay();
+    of_memory::ranges_are_placed();
+    of_memory::scratch_is_open();
+    of_memory::writes_join();
+}
