@@ -1,0 +1,5 @@
+//! Tests of the crates that read and write words, by their public calls.
+#![tactic(auto)]
+
+#[cfg(test)]
+mod stream;
