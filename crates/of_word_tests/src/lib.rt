@@ -2,4 +2,6 @@
 #![tactic(auto)]
 
 #[cfg(test)]
+mod detok;
+#[cfg(test)]
 mod stream;
