@@ -4,6 +4,8 @@
 #[cfg(test)]
 mod cells;
 #[cfg(test)]
+mod code;
+#[cfg(test)]
 mod fcodes;
 #[cfg(test)]
 mod memory;

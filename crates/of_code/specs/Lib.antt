@@ -1,4 +1,3 @@
 pub mod Items
 pub mod Code
 pub mod Laws
-pub mod Guarded

@@ -1,7 +1,14 @@
-ghost use Rattle.std.specs.Prelude.{◌≡◌};
-ghost use Rattle.of_code.specs.Items.{cells_of, with_target};
+ghost use Rattle.std.specs.Prelude.{◌≡◌, ◌↔◌, IsTrue};
+ghost use Rattle.of_code.specs.Items.{IsStorable, cells_of, target_of, with_target};
 
+use crate::CAPACITY;
 use of_cells::Cell;
+
+/// The execution token of the first of the 331 written words.
+const FIRST_XT: u32 = 0xc000_0000;
+
+/// The execution token of the first word that a program makes.
+const FIRST_OWN_XT: u32 = 0xc000_052c;
 
 /// A code cell, by its number from 0: where an item begins, or where the next one will.
 #[derive(Clone, Copy, Debug, PartialEq, Eq)]
@@ -66,6 +73,7 @@ pub enum Item {
 
 impl Item {
     /// How many code cells the item takes: 1, 2 or 3.
+    #[inline(always)]
     pub fn cells(&self) -> u32
         ensures { result ≡ cells_of self.now }
     {
@@ -83,6 +91,30 @@ impl Item {
             | Item::Of(_)
             | Item::EndOf(_) => 2,
             Item::String { .. } => 3,
+        }
+    }
+
+    /// The target, if the item has one.
+    pub fn target_of(&self) -> Option<Place>
+        ensures { result ≡ target_of self.now }
+    {
+        match self {
+            Item::Branch(to)
+            | Item::BranchIfZero(to)
+            | Item::Do(to)
+            | Item::QuestionDo(to)
+            | Item::Loop(to)
+            | Item::PlusLoop(to)
+            | Item::Leave(to)
+            | Item::Of(to)
+            | Item::EndOf(to) => Some(*to),
+            Item::Operation(_)
+            | Item::Literal(_)
+            | Item::String { .. }
+            | Item::Call(_)
+            | Item::Store(_)
+            | Item::EndCase
+            | Item::Return => None,
         }
     }
 
@@ -107,6 +139,31 @@ impl Item {
             | Item::Store(_)
             | Item::EndCase
             | Item::Return) => item,
+        }
+    }
+
+    /// Whether every store can hold the item: an operation names a written word, a call another
+    /// one, and a target is at most 65,536.
+    pub fn is_storable(&self) -> bool
+        ensures { IsTrue result ↔ IsStorable self.now }
+    {
+        match self {
+            Item::Operation(xt) => xt.0 >= FIRST_XT && xt.0 < FIRST_OWN_XT,
+            Item::Call(xt) => xt.0 >= FIRST_OWN_XT,
+            Item::Branch(to)
+            | Item::BranchIfZero(to)
+            | Item::Do(to)
+            | Item::QuestionDo(to)
+            | Item::Loop(to)
+            | Item::PlusLoop(to)
+            | Item::Leave(to)
+            | Item::Of(to)
+            | Item::EndOf(to) => to.cell as usize <= CAPACITY,
+            Item::Literal(_)
+            | Item::String { .. }
+            | Item::Store(_)
+            | Item::EndCase
+            | Item::Return => true,
         }
     }
 }

@@ -6,9 +6,6 @@ mod item;
 mod laws;
 mod list_code;
 mod store;
-#[cfg(test)]
-mod tests;
-mod under_condition;
 
 pub use fault::CodeFault;
 pub use item::{Item, Place};
@@ -17,5 +14,4 @@ pub use laws::{
     targets_change_alone,
 };
 pub use list_code::ListCode;
-pub use store::{CALLS_IN_STEP, CAPACITY, CodeStore, Start};
-pub use under_condition::literal_under_condition;
+pub use store::{CAPACITY, CodeStore, MOST_CALLS, Start};

@@ -1,7 +1,7 @@
 ghost use Rattle.std.specs.Prelude.{◌≡◌, ◌==◌, [], find, option_copied, reverse};
 ghost use Rattle.of_code.specs.Code.{spare_calls};
 
-use crate::{CALLS_IN_STEP, CAPACITY, CodeFault, CodeStore, Item, Place, Start};
+use crate::{CAPACITY, CodeFault, CodeStore, Item, Place, Start};
 use of_cells::Cell;
 use std::alloc::{AllocError, Global};
 use std::marker::Model;
@@ -13,19 +13,20 @@ const LONGEST_ITEM: usize = 3;
 #[derive(Drop)]
 pub struct ListCode {
     cells: Vec<Option<Item>>,
-    opened: usize,
+    opened: Place,
     starts: Vec<Start>,
 }
 
 impl Model for ListCode {
     ghost use Rattle.std.specs.Prelude.{◌≤◌, ◌-◌, length, reverse, vec_len, vec_capacity};
+    ghost use Rattle.of_code.specs.Items.{capacity};
     ghost use Rattle.of_code.specs.Code.{Roomy};
 
     ghost Value = { Roomy };
 
     ghost view = { λ c. record { code = record { cells = c.cells.items; opened = c.opened; starts = reverse c.starts.items }; free_cells = vec_capacity c.cells - vec_len c.cells; free_starts = vec_capacity c.starts - vec_len c.starts } };
 
-    ghost invariant = { λ c. (length c.cells.items ≤ 65536) × (c.opened ≤ length c.cells.items) };
+    ghost invariant = { λ c. (length c.cells.items ≤ capacity) × (c.opened.cell ≤ length c.cells.items) };
 }
 
 /// The latest start of the word `xt`.
@@ -38,11 +39,11 @@ fn latest_start(starts: &[Start], xt: Cell) -> Option<&Start>
 impl ListCode {
     /// No code, and no memory yet.
     pub fn new(alloc: Global) -> ListCode
-        ensures { result.code ≡ record { cells = []; opened = 0; starts = [] } }
+        ensures { result.code ≡ record { cells = []; opened = record { cell = 0 }; starts = [] } }
     {
         ListCode {
             cells: Vec::new(alloc),
-            opened: 0,
+            opened: Place { cell: 0 },
             starts: Vec::new(alloc),
         }
     }
@@ -53,9 +54,9 @@ impl CodeStore for ListCode {
 
     ghost spare = { spare_calls };
 
-    fn reserve(&mut self) -> Result<(), AllocError> {
-        self.cells.reserve(LONGEST_ITEM * CALLS_IN_STEP)?;
-        self.starts.reserve(CALLS_IN_STEP)?;
+    fn reserve(&mut self, calls: usize) -> Result<(), AllocError> {
+        self.cells.reserve(LONGEST_ITEM * calls)?;
+        self.starts.reserve(calls)?;
         Ok(())
     }
 
@@ -70,15 +71,18 @@ impl CodeStore for ListCode {
         Ok(Place { cell: cell as u32 })
     }
 
+    #[inline(always)]
     fn item_at(&self, place: Place) -> Option<Item> {
         *self.cells.get(place.cell as usize)?
     }
 
-    fn next_of(&self, place: Place) -> Option<Place> {
+    #[inline(always)]
+    fn item_and_next(&self, place: Place) -> Option<(Item, Place)> {
         let item = (*self.cells.get(place.cell as usize)?)?;
-        Some(Place {
+        let next = Place {
             cell: place.cell + item.cells(),
-        })
+        };
+        Some((item, next))
     }
 
     fn set_target(&mut self, at: Place, to: Place) {
@@ -93,9 +97,9 @@ impl CodeStore for ListCode {
         }
         self.starts.reserve(1)?;
         self.cells.push(Some(Item::Return))?;
-        let place = self.opened();
+        let place = self.opened;
         self.starts.push(Start { xt, place }).unwrap();
-        self.opened = self.cells.len();
+        self.opened = self.end();
         Ok(())
     }
 
@@ -104,9 +108,7 @@ impl CodeStore for ListCode {
     }
 
     fn opened(&self) -> Place {
-        Place {
-            cell: self.opened as u32,
-        }
+        self.opened
     }
 
     fn end(&self) -> Place {
@@ -116,6 +118,6 @@ impl CodeStore for ListCode {
     }
 
     fn abandon(&mut self) {
-        self.cells.truncate(self.opened);
+        self.cells.truncate(self.opened.cell as usize);
     }
 }

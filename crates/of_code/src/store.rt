@@ -1,6 +1,6 @@
-ghost use Rattle.std.specs.Prelude.{◌≡◌, ◌≤◌, ℕ, ◌+◌, OnOk, Err};
-ghost use Rattle.of_code.specs.Items.{IsStorable};
-ghost use Rattle.of_code.specs.Code.{Appends, Code, Finishes, abandoned, calls_in_step, end_of, item_in, next_in, opened_in, retargeted, start_in};
+ghost use Rattle.std.specs.Prelude.{◌≡◌, ◌≤◌, ◌<◌, ℕ, ◌+◌, OnOk, OnSome, Err};
+ghost use Rattle.of_code.specs.Items.{IsStorable, capacity};
+ghost use Rattle.of_code.specs.Code.{Appends, Code, Finishes, abandoned, end_of, fetched_in, item_in, retargeted, start_in};
 ghost use Rattle.of_code.specs.declared.fault.CodeFault.TheVariants.{NoMemory};
 
 use crate::{CodeFault, Item, Place};
@@ -10,8 +10,8 @@ use std::alloc::AllocError;
 /// How many code cells a store has.
 pub const CAPACITY: usize = 65_536;
 
-/// How many items a step appends at most, with the return of a definition that it finishes.
-pub const CALLS_IN_STEP: usize = 4;
+/// For how many calls `reserve` makes room at most: far more than any step appends.
+pub const MOST_CALLS: usize = 256;
 
 /// Where a finished word's code begins.
 #[derive(Clone, Copy, Debug, PartialEq, Eq)]
@@ -28,14 +28,18 @@ pub trait CodeStore {
     /// For how many calls of `append` and `finish` there is memory.
     ghost spare: { Self → ℕ };
 
-    /// Makes room for what one step may append: the next four calls of `append` and `finish` don't
-    /// answer `NoMemory`.
-    fn reserve(&mut self) -> Result<(), AllocError>
+    /// Makes room: the next `calls` calls of `append` and `finish` don't answer `NoMemory`.
+    ///
+    /// A refused growth leaves the code as it was. `calls` is at most 256, so that the room in
+    /// bytes can be counted.
+    fn reserve(&mut self, calls: usize) -> Result<(), AllocError>
+        requires { calls ≤ MOST_CALLS }
         ensures code { code self.new ≡ code self.old }
         ensures kept { spare self.old ≤ spare self.new }
-        ensures ready { OnOk result (calls_in_step ≤ spare self.new) };
+        ensures ready { OnOk result (calls ≤ spare self.new) };
 
-    /// Appends an item to the open definition, and answers its place. A target is at most 65,536.
+    /// Appends an item to the open definition, and answers its place. A target is at most 65,536, an
+    /// operation names a written word (0xC0000000 to 0xC0000528), and a call another one.
     ///
     /// `Full` comes exactly where the item would pass the last code cell, then `NoMemory`. A
     /// refused item leaves nothing behind.
@@ -47,15 +51,17 @@ pub trait CodeStore {
 
     /// The item that begins at a place, if one does.
     fn item_at(&self, place: Place) -> Option<Item>
-        ensures { result ≡ item_in (code self.now) place };
+        ensures item { result ≡ item_in (code self.now) place }
+        ensures fits { OnSome result (place.cell < capacity) };
 
-    /// The place after the item that begins at a place, if one does.
-    fn next_of(&self, place: Place) -> Option<Place>
-        ensures { result ≡ next_in (code self.now) place };
+    /// The item that begins at a place, if one does, and the place after it.
+    fn item_and_next(&self, place: Place) -> Option<(Item, Place)>
+        ensures item { result ≡ fetched_in (code self.now) place }
+        ensures fits { OnSome result (place.cell < capacity) };
 
     /// Gives the item at `at` the target `to`, where one that has a target begins there.
     fn set_target(&mut self, at: Place, to: Place)
-        requires { to.cell ≤ 65536 }
+        requires { to.cell ≤ capacity }
         ensures code { code self.new ≡ retargeted (code self.old) at to }
         ensures spare { spare self.new ≡ spare self.old };
 
@@ -74,13 +80,13 @@ pub trait CodeStore {
 
     /// Where the open definition begins.
     fn opened(&self) -> Place
-        ensures place { result ≡ opened_in (code self.now) }
+        ensures place { result ≡ (code self.now).opened }
         ensures fits { result.cell ≤ (end_of (code self.now)).cell };
 
     /// Where the next item will begin.
     fn end(&self) -> Place
         ensures place { result ≡ end_of (code self.now) }
-        ensures fits { result.cell ≤ 65536 };
+        ensures fits { result.cell ≤ capacity };
 
     /// Forgets the items of the open definition.
     fn abandon(&mut self)

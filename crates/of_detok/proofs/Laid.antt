@@ -8,7 +8,9 @@ use Rattle.of_stream.specs.declared.fault.StreamFault.TheVariants.{Short, Ended}
 use Rattle.of_stream.specs.declared.stream.OffsetSize.{OffsetSize}
 use Rattle.of_stream.specs.Image.{header_fault, start_fault, first_size}
 use Rattle.of_stream.specs.Decoding.{Token, decoded, token_from, TokenStandsAlone}
-use Rattle.of_detok.specs.Listing.{Line, trailing, trailing_from, line_before, token_line, is_end, size_behind, token_lines, lines_from, lines_behind, BoundCutsNothing, header_line, lines_if, lines_of}
+use Rattle.of_stream.specs.Sizes.{is_end, size_behind}
+use Rattle.of_detok.specs.Listing.{Line, trailing, trailing_from, line_before, token_line, token_lines, lines_from, lines_behind}
+use Rattle.of_detok.specs.Listing.{BoundCutsNothing, header_line, lines_if, lines_of}
 use Rattle.of_detok.proofs.Plain.{plain, plain_token, plain_header}
 
 -- these lines have these bytes, of which so many stand before the first
@@ -74,7 +76,7 @@ step law image m n p size None agree e h k = refl
 step law image m n p size (Some r) agree e h k =
     let up = rises law image p size r e in
     let same = agree r.1 (size_behind r.0.code.0 size) (omega (arith, h, up.0)) (omega (arith, k, up.0)) in
-    ap (λ x. line_before (token_line image p size r) (cond (is_end r.0.code.0) (Ok (trailing_from image r.1)) x)) same
+    ap (λ x. line_before (token_line image p r) (cond (is_end r.0.code.0) (Ok (trailing_from image r.1)) x)) same
 
 agree_all : TokenStandsAlone → (image : List ℕ) (m n : ℕ) → Agree image m n
 agree_all law image zero zero p size h k = refl
@@ -128,7 +130,7 @@ laid_token law image p size (Some r) next lines e l laid h =
     let long = length-cut image p r.1 up.0 up.1 in
     let at : p + length (take (r.1 - p) (drop p image)) ≡ r.1 = omega (arith, up.0, long) in
     let some : 0 < length (take (r.1 - p) (drop p image)) = omega (arith, up.0, long) in
-    laid_before (token_line image p size r) _ lines p (drop p image) (drop r.1 image) h (cut image p r.1 up.0) refl some (plain_token r.1 size r.0)
+    laid_before (token_line image p r) _ lines p (drop p image) (drop r.1 image) h (cut image p r.1 up.0) refl some (plain_token p r.0)
     (λ more e. rw at (rest_by (is_end r.0.code.0) image r.1 (next r.1 (size_behind r.0.code.0 size)) (λ m k. laid r.1 (size_behind r.0.code.0 size) m k up.1) up.1 more e))
 
 laid_from : TokenStandsAlone → (image : List ℕ) (n p : ℕ) (size : OffsetSize) (lines : List Line) → lines_from image n p size ≡ Ok lines → p ≤ length image → IsLaid p lines (drop p image)

@@ -10,7 +10,8 @@ use Rattle.of_stream.specs.declared.fault.StreamFault.TheVariants.{Ended}
 use Rattle.of_stream.specs.declared.stream.OffsetSize.{OffsetSize}
 use Rattle.of_stream.specs.Decoding.{Token, token_from}
 use Rattle.of_detok.specs.Digits.{digit_value, pairs}
-use Rattle.of_detok.specs.Listing.{Line, line_text, line_before, text_behind, token_line, is_end, size_behind, lines_from, trailing, trailing_from}
+use Rattle.of_stream.specs.Sizes.{is_end, size_behind}
+use Rattle.of_detok.specs.Listing.{Line, line_text, line_before, text_behind, token_line, lines_from, trailing, trailing_from}
 use Rattle.of_detok.specs.Reading.{paired, are_spaces, byte_of, byte_before, some_bytes, text_lines}
 
 -- one more byte as two digits
@@ -156,18 +157,18 @@ text_more text l (Err f) = refl
 -- one more token
 pub tokens_more : (text image : List ℕ) (n k position : ℕ) (size : OffsetSize) (r : Token × ℕ) → k < n → token_from image position size ≡ Some r → is_end r.0.code.0 ≡ false
     → text_behind text (lines_from image (n - k) position size)
-    ≡ text_behind (text ++ line_text (token_line image position size r)) (lines_from image (n - (k + 1)) r.1 (size_behind r.0.code.0 size))
+    ≡ text_behind (text ++ line_text (token_line image position r)) (lines_from image (n - (k + 1)) r.1 (size_behind r.0.code.0 size))
 tokens_more text image n k position size r l h e =
     let less : n - k ≡ suc (n - (k + 1)) = omega arith in
-    rw (less, h, e) (text_more text (token_line image position size r) (lines_from image (n - (k + 1)) r.1 (size_behind r.0.code.0 size)))
+    rw (less, h, e) (text_more text (token_line image position r) (lines_from image (n - (k + 1)) r.1 (size_behind r.0.code.0 size)))
 
 -- the end token
 pub tokens_end : (text image : List ℕ) (n k position : ℕ) (size : OffsetSize) (r : Token × ℕ) → k < n → token_from image position size ≡ Some r → is_end r.0.code.0 ≡ true
     → text_behind text (lines_from image (n - k) position size)
-    ≡ Ok ((text ++ line_text (token_line image position size r)) ++ flat_map line_text (trailing_from image r.1))
+    ≡ Ok ((text ++ line_text (token_line image position r)) ++ flat_map line_text (trailing_from image r.1))
 tokens_end text image n k position size r l h e =
     let less : n - k ≡ suc (n - (k + 1)) = omega arith in
-    rw (less, h, e) (text_more text (token_line image position size r) (Ok (trailing_from image r.1)))
+    rw (less, h, e) (text_more text (token_line image position r) (Ok (trailing_from image r.1)))
 
 -- no token
 pub tokens_cut : (text image : List ℕ) (n k position : ℕ) (size : OffsetSize) → k < n → token_from image position size ≡ None

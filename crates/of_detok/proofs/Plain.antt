@@ -5,10 +5,11 @@ use Rattle.std.specs.Option.{option_map}
 use Rattle.std.specs.Char.{digit_char}
 use Rattle.of_fcodes.specs.Rows.{Row, rows, first_rows, second_rows, third_rows, fourth_rows, fifth_rows, sixth_rows, seventh_rows}
 use Rattle.of_fcodes.specs.Lookup.{row_in, row_numbered, name_numbered}
-use Rattle.of_stream.specs.declared.stream.OffsetSize.{OffsetSize}
 use Rattle.of_stream.specs.Decoding.{Argument, Nothing, Literal, String, Code, Named, Offset, Token}
 use Rattle.of_detok.specs.Digits.{digits, pairs, place}
-use Rattle.of_detok.specs.Listing.{name_or, name, shown, quoted, target, operands, token_label, start_name, said_sum, actual_sum, said_length, unless_said, header_label}
+use Rattle.of_stream.specs.Targets.{target}
+use Rattle.of_detok.specs.Listing.{name_or, name, shown, quoted, wrapped, operands, token_label, start_name, said_sum, actual_sum}
+use Rattle.of_detok.specs.Listing.{said_length, unless_said, header_label}
 
 -- whether a text has no newline
 abbrev pub plain : List ℕ → Bool
@@ -102,21 +103,23 @@ plain_name n = plain_or (name_numbered n) n (λ text found. named_plain rows n t
 
 -- ---- labels
 
-plain_operands : (next : ℕ) (size : OffsetSize) (a : Argument) → plain (operands next size a) ≡ true
+plain_operands : (position : ℕ) (a : Argument) → plain (operands position a) ≡ true
 unfolding operands
-plain_operands next size Nothing = refl
-plain_operands next size (Literal x) = plain_append (codes " ") (digits 8 x.0) refl (plain_digits 8 x.0)
-plain_operands next size (String s) = plain_append (codes " ") (quoted s) refl (plain_quoted s)
-plain_operands next size (Code c) = plain_append (codes " ") (digits 3 c.0) refl (plain_digits 3 c.0)
-plain_operands next size (Named s c) =
+plain_operands position Nothing = refl
+plain_operands position (Literal x) = plain_append (codes " ") (digits 8 x.0) refl (plain_digits 8 x.0)
+plain_operands position (String s) = plain_append (codes " ") (quoted s) refl (plain_quoted s)
+plain_operands position (Code c) = plain_append (codes " ") (digits 3 c.0) refl (plain_digits 3 c.0)
+plain_operands position (Named s c) =
     plain_append (codes " " ++ quoted s ++ codes " ") (digits 3 c.0)
     (plain_append (codes " " ++ quoted s) (codes " ") (plain_append (codes " ") (quoted s) refl (plain_quoted s)) refl)
     (plain_digits 3 c.0)
-plain_operands next size (Offset by) = plain_append (codes " -> ") (digits 6 (target next size by)) refl (plain_digits 6 (target next size by))
+plain_operands position (Offset by) =
+    plain_append (codes " -> ") (digits 6 (wrapped (target position by))) refl (plain_digits 6 (wrapped (target position by)))
 
 -- of a token
-pub plain_token : (next : ℕ) (size : OffsetSize) (t : Token) → plain (token_label next size t) ≡ true
-plain_token next size t = plain_append (name t.code.0) (operands next size t.argument) (plain_name t.code.0) (plain_operands next size t.argument)
+pub plain_token : (position : ℕ) (t : Token) → plain (token_label position t) ≡ true
+plain_token position t =
+    plain_append (name t.code.0) (operands position t.argument) (plain_name t.code.0) (plain_operands position t.argument)
 
 plain_if : (t : Bool) (a b : List ℕ) → plain a ≡ true → plain b ≡ true → plain (cond t a b) ≡ true
 plain_if true a b h k = h

@@ -1,32 +1,28 @@
 -- The text of lines that lie one behind another means their bytes.
-use Rattle.std.proofs.Common.{◌≡◌, ℕ, suc, ◌+◌, ◌<◌, List, [], ◌∷◌, ◌++◌, length, take, drop, codes, Some, Result, Ok, Err, true, get_or, refl, sym, ap, ◌∙◌, arith, append_assoc}
+use Rattle.std.proofs.Common.{◌≡◌, ℕ, ◌+◌, ◌<◌, List, [], ◌∷◌, ◌++◌, length, take, drop, codes, Some, Result, Ok, Err, true, refl, sym, ap, ◌∙◌, arith, append_assoc}
 use Rattle.std.proofs.lemmas.List.{length-append, append-nil, take_at, drop_at}
+use Rattle.std.proofs.lemmas.List.Elements.{recursion_from_All}
 use Rattle.std.specs.List.{AllByRecursion, flat_map}
+use Rattle.of_stream.specs.Bytes.{AreBytes}
 use Rattle.of_stream.specs.declared.fault.StreamFault.{StreamFault}
 use Rattle.of_stream.specs.Decoding.{TokenStandsAlone}
 use Rattle.of_detok.specs.Digits.{pairs, place}
-use Rattle.of_detok.specs.declared.fault.DetokFault.{DetokFault}
-use Rattle.of_detok.specs.declared.fault.DetokFault.TheVariants as fault
-use Rattle.of_detok.specs.Listing.{Line, line_text, lines_of, text_behind, IsRefused}
-use Rattle.of_detok.specs.Reading.{text_lines, some_bytes, line_bytes, bytes_behind, read_lines, IsBytes, IsUnread, ListingReadsBack}
+use Rattle.of_detok.specs.Listing.{Line, line_text, lines_of, text_behind}
+use Rattle.of_detok.specs.Reading.{text_lines, some_bytes, line_bytes, bytes_behind, read_lines, ListingReadsBack}
 use Rattle.of_detok.proofs.Plain.{plain, plain_parts, plain_append, plain_place, plain_pairs}
 use Rattle.of_detok.proofs.Digits16.{paired-pairs, length-place, same_text}
 use Rattle.of_detok.proofs.Laid.{IsLaid, lines_laid}
 
-abbrev AreBytes : List ℕ → Type 0
-AreBytes = AllByRecursion (λ b. b < 256)
+abbrev EachByte : List ℕ → Type 0
+EachByte = AllByRecursion (λ b. b < 256)
 
-bytes_left : (a b : List ℕ) → AreBytes (a ++ b) → AreBytes a
+bytes_left : (a b : List ℕ) → EachByte (a ++ b) → EachByte a
 bytes_left [] b h = tt
 bytes_left (x ∷ a) b h = (h.0, bytes_left a b h.1)
 
-bytes_right : (a b : List ℕ) → AreBytes (a ++ b) → AreBytes b
+bytes_right : (a b : List ℕ) → EachByte (a ++ b) → EachByte b
 bytes_right [] b h = h
 bytes_right (x ∷ a) b h = bytes_right a b h.1
-
-all_bytes : (xs : List ℕ) → ((i : ℕ) → get_or xs i 0 < 256) → AreBytes xs
-all_bytes [] h = tt
-all_bytes (x ∷ xs) h = (h 0, all_bytes xs (λ i. h (suc i)))
 
 -- the first line of a text
 first-line : (line more : List ℕ) → plain line ≡ true → text_lines (line ++ 10 ∷ more) ≡ line ∷ text_lines more
@@ -57,7 +53,7 @@ some-bytes : (bytes : List ℕ) → 0 < length bytes → some_bytes (Some bytes)
 some-bytes [] h = absurd (omega (arith, h))
 some-bytes (b ∷ bytes) h = refl
 
-bytes_at : (before : ℕ) (bytes label : List ℕ) → AreBytes bytes → 0 < length bytes → line_bytes before (place before ++ (pairs bytes ++ (codes "  " ++ label))) ≡ Some bytes
+bytes_at : (before : ℕ) (bytes label : List ℕ) → EachByte bytes → 0 < length bytes → line_bytes before (place before ++ (pairs bytes ++ (codes "  " ++ label))) ≡ Some bytes
 unfolding line_bytes
 bytes_at before bytes label all some =
     let tail = pairs bytes ++ (codes "  " ++ label) in
@@ -65,17 +61,17 @@ bytes_at before bytes label all some =
     let rest : drop 8 (place before ++ tail) ≡ tail = drop_at (place before) tail 8 (length-place before) in
     rw (head, rest, same_text (place before), paired-pairs bytes label all) (some-bytes bytes some)
 
-bytes_on : (before : ℕ) (l : Line) → l.before ≡ before → AreBytes l.bytes → 0 < length l.bytes → line_bytes before (body l) ≡ Some l.bytes
+bytes_on : (before : ℕ) (l : Line) → l.before ≡ before → EachByte l.bytes → 0 < length l.bytes → line_bytes before (body l) ≡ Some l.bytes
 bytes_on before l at all some = ap (line_bytes before) (body-parts l) ∙ ap (λ n. line_bytes before (place n ++ (pairs l.bytes ++ (codes "  " ++ l.label)))) at ∙ bytes_at before l.bytes l.label all some
 
 -- the lines of a text are read one by one
-read_laid : (number before : ℕ) (image : List ℕ) (lines : List Line) (bytes : List ℕ) → length image ≡ before → AreBytes bytes → IsLaid before lines bytes
+read_laid : (number before : ℕ) (image : List ℕ) (lines : List Line) (bytes : List ℕ) → length image ≡ before → EachByte bytes → IsLaid before lines bytes
     → read_lines number image (text_lines (flat_map line_text lines)) ≡ Ok (image ++ bytes)
 unfolding text_lines
 read_laid number before image [] bytes at all laid = ap (λ xs. Ok xs) (sym (append-nil image) ∙ ap (λ xs. image ++ xs) (sym laid))
 read_laid number before image (l ∷ lines) bytes at all laid =
     let rest = laid.0 in
-    let both : AreBytes (l.bytes ++ rest) = rw laid.1 at all in
+    let both : EachByte (l.bytes ++ rest) = rw laid.1 at all in
     let split : text_lines (line_text l ++ flat_map line_text lines) ≡ body l ∷ text_lines (flat_map line_text lines) =
     ap text_lines (line-text l (flat_map line_text lines)) ∙ first-line (body l) (flat_map line_text lines) (plain_body l laid.4) in
     let own : line_bytes (length image) (body l) ≡ Some l.bytes = bytes_on (length image) l (laid.2 ∙ sym at) (bytes_left l.bytes rest both) laid.3 in
@@ -86,27 +82,13 @@ read_laid number before image (l ∷ lines) bytes at all laid =
     ∙ later
     ∙ ap (λ xs. Ok xs) (append_assoc image l.bytes rest ∙ ap (λ xs. image ++ xs) (sym laid.1))
 
-back_by : TokenStandsAlone → (image text : List ℕ) (r : Result (List Line) StreamFault) → lines_of image ≡ r → IsBytes image → text_behind [] r ≡ Ok text
+back_by : TokenStandsAlone → (image text : List ℕ) (r : Result (List Line) StreamFault) → lines_of image ≡ r → AreBytes image → text_behind [] r ≡ Ok text
     → read_lines 1 [] (text_lines text) ≡ Ok image
 back_by law image text (Err f) e all h = absurd cc
 back_by law image text (Ok lines) e all h =
     let same : flat_map line_text lines ≡ text = cc in
-    rw (← same) (read_laid 1 0 [] lines image refl (all_bytes image all) (lines_laid law image lines e))
+    rw (← same) (read_laid 1 0 [] lines image refl (recursion_from_All (λ b. b < 256) image all) (lines_laid law image lines e))
 
 -- each listing reads back
 pub reads_back : TokenStandsAlone → ListingReadsBack
 reads_back law image text all h = back_by law image text (lines_of image) refl all h
-
-abbrev fine : List ℕ → Result (List ℕ) ℕ
-fine bytes = Ok bytes
-
--- a text means one image
-pub one_meaning : (r : Result (List ℕ) ℕ) (a b : List ℕ) → r ≡ fine a → r ≡ fine b → b ≡ a
-one_meaning (Ok x) a b h k = cc
-one_meaning (Err n) a b h k = absurd cc
-
--- a text that means an image is unread for want of memory alone
-pub never_unread : {A : Type 0} (r : Result (List ℕ) ℕ) (image : List ℕ) (s : Result A StreamFault) (f : DetokFault) → r ≡ fine image → IsUnread r f → IsRefused s f
-never_unread r image s fault.NoMemory h k = tt
-never_unread r image s (fault.Stream g) h k = absurd k
-never_unread r image s (fault.BadLine n) h k = let no : fine image ≡ Err n = sym h ∙ k in absurd cc

@@ -1,13 +1,15 @@
 -- The listing of an image, a line for each token (IEEE 1275-1994, 5.2.2).
-use Rattle.std.specs.Prelude.{◌≡◌, ℕ, zero, suc, ◌+◌, ◌-◌, ◌*◌, ◌/◌, ◌%◌, ℤ, pos, negsuc, ◌+ℤ◌, ◌≤◌, List, [], ◌∷◌, ◌++◌, map, length, take, drop, slice_index, slice_range, codes, Option, Some, None, Result, Ok, Err, Bool, ◌||◌, nat_eq, nat_lt, if◌then◌else◌}
+use Rattle.std.specs.Prelude.{◌≡◌, ℕ, zero, suc, ◌+◌, ◌-◌, ◌*◌, ◌/◌, ◌%◌, ℤ, pos, negsuc, ◌≤◌, List, [], ◌∷◌, ◌++◌, map, length, take, drop}
+use Rattle.std.specs.Prelude.{slice_index, slice_range, codes, Option, Some, None, Result, Ok, Err, nat_eq, nat_lt, if◌then◌else◌}
 use Rattle.std.specs.List.{sum, flat_map}
 use Rattle.of_fcodes.specs.Lookup.{name_numbered}
 use Rattle.of_stream.specs.declared.fault.StreamFault.{StreamFault}
 use Rattle.of_stream.specs.declared.fault.StreamFault.TheVariants.{Ended}
 use Rattle.of_stream.specs.declared.stream.OffsetSize.{OffsetSize}
-use Rattle.of_stream.specs.declared.stream.OffsetSize.TheVariants.{One, Two}
 use Rattle.of_stream.specs.Decoding.{Argument, Nothing, Literal, String, Code, Named, Offset, Token, token_from}
-use Rattle.of_stream.specs.Image.{header_fault, first_size}
+use Rattle.of_stream.specs.Image.{header_fault, header_length, first_size}
+use Rattle.of_stream.specs.Sizes.{is_end, size_behind}
+use Rattle.of_stream.specs.Targets.{target}
 use Rattle.of_detok.specs.declared.fault.DetokFault.{DetokFault}
 use Rattle.of_detok.specs.declared.fault.DetokFault.TheVariants as fault
 use Rattle.of_detok.specs.Digits.{digits, pairs, place}
@@ -43,32 +45,23 @@ shown b = if nat_lt b 0x20 then 46 else if nat_lt 0x7e b then 46 else b
 unfoldable pub quoted : List ℕ → List ℕ
 quoted bytes = codes "\"" ++ map shown bytes ++ codes "\""
 
--- how many bytes an offset has
-abbrev pub width : OffsetSize → ℕ
-width One = 1
-width Two = 2
-
 -- an integer modulo 2^24
 abbrev pub wrapped : ℤ → ℕ
 wrapped (pos n) = n % 0x1000000
 wrapped (negsuc n) = 0xffffff - n % 0x1000000
 
--- where the offset at the end of a token leads, counted from the offset's first byte
-unfoldable pub target : ℕ → OffsetSize → ℤ → ℕ
-target next size by = wrapped (pos (next - width size) +ℤ by)
-
--- the operands of a token before a position, each behind a space
-unfoldable pub operands : ℕ → OffsetSize → Argument → List ℕ
-operands next size Nothing = []
-operands next size (Literal x) = codes " " ++ digits 8 x.0
-operands next size (String s) = codes " " ++ quoted s
-operands next size (Code c) = codes " " ++ digits 3 c.0
-operands next size (Named s c) = codes " " ++ quoted s ++ codes " " ++ digits 3 c.0
-operands next size (Offset by) = codes " -> " ++ digits 6 (target next size by)
+-- the operands of the token at a position, each behind a space; an offset by where it leads
+unfoldable pub operands : ℕ → Argument → List ℕ
+operands position Nothing = []
+operands position (Literal x) = codes " " ++ digits 8 x.0
+operands position (String s) = codes " " ++ quoted s
+operands position (Code c) = codes " " ++ digits 3 c.0
+operands position (Named s c) = codes " " ++ quoted s ++ codes " " ++ digits 3 c.0
+operands position (Offset by) = codes " -> " ++ digits 6 (wrapped (target position by))
 
 -- name and operands
-abbrev pub token_label : ℕ → OffsetSize → Token → List ℕ
-token_label next size t = name t.code.0 ++ operands next size t.argument
+abbrev pub token_label : ℕ → Token → List ℕ
+token_label position t = name t.code.0 ++ operands position t.argument
 
 -- ---- the label of a header
 
@@ -85,11 +78,12 @@ abbrev pub said_sum : List ℕ → ℕ
 said_sum image = slice_index image 2 * 256 + slice_index image 3
 
 unfoldable pub actual_sum : List ℕ → ℕ
-actual_sum image = sum (drop 8 image) % 65536
+actual_sum image = sum (drop header_length image) % 65536
 
 -- the length that a header says
 abbrev pub said_length : List ℕ → ℕ
-said_length image = ((slice_index image 4 * 256 + slice_index image 5) * 256 + slice_index image 6) * 256 + slice_index image 7
+said_length image =
+    ((slice_index image 4 * 256 + slice_index image 5) * 256 + slice_index image 6) * 256 + slice_index image 7
 
 -- a number where the header says another
 abbrev pub unless_said : List ℕ → ℕ → ℕ → ℕ → List ℕ
@@ -114,59 +108,59 @@ trailing (suc more) before bytes =
 abbrev pub trailing_from : List ℕ → ℕ → List Line
 trailing_from image position = trailing ((length image - position + 15) / 16) position (drop position image)
 
--- a line before others
-abbrev pub line_before : Line → Result (List Line) StreamFault → Result (List Line) StreamFault
+-- lines, or what is wrong with the image
+abbrev pub Lines : Type 0
+Lines = Result (List Line) StreamFault
+
+-- a line, and then others if there are any
+abbrev pub line_before : Line → Lines → Lines
 line_before l (Ok lines) = Ok (l ∷ lines)
 line_before l (Err f) = Err f
 
--- the token at a position
-abbrev pub token_line : List ℕ → ℕ → OffsetSize → Token × ℕ → Line
-token_line image position size r =
-    record { before = position; bytes = slice_range image position r.1; label = token_label r.1 size r.0 }
+-- the line of a token at a position, which is given with the position behind it
+abbrev pub token_line : List ℕ → ℕ → Token × ℕ → Line
+token_line image position r =
+    record { before = position; bytes = slice_range image position r.1; label = token_label position r.0 }
 
--- `end0` and `end1` end an image
-abbrev pub is_end : ℕ → Bool
-is_end code = nat_eq code 0x000 || nat_eq code 0x0ff
-
--- `offset16` changes the size of the offsets behind it
-abbrev pub size_behind : ℕ → OffsetSize → OffsetSize
-size_behind code size = if nat_eq code 0x0cc then Two else size
-
--- the line of a token, and what follows
-abbrev pub token_lines : List ℕ → ℕ → OffsetSize → Option (Token × ℕ) → (ℕ → OffsetSize → Result (List Line) StreamFault) → Result (List Line) StreamFault
-token_lines image position size None next = Err (Ended position)
-token_lines image position size (Some r) next = line_before (token_line image position size r) (
-    if is_end r.0.code.0 then Ok (trailing_from image r.1) else next r.1 (size_behind r.0.code.0 size)
+-- The lines from a position on, by the token that is read there; without one the image ends too early.
+-- Behind an end token all is trailing, and behind another one the next lines follow.
+abbrev pub token_lines : List ℕ → ℕ → OffsetSize → Option (Token × ℕ) → (ℕ → OffsetSize → Lines) → Lines
+token_lines image position size None next_lines = Err (Ended position)
+token_lines image position size (Some r) next_lines = line_before (token_line image position r) (
+    if is_end r.0.code.0 then Ok (trailing_from image r.1) else next_lines r.1 (size_behind r.0.code.0 size)
     )
 
 -- the lines from a position to the end of the image, with at most n tokens
-abbrev pub lines_from : List ℕ → ℕ → ℕ → OffsetSize → Result (List Line) StreamFault
+abbrev pub lines_from : List ℕ → ℕ → ℕ → OffsetSize → Lines
 lines_from image zero position size = Err (Ended position)
-lines_from image (suc n) position size = token_lines image position size (token_from image position size) (lines_from image n)
+lines_from image (suc n) position size =
+    token_lines image position size (token_from image position size) (lines_from image n)
 
 -- the lines behind the header's; a token has a byte at least, so there are no more tokens than bytes
-abbrev pub lines_behind : List ℕ → Result (List Line) StreamFault
-lines_behind image = lines_from image (length image) 8 (first_size image)
+abbrev pub lines_behind : List ℕ → Lines
+lines_behind image = lines_from image (length image) header_length (first_size image)
 
 -- the bound on the number of tokens cuts nothing: a larger one gives the same lines
 abbrev pub BoundCutsNothing : Type 0
-BoundCutsNothing = (image : List ℕ) (n : ℕ) → length image ≤ n → lines_from image n 8 (first_size image) ≡ lines_behind image
+BoundCutsNothing =
+    (image : List ℕ) (n : ℕ) → length image ≤ n
+    → lines_from image n header_length (first_size image) ≡ lines_behind image
 
 -- the line of the header
 abbrev pub header_line : List ℕ → Line
-header_line image = record { before = 0; bytes = take 8 image; label = header_label image }
+header_line image = record { before = 0; bytes = take header_length image; label = header_label image }
 
 -- the lines of an image whose header has this fault, or none
-abbrev pub lines_if : List ℕ → Option StreamFault → Result (List Line) StreamFault
+abbrev pub lines_if : List ℕ → Option StreamFault → Lines
 lines_if image (Some f) = Err f
 lines_if image None = line_before (header_line image) (lines_behind image)
 
 -- the lines of an image: the header, the tokens up to the end token, and what trails
-unfoldable pub lines_of : List ℕ → Result (List Line) StreamFault
+unfoldable pub lines_of : List ℕ → Lines
 lines_of image = lines_if image (header_fault image)
 
 -- the text of these lines behind another
-abbrev pub text_behind : List ℕ → Result (List Line) StreamFault → Result (List ℕ) StreamFault
+abbrev pub text_behind : List ℕ → Lines → Result (List ℕ) StreamFault
 text_behind text (Ok lines) = Ok (text ++ flat_map line_text lines)
 text_behind text (Err f) = Err f
 

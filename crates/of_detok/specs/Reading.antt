@@ -1,6 +1,8 @@
 -- What a listing means: the bytes on its lines, joined.
-use Rattle.std.specs.Prelude.{◌≡◌, ℕ, ◌+◌, ◌*◌, ◌<◌, List, [], ◌∷◌, ◌++◌, length, take, drop, slice_index, Option, Some, None, Result, Ok, Err, Bool, ◌&&◌, nat_eq, if◌then◌else◌}
+use Rattle.std.specs.Prelude.{◌≡◌, ℕ, ◌+◌, ◌*◌, List, [], ◌∷◌, ◌++◌, length, take, drop, Option, Some, None, Result, Ok, Err}
+use Rattle.std.specs.Prelude.{Bool, ◌&&◌, nat_eq, if◌then◌else◌}
 use Rattle.std.specs.Str.{str_eq_ignore_ascii_case}
+use Rattle.of_stream.specs.Bytes.{AreBytes}
 use Rattle.of_detok.specs.declared.fault.DetokFault.{DetokFault}
 use Rattle.of_detok.specs.declared.fault.DetokFault.TheVariants as fault
 use Rattle.of_detok.specs.Digits.{digit_value, place}
@@ -34,7 +36,8 @@ are_spaces a b = nat_eq a 0x20 && nat_eq b 0x20
 unfoldable pub paired : List ℕ → Option (List ℕ)
 paired [] = None
 paired (a ∷ []) = None
-paired (a ∷ b ∷ text) = if are_spaces a b then Some [] else byte_before (byte_of (digit_value a) (digit_value b)) (paired text)
+paired (a ∷ b ∷ text) =
+    if are_spaces a b then Some [] else byte_before (byte_of (digit_value a) (digit_value b)) (paired text)
 
 -- at least one byte
 abbrev pub some_bytes : Option (List ℕ) → Option (List ℕ)
@@ -46,16 +49,16 @@ unfoldable pub line_bytes : ℕ → List ℕ → Option (List ℕ)
 line_bytes before line =
     if str_eq_ignore_ascii_case (take 8 line) (place before) then some_bytes (paired (drop 8 line)) else None
 
--- the bytes so far with those of a line and of what follows; or the number of the line
+-- the bytes so far with those of a line, and what follows them; or the number of the line
 abbrev pub bytes_behind : ℕ → List ℕ → Option (List ℕ) → (List ℕ → Result (List ℕ) ℕ) → Result (List ℕ) ℕ
-bytes_behind number image None next = Err number
-bytes_behind number image (Some bytes) next = next (image ++ bytes)
+bytes_behind number image None following = Err number
+bytes_behind number image (Some bytes) following = following (image ++ bytes)
 
--- the bytes so far with those on lines from this number on; or the number of the first line that isn't one
+-- the bytes so far with those on the lines from this number on; or the number of the first line that isn't one
 abbrev pub read_lines : ℕ → List ℕ → List (List ℕ) → Result (List ℕ) ℕ
 read_lines number image [] = Ok image
 read_lines number image (line ∷ lines) =
-    bytes_behind number image (line_bytes (length image) line) (λ more. read_lines (number + 1) more lines)
+    bytes_behind number image (line_bytes (length image) line) (λ longer. read_lines (number + 1) longer lines)
 
 -- the image that a text means, or the number of its first line that isn't one, from 1
 abbrev pub meaning : List ℕ → Result (List ℕ) ℕ
@@ -67,10 +70,6 @@ IsUnread r fault.NoMemory = Unit {0}
 IsUnread r (fault.Stream f) = ⊥
 IsUnread r (fault.BadLine n) = r ≡ Err n
 
--- each number is a byte
-abbrev pub IsBytes : List ℕ → Type 0
-IsBytes image = (i : ℕ) → slice_index image i < 256
-
--- each listing reads back
+-- each listing of bytes reads back
 abbrev pub ListingReadsBack : Type 0
-ListingReadsBack = (image text : List ℕ) → IsBytes image → listed image ≡ Ok text → meaning text ≡ Ok image
+ListingReadsBack = (image text : List ℕ) → AreBytes image → listed image ≡ Ok text → meaning text ≡ Ok image

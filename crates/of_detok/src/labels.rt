@@ -1,14 +1,17 @@
 // What is said behind the bytes of a line. Each function that writes puts its text behind what
 // stands there.
 
-ghost use Rattle.std.specs.Prelude.{◌≡◌, ◌<◌, ◌≤◌, ◌+◌, ◌*◌, ◌^◌, ◌%◌, pos, ◌+ℤ◌, ◌++◌, codes, length, map, OnOk, slice_index};
-ghost use Rattle.of_detok.specs.Listing.{name, shown, quoted, width, wrapped, target, operands, token_label, start_name, actual_sum, said_sum, said_length, unless_said, header_label};
+ghost use Rattle.std.specs.Prelude.{◌≡◌, ◌<◌, ◌≤◌, ◌+◌, ◌^◌, ◌++◌, codes, length, map, OnOk, slice_index};
+ghost use Rattle.of_detok.specs.Listing.{name, shown, quoted, wrapped, operands, token_label, start_name};
+ghost use Rattle.of_detok.specs.Listing.{actual_sum, said_sum, said_length, unless_said, header_label};
 ghost use Rattle.of_detok.specs.Digits.{digits};
 ghost use Rattle.of_stream.specs.Decoding.{argument_shown, token_shown};
+ghost use Rattle.of_stream.specs.Image.{header_length};
+ghost use Rattle.of_stream.specs.Targets.{target};
 
 use crate::line::write_digits;
 use of_fcodes::{FCode, name_of};
-use of_stream::{Argument, HEADER_LENGTH, OffsetSize, Token};
+use of_stream::{Argument, HEADER_LENGTH, Token, target_at};
 use std::alloc::AllocError;
 
 /// Writes an FCode in three digits.
@@ -64,51 +67,26 @@ fn write_shown(out: &mut Vec<u8>, text: &[u8]) -> Result<(), AllocError>
     Ok(())
 }
 
-/// How many bytes an offset has.
-#[inline]
-fn width(size: OffsetSize) -> usize
-    ensures { result ≡ width size }
+/// Where the offset of the token at a position leads, modulo 2^24.
+fn target_shown(position: usize, by: i16) -> usize
+    requires { position < 2 ^ 63 }
+    ensures { result ≡ wrapped (target position by) }
 {
-    match size {
-        OffsetSize::One => 1,
-        OffsetSize::Two => 2,
+    match target_at(position, by) {
+        Some(target) => target % 0x100_0000,
+        None => 0xff_ffff - (usize::from(by.unsigned_abs()) - position - 2) % 0x100_0000,
     }
 }
 
-/// The position so far from another, modulo 2^24.
-fn moved(from: usize, by: i16) -> usize
-    requires { from < 2 ^ 63 }
-    ensures { result ≡ wrapped (pos from +ℤ by) }
-{
-    let length = usize::from(by.unsigned_abs());
-    if by >= 0 {
-        return (from + length) % 0x100_0000;
-    }
-    if length <= from {
-        return (from - length) % 0x100_0000;
-    }
-    0xff_ffff - (length - from - 1) % 0x100_0000
-}
-
-/// Where the offset at the end of a token leads, modulo 2^24.
-#[tactic(auto, unfolding(crate::specs::Listing::target))]
-fn target_of(next: usize, size: OffsetSize, by: i16) -> usize
-    requires { next < 2 ^ 63 }
-    ensures { result ≡ target next size by }
-{
-    moved(next.saturating_sub(width(size)), by)
-}
-
-/// Writes the operands of a token before a position, each behind a space.
+/// Writes the operands of the token at a position, each behind a space.
 #[tactic(auto, unfolding(crate::specs::Listing::operands), using(std::proofs::lemmas::List::append_assoc))]
 fn write_operands(
     out: &mut Vec<u8>,
-    next: usize,
-    size: OffsetSize,
+    position: usize,
     argument: Argument<'_>,
 ) -> Result<(), AllocError>
-    requires { next < 2 ^ 63 }
-    ensures { OnOk result (out.new.items ≡ out.old.items ++ operands next size (argument_shown argument.entry)) }
+    requires { position < 2 ^ 63 }
+    ensures { OnOk result (out.new.items ≡ out.old.items ++ operands position (argument_shown argument.entry)) }
 {
     match argument {
         Argument::Nothing => Ok(()),
@@ -132,24 +110,19 @@ fn write_operands(
         }
         Argument::Offset(by) => {
             out.extend_from_slice(b" -> ")?;
-            write_digits(out, 6, target_of(next, size, by))
+            write_digits(out, 6, target_shown(position, by))
         }
     }
 }
 
-/// Writes the name and the operands of a token before a position.
+/// Writes the name and the operands of the token at a position.
 #[tactic(auto, using(std::proofs::lemmas::List::append_assoc))]
-pub fn write_token(
-    out: &mut Vec<u8>,
-    next: usize,
-    size: OffsetSize,
-    token: Token<'_>,
-) -> Result<(), AllocError>
-    requires { next < 2 ^ 63 }
-    ensures { OnOk result (out.new.items ≡ out.old.items ++ token_label next size (token_shown token.entry)) }
+pub fn write_token(out: &mut Vec<u8>, position: usize, token: Token<'_>) -> Result<(), AllocError>
+    requires { position < 2 ^ 63 }
+    ensures { OnOk result (out.new.items ≡ out.old.items ++ token_label position (token_shown token.entry)) }
 {
     write_name(out, token.code)?;
-    write_operands(out, next, size, token.argument)
+    write_operands(out, position, token.argument)
 }
 
 /// The word that a start byte stands for.
@@ -167,7 +140,7 @@ fn start_name(start: u8) -> &'static [u8]
 /// The low sixteen bits of the sum of the bytes behind the header.
 #[tactic(auto, unfolding(crate::specs::Listing::actual_sum))]
 fn actual_sum(image: &[u8]) -> usize
-    requires { 8 ≤ length image.now }
+    requires { header_length ≤ length image.now }
     ensures { result ≡ actual_sum image.now }
 {
     let mut sum = 0;
@@ -179,7 +152,7 @@ fn actual_sum(image: &[u8]) -> usize
 
 /// The checksum that a header says.
 fn said_sum(image: &[u8]) -> usize
-    requires { 8 ≤ length image.now }
+    requires { header_length ≤ length image.now }
     ensures { result ≡ said_sum image.now }
 {
     usize::from(image[2]) * 0x100 + usize::from(image[3])
@@ -187,7 +160,7 @@ fn said_sum(image: &[u8]) -> usize
 
 /// The length that a header says.
 fn said_length(image: &[u8]) -> usize
-    requires { 8 ≤ length image.now }
+    requires { header_length ≤ length image.now }
     ensures { result ≡ said_length image.now }
 {
     let high = usize::from(image[4]) * 0x100 + usize::from(image[5]);
@@ -217,7 +190,7 @@ fn write_unless_said(
 /// Writes the start word, and the checksum and the length where the header says others.
 #[tactic(auto, unfolding(crate::specs::Listing::header_label), using(std::proofs::lemmas::List::append_assoc))]
 pub fn write_header(out: &mut Vec<u8>, image: &[u8]) -> Result<(), AllocError>
-    requires { 8 ≤ length image.now }
+    requires { header_length ≤ length image.now }
     ensures { OnOk result (out.new.items ≡ out.old.items ++ header_label image.now) }
 {
     out.extend_from_slice(start_name(image[0]))?;

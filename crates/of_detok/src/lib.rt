@@ -7,10 +7,8 @@ mod laws;
 mod line;
 mod lister;
 mod reader;
-#[cfg(test)]
-mod tests;
 
 pub use fault::DetokFault;
-pub use laws::{bound_cuts_nothing, listings_read_back, relisted};
+pub use laws::{bound_cuts_nothing, listings_read_back};
 pub use lister::listing;
 pub use reader::read_listing;

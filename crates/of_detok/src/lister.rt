@@ -1,13 +1,13 @@
 ghost use Rattle.std.specs.Prelude.{◌≡◌, ◌+◌, ◌-◌, ◌/◌, ◌≤◌, ◌<◌, ◌^◌, ◌++◌, codes, length, take, drop, IfOk, IfErr, OnOk, slice_range};
 ghost use Rattle.std.specs.List.{flat_map};
 ghost use Rattle.of_stream.specs.Decoding.{token_shown};
-ghost use Rattle.of_detok.specs.Listing.{header_line, line_text, token_line, trailing_from, is_end, size_behind, lines_behind, text_behind, listed, IsRefused};
+ghost use Rattle.of_stream.specs.Image.{header_length};
+ghost use Rattle.of_detok.specs.Listing.{header_line, line_text, token_line, trailing_from, lines_behind, text_behind, listed, IsRefused};
 
 use crate::fault::DetokFault;
 use crate::labels::{write_header, write_token};
 use crate::line::write_line;
-use of_fcodes::FCode;
-use of_stream::{HEADER_LENGTH, OffsetSize, Stream, StreamFault, Token, open};
+use of_stream::{HEADER_LENGTH, Stream, StreamFault, Token, open};
 use std::alloc::{AllocError, Global};
 
 /// How many bytes stand on a line behind the end token.
@@ -16,7 +16,7 @@ const TRAILING: usize = 16;
 /// Writes the line of the header.
 #[tactic(auto, unfolding(crate::specs::Listing::line_text), using(std::proofs::lemmas::List::append_assoc))]
 fn write_header_line(out: &mut Vec<u8>, image: &[u8]) -> Result<(), AllocError>
-    requires { 8 ≤ length image.now }
+    requires { header_length ≤ length image.now }
     ensures { OnOk result (out.new.items ≡ out.old.items ++ line_text (header_line image.now)) }
 {
     write_line(out, 0, &image[..HEADER_LENGTH])?;
@@ -31,16 +31,15 @@ fn write_token_line(
     out: &mut Vec<u8>,
     image: &[u8],
     position: usize,
-    size: OffsetSize,
     token: Token<'_>,
     next: usize,
 ) -> Result<(), AllocError>
     requires rises { position ≤ next }
     requires within { next ≤ length image.now }
-    ensures { OnOk result (out.new.items ≡ out.old.items ++ line_text (token_line image.now position size (token_shown token.entry, next))) }
+    ensures { OnOk result (out.new.items ≡ out.old.items ++ line_text (token_line image.now position (token_shown token.entry, next))) }
 {
     write_line(out, position, &image[position..next])?;
-    write_token(out, next, size, token)?;
+    write_token(out, position, token)?;
     out.push(b'\n')?;
     Ok(())
 }
@@ -77,29 +76,10 @@ fn write_trailing(out: &mut Vec<u8>, image: &[u8], position: usize) -> Result<()
     Ok(())
 }
 
-/// Whether an FCode ends an image.
-#[inline]
-fn is_end(code: FCode) -> bool
-    ensures { result ≡ is_end code.0 }
-{
-    matches!(code.0, 0x000 | 0x0ff)
-}
-
-/// The size of the offsets behind an FCode.
-#[inline]
-fn size_behind(code: FCode, size: OffsetSize) -> OffsetSize
-    ensures { result ≡ size_behind code.0 size }
-{
-    match code.0 {
-        0x0cc => OffsetSize::Two,
-        _ => size,
-    }
-}
-
 /// Writes the lines behind the header. A token has a byte at least, so there are no more tokens
 /// than bytes.
 fn write_tokens(out: &mut Vec<u8>, stream: Stream<'_>) -> Result<(), DetokFault>
-    requires { 8 ≤ length stream.image.now }
+    requires { header_length ≤ length stream.image.now }
     ensures ok { OnOk result (text_behind out.old.items (lines_behind stream.entry.image.now) ≡ Ok out.new.items) }
     ensures err { IfErr result (λ f. IsRefused (text_behind out.old.items (lines_behind stream.entry.image.now)) f) }
 {
@@ -107,13 +87,13 @@ fn write_tokens(out: &mut Vec<u8>, stream: Stream<'_>) -> Result<(), DetokFault>
     let mut size = stream.first_size();
     for _ in 0..stream.image.len() {
         let (token, next) = stream.token_at(position, size)?;
-        write_token_line(out, stream.image, position, size, token, next)?;
-        if is_end(token.code) {
+        write_token_line(out, stream.image, position, token, next)?;
+        if token.is_end() {
             write_trailing(out, stream.image, next)?;
             return Ok(());
         }
         position = next;
-        size = size_behind(token.code, size);
+        size = token.size_behind(size);
     }
     Err(DetokFault::Stream(StreamFault::Ended(position)))
 }

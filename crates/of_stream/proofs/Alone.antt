@@ -17,16 +17,16 @@ use Rattle.of_stream.specs.Decoding.{Argument, Nothing, Literal, String, Code, N
 abbrev IsAlone : {A : Type 0} → (List ℕ → Option (A × List ℕ)) → Type 0
 IsAlone {A} f = (bytes rest : List ℕ) (x : A) → f bytes ≡ Some (x, rest) → (own : List ℕ) × (bytes ≡ own ++ rest) × ((more : List ℕ) → f (own ++ more) ≡ Some (x, more))
 
-abbrev found : {A B : Type 0} → A → B → Option (A × B)
+abbrev pub found : {A B : Type 0} → A → B → Option (A × B)
 found a b = Some (a, b)
 
-first_of_some : {A B : Type 0} (a c : A) (b d : B) → found a b ≡ found c d → a ≡ c
+pub first_of_some : {A B : Type 0} (a c : A) (b d : B) → found a b ≡ found c d → a ≡ c
 first_of_some {A} {B} a c b d h = ap (λ (o : Option (A × B)). (unwrap_or {T = A × B} o (a, b)).0) h
 
-second_of_some : {A B : Type 0} (a c : A) (b d : B) → found a b ≡ found c d → b ≡ d
+pub second_of_some : {A B : Type 0} (a c : A) (b d : B) → found a b ≡ found c d → b ≡ d
 second_of_some {A} {B} a c b d h = ap (λ (o : Option (A × B)). (unwrap_or {T = A × B} o (a, b)).1) h
 
-second_alone : (b : ℕ) (bytes rest : List ℕ) (c : FCode) → second b bytes ≡ Some (c, rest)
+pub second_alone : (b : ℕ) (bytes rest : List ℕ) (c : FCode) → second b bytes ≡ Some (c, rest)
     → (x : ℕ) × (bytes ≡ x ∷ rest) × (c ≡ record { 0 = b * 256 + x })
 second_alone b [] rest c h = absurd cc
 second_alone b (x ∷ bytes) rest c h =
@@ -97,7 +97,7 @@ counted_alone : IsAlone counted
 counted_alone [] rest x h = absurd cc
 counted_alone (n ∷ bytes) rest x h = counted_by (nat_lt (length bytes) n) n bytes rest x refl h
 
-abbrev with_first : {A B : Type 0} → (A → B) → A × List ℕ → B × List ℕ
+abbrev pub with_first : {A B : Type 0} → (A → B) → A × List ℕ → B × List ℕ
 with_first g r = (g r.0, r.1)
 
 map_by : {A B : Type 0} (f : List ℕ → Option (A × List ℕ)) (g : A → B) → IsAlone f

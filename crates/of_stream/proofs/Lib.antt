@@ -1,1 +1,3 @@
 pub mod Alone
+pub mod ReadBack
+pub mod Undoing

@@ -15,9 +15,13 @@ start_fault start =
     if nat_eq start 0xfd then None else
     Some (BadStart start)
 
+-- how many bytes stand before the first token: start byte, format, checksum and length
+abbrev pub header_length : ℕ
+header_length = 8
+
 -- what is wrong with the header of an image
 unfoldable pub header_fault : List ℕ → Option StreamFault
-header_fault image = if nat_lt (length image) 8 then Some Short else start_fault (slice_index image 0)
+header_fault image = if nat_lt (length image) header_length then Some Short else start_fault (slice_index image 0)
 
 -- the offset size with which an image begins
 abbrev pub first_size : List ℕ → OffsetSize

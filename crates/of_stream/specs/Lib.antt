@@ -1,2 +1,5 @@
 pub mod Image
 pub mod Decoding
+pub mod Sizes
+pub mod Targets
+pub mod Bytes

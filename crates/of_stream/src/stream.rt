@@ -1,10 +1,13 @@
 ghost use Rattle.std.specs.Prelude.{◌≡◌, ◌<◌, ◌≤◌, length, MatchResult, IfOk, IfErr, OnOk, IfSome, Some, None};
 ghost use Rattle.std.specs.Option.{option_map};
-ghost use Rattle.of_stream.specs.Image.{header_fault, first_size};
+ghost use Rattle.of_stream.specs.Image.{header_fault, header_length, first_size};
+ghost use Rattle.of_stream.specs.Sizes.{width};
+ghost use Rattle.of_stream.specs.Targets.{landing};
 ghost use Rattle.of_stream.specs.Decoding.{token_from, token_shown};
 
 use crate::fault::StreamFault;
 use crate::operand::{read_argument, read_code};
+use crate::target::target_at;
 use crate::token::Token;
 use of_fcodes::operand_of;
 
@@ -18,6 +21,19 @@ pub enum OffsetSize {
     One,
     /// Two bytes.
     Two,
+}
+
+impl OffsetSize {
+    /// How many bytes an offset has: 1 or 2.
+    #[inline]
+    pub fn bytes(self) -> usize
+        ensures { result ≡ width self }
+    {
+        match self {
+            OffsetSize::One => 1,
+            OffsetSize::Two => 2,
+        }
+    }
 }
 
 /// The bytes of an image.
@@ -35,7 +51,7 @@ pub struct Stream<'a> {
 pub fn open(image: &[u8]) -> Result<Stream<'_>, StreamFault>
     ensures fault { MatchResult result (λ _. header_fault image.now ≡ None) (λ f. header_fault image.now ≡ Some f) }
     ensures image { IfOk result (λ s. s.image.now ≡ image.now) }
-    ensures long { OnOk result (8 ≤ length image.now) }
+    ensures long { OnOk result (header_length ≤ length image.now) }
 {
     if image.len() < HEADER_LENGTH {
         return Err(StreamFault::Short);
@@ -78,6 +94,20 @@ impl<'a> Stream<'a> {
             Some(found) => Ok(found),
             None => Err(StreamFault::Ended(position)),
         }
+    }
+
+    /// The position at which the image goes on where the offset of the token at a position is
+    /// followed; none where that lies before the first token, or at the end or past it.
+    #[inline]
+    pub fn landing(self, position: usize, by: i16) -> Option<usize>
+        requires { position < length self.image.now }
+        ensures { result ≡ landing (length self.entry.image.now) position by }
+    {
+        let target = target_at(position, by)?;
+        if target < HEADER_LENGTH || target >= self.image.len() {
+            return None;
+        }
+        Some(target)
     }
 }
 

@@ -1,3 +1,7 @@
+ghost use Rattle.std.specs.Prelude.{◌≡◌};
+ghost use Rattle.of_stream.specs.Sizes.{is_end, size_behind};
+
+use crate::stream::OffsetSize;
 use of_cells::Cell;
 use of_fcodes::FCode;
 
@@ -25,4 +29,25 @@ pub struct Token<'a> {
     pub code: FCode,
     /// What stands behind it.
     pub argument: Argument<'a>,
+}
+
+impl Token<'_> {
+    /// The size of the offsets behind the token: two bytes behind `offset16`, else as before it.
+    #[inline]
+    pub fn size_behind(&self, size: OffsetSize) -> OffsetSize
+        ensures { result ≡ size_behind self.now.code.0 size }
+    {
+        match self.code.0 {
+            0x0cc => OffsetSize::Two,
+            _ => size,
+        }
+    }
+
+    /// Whether the token ends an image, as `end0` and `end1` do.
+    #[inline]
+    pub fn is_end(&self) -> bool
+        ensures { result ≡ is_end self.now.code.0 }
+    {
+        matches!(self.code.0, 0x000 | 0x0ff)
+    }
 }

@@ -1,0 +1,216 @@
+//! Listings that were worked out by hand from the bytes of images (IEEE 1275-1994, 5.2.2).
+use of_detok::{DetokFault, bound_cuts_nothing, listing, listings_read_back, read_listing};
+use of_stream::StreamFault;
+use std::alloc::Global;
+use std::test::Fail;
+
+/// Images in hexadecimal, each with its listing, and an empty line between two. The first is
+/// `2 3 + .`; the second has every kind of operand and three lines behind its end; in the third
+/// branches lead forward; in the fourth, offsets have one byte and behind `offset16` two.
+const LISTINGS: &str = "\
+f108020a0000000da7a81e9d00
+000000: f108020a0000000d  start1
+000008: a7  2
+000009: a8  3
+00000a: 1e  +
+00000b: 9d  .
+00000c: 00  end0
+
+f308101b000000541000000000\
+10deadbeef119d12056122007f7e1200b6036162630800ca000801\
+13fff01480000ffffeff\
+000102030405060708090a0b0c0d0e0f101112131415161718191a1b1c1d1e1f20
+000000: f308101b00000054  start4 (sum 101a) (bytes 00000053)
+000008: 1000000000  b(lit) 00000000
+00000d: 10deadbeef  b(lit) deadbeef
+000012: 119d  b(') 09d
+000014: 12056122007f7e  b(\") \"a\"..~\"
+00001b: 1200  b(\") \"\"
+00001d: b6036162630800  named-token \"abc\" 800
+000024: ca000801  external-token \"\" 801
+000028: 13fff0  bbranch -> 000019
+00002b: 148000  b?branch -> ff802c
+00002e: 0fff  fcode-fff
+000030: fe  fcode-0fe
+000031: ff  end1
+000032: 000102030405060708090a0b0c0d0e0f  trailing
+000042: 101112131415161718191a1b1c1d1e1f  trailing
+000052: 20  trailing
+
+f10806640000001cb50800b7140006a6130004b2a7b2c2a508009d00
+000000: f10806640000001c  start1 (sum 0662)
+000008: b50800  new-token 800
+00000b: b7  b(:)
+00000c: 140006  b?branch -> 000013
+00000f: a6  1
+000010: 130004  bbranch -> 000015
+000013: b2  b(>resolve)
+000014: a7  2
+000015: b2  b(>resolve)
+000016: c2  b(;)
+000017: a5  0
+000018: 0800  fcode-800
+00001a: 9d  .
+00001b: 00  end0
+
+fd0803880000001213051480cc13fffe00
+000000: fd08038800000012  version1 (bytes 00000011)
+000008: 1305  bbranch -> 00000e
+00000a: 1480  b?branch -> ffff8b
+00000c: cc  offset16
+00000d: 13fffe  bbranch -> 00000c
+000010: 00  end0
+
+f200000000000009ff
+000000: f200000000000009  start2 (sum 00ff)
+000008: ff  end1
+
+f10800cc0000000acc00
+000000: f10800cc0000000a  start1
+000008: cc  offset16
+000009: 00  end0";
+
+#[test]
+fn listings(rt: HostRuntime) -> Result<(), Fail> {
+    for case in LISTINGS.split("\n\n") {
+        let (digits, lines) = case.split_once('\n').unwrap_or(("", ""));
+        let image = hex::decode(rt.alloc(), digits)?;
+        let listed = listing(rt.alloc(), &image)?;
+        assert_eq!(rt; listed.strip_suffix(b"\n"), Some(lines.as_bytes()), "{digits}");
+    }
+    Ok(())
+}
+
+/// The listings read back, without their last newline.
+#[test]
+fn images(rt: HostRuntime) -> Result<(), Fail> {
+    for case in LISTINGS.split("\n\n") {
+        let (digits, lines) = case.split_once('\n').unwrap_or(("", ""));
+        let image = hex::decode(rt.alloc(), digits)?;
+        let read = read_listing(rt.alloc(), lines.as_bytes())?;
+        assert_eq!(rt; read, image, "{digits}");
+    }
+    Ok(())
+}
+
+/// Images without a listing, and what is wrong with them.
+const FAULTS: &str = "\
+f1080000000000 Stream(Short)
+f1 Stream(Short)
+f008000000000000 Stream(Start0)
+00080000000000000000 Stream(BadStart(0))
+f108000000000000 Stream(Ended(8))
+f108000000000000a7a8 Stream(Ended(10))
+f108000000000000a712056162 Stream(Ended(9))
+";
+
+#[test]
+fn images_without_listing(rt: HostRuntime) -> Result<(), Fail> {
+    for line in FAULTS.lines() {
+        let (digits, wanted) = line.split_once(' ').unwrap_or(("", ""));
+        let image = hex::decode(rt.alloc(), digits)?;
+        let said = match listing(rt.alloc(), &image) {
+            Ok(_) => format!(in rt.alloc(); "none")?,
+            Err(fault) => format!(in rt.alloc(); "{fault:?}")?,
+        };
+        assert_eq!(rt; said.as_str(), wanted, "{line}");
+    }
+    Ok(())
+}
+
+/// Texts, a line each, where `/` stands for a newline, and behind `|` the bytes that they mean, or
+/// the number of the first line that is none of a listing.
+const TEXTS: &str = "\
+|
+000000: f1  /|f1
+000000: f1  |f1
+000000: F1aB  not read/000002: 00  |f1ab00
+000000: 00112233445566778899  /00000A: aa  /00000b: bb  |00112233445566778899aabb
+000000: 20  20  \r/|20
+/|BadLine(1)
+000000: f  |BadLine(1)
+000000: f1f  |BadLine(1)
+000000:   |BadLine(1)
+000000: f1 |BadLine(1)
+000000: f1 x|BadLine(1)
+000000: f1|BadLine(1)
+000000: g1  |BadLine(1)
+000000- f1  |BadLine(1)
+00000: f1  |BadLine(1)
+000001: f1  |BadLine(1)
+000000: f1  /000002: 00  /|BadLine(2)
+000000: f1  //000001: 00  |BadLine(2)
+000000: f1  /000001: 00  /x|BadLine(3)
+";
+
+/// What a text means, in hexadecimal, or what is wrong with it.
+fn meaning(alloc: Global, text: &[u8]) -> Result<String, Fail> {
+    match read_listing(alloc, text) {
+        Ok(image) => Ok(hex::encode(alloc, &image)?),
+        Err(fault) => Ok(format!(in alloc; "{fault:?}")?),
+    }
+}
+
+#[test]
+fn readings(rt: HostRuntime) -> Result<(), Fail> {
+    for line in TEXTS.lines() {
+        let (text, wanted) = line.split_once('|').unwrap_or(("", ""));
+        let text = text.replace(rt.alloc(), "/", "\n")?;
+        let said = meaning(rt.alloc(), text.as_bytes())?;
+        assert_eq!(rt; said.as_str(), wanted, "{line}");
+    }
+    Ok(())
+}
+
+/// What the faults say, a line each.
+const FAULT_TEXTS: &str = "\
+image ended in the token at 000009
+line 3: not a line of a listing
+out of memory
+";
+
+#[test]
+fn faults(rt: HostRuntime) -> Result<(), Fail> {
+    let said = format!(in rt.alloc();
+        "{}\n{}\n{}\n",
+        DetokFault::from(StreamFault::Ended(9)),
+        DetokFault::BadLine(3),
+        DetokFault::NoMemory
+    )?;
+    assert_eq!(rt; said.as_str(), FAULT_TEXTS);
+    Ok(())
+}
+
+const ONE: &[u8] = &[0xf1, 0, 0, 0, 0, 0, 0, 9, 0];
+
+const ONE_LISTED: &[u8] = b"000000: f100000000000009  start1\n000008: 00  end0\n";
+
+/// Whichever growth is refused, the answer is NoMemory, and a call with memory answers as ever.
+#[test]
+fn refused_memory(rt: HostRuntime) {
+    for _ in 0..99 {
+        match listing(rt.alloc(), ONE) {
+            Err(fault) => assert_eq!(rt; fault, DetokFault::NoMemory),
+            Ok(text) => {
+                assert_eq!(rt; text.as_slice(), ONE_LISTED);
+                break;
+            }
+        }
+    }
+    for _ in 0..99 {
+        match read_listing(rt.alloc(), ONE_LISTED) {
+            Err(fault) => assert_eq!(rt; fault, DetokFault::NoMemory),
+            Ok(image) => {
+                assert_eq!(rt; image.as_slice(), ONE);
+                break;
+            }
+        }
+    }
+}
+
+/// The laws hold.
+#[test]
+fn laws() {
+    bound_cuts_nothing();
+    listings_read_back();
+}
