@@ -3,7 +3,7 @@
 use Rattle.std.specs.Prelude.{ℕ, ◌+◌, ◌-◌, ◌||◌, nat_lt, List, [], ◌∷◌, length, Result}
 use Rattle.of_stacks.specs.declared.throws.Throw.{Throw}
 use Rattle.of_stacks.specs.Throws.{pictured_overflow, invalid_argument}
-use Rattle.of_stacks.specs.Order.{first_in}
+use Rattle.of_stacks.specs.Order.{refused_if}
 use Rattle.of_memory.specs.DataSpace.{DataSpace, written}
 use Rattle.of_memory.specs.Access.{number_at}
 
@@ -14,11 +14,11 @@ text_address count = 0x50_0100 - count
 -- the data space, and the count of the bytes held, with more bytes put before those held
 abbrev pub held : DataSpace → ℕ → List ℕ → Result (DataSpace × ℕ) Throw
 held m count bytes =
-    first_in ((nat_lt 128 (count + length bytes), pictured_overflow) ∷ [])
+    refused_if (nat_lt 128 (count + length bytes)) pictured_overflow
     (written m (text_address (count + length bytes)) bytes, count + length bytes)
 
 -- the number in the cell `base`, where it can be a base
 abbrev pub base_in : DataSpace → Result ℕ Throw
 base_in m =
-    first_in ((nat_lt (number_at m 0x50_0000 4) 2 || nat_lt 36 (number_at m 0x50_0000 4), invalid_argument) ∷ [])
+    refused_if (nat_lt (number_at m 0x50_0000 4) 2 || nat_lt 36 (number_at m 0x50_0000 4)) invalid_argument
     (number_at m 0x50_0000 4)

@@ -2,7 +2,7 @@
 use Rattle.std.specs.Prelude.{ℕ, List, Option, Some, None, Result, Ok, Err}
 use Rattle.of_cells.specs.declared.cells.Cell.{Cell}
 use Rattle.of_stacks.specs.declared.throws.Throw.{Throw}
-use Rattle.of_stacks.specs.Throws.{dictionary_overflow, invalid_address, read_only, misaligned, invalid_argument}
+use Rattle.of_stacks.specs.Throws.{aborted, dictionary_overflow, invalid_address, read_only, misaligned, invalid_argument}
 use Rattle.of_memory.specs.Access.{number_at}
 use Rattle.of_memory.specs.DataSpace.{DataSpace}
 use Rattle.of_memory.specs.declared.fault.MemFault.{MemFault}
@@ -21,14 +21,14 @@ data_of s m count = record { stack = s; memory = m; pictured = count }
 abbrev pub number : ℕ → Cell
 number n = record { 0 = n }
 
--- what a word throws for a fault of the data space; no word here takes memory
+-- what a word throws for a fault of the data space; a refused growth of memory is no throw, and not asked for here
 abbrev pub throw_of : MemFault → Throw
 throw_of Address = invalid_address
 throw_of Alignment = misaligned
 throw_of ReadOnly = read_only
 throw_of Full = dictionary_overflow
 throw_of BadBlock = invalid_argument
-throw_of NoMemory = dictionary_overflow
+throw_of NoMemory = aborted
 
 -- the answer of a call on the data space, with its fault as a throw
 abbrev pub thrown : {A : Type 0} → Result A MemFault → Result A Throw

@@ -4,3 +4,4 @@ pub mod Memory
 pub mod Text
 pub mod Numbers
 pub mod Prims
+pub mod Listed

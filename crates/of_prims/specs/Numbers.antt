@@ -1,6 +1,6 @@
 -- What each word of the group Numbers makes of the data stack, the top first, of the data space and of the pictured
 -- text, or what it throws (IEEE 1275-1994, annex A; Forth 2012, 6.1.0490, 6.1.1670, 6.1.2210, 6.1.0030,
--- 6.1.0050, 6.1.0040, 6.1.0750). The words that print are run elsewhere.
+-- 6.1.0050, 6.1.0040, 6.1.0750).
 use Rattle.std.specs.Prelude.{ℕ, ◌-◌, ◌/◌, ◌%◌, ◌^◌, Bool, true, false, List, ◌∷◌, [], Option, Some, None, Result, Ok, Err}
 use Rattle.std.specs.Char.{digit_char}
 use Rattle.of_cells.specs.declared.cells.Cell.{Cell}
@@ -10,13 +10,13 @@ use Rattle.of_cells.specs.Doubles.{double, number_of}
 use Rattle.of_calc.specs.Arithmetic.{double_of, with_double}
 use Rattle.of_cells.specs.Splitting.{low_byte}
 use Rattle.of_stacks.specs.declared.throws.Throw.{Throw}
-use Rattle.of_stacks.specs.Throws.{stack_underflow, not_assigned}
+use Rattle.of_stacks.specs.Throws.{stack_underflow}
 use Rattle.of_stacks.specs.Stacks.{within}
 use Rattle.of_memory.specs.Access.{read_fault}
 use Rattle.of_memory.specs.DataSpace.{DataSpace, bytes_from}
 use Rattle.of_memory.specs.declared.width.Width.TheVariants.{One as OneByte}
 use Rattle.of_fcodes.specs.declared.words.NumbersWord.{NumbersWord}
-use Rattle.of_fcodes.specs.declared.words.NumbersWord.TheVariants.{Begin, Hold, Sign, NextDigit, AllDigits, End, UnsignedDigit, UnsignedDigits, UnsignedEnd, Dot, UnsignedDot, DotRight, UnsignedDotRight, DotStack, Base, ParseNumber, Digit, MinusOne, Zero, One, Two, Three, Noop, FcodeRevision}
+use Rattle.of_fcodes.specs.declared.words.NumbersWord.TheVariants.{Begin, Hold, Sign, NextDigit, AllDigits, End, UnsignedDigit, UnsignedDigits, UnsignedEnd, Base, ParseNumber, Digit, MinusOne, Zero, One, Two, Three, Noop, FcodeRevision}
 use Rattle.of_format.specs.Digits.{digit_value, unsigned_text, double_text}
 use Rattle.of_format.specs.Pictured.{held, base_in, text_address}
 use Rattle.of_format.specs.Reading.{number_read}
@@ -98,11 +98,5 @@ numbers_entry Two s m count = beside m count (within (number 2 ∷ s))
 numbers_entry Three s m count = beside m count (within (number 3 ∷ s))
 numbers_entry Noop s m count = Ok (data_of s m count)
 numbers_entry FcodeRevision s m count = beside m count (within (number 0x3_0000 ∷ s))
--- the words that print, which are run elsewhere
-numbers_entry Dot s m count = Err not_assigned
-numbers_entry UnsignedDot s m count = Err not_assigned
-numbers_entry DotRight s m count = Err not_assigned
-numbers_entry UnsignedDotRight s m count = Err not_assigned
-numbers_entry DotStack s m count = Err not_assigned
 -- every other stack is too short
 numbers_entry _ _ m count = Err stack_underflow

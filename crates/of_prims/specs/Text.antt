@@ -1,19 +1,19 @@
 -- What each word of the group Text makes of the data stack, the top first, and of the data space, or what it throws
--- (IEEE 1275-1994, annex A; Forth 2012, 6.1.0980, 6.1.0770). The words that print or ask are run elsewhere.
+-- (IEEE 1275-1994, annex A; Forth 2012, 6.1.0980, 6.1.0770).
 use Rattle.std.specs.Prelude.{ℕ, ◌+◌, ◌-◌, ◌==◌, min, nat_lt, List, ◌∷◌, [], length, take, drop, Option, Some, None, Result, Ok, Err, if◌then◌else◌}
 use Rattle.std.specs.Char.{to_ascii_uppercase, to_ascii_lowercase}
 use Rattle.of_cells.specs.declared.cells.Cell.{Cell}
 use Rattle.of_cells.specs.Arithmetic.{plus}
 use Rattle.of_cells.specs.Splitting.{low_byte}
 use Rattle.of_stacks.specs.declared.throws.Throw.{Throw}
-use Rattle.of_stacks.specs.Throws.{stack_underflow, not_assigned, invalid_argument}
-use Rattle.of_stacks.specs.Order.{first_in}
+use Rattle.of_stacks.specs.Throws.{stack_underflow, invalid_argument}
+use Rattle.of_stacks.specs.Order.{refused_if}
 use Rattle.of_stacks.specs.Stacks.{within}
 use Rattle.of_memory.specs.Access.{read_fault, write_fault, number_at}
 use Rattle.of_memory.specs.DataSpace.{DataSpace, bytes_from, written}
 use Rattle.of_memory.specs.declared.width.Width.TheVariants.{One}
 use Rattle.of_fcodes.specs.declared.words.TextWord.{TextWord}
-use Rattle.of_fcodes.specs.declared.words.TextWord.TheVariants.{UpperCase, LowerCase, Pack, Count, KeyReady, Key, Emit, «Type», CarriageReturn, Blank, Backspace, Bell, LeftParseString, ParseTwoInts}
+use Rattle.of_fcodes.specs.declared.words.TextWord.TheVariants.{UpperCase, LowerCase, Pack, Count, Blank, Backspace, Bell, LeftParseString, ParseTwoInts}
 use Rattle.of_format.specs.Reading.{number_read}
 use Rattle.of_prims.specs.Data.{Space, number, unless_fault, over}
 
@@ -61,7 +61,7 @@ text_entry LowerCase (char ∷ s) m = Ok (lower_case char ∷ s, m)
 text_entry Pack (a ∷ n ∷ from ∷ s) m =
     unless_fault (read_fault m from.0 n.0 One)
     (unless_fault (write_fault m a.0 (n.0 + 1) One)
-    (first_in ((nat_lt 255 n.0, invalid_argument) ∷ []) (a ∷ s, written m a.0 (n.0 ∷ bytes_from m from.0 n.0))))
+    (refused_if (nat_lt 255 n.0) invalid_argument (a ∷ s, written m a.0 (n.0 ∷ bytes_from m from.0 n.0))))
 text_entry Count (a ∷ s) m =
     unless_fault (read_fault m a.0 1 One) (over m (within (number (number_at m a.0 1) ∷ plus a (number 1) ∷ s)))
 text_entry Blank s m = over m (within (number 32 ∷ s))
@@ -73,11 +73,5 @@ text_entry LeftParseString (char ∷ n ∷ a ∷ s) m =
 text_entry ParseTwoInts (n ∷ a ∷ s) m =
     unless_fault (read_fault m a.0 n.0 One)
     (over m (two_pushed (two_read (bytes_from m a.0 n.0)) s))
--- the words that print or ask, which are run elsewhere
-text_entry KeyReady s m = Err not_assigned
-text_entry Key s m = Err not_assigned
-text_entry Emit s m = Err not_assigned
-text_entry «Type» s m = Err not_assigned
-text_entry CarriageReturn s m = Err not_assigned
 -- every other stack is too short
 text_entry _ _ m = Err stack_underflow

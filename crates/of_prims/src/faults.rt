@@ -1,9 +1,9 @@
-ghost use Rattle.std.specs.Prelude.{◌≡◌, ◌≤◌, length, true, None, Some, OnOk, IfOk, IfErr};
+ghost use Rattle.std.specs.Prelude.{◌≡◌, ◌≢◌, ◌≤◌, length, None, Some, OnOk, IfOk, IfErr};
 ghost use Rattle.std.specs.Int.{bytes_high_first};
-ghost use Rattle.of_stacks.specs.Throws.{is_listed};
 ghost use Rattle.of_memory.specs.Access.{read_fault, write_fault, number_at};
-ghost use Rattle.of_memory.specs.DataSpace.{bytes_from, written};
+ghost use Rattle.of_memory.specs.DataSpace.{IsSound, bytes_from, written};
 ghost use Rattle.of_memory.specs.declared.width.Width.{Width};
+ghost use Rattle.of_memory.specs.Outcomes.{TakesNoMemory};
 ghost use Rattle.of_prims.specs.Data.{throw_of, thrown, fault_of, cell_at};
 
 use of_cells::Cell;
@@ -12,10 +12,12 @@ use of_stacks::Throw;
 
 /// What a word throws for a fault of the data space: -9 for an address, -23 for its alignment, -20
 /// for a region that programs may only read, -24 for a block, and -8 where no room is left.
-#[tactic(auto, unfolding(of_stacks::specs::Throws::is_listed, of_stacks::specs::Throws::listed_numbers))]
+///
+/// A refused growth of memory is no throw.
+#[inline]
 pub fn throw_of(fault: MemFault) -> Throw
-    ensures value { result ≡ throw_of fault }
-    ensures listed { is_listed result ≡ true }
+    requires { fault ≢ MemFault.NoMemory }
+    ensures { result ≡ throw_of fault }
 {
     match fault {
         MemFault::Address => Throw::INVALID_ADDRESS,
@@ -23,7 +25,8 @@ pub fn throw_of(fault: MemFault) -> Throw
         MemFault::ReadOnly => Throw::READ_ONLY,
         MemFault::Full => Throw::DICTIONARY_OVERFLOW,
         MemFault::BadBlock => Throw::INVALID_ARGUMENT,
-        MemFault::NoMemory => Throw::DICTIONARY_OVERFLOW,
+        // Not given, by the condition.
+        MemFault::NoMemory => Throw::ABORT,
     }
 }
 
@@ -32,7 +35,6 @@ pub fn slice(memory: &Memory, addr: Cell, len: Cell) -> Result<&[u8], Throw>
     ensures ok { IfOk result (λ s. (read_fault memory.now addr.0 len.0 Width.One ≡ None) × (s.now ≡ bytes_from memory.now addr.0 len.0)) }
     ensures short { IfOk result (λ s. length s.now ≤ len.0) }
     ensures err { IfErr result (λ t. fault_of (read_fault memory.now addr.0 len.0 Width.One) ≡ Some t) }
-    ensures listed { IfErr result (λ t. is_listed t ≡ true) }
 {
     thrown(memory.slice(addr, len))
 }
@@ -41,7 +43,6 @@ pub fn slice(memory: &Memory, addr: Cell, len: Cell) -> Result<&[u8], Throw>
 pub fn check_read(memory: &Memory, addr: Cell, len: Cell, width: Width) -> Result<(), Throw>
     ensures ok { OnOk result (read_fault memory.now addr.0 len.0 width ≡ None) }
     ensures err { IfErr result (λ t. fault_of (read_fault memory.now addr.0 len.0 width) ≡ Some t) }
-    ensures listed { IfErr result (λ t. is_listed t ≡ true) }
 {
     thrown(memory.check_read(addr, len, width))
 }
@@ -50,7 +51,7 @@ pub fn check_read(memory: &Memory, addr: Cell, len: Cell, width: Width) -> Resul
 pub fn check_write(memory: &Memory, addr: Cell, len: Cell, width: Width) -> Result<(), Throw>
     ensures ok { OnOk result (write_fault memory.now addr.0 len.0 width ≡ None) }
     ensures err { IfErr result (λ t. fault_of (write_fault memory.now addr.0 len.0 width) ≡ Some t) }
-    ensures listed { IfErr result (λ t. is_listed t ≡ true) }
+    ensures sound { IsSound memory.now }
 {
     thrown(memory.check_write(addr, len, width))
 }
@@ -86,9 +87,10 @@ pub fn put_cell(memory: &mut Memory, addr: Cell, x: Cell)
 }
 
 /// The answer of a call on the data space, with its fault as a throw.
+#[inline]
 pub fn thrown<T: Drop>(answer: Result<T, MemFault>) -> Result<T, Throw>
-    ensures value { result ≡ thrown answer }
-    ensures listed { IfErr result (λ t. is_listed t ≡ true) }
+    requires { TakesNoMemory answer }
+    ensures { result ≡ thrown answer }
 {
     match answer {
         Ok(value) => Ok(value),

@@ -1,5 +1,4 @@
-ghost use Rattle.std.specs.Prelude.{◌≡◌, true, IfErr};
-ghost use Rattle.of_stacks.specs.Throws.{is_listed};
+ghost use Rattle.std.specs.Prelude.{◌≡◌};
 ghost use Rattle.of_stacks.specs.Stacks.{Becomes};
 ghost use Rattle.of_prims.specs.Addresses.{addresses_entry, rounded_up};
 
@@ -51,10 +50,10 @@ fn round_up(x: Cell) -> Cell
 /// Runs a word of the group Addresses over the data stack; a throw changes nothing.
 ///
 /// -4 where a cell is missing, -3 where the stack has no room.
-#[tactic(auto, unfolding(crate::specs::Addresses::addresses_entry, of_stacks::specs::Throws::is_listed, of_stacks::specs::Throws::listed_numbers))]
-pub fn locate(word: AddressesWord, stack: &mut DataStack, memory: &Memory) -> Result<(), Throw>
-    ensures entry { Becomes (addresses_entry word memory.now.here stack.old) stack.old stack.new result }
-    ensures listed { IfErr result (λ t. is_listed t ≡ true) }
+#[tactic(auto, unfolding(crate::specs::Addresses::addresses_entry))]
+#[inline]
+pub fn run_address_word(word: AddressesWord, stack: &mut DataStack, memory: &Memory) -> Result<(), Throw>
+    ensures { Becomes (addresses_entry word memory.now.here stack.old) stack.old stack.new result }
 {
     match word {
         AddressesWord::ByteSize => stack.try_push(BYTE)?,

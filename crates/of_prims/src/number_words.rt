@@ -1,5 +1,4 @@
-ghost use Rattle.std.specs.Prelude.{◌≡◌, ◌≤◌, [], ◌∷◌, length, drop, true, IfErr};
-ghost use Rattle.of_stacks.specs.Throws.{is_listed};
+ghost use Rattle.std.specs.Prelude.{◌≡◌, ◌≤◌, [], ◌∷◌, length, drop};
 ghost use Rattle.of_stacks.specs.Stacks.{Becomes};
 ghost use Rattle.of_fcodes.specs.declared.words.NumbersWord.{NumbersWord};
 ghost use Rattle.of_prims.specs.Data.{data_of};
@@ -20,14 +19,14 @@ const BASE: Cell = Cell(0x50_0000);
 const REVISION: Cell = Cell(0x3_0000);
 
 /// ( char -- ) holds the low byte.
-#[tactic(auto, unfolding(crate::specs::Numbers::numbers_entry, of_stacks::specs::Throws::is_listed, of_stacks::specs::Throws::listed_numbers))]
+#[tactic(auto, unfolding(crate::specs::Numbers::numbers_entry))]
+#[inline(never)]
 fn hold_char(
     stack: &mut DataStack,
     memory: &mut Memory,
     pictured: &mut Pictured,
 ) -> Result<(), Throw>
-    ensures entry { Becomes (numbers_entry NumbersWord.Hold stack.old memory.old pictured.old) (data_of stack.old memory.old pictured.old) (data_of stack.new memory.new pictured.new) result }
-    ensures listed { IfErr result (λ t. is_listed t ≡ true) }
+    ensures { Becomes (numbers_entry NumbersWord.Hold stack.old memory.old pictured.old) (data_of stack.old memory.old pictured.old) (data_of stack.new memory.new pictured.new) result }
 {
     let char = stack.peek()?;
     pictured.hold(memory, char.low_byte().0 as u8)?;
@@ -36,15 +35,14 @@ fn hold_char(
 }
 
 /// ( n -- ) holds `-`.
-#[tactic(auto, unfolding(of_stacks::specs::Throws::is_listed, of_stacks::specs::Throws::listed_numbers))]
+#[inline(never)]
 fn hold_minus(
     stack: &mut DataStack,
     memory: &mut Memory,
     pictured: &mut Pictured,
 ) -> Result<(), Throw>
     requires { 1 ≤ length stack.old }
-    ensures entry { Becomes (holding (drop 1 stack.old) (held memory.old pictured.old (45 ∷ []))) (data_of stack.old memory.old pictured.old) (data_of stack.new memory.new pictured.new) result }
-    ensures listed { IfErr result (λ t. is_listed t ≡ true) }
+    ensures { Becomes (holding (drop 1 stack.old) (held memory.old pictured.old (45 ∷ []))) (data_of stack.old memory.old pictured.old) (data_of stack.new memory.new pictured.new) result }
 {
     pictured.hold(memory, b'-')?;
     stack.drop_top(1);
@@ -52,14 +50,14 @@ fn hold_minus(
 }
 
 /// ( n -- ) holds `-` where the number is negative.
-#[tactic(auto, unfolding(crate::specs::Numbers::numbers_entry, of_stacks::specs::Throws::is_listed, of_stacks::specs::Throws::listed_numbers))]
+#[tactic(auto, unfolding(crate::specs::Numbers::numbers_entry))]
+#[inline(never)]
 fn hold_sign(
     stack: &mut DataStack,
     memory: &mut Memory,
     pictured: &mut Pictured,
 ) -> Result<(), Throw>
-    ensures entry { Becomes (numbers_entry NumbersWord.Sign stack.old memory.old pictured.old) (data_of stack.old memory.old pictured.old) (data_of stack.new memory.new pictured.new) result }
-    ensures listed { IfErr result (λ t. is_listed t ≡ true) }
+    ensures { Becomes (numbers_entry NumbersWord.Sign stack.old memory.old pictured.old) (data_of stack.old memory.old pictured.old) (data_of stack.new memory.new pictured.new) result }
 {
     let n = stack.peek()?;
     if n.is_less(Cell::ZERO) {
@@ -70,14 +68,14 @@ fn hold_sign(
 }
 
 /// ( d -- d ) holds the last digit, and leaves the other ones.
-#[tactic(auto, unfolding(crate::specs::Numbers::numbers_entry, of_stacks::specs::Throws::is_listed, of_stacks::specs::Throws::listed_numbers))]
+#[tactic(auto, unfolding(crate::specs::Numbers::numbers_entry))]
+#[inline(never)]
 fn hold_digit(
     stack: &mut DataStack,
     memory: &mut Memory,
     pictured: &mut Pictured,
 ) -> Result<(), Throw>
-    ensures entry { Becomes (numbers_entry NumbersWord.NextDigit stack.old memory.old pictured.old) (data_of stack.old memory.old pictured.old) (data_of stack.new memory.new pictured.new) result }
-    ensures listed { IfErr result (λ t. is_listed t ≡ true) }
+    ensures { Becomes (numbers_entry NumbersWord.NextDigit stack.old memory.old pictured.old) (data_of stack.old memory.old pictured.old) (data_of stack.new memory.new pictured.new) result }
 {
     let (low, high) = stack.top_two()?;
     let base = u64::from(base(memory)?);
@@ -90,14 +88,14 @@ fn hold_digit(
 }
 
 /// ( d -- 0 0 ) holds all digits.
-#[tactic(auto, unfolding(crate::specs::Numbers::numbers_entry, of_stacks::specs::Throws::is_listed, of_stacks::specs::Throws::listed_numbers))]
+#[tactic(auto, unfolding(crate::specs::Numbers::numbers_entry))]
+#[inline(never)]
 fn hold_digits(
     stack: &mut DataStack,
     memory: &mut Memory,
     pictured: &mut Pictured,
 ) -> Result<(), Throw>
-    ensures entry { Becomes (numbers_entry NumbersWord.AllDigits stack.old memory.old pictured.old) (data_of stack.old memory.old pictured.old) (data_of stack.new memory.new pictured.new) result }
-    ensures listed { IfErr result (λ t. is_listed t ≡ true) }
+    ensures { Becomes (numbers_entry NumbersWord.AllDigits stack.old memory.old pictured.old) (data_of stack.old memory.old pictured.old) (data_of stack.new memory.new pictured.new) result }
 {
     let (low, high) = stack.top_two()?;
     let text = double_text(Double { low, high }, base(memory)?);
@@ -108,14 +106,14 @@ fn hold_digits(
 }
 
 /// ( u -- u ) holds the last digit, and leaves the other ones.
-#[tactic(auto, unfolding(crate::specs::Numbers::numbers_entry, of_stacks::specs::Throws::is_listed, of_stacks::specs::Throws::listed_numbers))]
+#[tactic(auto, unfolding(crate::specs::Numbers::numbers_entry))]
+#[inline(never)]
 fn hold_unsigned_digit(
     stack: &mut DataStack,
     memory: &mut Memory,
     pictured: &mut Pictured,
 ) -> Result<(), Throw>
-    ensures entry { Becomes (numbers_entry NumbersWord.UnsignedDigit stack.old memory.old pictured.old) (data_of stack.old memory.old pictured.old) (data_of stack.new memory.new pictured.new) result }
-    ensures listed { IfErr result (λ t. is_listed t ≡ true) }
+    ensures { Becomes (numbers_entry NumbersWord.UnsignedDigit stack.old memory.old pictured.old) (data_of stack.old memory.old pictured.old) (data_of stack.new memory.new pictured.new) result }
 {
     let u = stack.peek()?;
     let base = base(memory)?;
@@ -125,14 +123,14 @@ fn hold_unsigned_digit(
 }
 
 /// ( u -- 0 ) holds all digits.
-#[tactic(auto, unfolding(crate::specs::Numbers::numbers_entry, of_stacks::specs::Throws::is_listed, of_stacks::specs::Throws::listed_numbers))]
+#[tactic(auto, unfolding(crate::specs::Numbers::numbers_entry))]
+#[inline(never)]
 fn hold_unsigned_digits(
     stack: &mut DataStack,
     memory: &mut Memory,
     pictured: &mut Pictured,
 ) -> Result<(), Throw>
-    ensures entry { Becomes (numbers_entry NumbersWord.UnsignedDigits stack.old memory.old pictured.old) (data_of stack.old memory.old pictured.old) (data_of stack.new memory.new pictured.new) result }
-    ensures listed { IfErr result (λ t. is_listed t ≡ true) }
+    ensures { Becomes (numbers_entry NumbersWord.UnsignedDigits stack.old memory.old pictured.old) (data_of stack.old memory.old pictured.old) (data_of stack.new memory.new pictured.new) result }
 {
     let u = stack.peek()?;
     let text = unsigned_text(u, base(memory)?);
@@ -142,10 +140,10 @@ fn hold_unsigned_digits(
 }
 
 /// ( d -- s n ) the pictured text.
-#[tactic(auto, unfolding(crate::specs::Numbers::numbers_entry, of_stacks::specs::Throws::is_listed, of_stacks::specs::Throws::listed_numbers))]
+#[tactic(auto, unfolding(crate::specs::Numbers::numbers_entry))]
+#[inline(never)]
 fn end_text(stack: &mut DataStack, memory: &Memory, pictured: &Pictured) -> Result<(), Throw>
-    ensures entry { Becomes (numbers_entry NumbersWord.End stack.old memory.now pictured.now) (data_of stack.old memory.now pictured.now) (data_of stack.new memory.now pictured.now) result }
-    ensures listed { IfErr result (λ t. is_listed t ≡ true) }
+    ensures { Becomes (numbers_entry NumbersWord.End stack.old memory.now pictured.now) (data_of stack.old memory.now pictured.now) (data_of stack.new memory.now pictured.now) result }
 {
     let _ = stack.top_two()?;
     let (address, length) = pictured.text();
@@ -155,14 +153,14 @@ fn end_text(stack: &mut DataStack, memory: &Memory, pictured: &Pictured) -> Resu
 }
 
 /// ( u -- s n ) the pictured text.
-#[tactic(auto, unfolding(crate::specs::Numbers::numbers_entry, of_stacks::specs::Throws::is_listed, of_stacks::specs::Throws::listed_numbers))]
+#[tactic(auto, unfolding(crate::specs::Numbers::numbers_entry))]
+#[inline(never)]
 fn end_unsigned_text(
     stack: &mut DataStack,
     memory: &Memory,
     pictured: &Pictured,
 ) -> Result<(), Throw>
-    ensures entry { Becomes (numbers_entry NumbersWord.UnsignedEnd stack.old memory.now pictured.now) (data_of stack.old memory.now pictured.now) (data_of stack.new memory.now pictured.now) result }
-    ensures listed { IfErr result (λ t. is_listed t ≡ true) }
+    ensures { Becomes (numbers_entry NumbersWord.UnsignedEnd stack.old memory.now pictured.now) (data_of stack.old memory.now pictured.now) (data_of stack.new memory.now pictured.now) result }
 {
     let _ = stack.peek()?;
     stack.room_for(1)?;
@@ -173,10 +171,10 @@ fn end_unsigned_text(
 }
 
 /// ( s n -- true, or x false ) the number that a text reads as.
-#[tactic(auto, unfolding(crate::specs::Numbers::numbers_entry, of_stacks::specs::Throws::is_listed, of_stacks::specs::Throws::listed_numbers))]
+#[tactic(auto, unfolding(crate::specs::Numbers::numbers_entry))]
+#[inline(never)]
 fn parse_number(stack: &mut DataStack, memory: &Memory, pictured: &Pictured) -> Result<(), Throw>
-    ensures entry { Becomes (numbers_entry NumbersWord.ParseNumber stack.old memory.now pictured.now) (data_of stack.old memory.now pictured.now) (data_of stack.new memory.now pictured.now) result }
-    ensures listed { IfErr result (λ t. is_listed t ≡ true) }
+    ensures { Becomes (numbers_entry NumbersWord.ParseNumber stack.old memory.now pictured.now) (data_of stack.old memory.now pictured.now) (data_of stack.new memory.now pictured.now) result }
 {
     let (a, n) = stack.top_two()?;
     let text = slice(memory, a, n)?;
@@ -191,10 +189,10 @@ fn parse_number(stack: &mut DataStack, memory: &Memory, pictured: &Pictured) -> 
 }
 
 /// ( char base -- digit true, or char false ) the value of a character as a digit.
-#[tactic(auto, unfolding(crate::specs::Numbers::numbers_entry, of_stacks::specs::Throws::is_listed, of_stacks::specs::Throws::listed_numbers))]
+#[tactic(auto, unfolding(crate::specs::Numbers::numbers_entry))]
+#[inline(never)]
 fn parse_digit(stack: &mut DataStack, memory: &Memory, pictured: &Pictured) -> Result<(), Throw>
-    ensures entry { Becomes (numbers_entry NumbersWord.Digit stack.old memory.now pictured.now) (data_of stack.old memory.now pictured.now) (data_of stack.new memory.now pictured.now) result }
-    ensures listed { IfErr result (λ t. is_listed t ≡ true) }
+    ensures { Becomes (numbers_entry NumbersWord.Digit stack.old memory.now pictured.now) (data_of stack.old memory.now pictured.now) (data_of stack.new memory.now pictured.now) result }
 {
     let (char, base) = stack.top_two()?;
     let Some(value) = digit(char.0, base.0) else {
@@ -210,17 +208,16 @@ fn parse_digit(stack: &mut DataStack, memory: &Memory, pictured: &Pictured) -> R
 /// throw changes nothing.
 ///
 /// -4 where a cell is missing, then -9 where a text can't be read, -24 where `base` is no base, -17
-/// where the pictured text is full, -3 where the stack has no room. The words that print are run
-/// elsewhere: here they throw -256.
-#[tactic(auto, unfolding(crate::specs::Numbers::numbers_entry, of_stacks::specs::Throws::is_listed, of_stacks::specs::Throws::listed_numbers))]
-pub fn convert(
+/// where the pictured text is full, -3 where the stack has no room.
+#[tactic(auto, unfolding(crate::specs::Numbers::numbers_entry))]
+#[inline(never)]
+pub fn run_number_word(
     word: NumbersWord,
     stack: &mut DataStack,
     memory: &mut Memory,
     pictured: &mut Pictured,
 ) -> Result<(), Throw>
-    ensures entry { Becomes (numbers_entry word stack.old memory.old pictured.old) (data_of stack.old memory.old pictured.old) (data_of stack.new memory.new pictured.new) result }
-    ensures listed { IfErr result (λ t. is_listed t ≡ true) }
+    ensures { Becomes (numbers_entry word stack.old memory.old pictured.old) (data_of stack.old memory.old pictured.old) (data_of stack.new memory.new pictured.new) result }
 {
     match word {
         NumbersWord::Begin => pictured.start(),
@@ -232,11 +229,6 @@ pub fn convert(
         NumbersWord::UnsignedDigit => hold_unsigned_digit(stack, memory, pictured)?,
         NumbersWord::UnsignedDigits => hold_unsigned_digits(stack, memory, pictured)?,
         NumbersWord::UnsignedEnd => end_unsigned_text(stack, memory, pictured)?,
-        NumbersWord::Dot => return Err(Throw::NOT_ASSIGNED),
-        NumbersWord::UnsignedDot => return Err(Throw::NOT_ASSIGNED),
-        NumbersWord::DotRight => return Err(Throw::NOT_ASSIGNED),
-        NumbersWord::UnsignedDotRight => return Err(Throw::NOT_ASSIGNED),
-        NumbersWord::DotStack => return Err(Throw::NOT_ASSIGNED),
         NumbersWord::Base => stack.try_push(BASE)?,
         NumbersWord::ParseNumber => parse_number(stack, memory, pictured)?,
         NumbersWord::Digit => parse_digit(stack, memory, pictured)?,

@@ -1,8 +1,7 @@
-ghost use Rattle.std.specs.Prelude.{◌≡◌, ◌<◌, ◌≤◌, ◌+◌, ◌^◌, ◌∷◌, length, true, IfErr, None};
-ghost use Rattle.of_stacks.specs.Throws.{is_listed};
+ghost use Rattle.std.specs.Prelude.{◌≡◌, ◌<◌, ◌≤◌, ◌+◌, ◌^◌, ◌∷◌, length, None};
 ghost use Rattle.of_stacks.specs.Stacks.{Becomes};
 ghost use Rattle.of_memory.specs.Access.{read_fault, write_fault};
-ghost use Rattle.of_memory.specs.DataSpace.{bytes_from, written};
+ghost use Rattle.of_memory.specs.DataSpace.{IsSound, bytes_from, written};
 ghost use Rattle.of_memory.specs.declared.width.Width.{Width};
 ghost use Rattle.of_fcodes.specs.declared.words.TextWord.{TextWord};
 ghost use Rattle.of_prims.specs.Text.{text_entry, upper_case, lower_case, before, two_read};
@@ -11,7 +10,7 @@ use crate::faults::{byte_at, check_read, check_write, slice};
 use of_cells::Cell;
 use of_fcodes::TextWord;
 use of_format::read_number;
-use of_memory::{Memory, Width};
+use of_memory::{Memory, Width, faults_stay, parts_are_good, ranges_are_placed, writes_join};
 use of_stacks::{DataStack, Throw};
 
 /// The character of `bl`.
@@ -27,7 +26,7 @@ const BELL: Cell = Cell(0x07);
 fn upper_case(char: Cell) -> Cell
     ensures { result ≡ upper_case char }
 {
-    if char.0 >= 97 && char.0 <= 122 {
+    if char.0 >= u32::from(b'a') && char.0 <= u32::from(b'z') {
         Cell(char.0 - 32)
     } else {
         char
@@ -38,7 +37,7 @@ fn upper_case(char: Cell) -> Cell
 fn lower_case(char: Cell) -> Cell
     ensures { result ≡ lower_case char }
 {
-    if char.0 >= 65 && char.0 <= 90 {
+    if char.0 >= u32::from(b'A') && char.0 <= u32::from(b'Z') {
         Cell(char.0 + 32)
     } else {
         char
@@ -84,19 +83,24 @@ fn pack_bytes(memory: &mut Memory, from: Cell, n: Cell, a: Cell)
     requires read { read_fault memory.old from.0 n.0 Width.One ≡ None }
     requires write { write_fault memory.old a.0 (n.0 + 1) Width.One ≡ None }
     requires short { n.0 ≤ 255 }
+    requires sound { IsSound memory.old }
     ensures { memory.new ≡ written memory.old a.0 (n.0 ∷ bytes_from memory.old from.0 n.0) }
 {
-    let _ = memory.here();
+    parts_are_good();
+    ranges_are_placed();
+    faults_stay();
+    writes_join();
     let _ = memory.copy(from, a.add(Cell::ONE), n);
-    let _ = memory.write8(a, n.0 as u8);
+    let _ = memory.write_bytes(a, &[n.0 as u8]);
 }
 
 /// ( s n a -- a ) stores a text with its length before it.
-#[tactic(auto, using(crate::proofs::Ranges::range_small), unfolding(crate::specs::Text::text_entry, of_stacks::specs::Throws::is_listed, of_stacks::specs::Throws::listed_numbers))]
+#[tactic(auto, unfolding(crate::specs::Text::text_entry))]
+#[inline(never)]
 fn pack(stack: &mut DataStack, memory: &mut Memory) -> Result<(), Throw>
-    ensures entry { Becomes (text_entry TextWord.Pack stack.old memory.old) (stack.old, memory.old) (stack.new, memory.new) result }
-    ensures listed { IfErr result (λ t. is_listed t ≡ true) }
+    ensures { Becomes (text_entry TextWord.Pack stack.old memory.old) (stack.old, memory.old) (stack.new, memory.new) result }
 {
+    ranges_are_placed();
     let (from, n, a) = stack.top_three()?;
     check_read(memory, from, n, Width::One)?;
     check_write(memory, a, Cell(n.0 + 1), Width::One)?;
@@ -110,10 +114,10 @@ fn pack(stack: &mut DataStack, memory: &mut Memory) -> Result<(), Throw>
 }
 
 /// ( a -- s n ) the text that stands behind its length.
-#[tactic(auto, unfolding(crate::specs::Text::text_entry, of_stacks::specs::Throws::is_listed, of_stacks::specs::Throws::listed_numbers))]
+#[tactic(auto, unfolding(crate::specs::Text::text_entry))]
+#[inline(never)]
 fn count(stack: &mut DataStack, memory: &Memory) -> Result<(), Throw>
-    ensures entry { Becomes (text_entry TextWord.Count stack.old memory.now) (stack.old, memory.now) (stack.new, memory.now) result }
-    ensures listed { IfErr result (λ t. is_listed t ≡ true) }
+    ensures { Becomes (text_entry TextWord.Count stack.old memory.now) (stack.old, memory.now) (stack.new, memory.now) result }
 {
     let a = stack.peek()?;
     check_read(memory, a, Cell::ONE, Width::One)?;
@@ -125,10 +129,10 @@ fn count(stack: &mut DataStack, memory: &Memory) -> Result<(), Throw>
 }
 
 /// ( s n char -- r rn l ln ) the text before the first such character, and the text after it.
-#[tactic(auto, unfolding(crate::specs::Text::text_entry, of_stacks::specs::Throws::is_listed, of_stacks::specs::Throws::listed_numbers))]
+#[tactic(auto, unfolding(crate::specs::Text::text_entry))]
+#[inline(never)]
 fn part_text(stack: &mut DataStack, memory: &Memory) -> Result<(), Throw>
-    ensures entry { Becomes (text_entry TextWord.LeftParseString stack.old memory.now) (stack.old, memory.now) (stack.new, memory.now) result }
-    ensures listed { IfErr result (λ t. is_listed t ≡ true) }
+    ensures { Becomes (text_entry TextWord.LeftParseString stack.old memory.now) (stack.old, memory.now) (stack.new, memory.now) result }
 {
     let (a, n, char) = stack.top_three()?;
     let text = slice(memory, a, n)?;
@@ -144,10 +148,10 @@ fn part_text(stack: &mut DataStack, memory: &Memory) -> Result<(), Throw>
 }
 
 /// ( s n -- lo hi ) the two numbers of a text.
-#[tactic(auto, unfolding(crate::specs::Text::text_entry, of_stacks::specs::Throws::is_listed, of_stacks::specs::Throws::listed_numbers))]
+#[tactic(auto, unfolding(crate::specs::Text::text_entry))]
+#[inline(never)]
 fn parse_two(stack: &mut DataStack, memory: &Memory) -> Result<(), Throw>
-    ensures entry { Becomes (text_entry TextWord.ParseTwoInts stack.old memory.now) (stack.old, memory.now) (stack.new, memory.now) result }
-    ensures listed { IfErr result (λ t. is_listed t ≡ true) }
+    ensures { Becomes (text_entry TextWord.ParseTwoInts stack.old memory.now) (stack.old, memory.now) (stack.new, memory.now) result }
 {
     let (a, n) = stack.top_two()?;
     let text = slice(memory, a, n)?;
@@ -162,12 +166,11 @@ fn parse_two(stack: &mut DataStack, memory: &Memory) -> Result<(), Throw>
 /// Runs a word of the group Text over the data stack and the data space; a throw changes nothing.
 ///
 /// -4 where a cell is missing, then -9 or -20 where a range can't be read or written, -24 where a
-/// text is too long or gives no numbers, -3 where the stack has no room. The words that print or
-/// ask are run elsewhere: here they throw -256.
-#[tactic(auto, unfolding(crate::specs::Text::text_entry, of_stacks::specs::Throws::is_listed, of_stacks::specs::Throws::listed_numbers))]
-pub fn edit(word: TextWord, stack: &mut DataStack, memory: &mut Memory) -> Result<(), Throw>
-    ensures entry { Becomes (text_entry word stack.old memory.old) (stack.old, memory.old) (stack.new, memory.new) result }
-    ensures listed { IfErr result (λ t. is_listed t ≡ true) }
+/// text is too long or gives no numbers, -3 where the stack has no room.
+#[tactic(auto, unfolding(crate::specs::Text::text_entry))]
+#[inline(never)]
+pub fn run_text_word(word: TextWord, stack: &mut DataStack, memory: &mut Memory) -> Result<(), Throw>
+    ensures { Becomes (text_entry word stack.old memory.old) (stack.old, memory.old) (stack.new, memory.new) result }
 {
     match word {
         TextWord::UpperCase => {
@@ -180,11 +183,6 @@ pub fn edit(word: TextWord, stack: &mut DataStack, memory: &mut Memory) -> Resul
         }
         TextWord::Pack => pack(stack, memory)?,
         TextWord::Count => count(stack, memory)?,
-        TextWord::KeyReady => return Err(Throw::NOT_ASSIGNED),
-        TextWord::Key => return Err(Throw::NOT_ASSIGNED),
-        TextWord::Emit => return Err(Throw::NOT_ASSIGNED),
-        TextWord::Type => return Err(Throw::NOT_ASSIGNED),
-        TextWord::CarriageReturn => return Err(Throw::NOT_ASSIGNED),
         TextWord::Blank => stack.try_push(BLANK)?,
         TextWord::Backspace => stack.try_push(BACKSPACE)?,
         TextWord::Bell => stack.try_push(BELL)?,

@@ -1,6 +1,6 @@
 use Rattle.std.proofs.Common.{◌≡◌, ◌+◌, length}
 use Rattle.of_prims.specs.Text.{before}
-use Rattle.of_prims.proofs.texts.before.Given as goal
+use Rattle.of_prims.proofs.text_words.before.Given as goal
 
 abbrev pub invariant-loop-rest : goal.invariant-loop-rest
 invariant-loop-rest l = record {

@@ -1,6 +1,6 @@
 use Rattle.std.proofs.Common.{◌≡◌, length}
 use Rattle.of_prims.specs.Memory.{order_of}
-use Rattle.of_prims.proofs.storage.order_of.Given as goal
+use Rattle.of_prims.proofs.memory_words.order_of.Given as goal
 
 abbrev pub invariant-loop-first : goal.invariant-loop-first
 invariant-loop-first l = order_of l.first l.second ≡ order_of l.fn.first l.fn.second
