@@ -1,7 +1,8 @@
 -- The abstract machine: its states, and what each call makes of them.
-use Rattle.std.specs.Prelude.{◌≡◌, ◌⊎◌, ℕ, ◌+◌, ◌-◌, ◌^◌, Bool, true, false, List, [], ◌++◌, length, Option, Some, None, is_some, Result, Ok, Err, nat_lt, ◌&&◌, if◌then◌else◌, codes}
+use Rattle.std.specs.Prelude.{◌≡◌, ◌⊎◌, ℕ, ◌+◌, ◌-◌, ◌^◌, Bool, true, false, List, [], ◌++◌, length, Option, Some, None, is_some, Result, Ok, Err, IsErr, nat_lt, ◌&&◌, if◌then◌else◌, codes}
 use Rattle.std.specs.Str.{bytes_eq}
 use Rattle.of_stacks.specs.declared.throws.Throw.{Throw}
+use Rattle.of_stacks.specs.Throws.{ThrowsListed}
 use Rattle.of_stream.specs.declared.fault.StreamFault.{StreamFault}
 use Rattle.of_stream.specs.Image.{header_fault, first_size}
 use Rattle.of_memory.specs.declared.fault.MemFault.{MemFault}
@@ -18,7 +19,7 @@ use Rattle.of_machine.specs.declared.answers.Refusal.{Refusal}
 use Rattle.of_machine.specs.declared.answers.Refusal.TheVariants.{Busy, ImageTooLong, BadStart, NoNode, NoMemory}
 use Rattle.of_machine.specs.Images.{image_bytes}
 use Rattle.of_machine.specs.Text.{fault_text}
-use Rattle.of_machine.specs.Tokens.{After, source_entry, source_if}
+use Rattle.of_machine.specs.Tokens.{After, source_entry, source_grows, source_if}
 
 -- a state of the machine
 pub record State : Type 0 where
@@ -95,6 +96,27 @@ running_step s (Some r) = with_after s r (settled (source_entry (image_bytes s.p
 -- one step
 unfoldable pub stepped : State → State
 stepped s = running_step s s.running
+
+-- Memory may be asked for at the next token of an image: something grows by its word, or it throws, which prints.
+abbrev pub MayGrowAt : List ℕ → Source → Parts → Type 0
+MayGrowAt image here m = (source_grows image here ≡ true) ⊎ IsErr (source_entry image here m)
+
+-- memory may be asked for in the next step
+abbrev pub running_may_grow : Parts → Option Running → Type 0
+running_may_grow m None = ⊥
+running_may_grow m (Some r) = MayGrowAt (image_bytes m.memory r.begin r.size) r.source m
+
+abbrev pub MayGrow : State → Type 0
+MayGrow s = running_may_grow s.parts s.running
+
+-- a throw of the next step is a listed one
+abbrev pub running_listed : Parts → Option Running → Type 0
+running_listed m None = Unit {0}
+running_listed m (Some r) = ThrowsListed (source_entry (image_bytes m.memory r.begin r.size) r.source m)
+
+-- what the steps of every machine throw has a listed number
+abbrev pub StepsThrowListed : Type 0
+StepsThrowListed = (s : State) → running_listed s.parts s.running
 
 -- whether a step can be made: something runs, and the steps can be counted
 abbrev pub can_step : State → Bool

@@ -124,6 +124,7 @@ impl Console {
     }
 
     /// Prints what a throw prints that nothing catches.
+    #[inline(never)]
     pub fn print_fault(&mut self, fault: Throw) -> Result<(), AllocError>
         ensures ok { OnOk result (self.new ≡ self.old ++ fault_text fault) }
         ensures err { OnErr result (self.new ≡ self.old) }

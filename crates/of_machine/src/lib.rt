@@ -3,16 +3,17 @@
 
 mod answers;
 mod console;
+mod heap;
+mod laws;
 mod machine;
 mod parts;
 mod printing;
 mod run;
 mod stop;
-#[cfg(test)]
-mod tests;
 mod tokens;
 mod words;
 
 pub use answers::{End, Progress, Refusal};
+pub use laws::steps_throw_listed;
 pub use machine::{LONGEST_IMAGE, Machine};
 pub use run::run_script;

@@ -1,7 +1,7 @@
 ghost use Rattle.std.specs.Prelude.{◌≡◌, IfOk, IfErr, OnOk, OnErr, None, Some};
 ghost use Rattle.of_machine.specs.Images.{image_bytes};
 ghost use Rattle.of_machine.specs.Tokens.{source_if};
-ghost use Rattle.of_machine.specs.States.{idle, stepped, given_back, image_refusal, loaded, load_refusal, Settles, Steps, Refuses};
+ghost use Rattle.of_machine.specs.States.{idle, stepped, MayGrow, MayGrowAt, given_back, image_refusal, loaded, load_refusal, Settles, Steps, Refuses};
 
 use crate::answers::{Progress, Refusal};
 use crate::console::Console;
@@ -60,6 +60,7 @@ impl Model for Machine {
 #[inline]
 fn take_token(running: &mut Running, parts: &mut Parts) -> Result<bool, AllocError>
     ensures ok { IfOk result (λ goes. Settles (image_bytes parts.old.memory running.old.begin running.old.size) running.old running.new parts.old parts.new goes) }
+    ensures grows { OnErr result (MayGrowAt (image_bytes parts.old.memory running.old.begin running.old.size) running.old.source parts.old) }
     ensures parts { OnErr result (parts.new ≡ parts.old) }
     ensures running { OnErr result (running.new ≡ running.old) }
 {
@@ -140,10 +141,12 @@ impl Machine {
     /// Makes one step, if one can be made: reads a token of the running image and runs it
     /// (IEEE 1275-1994, 5.2).
     ///
-    /// An error is for memory alone, and then nothing has changed.
+    /// An error is for memory alone, and then nothing has changed. It comes only where the token
+    /// prints, takes a block of the heap, or throws: the other steps ask for no memory.
     #[tactic(auto, unfolding(crate::specs::States::stepped))]
     pub fn step(&mut self) -> Result<Progress, AllocError>
         ensures ok { IfOk result (λ p. Steps p self.old self.new) }
+        ensures grows { OnErr result (MayGrow self.old) }
         ensures err { OnErr result (self.new ≡ self.old) }
     {
         if !self.is_running || self.steps == u64::MAX {

@@ -1,5 +1,5 @@
-ghost use Rattle.std.specs.Prelude.{◌≡◌, ◌+◌, ◌<◌, pos, ◌+ℤ◌};
-ghost use Rattle.of_machine.specs.Tokens.{landing, going_to, branching, branch_entry, stream_entry, literal_entry, stream_of, offset_entry, code_entry, source_entry, Moves, GoesOn};
+ghost use Rattle.std.specs.Prelude.{◌≡◌};
+ghost use Rattle.of_machine.specs.Tokens.{going_to, branching, branch_entry, stream_entry, literal_entry, stream_of, offset_entry, code_entry, source_entry, source_grows, word_grows, Moves, GoesOn};
 ghost use Rattle.of_machine.specs.Images.{image_bytes};
 
 use crate::parts::Parts;
@@ -9,7 +9,7 @@ use of_cells::Cell;
 use of_fcodes::{StreamWord, Word, word_of};
 use of_memory::Memory;
 use of_stacks::{DataStack, Throw};
-use of_stream::{Argument, HEADER_LENGTH, OffsetSize, Stream};
+use of_stream::{Argument, OffsetSize, Stream};
 
 /// From where a running image is read on.
 #[derive(Clone, Copy, Debug, PartialEq, Eq)]
@@ -31,26 +31,10 @@ fn bytes_of(memory: &Memory, begin: Cell, size: Cell) -> &[u8]
     }
 }
 
-/// The position to which an offset behind the FCode at `at` leads, or -257 where it lies before
-/// the first token, or at or past the end.
-#[inline]
-fn land(end: usize, at: usize, by: i16) -> Result<usize, Throw>
-    requires { at < end }
-    ensures { result ≡ landing end (pos (at + 1) +ℤ by) }
-{
-    let Some(target) = (at + 1).checked_add_signed(isize::from(by)) else {
-        return Err(Throw::IMAGE_ENDED);
-    };
-    if target < HEADER_LENGTH || target >= end {
-        return Err(Throw::IMAGE_ENDED);
-    }
-    Ok(target)
-}
-
 /// Goes on at a target.
 #[inline]
 fn go_to(
-    target: Result<usize, Throw>,
+    target: Option<usize>,
     source: &mut Source,
     stack: &mut DataStack,
 ) -> Result<bool, Throw>
@@ -58,18 +42,18 @@ fn go_to(
 {
     let _ = &stack;
     match target {
-        Ok(position) => {
+        Some(position) => {
             source.position = position;
             Ok(true)
         }
-        Err(fault) => Err(fault),
+        None => Err(Throw::IMAGE_ENDED),
     }
 }
 
 /// ( x -- ) goes to the target where x is 0
 #[inline]
 fn go_if_zero(
-    target: Result<usize, Throw>,
+    target: Option<usize>,
     source: &mut Source,
     stack: &mut DataStack,
 ) -> Result<bool, Throw>
@@ -81,12 +65,12 @@ fn go_if_zero(
         return Ok(true);
     }
     match target {
-        Ok(position) => {
+        Some(position) => {
             stack.drop_top(1);
             source.position = position;
             Ok(true)
         }
-        Err(fault) => Err(fault),
+        None => Err(Throw::IMAGE_ENDED),
     }
 }
 
@@ -94,7 +78,7 @@ fn go_if_zero(
 #[inline]
 fn run_branch(
     word: StreamWord,
-    target: Result<usize, Throw>,
+    target: Option<usize>,
     source: &mut Source,
     stack: &mut DataStack,
 ) -> Result<bool, Throw>
@@ -103,7 +87,36 @@ fn run_branch(
     match word {
         StreamWord::Branch => go_to(target, source, stack),
         StreamWord::BranchIfZero => go_if_zero(target, source, stack),
-        _ => Err(Throw::NOT_ASSIGNED),
+        StreamWord::Literal
+        | StreamWord::Tick
+        | StreamWord::String
+        | StreamWord::Loop
+        | StreamWord::PlusLoop
+        | StreamWord::Do
+        | StreamWord::QuestionDo
+        | StreamWord::Leave
+        | StreamWord::Case
+        | StreamWord::Of
+        | StreamWord::EndOf
+        | StreamWord::EndCase
+        | StreamWord::Mark
+        | StreamWord::Resolve
+        | StreamWord::NewToken
+        | StreamWord::NamedToken
+        | StreamWord::ExternalToken
+        | StreamWord::Colon
+        | StreamWord::Semicolon
+        | StreamWord::Value
+        | StreamWord::Constant
+        | StreamWord::Variable
+        | StreamWord::Create
+        | StreamWord::Defer
+        | StreamWord::Buffer
+        | StreamWord::Field
+        | StreamWord::To
+        | StreamWord::Offset16
+        | StreamWord::End0
+        | StreamWord::End1 => Err(Throw::NOT_ASSIGNED),
     }
 }
 
@@ -113,17 +126,42 @@ fn run_branch(
 fn run_stream(word: StreamWord, source: &mut Source, stack: &mut DataStack) -> Result<bool, Throw>
     ensures { Moves (stream_entry word source.old stack.old) stack.old stack.new source.new result }
 {
+    // A token that leaves both as they were uses neither.
     let _ = &stack;
+    let _ = &source;
     match word {
         StreamWord::End0 => Ok(false),
         StreamWord::End1 => Ok(false),
         StreamWord::Mark => Ok(true),
         StreamWord::Resolve => Ok(true),
-        StreamWord::Offset16 => {
-            source.size = OffsetSize::Two;
-            Ok(true)
-        }
-        _ => Err(Throw::NOT_ASSIGNED),
+        StreamWord::Offset16 => Ok(true),
+        StreamWord::Literal
+        | StreamWord::Tick
+        | StreamWord::String
+        | StreamWord::Branch
+        | StreamWord::BranchIfZero
+        | StreamWord::Loop
+        | StreamWord::PlusLoop
+        | StreamWord::Do
+        | StreamWord::QuestionDo
+        | StreamWord::Leave
+        | StreamWord::Case
+        | StreamWord::Of
+        | StreamWord::EndOf
+        | StreamWord::EndCase
+        | StreamWord::NewToken
+        | StreamWord::NamedToken
+        | StreamWord::ExternalToken
+        | StreamWord::Colon
+        | StreamWord::Semicolon
+        | StreamWord::Value
+        | StreamWord::Constant
+        | StreamWord::Variable
+        | StreamWord::Create
+        | StreamWord::Defer
+        | StreamWord::Buffer
+        | StreamWord::Field
+        | StreamWord::To => Err(Throw::NOT_ASSIGNED),
     }
 }
 
@@ -137,19 +175,31 @@ fn run_literal(x: Cell, source: &mut Source, stack: &mut DataStack) -> Result<bo
     Ok(true)
 }
 
+/// The word of the stream, if the word is one.
+#[inline]
+fn stream_word(word: Option<Word>) -> Option<StreamWord>
+    ensures { result ≡ stream_of word }
+{
+    match word {
+        Some(Word::Stream(word)) => Some(word),
+        Some(_) => None,
+        None => None,
+    }
+}
+
 /// Runs a token with an offset; a throw changes nothing.
 #[inline]
 fn run_offset(
     word: Option<Word>,
-    target: Result<usize, Throw>,
+    target: Option<usize>,
     source: &mut Source,
     stack: &mut DataStack,
 ) -> Result<bool, Throw>
     ensures { Moves (offset_entry (stream_of word) source.old target stack.old) stack.old stack.new source.new result }
 {
-    match word {
-        Some(Word::Stream(word)) => run_branch(word, target, source, stack),
-        _ => Err(Throw::NOT_ASSIGNED),
+    match stream_word(word) {
+        Some(word) => run_branch(word, target, source, stack),
+        None => Err(Throw::NOT_ASSIGNED),
     }
 }
 
@@ -157,7 +207,7 @@ fn run_offset(
 /// nothing.
 #[inline]
 pub fn run_code(word: Option<Word>, source: &mut Source, parts: &mut Parts) -> Result<bool, Stop>
-    ensures { GoesOn (code_entry word source.old parts.old) parts.old parts.new source.new result }
+    ensures { GoesOn (word_grows word) (code_entry word source.old parts.old) parts.old parts.new source.new result }
 {
     match word {
         Some(Word::Stream(word)) => Ok(run_stream(word, source, &mut parts.stack)?),
@@ -172,27 +222,27 @@ pub fn run_code(word: Option<Word>, source: &mut Source, parts: &mut Parts) -> R
 /// Reads the token of an image from which it goes on, runs it, and answers whether the image goes
 /// on. A stop changes nothing of the parts.
 #[inline]
-#[tactic(auto, unfolding(crate::specs::Tokens::source_entry))]
+#[tactic(auto, unfolding(crate::specs::Tokens::source_entry, crate::specs::Tokens::source_grows))]
 pub fn run_token(
     begin: Cell,
     size: Cell,
     source: &mut Source,
     parts: &mut Parts,
 ) -> Result<bool, Stop>
-    ensures { GoesOn (source_entry (image_bytes parts.old.memory begin size) source.old parts.old) parts.old parts.new source.new result }
+    ensures { GoesOn (source_grows (image_bytes parts.old.memory begin size) source.old) (source_entry (image_bytes parts.old.memory begin size) source.old parts.old) parts.old parts.new source.new result }
 {
     let at = source.position;
     let image = bytes_of(&parts.memory, begin, size);
-    let end = image.len();
     let stream = Stream { image };
     match stream.token_at(at, source.size) {
         Ok((token, next)) => {
             source.position = next;
+            source.size = token.size_behind(source.size);
             match token.argument {
                 Argument::Nothing => run_code(word_of(token.code), source, parts),
                 Argument::Literal(x) => Ok(run_literal(x, source, &mut parts.stack)?),
                 Argument::Offset(by) => {
-                    let target = land(end, at, by);
+                    let target = stream.landing(at, by);
                     let word = word_of(token.code);
                     Ok(run_offset(word, target, source, &mut parts.stack)?)
                 }

@@ -1,20 +1,19 @@
 ghost use Rattle.std.specs.Prelude.{◌≡◌};
-ghost use Rattle.of_machine.specs.Words.{word_entry, Makes};
+ghost use Rattle.of_machine.specs.Words.{grows, word_entry, Makes};
 
+use crate::heap::run_heap_word;
 use crate::parts::Parts;
-use crate::printing::Growing;
+use crate::printing::run_printing_word;
 use crate::stop::Stop;
-use of_fcodes::Word;
+use of_fcodes::{PrimitiveWord, Word};
 use of_prims::prim;
+use of_stacks::Throw;
 
-/// Runs an ordinary word; a stop changes nothing.
+/// Runs a word over the data stack, the data space and the pictured text.
 #[inline]
-pub fn run_word(word: Word, parts: &mut Parts) -> Result<(), Stop>
-    ensures { Makes (word_entry word parts.old) parts.old parts.new result }
+fn run_primitive(word: PrimitiveWord, parts: &mut Parts) -> Result<(), Stop>
+    ensures { Makes (grows (Word.Primitive word)) (word_entry (Word.Primitive word) parts.old) parts.old parts.new result }
 {
-    if let Some(growing) = Growing::of(word) {
-        return growing.run(parts);
-    }
     prim(
         word,
         &mut parts.stack,
@@ -22,4 +21,27 @@ pub fn run_word(word: Word, parts: &mut Parts) -> Result<(), Stop>
         &mut parts.pictured,
     )?;
     Ok(())
+}
+
+/// Runs an ordinary word; a stop changes nothing. A group that is not run yet throws -256.
+#[inline]
+pub fn run_word(word: Word, parts: &mut Parts) -> Result<(), Stop>
+    ensures { Makes (grows word) (word_entry word parts.old) parts.old parts.new result }
+{
+    match word {
+        Word::Primitive(word) => run_primitive(word, parts),
+        Word::Printing(word) => run_printing_word(word, parts),
+        Word::Heap(word) => run_heap_word(word, parts),
+        Word::Stream(_) => Err(Stop::Thrown(Throw::NOT_ASSIGNED)),
+        Word::Keys(_) => Err(Stop::Thrown(Throw::NOT_ASSIGNED)),
+        Word::Returns(_) => Err(Stop::Thrown(Throw::NOT_ASSIGNED)),
+        Word::Dictionary(_) => Err(Stop::Thrown(Throw::NOT_ASSIGNED)),
+        Word::Throws(_) => Err(Stop::Thrown(Throw::NOT_ASSIGNED)),
+        Word::Properties(_) => Err(Stop::Thrown(Throw::NOT_ASSIGNED)),
+        Word::Tree(_) => Err(Stop::Thrown(Throw::NOT_ASSIGNED)),
+        Word::Devices(_) => Err(Stop::Thrown(Throw::NOT_ASSIGNED)),
+        Word::Console(_) => Err(Stop::Thrown(Throw::NOT_ASSIGNED)),
+        Word::Parsing(_) => Err(Stop::Thrown(Throw::NOT_ASSIGNED)),
+        Word::Compiling(_) => Err(Stop::Thrown(Throw::NOT_ASSIGNED)),
+    }
 }
