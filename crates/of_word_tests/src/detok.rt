@@ -76,7 +76,11 @@ fn listings(rt: HostRuntime) -> Result<(), Fail> {
         let (digits, lines) = case.split_once('\n').unwrap_or(("", ""));
         let image = hex::decode(rt.alloc(), digits)?;
         let listed = listing(rt.alloc(), &image)?;
-        assert_eq!(rt; listed.strip_suffix(b"\n"), Some(lines.as_bytes()), "{digits}");
+        assert_eq!(rt;
+            listed.strip_suffix(b"\n"),
+            Some(lines.as_bytes()),
+            "{digits}"
+        );
     }
     Ok(())
 }

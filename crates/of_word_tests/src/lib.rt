@@ -1,7 +1,11 @@
-//! Tests of the crates that read and write words, by their public calls.
+//! Tests of the crates of words and images, by their public calls, a file for each.
 #![tactic(auto)]
 
 #[cfg(test)]
+mod calc;
+#[cfg(test)]
 mod detok;
+#[cfg(test)]
+mod prims;
 #[cfg(test)]
 mod stream;

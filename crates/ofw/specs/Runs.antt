@@ -12,6 +12,9 @@ use Rattle.of_machine.specs.declared.answers.End.TheVariants as end
 use Rattle.of_machine.specs.declared.answers.Refusal.TheVariants as refusal
 use Rattle.of_machine.specs.States.{State, image_refusal, Refuses}
 use Rattle.of_machine.specs.Runs.{RunsTo}
+use Rattle.clap.specs.declared.error.kind.ErrorKind.{ErrorKind}
+use Rattle.clap.specs.declared.error.kind.ErrorKind.TheVariants as kind
+use Rattle.ofw.specs.CommandLine.{Asked, a_run, a_listing}
 use Rattle.ofw.specs.declared.fault.Fault.{Fault}
 use Rattle.ofw.specs.declared.fault.Fault.TheVariants as fault
 use Rattle.ofw.specs.declared.status.Status.{Status}
@@ -31,7 +34,18 @@ status_of fault.ArgumentNotText = status.Usage
 status_of fault.NoMemory = status.NoMemory
 status_of (fault.Refused refusal.NoMemory) = status.NoMemory
 status_of (fault.Unlisted detok.NoMemory) = status.NoMemory
-status_of _ = status.Fault
+status_of fault.Unopened = status.Fault
+status_of fault.Unread = status.Fault
+status_of fault.Endless = status.Fault
+status_of (fault.BadDigit line c) = status.Fault
+status_of fault.OddDigits = status.Fault
+status_of (fault.Refused refusal.Busy) = status.Fault
+status_of (fault.Refused refusal.ImageTooLong) = status.Fault
+status_of (fault.Refused (refusal.BadStart f)) = status.Fault
+status_of (fault.Refused refusal.NoNode) = status.Fault
+status_of (fault.Unlisted (detok.Stream f)) = status.Fault
+status_of (fault.Unlisted (detok.BadLine n)) = status.Fault
+status_of fault.Unwritten = status.Fault
 
 -- a text without its white space
 abbrev pub dense : List ℕ → List ℕ
@@ -76,20 +90,33 @@ PrintsRun file limit old new e = (m : State) × RunsFile file limit m e × Appen
 abbrev pub PrintsPart : List ℕ → ℕ → Option (List ℕ) → Option (List ℕ) → Type 0
 PrintsPart file limit old new = Keeps old new ⊎ ((m : State) × ((e : End) × RunsFile file limit m e) × AppendsPart old new m.parts.console)
 
--- what the file has to do with a fault of its text or of its image
+-- what a text has to do with a fault of its digits or of its image; it has no other faults
+abbrev pub FaultsText : List ℕ → Fault → Type 0
+FaultsText text (fault.BadDigit line c) = image_in text (decode_of (dense text)) ≡ Err (fault.BadDigit line c)
+FaultsText text fault.OddDigits = image_in text (decode_of (dense text)) ≡ Err fault.OddDigits
+FaultsText text (fault.Refused r) =
+    (image : List ℕ) × (decode_of (dense text) ≡ Ok image) × Refuses (image_refusal image) r
+FaultsText text (fault.Unlisted f) =
+    (image : List ℕ) × (decode_of (dense text) ≡ Ok image) × IsRefused (listed image) f
+FaultsText text fault.NoMemory = Unit {0}
+FaultsText text fault.ArgumentNotText = ⊥
+FaultsText text fault.Unopened = ⊥
+FaultsText text fault.Unread = ⊥
+FaultsText text fault.Endless = ⊥
+FaultsText text fault.Unwritten = ⊥
+
+-- what a file that was opened has to do with a fault: of its text, of its end, of a read or of a write
 abbrev pub FaultsFile : List ℕ → Fault → Type 0
-FaultsFile file (fault.BadDigit line c) = image_in file (decode_of (dense file)) ≡ Err (fault.BadDigit line c)
-FaultsFile file fault.OddDigits = image_in file (decode_of (dense file)) ≡ Err fault.OddDigits
-FaultsFile file (fault.Refused r) =
-    (image : List ℕ) × (decode_of (dense file) ≡ Ok image) × Refuses (image_refusal image) r
-FaultsFile file (fault.Unlisted f) =
-    (image : List ℕ) × (decode_of (dense file) ≡ Ok image) × IsRefused (listed image) f
-FaultsFile file fault.ArgumentNotText = Unit {0}
-FaultsFile file fault.Unopened = Unit {0}
 FaultsFile file fault.Unread = Unit {0}
 FaultsFile file fault.Endless = 16777216 ≤ length file
 FaultsFile file fault.Unwritten = Unit {0}
+FaultsFile file (fault.BadDigit line c) = FaultsText file (fault.BadDigit line c)
+FaultsFile file fault.OddDigits = FaultsText file fault.OddDigits
+FaultsFile file (fault.Refused r) = FaultsText file (fault.Refused r)
+FaultsFile file (fault.Unlisted f) = FaultsText file (fault.Unlisted f)
 FaultsFile file fault.NoMemory = Unit {0}
+FaultsFile file fault.ArgumentNotText = ⊥
+FaultsFile file fault.Unopened = ⊥
 
 -- what was printed of the run, or of a part of it beside a fault
 abbrev pub Prints : List ℕ → ℕ → Option (List ℕ) → Option (List ℕ) → Result End Fault → Type 0
@@ -107,7 +134,7 @@ EndsWith file limit old new status.Done = PrintsRun file limit old new end.Done
 EndsWith file limit old new status.LimitReached = PrintsRun file limit old new end.LimitReached
 EndsWith file limit old new status.Fault = GivesUp file limit old new status.Fault
 EndsWith file limit old new status.NoMemory = GivesUp file limit old new status.NoMemory
-EndsWith file limit old new status.Usage = GivesUp file limit old new status.Usage
+EndsWith file limit old new status.Usage = ⊥
 
 -- ---- listings
 
@@ -135,5 +162,17 @@ ListsWith file old new status.Fault =
     ListsPart file old new × ((f : Fault) × (status_of f ≡ status.Fault) × FaultsFile file f)
 ListsWith file old new status.NoMemory =
     ListsPart file old new × ((f : Fault) × (status_of f ≡ status.NoMemory) × FaultsFile file f)
-ListsWith file old new status.Usage =
-    ListsPart file old new × ((f : Fault) × (status_of f ≡ status.Usage) × FaultsFile file f)
+ListsWith file old new status.Usage = ⊥
+
+-- ---- requests
+
+-- what a status says of the output and of the file, where this was asked for
+abbrev pub Answers : Asked → List ℕ → Option (List ℕ) → Option (List ℕ) → Status → Type 0
+Answers (a_run image limit) file old new s = EndsWith file limit old new s
+Answers (a_listing image) file old new s = ListsWith file old new s
+
+-- how the program ends where a command line asks for nothing
+abbrev pub unasked : ErrorKind → Status
+unasked kind.DisplayHelp = status.Done
+unasked kind.OutOfMemory = status.NoMemory
+unasked _ = status.Usage

@@ -1,8 +1,12 @@
 ghost use Rattle.std.specs.Prelude.{◌≡◌, IfOk, codes, false, map, option_map};
 ghost use Rattle.clap.specs.Words.{fault_of, first_of, rule_of, FailsBy, found_of, rows_of};
+ghost use Rattle.clap.specs.Values.{kind_of};
 ghost use Rattle.std.specs.String.{string_bytes};
+ghost use Rattle.ofw.specs.Runs.{unasked};
 ghost use Rattle.ofw.specs.CommandLine.{IsBuilt, asked, asked_by, asks, detok_app, image_rule, limit_in, limit_rule, ofw_app, run_app};
 
+use crate::status::Status;
+use clap::error::ErrorKind;
 use clap::{Arg, ArgAction, ArgMatches, Command, Error, value_parser};
 use std::alloc::{AllocError, Global};
 
@@ -122,5 +126,16 @@ pub fn parse<'a>(alloc: Global, words: &'a [String]) -> Result<Option<Request<'a
     match matches.subcommand() {
         Some((name, matches)) => Ok(request_of(name, matches)),
         None => Ok(None),
+    }
+}
+
+/// How the program ends where a command line asks for nothing: done after a call for help.
+pub fn status_of(error: &Error) -> Status
+    ensures { result ≡ unasked (kind_of error.now) }
+{
+    match error.kind() {
+        ErrorKind::DisplayHelp => Status::Done,
+        ErrorKind::OutOfMemory => Status::NoMemory,
+        _ => Status::Usage,
     }
 }

@@ -1,6 +1,8 @@
 ghost use Rattle.std.specs.Prelude.{◌≡◌, IfOk, IfErr, IfSome};
-ghost use Rattle.ofw.specs.Runs.{RunsFile, FaultsFile, Prints, EndsWith, ListsFile, Lists, ListsWith};
+ghost use Rattle.ofw.specs.CommandLine.{asked};
+ghost use Rattle.ofw.specs.Runs.{RunsFile, FaultsText, Prints, EndsWith, ListsFile, Lists, ListsWith, Answers};
 
+use crate::arguments::Request;
 use crate::fault::Fault;
 use crate::input::{image_of, read_whole};
 use crate::output::{report, write_whole};
@@ -13,7 +15,7 @@ use std::io::{Read, Write};
 /// Runs the image of a text.
 fn run_text(alloc: Global, text: &[u8], limit: u64) -> Result<(Machine, End), Fault>
     ensures ok { IfOk result (λ r. RunsFile text.now limit r.0 r.1) }
-    ensures err { IfErr result (λ f. FaultsFile text.now f) }
+    ensures err { IfErr result (λ f. FaultsText text.now f) }
 {
     let image = image_of(alloc, text)?;
     match run_script(alloc, &image, limit) {
@@ -60,7 +62,7 @@ pub fn run<R: Read, W: Write, E: Write>(
 /// The listing of the image of a text.
 fn list_text(alloc: Global, text: &[u8]) -> Result<Vec<u8>, Fault>
     ensures ok { IfOk result (λ lines. ListsFile text.now lines.items) }
-    ensures err { IfErr result (λ f. FaultsFile text.now f) }
+    ensures err { IfErr result (λ f. FaultsText text.now f) }
 {
     let image = image_of(alloc, text)?;
     match listing(alloc, &image) {
@@ -93,5 +95,21 @@ pub fn detok<R: Read, W: Write, E: Write>(
     match print_listing(alloc, image, out) {
         Ok(()) => Status::Done,
         Err(fault) => report(fault, errors),
+    }
+}
+
+/// Does what was asked for with the file of its image, and gives the status.
+pub fn answer<R: Read, W: Write, E: Write>(
+    alloc: Global,
+    request: Request<'_>,
+    image: &mut R,
+    out: &mut W,
+    errors: &mut E,
+) -> Status
+    ensures { IfSome (R.remaining image.old) (λ file. Answers (asked request.entry) file (W.contents out.old) (W.contents out.new) result) }
+{
+    match request {
+        Request::Run { limit, .. } => run(alloc, image, limit, out, errors),
+        Request::Detok { .. } => detok(alloc, image, out, errors),
     }
 }

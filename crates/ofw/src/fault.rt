@@ -57,7 +57,18 @@ impl Fault {
             Fault::NoMemory => Status::NoMemory,
             Fault::Refused(Refusal::NoMemory) => Status::NoMemory,
             Fault::Unlisted(DetokFault::NoMemory) => Status::NoMemory,
-            _ => Status::Fault,
+            Fault::Unopened => Status::Fault,
+            Fault::Unread => Status::Fault,
+            Fault::Endless => Status::Fault,
+            Fault::BadDigit { .. } => Status::Fault,
+            Fault::OddDigits => Status::Fault,
+            Fault::Refused(Refusal::Busy) => Status::Fault,
+            Fault::Refused(Refusal::ImageTooLong) => Status::Fault,
+            Fault::Refused(Refusal::BadStart(_)) => Status::Fault,
+            Fault::Refused(Refusal::NoNode) => Status::Fault,
+            Fault::Unlisted(DetokFault::Stream(_)) => Status::Fault,
+            Fault::Unlisted(DetokFault::BadLine(_)) => Status::Fault,
+            Fault::Unwritten => Status::Fault,
         }
     }
 }

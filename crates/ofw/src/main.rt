@@ -11,7 +11,7 @@ mod status;
 #[cfg(test)]
 mod tests;
 
-use arguments::{Request, parse};
+use arguments::{Request, parse, status_of};
 use fault::Fault;
 use output::report;
 use status::Status;
@@ -29,17 +29,19 @@ fn answer(rt: &HostRuntime, request: Request) -> Status {
         return report(Fault::Unopened, &mut rt.stderr());
     };
     let (mut out, mut errors) = (rt.stdout(), rt.stderr());
-    match request {
-        Request::Run { limit, .. } => {
-            engine::run(rt.alloc(), &mut file, limit, &mut out, &mut errors)
-        }
-        Request::Detok { .. } => engine::detok(rt.alloc(), &mut file, &mut out, &mut errors),
-    }
+    engine::answer(rt.alloc(), request, &mut file, &mut out, &mut errors)
 }
 
 fn main(rt: HostRuntime) -> ExitCode {
-    let Ok(words) = env::args(&rt) else {
-        return ExitCode::from(report(Fault::ArgumentNotText, &mut rt.stderr()).code());
+    let words = match env::args(&rt) {
+        Ok(words) => words,
+        Err(error) => {
+            let fault = match error.kind() {
+                io::ErrorKind::OutOfMemory => Fault::NoMemory,
+                _ => Fault::ArgumentNotText,
+            };
+            return ExitCode::from(report(fault, &mut rt.stderr()).code());
+        }
     };
     let words: Vec<String> = match words.collect(rt.alloc()) {
         Ok(words) => words,
@@ -49,8 +51,11 @@ fn main(rt: HostRuntime) -> ExitCode {
         Ok(Some(request)) => ExitCode::from(answer(&rt, request).code()),
         Ok(None) => ExitCode::from(Status::Usage.code()),
         Err(error) => {
-            let _ = error.print(&rt);
-            ExitCode::from(error.exit_code() as u8)
+            let status = match (status_of(&error), error.print(&rt)) {
+                (Status::Done, Err(_)) => Status::Fault,
+                (status, _) => status,
+            };
+            ExitCode::from(status.code())
         }
     }
 }

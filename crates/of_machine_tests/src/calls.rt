@@ -1,0 +1,116 @@
+use hex::decode;
+use of_cells::Cell;
+use of_machine::{LONGEST_IMAGE, Machine, Progress, Refusal, run_script};
+use of_stream::StreamFault;
+use std::alloc::Global;
+use std::test::Fail;
+
+/// `2 3 + .` in an image.
+const FIVE: &str = "f108020a0000000da7a81e9d00";
+
+const BAD_START: Refusal = Refusal::BadStart(StreamFault::BadStart(0xff));
+
+#[test]
+fn images_are_refused(rt: HostRuntime) -> Result<(), Fail> {
+    let erased = [0xffu8; 16];
+    assert_eq!(rt; run_script(rt.alloc(), &erased, 9).err(), Some(BAD_START));
+    let long = vec![in rt.alloc(); 0xf0u8; LONGEST_IMAGE + 1]?;
+    let refusal = run_script(rt.alloc(), &long, 9).err();
+    assert_eq!(rt; refusal, Some(Refusal::ImageTooLong));
+    Ok(())
+}
+
+#[test]
+fn loads_are_refused(rt: HostRuntime) -> Result<(), Fail> {
+    let erased = [0xffu8; 16];
+    let image = decode(rt.alloc(), FIVE)?;
+    let mut machine = Machine::new(rt.alloc())?;
+    assert_eq!(rt; machine.load(&image, "/"), Err(Refusal::NoNode));
+    assert_eq!(rt; machine.load(&erased, "/slots"), Err(BAD_START));
+    assert_eq!(rt; machine.load(&image, "/slot"), Ok(()));
+    assert_eq!(rt; machine.load(&erased, "/slot"), Err(Refusal::Busy));
+    Ok(())
+}
+
+#[test]
+fn steps(rt: HostRuntime) -> Result<(), Fail> {
+    let image = decode(rt.alloc(), FIVE)?;
+    let mut machine = Machine::new(rt.alloc())?;
+    assert_eq!(rt; machine.step()?, Progress::Ended);
+    machine.load(&image, "/slot")?;
+    assert_eq!(rt; machine.is_running(), true);
+    assert_eq!(rt; machine.step()?, Progress::Done);
+    assert_eq!(rt; machine.stack(), [Cell(2)].as_slice());
+    Ok(())
+}
+
+/// The first bytes of the image region, as the machine has them.
+fn image_region(machine: &Machine, alloc: Global) -> Result<Vec<u8>, Fail> {
+    let mut bytes = Vec::new(alloc);
+    for addr in 0x60_0000u32..0x60_000e {
+        bytes.push(machine.byte(Cell(addr)).unwrap_or(0xff))?;
+    }
+    Ok(bytes)
+}
+
+/// A running image stands in the image region, and is given back at its end.
+#[test]
+fn images_stand_in_the_data_space(rt: HostRuntime) -> Result<(), Fail> {
+    let mut image = decode(rt.alloc(), FIVE)?;
+    let mut machine = Machine::new(rt.alloc())?;
+    machine.load(&image, "/slot")?;
+    image.push(0)?;
+    assert_eq!(rt;
+        image_region(&machine, rt.alloc())?.as_slice(),
+        image.as_slice()
+    );
+    for _ in 0..5 {
+        assert_eq!(rt; machine.step()?, Progress::Done);
+    }
+    assert_eq!(rt;
+        image_region(&machine, rt.alloc())?.as_slice(),
+        [0; 14].as_slice()
+    );
+    assert_eq!(rt; machine.byte(Cell(0x64_0000)), None);
+    Ok(())
+}
+
+/// A machine whose growths are refused in turn goes on where it stood.
+#[test]
+fn refused_memory(rt: HostRuntime) -> Result<(), Fail> {
+    let image = decode(rt.alloc(), FIVE)?;
+    let Ok(mut machine) = Machine::new(rt.alloc()) else {
+        return Ok(());
+    };
+    for _ in 0..9 {
+        if machine.load(&image, "/slot") != Err(Refusal::NoMemory) {
+            break;
+        }
+    }
+    for _ in 0..99 {
+        let before = machine.steps();
+        match machine.step() {
+            Ok(Progress::Ended) => break,
+            Ok(Progress::Done) => {}
+            Err(_) => assert_eq!(rt; machine.steps(), before),
+        }
+    }
+    assert_eq!(rt; machine.console(), b"5 ".as_slice());
+    Ok(())
+}
+
+/// The refusals and their texts.
+#[test]
+fn texts(rt: HostRuntime) -> Result<(), Fail> {
+    let texts = format!(in rt.alloc();
+        "{}, {}, {}, {}, {}",
+        Refusal::Busy,
+        Refusal::ImageTooLong,
+        BAD_START,
+        Refusal::NoNode,
+        Refusal::NoMemory
+    )?;
+    let wanted = "busy, image too long, bad start byte ff, no such node, no memory";
+    assert_eq!(rt; texts.as_str(), wanted);
+    Ok(())
+}

@@ -1,0 +1,7 @@
+//! Tests of the machine's public calls.
+#![tactic(auto)]
+
+#[cfg(test)]
+mod calls;
+#[cfg(test)]
+mod runs;

@@ -1,0 +1,128 @@
+use hex::decode;
+use of_machine::{End, run_script, steps_throw_listed};
+use std::alloc::Global;
+use std::test::Fail;
+
+/// What an image prints in a run of so many steps at most, with the steps made and the end; an end
+/// of line as `$`.
+fn shown(alloc: Global, digits: &str, limit: u64) -> Result<String, Fail> {
+    let packed: String = digits.chars().filter(|c| *c != ' ').collect(alloc)?;
+    let image = decode(alloc, packed)?;
+    let (machine, end) = run_script(alloc, &image, limit)?;
+    let mut text = format!(in alloc; "{}", machine.steps())?;
+    text.push_str(match end {
+        End::Done => " ",
+        End::LimitReached => "+ ",
+    })?;
+    for byte in machine.console() {
+        text.push(if *byte == b'\n' {
+            '$'
+        } else {
+            char::from(*byte)
+        })?;
+    }
+    Ok(text)
+}
+
+/// Whole images, and what their runs of 99 steps at most make: the steps, and the console.
+const IMAGES: &str = "\
+f108020a0000000da7a81e9d00|5 5 
+f208020a0000000da7a81e9d00|5 5 
+f10800000000000900|1 
+f10801f2000000111080000000a4219d00|5 -80000000 
+f108016c0000000ca6a52100|3 fault -10: division by zero$
+f10803f700000012a5140005a69db2a79d00|5 2 
+f10801910000000c137fff00|1 fault -257: image ended$
+f108013e0000001010000000088b9b00|4 400000 
+f1080a270000001aa6d0a7d0a8d0ada81fada71fa878ad719d00|18 3 
+fd0804c300000013cca5140005a69db2a79d00|6 2 
+";
+
+#[test]
+fn images(rt: HostRuntime) -> Result<(), Fail> {
+    for line in IMAGES.lines() {
+        let (image, wanted) = line.split_once('|').unwrap_or(("", ""));
+        assert_eq!(rt; shown(rt.alloc(), image, 99)?.as_str(), wanted, "{image}");
+    }
+    Ok(())
+}
+
+/// Tokens behind a header, and what they make: numbers in the base, at the right of a width, the
+/// whole stack, characters and bytes; and throws, which end the image.
+const TOKENS: &str = "\
+a49b00|3 ffffffff 
+a49d00|3 -1 
+10 00000010 a8 9c 00|4  10
+a4 10 00000005 9e 00|4    -1
+10 00001234 a8 9e 00|4 1234
+a7 a4 9e 00|4 2
+9f00|2 
+a6 a4 9f 00|4 1 -1 
+10 00000141 8f 00|3 A
+9200|2 $
+10 00100000 a5 90 00|4 
+10 000000ff a7 a0 72 9d 00|6 11111111 
+10 0000000a a0 72 10 000000ff 9d 00|6 255 
+a5 96 9a 97 90 00|6 0
+10 00001234 a5 96 c8 c9 90 00|7 1234
+a5 8b a5 8b 9f 00|6 400000 400008 
+a5 8b a5 8c 00|5 
+a6 a7 a8 4a 9f 00|6 2 3 1 
+9d00|1 fault -4: stack underflow$
+a69e00|2 fault -4: stack underflow$
+a69000|2 fault -4: stack underflow$
+8f00|1 fault -4: stack underflow$
+8b00|1 fault -4: stack underflow$
+a4a69000|3 fault -9: invalid memory address$
+a48b00|2 fault -8: dictionary overflow$
+015000|1 fault -256: fcode not assigned$
+1d00|1 fault -256: fcode not assigned$
+a6a5a0729d00|5 fault -24: invalid numeric argument$
+a6a0729d00|4 fault -4: stack underflow$
+a6a6a0729d00|5 fault -24: invalid numeric argument$
+a58c00|2 fault -4: stack underflow$
+";
+
+#[test]
+fn tokens(rt: HostRuntime) -> Result<(), Fail> {
+    for line in TOKENS.lines() {
+        let (tokens, wanted) = line.split_once('|').unwrap_or(("", ""));
+        let image = format!(in rt.alloc(); "f108000000000000{tokens}")?;
+        assert_eq!(rt; shown(rt.alloc(), &image, 99)?.as_str(), wanted, "{tokens}");
+    }
+    steps_throw_listed();
+    Ok(())
+}
+
+/// Limits of a run of `2 3 + .`, and what it makes; with `+` where the limit was reached.
+const LIMITS: &str = "\
+0|0+ 
+3|3+ 
+4|4+ 5 
+5|5 5 
+";
+
+#[test]
+fn limits(rt: HostRuntime) -> Result<(), Fail> {
+    for line in LIMITS.lines() {
+        let (limit, wanted) = line.split_once('|').unwrap_or(("", ""));
+        let limit: u64 = limit.parse()?;
+        let made = shown(rt.alloc(), "f108020a0000000da7a81e9d00", limit)?;
+        assert_eq!(rt; made.as_str(), wanted, "{limit}");
+    }
+    Ok(())
+}
+
+/// An image cut at every length throws -257, or begins with no whole header.
+#[test]
+fn cuts(rt: HostRuntime) -> Result<(), Fail> {
+    let image = decode(rt.alloc(), "f10803f700000012a5140005a69db2a79d00")?;
+    for length in 0..image.len() {
+        let is_cut = match run_script(rt.alloc(), &image[..length], 99) {
+            Ok((machine, _)) => machine.console().ends_with(b"fault -257: image ended\n"),
+            Err(_) => length < 8,
+        };
+        assert!(rt; is_cut, "{length}");
+    }
+    Ok(())
+}
