@@ -3,3 +3,5 @@
 
 #[cfg(test)]
 mod code;
+#[cfg(test)]
+mod control;
