@@ -6,6 +6,8 @@ mod cells;
 #[cfg(test)]
 mod code;
 #[cfg(test)]
+mod control;
+#[cfg(test)]
 mod fcodes;
 #[cfg(test)]
 mod memory;

@@ -1,15 +1,20 @@
 -- What the calls of every store say of one another.
-use Rattle.std.proofs.Common.{◌≡◌, ◌≢◌, ◌-◌, ℕ, ◌+◌, ◌<◌, ◌≤◌, zero, suc, List, [], ◌∷◌, ◌++◌, length, take, get_or, set, Option, Some, None}
+use Rattle.std.proofs.Common.{◌≡◌, ◌≢◌, ◌-◌, ℕ, ◌+◌, ◌<◌, ◌≤◌, zero, suc, List, [], ◌∷◌, ◌++◌, length, take, get_or}
+use Rattle.std.proofs.Common.{set, Option, Some, None}
 use Rattle.std.proofs.Common.{refl, sym, ap, arith, get_or-set_other, length-append, eq-eqb, ne_eqb}
-use Rattle.std.proofs.lemmas.List.{get_or_at, get_or_append_left, get_or-take, length-set, length-take, length-take-le, take-append-le, take_all}
+use Rattle.std.proofs.lemmas.List.{get_or_at, get_or_append_left, get_or-take, length-set, length-take}
+use Rattle.std.proofs.lemmas.List.{length-take-le, take-append-le, take_all}
 use Rattle.of_cells.specs.declared.cells.Cell.{Cell}
 use Rattle.of_code.specs.declared.item.Place.{Place}
 use Rattle.of_code.specs.declared.item.Item.{Item}
 use Rattle.of_code.specs.declared.item.Item.TheVariants.{Branch, BranchIfZero, Call, Do, EndCase, EndOf, Leave}
-use Rattle.of_code.specs.declared.item.Item.TheVariants.{Literal, Loop, Of, Operation, PlusLoop, QuestionDo, Return, Store, String}
+use Rattle.of_code.specs.declared.item.Item.TheVariants.{Literal, Loop, Of, Operation, PlusLoop, QuestionDo, Return}
+use Rattle.of_code.specs.declared.item.Item.TheVariants.{Store, String}
 use Rattle.of_code.specs.Items.{cells_of, laid_out, target_of, with_target}
-use Rattle.of_code.specs.Code.{Code, abandoned, appended, end_of, fetched_in, finished, item_in, next_at, retargeted, retargeted_item, start_in}
-use Rattle.of_code.specs.Laws.{AbandonedItemsAreForgotten, AppendedItemsAreFound, FinishedWordsAreBound, TargetsChangeAlone}
+use Rattle.of_code.specs.Code.{Code, abandoned, appended, end_of, fetched_in, finished, item_in, next_at, retargeted}
+use Rattle.of_code.specs.Code.{retargeted_item, start_in}
+use Rattle.of_code.specs.Laws.{AbandonedItemsAreForgotten, AppendedItemsAreFound, FinishedWordsAreBound}
+use Rattle.of_code.specs.Laws.{TargetsChangeAlone}
 
 -- how an item is laid out: it stands in the first of its cells
 record IsLaidOut (item : Item) : Type 0 where
@@ -36,7 +41,8 @@ laid Return = record { begins = refl; size = refl }
 
 pub item_in-appended : (c : Code) (item : Item) → item_in (appended c item) (end_of c) ≡ Some item
 item_in-appended c item =
-    rw ((laid item).begins) (get_or_at c.cells (Some item) (take (cells_of item - 1) (None ∷ None ∷ [])) None (length c.cells) refl)
+    rw ((laid item).begins) (get_or_at c.cells (Some item) (take (cells_of item - 1) (None ∷ None ∷ [])) None
+    (length c.cells) refl)
 
 pub fetched_in-appended :
     (c : Code) (item : Item) → fetched_in (appended c item) (end_of c) ≡ Some (item, end_of (appended c item))
@@ -75,7 +81,8 @@ cells_of-with_target EndCase to = refl
 cells_of-with_target Return to = refl
 
 -- the target of an item that has one, and the item without its target
-target_of-with_target : (item : Item) (from to : Place) → target_of item ≡ Some from → target_of (with_target item to) ≡ Some to
+target_of-with_target : (item : Item) (from to : Place) → target_of item ≡ Some from
+    → target_of (with_target item to) ≡ Some to
 target_of-with_target (Operation xt) from to e = let bad : ⊥ = cc in absurd bad
 target_of-with_target (Literal x) from to e = let bad : ⊥ = cc in absurd bad
 target_of-with_target (String address n) from to e = let bad : ⊥ = cc in absurd bad
@@ -93,7 +100,8 @@ target_of-with_target (EndOf at) from to e = refl
 target_of-with_target EndCase from to e = let bad : ⊥ = cc in absurd bad
 target_of-with_target Return from to e = let bad : ⊥ = cc in absurd bad
 
-with_target-restored : (item : Item) (from to : Place) → target_of item ≡ Some from → with_target (with_target item to) from ≡ item
+with_target-restored : (item : Item) (from to : Place) → target_of item ≡ Some from
+    → with_target (with_target item to) from ≡ item
 with_target-restored (Operation xt) from to e = let bad : ⊥ = cc in absurd bad
 with_target-restored (Literal x) from to e = let bad : ⊥ = cc in absurd bad
 with_target-restored (String address n) from to e = let bad : ⊥ = cc in absurd bad
@@ -129,7 +137,8 @@ with_target-none (EndOf at) to e = let bad : ⊥ = cc in absurd bad
 with_target-none EndCase to e = refl
 with_target-none Return to e = refl
 
-with_target-twice : (item : Item) (first last : Place) → with_target (with_target item first) last ≡ with_target item last
+with_target-twice : (item : Item) (first last : Place)
+    → with_target (with_target item first) last ≡ with_target item last
 with_target-twice (Operation xt) first last = refl
 with_target-twice (Literal x) first last = refl
 with_target-twice (String address n) first last = refl
@@ -150,23 +159,28 @@ with_target-twice Return first last = refl
 no_item : (item : Item) → None ≡ Some item → ⊥
 no_item item e = cc
 
-get_or-set_item : (xs : List (Option Item)) (i : ℕ) (item new : Item) → get_or xs i None ≡ Some item → get_or (set xs i (Some new)) i None ≡ Some new
+get_or-set_item : (xs : List (Option Item)) (i : ℕ) (item new : Item) → get_or xs i None ≡ Some item
+    → get_or (set xs i (Some new)) i None ≡ Some new
 get_or-set_item [] i item new e = absurd (no_item item e)
 get_or-set_item (x ∷ xs) zero item new e = refl
 get_or-set_item (x ∷ xs) (suc i) item new e = get_or-set_item xs i item new e
 
-next_at-retargeted : (place : Place) (cell : Option Item) (to : Place) → next_at place (retargeted_item cell to) ≡ next_at place cell
+next_at-retargeted : (place : Place) (cell : Option Item) (to : Place)
+    → next_at place (retargeted_item cell to) ≡ next_at place cell
 next_at-retargeted place None to = refl
 next_at-retargeted place (Some item) to = rw (cells_of-with_target item to) refl
 
-next_at-set : (place : Place) (xs : List (Option Item)) (i j : ℕ) (to : Place) → next_at place (get_or (set xs i (retargeted_item (get_or xs i None) to)) j None) ≡ next_at place (get_or xs j None)
+next_at-set : (place : Place) (xs : List (Option Item)) (i j : ℕ) (to : Place)
+    → next_at place (get_or (set xs i (retargeted_item (get_or xs i None) to)) j None)
+    ≡ next_at place (get_or xs j None)
 next_at-set place [] i j to = refl
 next_at-set place (x ∷ xs) zero zero to = next_at-retargeted place x to
 next_at-set place (x ∷ xs) zero (suc j) to = refl
 next_at-set place (x ∷ xs) (suc i) zero to = refl
 next_at-set place (x ∷ xs) (suc i) (suc j) to = next_at-set place xs i j to
 
-pub item_in-retargeted : (c : Code) (at to : Place) (item : Item) → item_in c at ≡ Some item → item_in (retargeted c at to) at ≡ Some (with_target item to)
+pub item_in-retargeted : (c : Code) (at to : Place) (item : Item) → item_in c at ≡ Some item
+    → item_in (retargeted c at to) at ≡ Some (with_target item to)
 item_in-retargeted c at to item e = rw e (get_or-set_item c.cells at.cell item (with_target item to) e)
 
 pub targets_change_alone : TargetsChangeAlone
@@ -185,14 +199,16 @@ targets_change_alone = record {
 start_in-finished : (c : Code) (xt : Cell) → start_in (finished c xt) xt ≡ Some c.opened
 start_in-finished c xt = rw (eq-eqb xt.0 xt.0 refl) refl
 
-start_in-finished_other : (c : Code) (xt other : Cell) → xt.0 ≢ other.0 → start_in (finished c xt) other ≡ start_in c other
+start_in-finished_other : (c : Code) (xt other : Cell) → xt.0 ≢ other.0
+    → start_in (finished c xt) other ≡ start_in c other
 start_in-finished_other c xt other ne = rw (ne_eqb xt.0 other.0 ne) refl
 
 opened-finished : (c : Code) (xt : Cell) → (finished c xt).opened ≡ end_of (finished c xt)
 opened-finished c xt = rw (length-append c.cells (laid_out Return)) refl
 
 abandoned-finished : (c : Code) (xt : Cell) → abandoned (finished c xt) ≡ finished c xt
-abandoned-finished c xt = rw (take_all (length c.cells + 1) (c.cells ++ laid_out Return) (omega (arith, length-append c.cells (laid_out Return)))) refl
+abandoned-finished c xt = rw (take_all (length c.cells + 1) (c.cells ++ laid_out Return)
+    (omega (arith, length-append c.cells (laid_out Return)))) refl
 
 pub finished_words_are_bound : FinishedWordsAreBound
 finished_words_are_bound = record {
@@ -210,7 +226,8 @@ get_or_past (x ∷ xs) zero h = absurd (omega (arith, h))
 get_or_past (x ∷ xs) (suc i) h = get_or_past xs i (omega (arith, h))
 
 item_in-abandoned : (c : Code) (place : Place) → c.opened.cell ≤ place.cell → item_in (abandoned c) place ≡ None
-item_in-abandoned c place h = get_or_past (take c.opened.cell c.cells) place.cell (omega (arith, length-take c.opened.cell c.cells))
+item_in-abandoned c place h = get_or_past (take c.opened.cell c.cells) place.cell
+    (omega (arith, length-take c.opened.cell c.cells))
 
 pub abandoned_items_are_forgotten : AbandonedItemsAreForgotten
 abandoned_items_are_forgotten = record {

@@ -5,7 +5,8 @@ use Rattle.of_code.specs.declared.item.Place.{Place}
 use Rattle.of_code.specs.declared.item.Item.{Item}
 use Rattle.of_code.specs.declared.item.Item.TheVariants.{Return}
 use Rattle.of_code.specs.Items.{target_of, with_target}
-use Rattle.of_code.specs.Code.{Code, abandoned, appended, end_of, fetched_in, finished, item_in, next_in, retargeted, start_in}
+use Rattle.of_code.specs.Code.{Code, abandoned, appended, end_of, fetched_in, finished, item_in, next_in, retargeted}
+use Rattle.of_code.specs.Code.{start_in}
 
 -- `item_at` gives what `append` got, and `item_and_next` also the next place
 pub record AppendedItemsAreFound : Type 0 where

@@ -1,5 +1,6 @@
 //! What the calls of every store say of one another, by the definitions that their contracts cite.
-ghost use Rattle.of_code.specs.Laws.{AbandonedItemsAreForgotten, AppendedItemsAreFound, FinishedWordsAreBound, TargetsChangeAlone};
+ghost use Rattle.of_code.specs.Laws.{AbandonedItemsAreForgotten, AppendedItemsAreFound, FinishedWordsAreBound};
+ghost use Rattle.of_code.specs.Laws.{TargetsChangeAlone};
 
 /// An item that was appended begins at the answered place, and the next place is the new end. All
 /// other items stay.

@@ -24,7 +24,11 @@ impl Model for ListCode {
 
     ghost Value = { Roomy };
 
-    ghost view = { λ c. record { code = record { cells = c.cells.items; opened = c.opened; starts = reverse c.starts.items }; free_cells = vec_capacity c.cells - vec_len c.cells; free_starts = vec_capacity c.starts - vec_len c.starts } };
+    ghost view = { λ c. record {
+      code = record { cells = c.cells.items; opened = c.opened; starts = reverse c.starts.items };
+      free_cells = vec_capacity c.cells - vec_len c.cells;
+      free_starts = vec_capacity c.starts - vec_len c.starts;
+    } };
 
     ghost invariant = { λ c. (length c.cells.items ≤ capacity) × (c.opened.cell ≤ length c.cells.items) };
 }

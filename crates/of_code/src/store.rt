@@ -1,6 +1,7 @@
 ghost use Rattle.std.specs.Prelude.{◌≡◌, ◌≤◌, ◌<◌, ℕ, ◌+◌, OnOk, OnSome, Err};
 ghost use Rattle.of_code.specs.Items.{IsStorable, capacity};
-ghost use Rattle.of_code.specs.Code.{Appends, Code, Finishes, abandoned, end_of, fetched_in, item_in, retargeted, start_in};
+ghost use Rattle.of_code.specs.Code.{Appends, Code, Finishes, abandoned, end_of, fetched_in, item_in, retargeted};
+ghost use Rattle.of_code.specs.Code.{start_in};
 ghost use Rattle.of_code.specs.declared.fault.CodeFault.TheVariants.{NoMemory};
 
 use crate::{CodeFault, Item, Place};

@@ -9,6 +9,3 @@ mod search;
 pub use control::Control;
 pub use laws::{calls_follow_matching, closed_is_read, compiled_is_flat, items_are_flat};
 pub use opener::{Kind, Opener};
-
-#[cfg(test)]
-mod tests;

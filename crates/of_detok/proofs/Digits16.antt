@@ -1,5 +1,6 @@
 -- Digits read back.
-use Rattle.std.proofs.Common.{◌≡◌, ℕ, ◌+◌, ◌*◌, ◌/◌, ◌%◌, ◌<◌, List, [], ◌∷◌, ◌++◌, codes, Some, true, false, nat_eq, nat_lt, length, refl, arith}
+use Rattle.std.proofs.Common.{◌≡◌, ℕ, ◌+◌, ◌*◌, ◌/◌, ◌%◌, ◌<◌, List, [], ◌∷◌, ◌++◌, codes, Some, true, false, nat_eq}
+use Rattle.std.proofs.Common.{nat_lt, length, refl, arith}
 use Rattle.std.proofs.lemmas.Bool.Decides.{nat_tests}
 use Rattle.std.specs.List.{AllByRecursion}
 use Rattle.std.specs.Char.{digit_char}
@@ -19,7 +20,8 @@ no_space : (a b : ℕ) → are_spaces (digit_char a) b ≡ false
 no_space a b = let no : nat_eq (digit_char a) 0x20 ≡ false = grind (arith, nat_tests) in rw no refl
 
 -- bytes are read from their digits
-pub paired-pairs : (bytes label : List ℕ) → AllByRecursion (λ b. b < 256) bytes → paired (pairs bytes ++ (codes "  " ++ label)) ≡ Some bytes
+pub paired-pairs : (bytes label : List ℕ) → AllByRecursion (λ b. b < 256) bytes
+    → paired (pairs bytes ++ (codes "  " ++ label)) ≡ Some bytes
 unfolding pairs paired
 paired-pairs [] label h = refl
 paired-pairs (b ∷ bytes) label h =

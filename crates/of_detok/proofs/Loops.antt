@@ -1,5 +1,7 @@
 -- A step of each loop, over variables.
-use Rattle.std.proofs.Common.{◌≡◌, ℕ, suc, ◌+◌, ◌-◌, ◌*◌, ◌/◌, ◌%◌, ◌<◌, ◌≤◌, List, [], ◌∷◌, ◌++◌, length, take, drop, get_or, Option, Some, None, Result, Ok, Err, Bool, true, false, cond, nat_eq, nat_lt, refl, sym, ap, ◌∙◌, arith, append_assoc, codes}
+use Rattle.std.proofs.Common.{◌≡◌, ℕ, suc, ◌+◌, ◌-◌, ◌*◌, ◌/◌, ◌%◌, ◌<◌, ◌≤◌, List, [], ◌∷◌, ◌++◌, length, take, drop}
+use Rattle.std.proofs.Common.{get_or, Option, Some, None, Result, Ok, Err, Bool, true, false, cond, nat_eq, nat_lt}
+use Rattle.std.proofs.Common.{refl, sym, ap, ◌∙◌, arith, append_assoc, codes, map}
 use Rattle.std.proofs.lemmas.List.{drop_more, drop_all, drop-drop, take_all, length-append, append-nil}
 use Rattle.std.proofs.lemmas.Bool.Decides.{nat_tests}
 use Rattle.std.specs.List.{flat_map, position, position_or_len}
@@ -11,12 +13,14 @@ use Rattle.of_stream.specs.declared.stream.OffsetSize.{OffsetSize}
 use Rattle.of_stream.specs.Decoding.{Token, token_from}
 use Rattle.of_detok.specs.Digits.{digit_value, pairs}
 use Rattle.of_stream.specs.Sizes.{is_end, size_behind}
-use Rattle.of_detok.specs.Listing.{Line, line_text, line_before, text_behind, token_line, lines_from, trailing, trailing_from}
+use Rattle.of_detok.specs.Listing.{Line, shown, line_text, line_before, text_behind, token_line, lines_from, trailing}
+use Rattle.of_detok.specs.Listing.{trailing_from}
 use Rattle.of_detok.specs.Reading.{paired, are_spaces, byte_of, byte_before, some_bytes, text_lines}
 
 -- one more byte as two digits
 pub pairs_more : (out bytes : List ℕ) (i d : ℕ) → i < length bytes
-    → ((out ++ digit_char (get_or bytes i d / 16) ∷ []) ++ digit_char (get_or bytes i d % 16) ∷ []) ++ pairs (drop (i + 1) bytes) ≡ out ++ pairs (drop i bytes)
+    → ((out ++ digit_char (get_or bytes i d / 16) ∷ []) ++ digit_char (get_or bytes i d % 16) ∷ []) ++ pairs
+    (drop (i + 1) bytes) ≡ out ++ pairs (drop i bytes)
 unfolding pairs
 pairs_more out bytes i d h =
     let high = digit_char (get_or bytes i d / 16) in
@@ -30,7 +34,19 @@ pub pairs_end : (out bytes : List ℕ) (i : ℕ) → length bytes ≤ i → out 
 unfolding pairs
 pairs_end out bytes i h = ap (λ xs. out ++ pairs xs) (drop_all i bytes h) ∙ append-nil out
 
-push_more : (out : List ℕ) (b : ℕ) (o : Option (List ℕ)) → option_map (λ bytes. out ++ bytes) (byte_before (Some b) o) ≡ option_map (λ bytes. (out ++ b ∷ []) ++ bytes) o
+-- one more byte of a string
+pub shown_more : (out text : List ℕ) (i d : ℕ) → i < length text
+    → (out ++ shown (get_or text i d) ∷ []) ++ map shown (drop (i + 1) text) ≡ out ++ map shown (drop i text)
+shown_more out text i d h =
+    append_assoc out (shown (get_or text i d) ∷ []) (map shown (drop (i + 1) text))
+    ∙ ap (λ xs. out ++ map shown xs) (sym (drop_more text i d h))
+
+-- no more bytes of it
+pub shown_end : (out text : List ℕ) (i : ℕ) → length text ≤ i → out ++ map shown (drop i text) ≡ out
+shown_end out text i h = ap (λ xs. out ++ map shown xs) (drop_all i text h) ∙ append-nil out
+
+push_more : (out : List ℕ) (b : ℕ) (o : Option (List ℕ))
+    → option_map (λ bytes. out ++ bytes) (byte_before (Some b) o) ≡ option_map (λ bytes. (out ++ b ∷ []) ++ bytes) o
 push_more out b None = refl
 push_more out b (Some bytes) = ap (λ xs. Some xs) (sym (append_assoc out (b ∷ []) bytes))
 
@@ -39,8 +55,11 @@ none_before None = refl
 none_before (Some bytes) = refl
 
 -- one more byte of two digits
-pub paired_more : (out text : List ℕ) (d b : ℕ) → 2 ≤ length text → are_spaces (get_or text 0 d) (get_or text 1 d) ≡ false → byte_of (digit_value (get_or text 0 d)) (digit_value (get_or text 1 d)) ≡ Some b
-    → option_map (λ bytes. out ++ bytes) (paired text) ≡ option_map (λ bytes. (out ++ b ∷ []) ++ bytes) (paired (drop 2 text))
+pub paired_more : (out text : List ℕ) (d b : ℕ) → 2 ≤ length text
+    → are_spaces (get_or text 0 d) (get_or text 1 d) ≡ false
+    → byte_of (digit_value (get_or text 0 d)) (digit_value (get_or text 1 d)) ≡ Some b
+    → option_map (λ bytes. out ++ bytes) (paired text)
+    ≡ option_map (λ bytes. (out ++ b ∷ []) ++ bytes) (paired (drop 2 text))
 unfolding paired
 paired_more out [] d b l s h = absurd (omega (arith, l))
 paired_more out (x ∷ []) d b l s h = absurd (omega (arith, l))
@@ -55,7 +74,9 @@ paired_end out (x ∷ []) d l s = absurd (omega (arith, l))
 paired_end out (x ∷ y ∷ text) d l s = rw s (ap (λ xs. Some xs) (append-nil out))
 
 -- no digits
-pub paired_bad : (out text : List ℕ) (d : ℕ) → 2 ≤ length text → are_spaces (get_or text 0 d) (get_or text 1 d) ≡ false → byte_of (digit_value (get_or text 0 d)) (digit_value (get_or text 1 d)) ≡ None
+pub paired_bad : (out text : List ℕ) (d : ℕ) → 2 ≤ length text
+    → are_spaces (get_or text 0 d) (get_or text 1 d) ≡ false
+    → byte_of (digit_value (get_or text 0 d)) (digit_value (get_or text 1 d)) ≡ None
     → option_map (λ bytes. out ++ bytes) (paired text) ≡ None
 unfolding paired
 paired_bad out [] d l s h = absurd (omega (arith, l))
@@ -79,7 +100,8 @@ some_by old new (Some []) h =
     rw long refl
 some_by old new (Some (b ∷ bytes)) h =
     let same : old ++ b ∷ bytes ≡ new = cc in
-    let long : nat_lt (length old) (length new) ≡ true = grind (arith, nat_tests, same, length-append old (b ∷ bytes)) in
+    let long : nat_lt (length old) (length new) ≡ true =
+    grind (arith, nat_tests, same, length-append old (b ∷ bytes)) in
     rw long h
 
 -- a line whose digits don't
@@ -112,11 +134,13 @@ split_by b text n e h goal =
     let same : n ≡ suc (line_length text) = omega (arith, h) in
     rw same goal
 
-line_by : (t : Bool) (b : ℕ) (text : List ℕ) → nat_eq b 10 ≡ t → ((c : ℕ) (rest : List ℕ) → text ≡ c ∷ rest → IsSplit text) → IsSplit (b ∷ text)
+line_by : (t : Bool) (b : ℕ) (text : List ℕ) → nat_eq b 10 ≡ t
+    → ((c : ℕ) (rest : List ℕ) → text ≡ c ∷ rest → IsSplit text) → IsSplit (b ∷ text)
 unfolding text_lines
 line_by true b text e h = rw e refl
 line_by false b [] e h = split_by b [] (line_length (b ∷ [])) e (rw e refl) (rw e refl)
-line_by false b (c ∷ rest) e h = split_by b (c ∷ rest) (line_length (b ∷ c ∷ rest)) e (rw e refl) (rw (e, h c rest refl) refl)
+line_by false b (c ∷ rest) e h = split_by b (c ∷ rest) (line_length (b ∷ c ∷ rest)) e (rw e refl)
+    (rw (e, h c rest refl) refl)
 
 line_split : (b : ℕ) (text : List ℕ) → IsSplit (b ∷ text)
 line_split b [] = line_by (nat_eq b 10) b [] refl (λ c rest e. absurd cc)
@@ -134,36 +158,46 @@ ended_by false n m end t h = absurd cc
 pub line_ended : (text : List ℕ) (end : ℕ) → 0 < length text → position (λ b. nat_eq b 10) text ≡ Some end
     → text_lines text ≡ take end text ∷ text_lines (drop (end + 1) text)
 line_ended text end h e =
-    let same : line_length text ≡ end = ended_by (nat_lt (line_length text) (length text)) (line_length text) (length text) end refl e in
+    let same : line_length text ≡ end = ended_by (nat_lt (line_length text) (length text)) (line_length text)
+    (length text) end refl e in
     let next : suc (line_length text) ≡ end + 1 = omega (arith, same) in
-    split_some text h ∙ ap (λ n. take n text ∷ text_lines (drop (suc (line_length text)) text)) same ∙ ap (λ n. take end text ∷ text_lines (drop n text)) next
+    split_some text h ∙ ap (λ n. take n text ∷ text_lines (drop (suc (line_length text)) text)) same
+    ∙ ap (λ n. take end text ∷ text_lines (drop n text)) next
 
 open_by : (t : Bool) (n m : ℕ) → nat_lt n m ≡ t → cond t (Some n) None ≡ None → m ≤ n
 open_by true n m t h = absurd cc
 open_by false n m t h = grind (arith, nat_tests, t)
 
 -- the line has no newline
-pub line_open : (text : List ℕ) → 0 < length text → position (λ b. nat_eq b 10) text ≡ None → text_lines text ≡ text ∷ text_lines []
+pub line_open : (text : List ℕ) → 0 < length text → position (λ b. nat_eq b 10) text ≡ None
+    → text_lines text ≡ text ∷ text_lines []
 line_open text h e =
-    let past : length text ≤ line_length text = open_by (nat_lt (line_length text) (length text)) (line_length text) (length text) refl e in
+    let past : length text ≤ line_length text =
+    open_by (nat_lt (line_length text) (length text)) (line_length text) (length text) refl e in
     let none : drop (suc (line_length text)) text ≡ [] = drop_all (suc (line_length text)) text (omega arith) in
-    split_some text h ∙ ap (λ xs. xs ∷ text_lines (drop (suc (line_length text)) text)) (take_all (line_length text) text past) ∙ ap (λ xs. text ∷ text_lines xs) none
+    split_some text h ∙ ap (λ xs. xs ∷ text_lines (drop (suc (line_length text)) text))
+    (take_all (line_length text) text past) ∙ ap (λ xs. text ∷ text_lines xs) none
 
 -- one more line of a listing
-pub text_more : (text : List ℕ) (l : Line) (r : Result (List Line) StreamFault) → text_behind text (line_before l r) ≡ text_behind (text ++ line_text l) r
+pub text_more : (text : List ℕ) (l : Line) (r : Result (List Line) StreamFault)
+    → text_behind text (line_before l r) ≡ text_behind (text ++ line_text l) r
 text_more text l (Ok lines) = ap (λ xs. Ok xs) (sym (append_assoc text (line_text l) (flat_map line_text lines)))
 text_more text l (Err f) = refl
 
 -- one more token
-pub tokens_more : (text image : List ℕ) (n k position : ℕ) (size : OffsetSize) (r : Token × ℕ) → k < n → token_from image position size ≡ Some r → is_end r.0.code.0 ≡ false
+pub tokens_more : (text image : List ℕ) (n k position : ℕ) (size : OffsetSize) (r : Token × ℕ) → k < n
+    → token_from image position size ≡ Some r → is_end r.0.code.0 ≡ false
     → text_behind text (lines_from image (n - k) position size)
-    ≡ text_behind (text ++ line_text (token_line image position r)) (lines_from image (n - (k + 1)) r.1 (size_behind r.0.code.0 size))
+    ≡ text_behind (text ++ line_text (token_line image position r))
+    (lines_from image (n - (k + 1)) r.1 (size_behind r.0.code.0 size))
 tokens_more text image n k position size r l h e =
     let less : n - k ≡ suc (n - (k + 1)) = omega arith in
-    rw (less, h, e) (text_more text (token_line image position r) (lines_from image (n - (k + 1)) r.1 (size_behind r.0.code.0 size)))
+    rw (less, h, e) (text_more text (token_line image position r)
+    (lines_from image (n - (k + 1)) r.1 (size_behind r.0.code.0 size)))
 
 -- the end token
-pub tokens_end : (text image : List ℕ) (n k position : ℕ) (size : OffsetSize) (r : Token × ℕ) → k < n → token_from image position size ≡ Some r → is_end r.0.code.0 ≡ true
+pub tokens_end : (text image : List ℕ) (n k position : ℕ) (size : OffsetSize) (r : Token × ℕ) → k < n
+    → token_from image position size ≡ Some r → is_end r.0.code.0 ≡ true
     → text_behind text (lines_from image (n - k) position size)
     ≡ Ok ((text ++ line_text (token_line image position r)) ++ flat_map line_text (trailing_from image r.1))
 tokens_end text image n k position size r l h e =
@@ -171,7 +205,8 @@ tokens_end text image n k position size r l h e =
     rw (less, h, e) (text_more text (token_line image position r) (Ok (trailing_from image r.1)))
 
 -- no token
-pub tokens_cut : (text image : List ℕ) (n k position : ℕ) (size : OffsetSize) → k < n → token_from image position size ≡ None
+pub tokens_cut : (text image : List ℕ) (n k position : ℕ) (size : OffsetSize) → k < n
+    → token_from image position size ≡ None
     → text_behind text (lines_from image (n - k) position size) ≡ Err (Ended position)
 tokens_cut text image n k position size l h =
     let less : n - k ≡ suc (n - (k + 1)) = omega arith in
@@ -179,7 +214,12 @@ tokens_cut text image n k position size l h =
 
 -- one more line behind the end token
 pub trailing_more : (text image : List ℕ) (count k position : ℕ) → k < count
-    → (text ++ line_text (record { before = position + 16 * k; bytes = take 16 (drop (position + 16 * k) image); label = codes "trailing" }))
+    → (text ++ line_text (record {
+      before = position + 16 * k;
+      bytes =
+          take 16 (drop (position + 16 * k) image);
+      label = codes "trailing";
+    }))
     ++ flat_map line_text (trailing (count - (k + 1)) (position + 16 * (k + 1)) (drop (position + 16 * (k + 1)) image))
     ≡ text ++ flat_map line_text (trailing (count - k) (position + 16 * k) (drop (position + 16 * k) image))
 trailing_more text image count k position l =

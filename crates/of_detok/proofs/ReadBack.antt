@@ -1,5 +1,6 @@
 -- The text of lines that lie one behind another means their bytes.
-use Rattle.std.proofs.Common.{◌≡◌, ℕ, ◌+◌, ◌<◌, List, [], ◌∷◌, ◌++◌, length, take, drop, codes, Some, Result, Ok, Err, true, refl, sym, ap, ◌∙◌, arith, append_assoc}
+use Rattle.std.proofs.Common.{◌≡◌, ℕ, ◌+◌, ◌<◌, List, [], ◌∷◌, ◌++◌, length, take, drop, codes, Some, Result, Ok, Err}
+use Rattle.std.proofs.Common.{true, refl, sym, ap, ◌∙◌, arith, append_assoc}
 use Rattle.std.proofs.lemmas.List.{length-append, append-nil, take_at, drop_at}
 use Rattle.std.proofs.lemmas.List.Elements.{recursion_from_All}
 use Rattle.std.specs.List.{AllByRecursion, flat_map}
@@ -37,12 +38,14 @@ abbrev body : Line → List ℕ
 body l = place l.before ++ pairs l.bytes ++ codes "  " ++ l.label
 
 body-parts : (l : Line) → body l ≡ place l.before ++ (pairs l.bytes ++ (codes "  " ++ l.label))
-body-parts l = append_assoc (place l.before ++ pairs l.bytes) (codes "  ") l.label ∙ append_assoc (place l.before) (pairs l.bytes) (codes "  " ++ l.label)
+body-parts l = append_assoc (place l.before ++ pairs l.bytes) (codes "  ") l.label
+    ∙ append_assoc (place l.before) (pairs l.bytes) (codes "  " ++ l.label)
 
 plain_body : (l : Line) → plain l.label ≡ true → plain (body l) ≡ true
 plain_body l h =
     plain_append (place l.before ++ pairs l.bytes ++ codes "  ") l.label
-    (plain_append (place l.before ++ pairs l.bytes) (codes "  ") (plain_append (place l.before) (pairs l.bytes) (plain_place l.before) (plain_pairs l.bytes)) refl)
+    (plain_append (place l.before ++ pairs l.bytes) (codes "  ")
+    (plain_append (place l.before) (pairs l.bytes) (plain_place l.before) (plain_pairs l.bytes)) refl)
     h
 
 line-text : (l : Line) (more : List ℕ) → line_text l ++ more ≡ body l ++ 10 ∷ more
@@ -53,7 +56,8 @@ some-bytes : (bytes : List ℕ) → 0 < length bytes → some_bytes (Some bytes)
 some-bytes [] h = absurd (omega (arith, h))
 some-bytes (b ∷ bytes) h = refl
 
-bytes_at : (before : ℕ) (bytes label : List ℕ) → EachByte bytes → 0 < length bytes → line_bytes before (place before ++ (pairs bytes ++ (codes "  " ++ label))) ≡ Some bytes
+bytes_at : (before : ℕ) (bytes label : List ℕ) → EachByte bytes → 0 < length bytes
+    → line_bytes before (place before ++ (pairs bytes ++ (codes "  " ++ label))) ≡ Some bytes
 unfolding line_bytes
 bytes_at before bytes label all some =
     let tail = pairs bytes ++ (codes "  " ++ label) in
@@ -61,33 +65,44 @@ bytes_at before bytes label all some =
     let rest : drop 8 (place before ++ tail) ≡ tail = drop_at (place before) tail 8 (length-place before) in
     rw (head, rest, same_text (place before), paired-pairs bytes label all) (some-bytes bytes some)
 
-bytes_on : (before : ℕ) (l : Line) → l.before ≡ before → EachByte l.bytes → 0 < length l.bytes → line_bytes before (body l) ≡ Some l.bytes
-bytes_on before l at all some = ap (line_bytes before) (body-parts l) ∙ ap (λ n. line_bytes before (place n ++ (pairs l.bytes ++ (codes "  " ++ l.label)))) at ∙ bytes_at before l.bytes l.label all some
+bytes_on : (before : ℕ) (l : Line) → l.before ≡ before → EachByte l.bytes → 0 < length l.bytes
+    → line_bytes before (body l) ≡ Some l.bytes
+bytes_on before l at all some = ap (line_bytes before) (body-parts l)
+    ∙ ap (λ n. line_bytes before (place n ++ (pairs l.bytes ++ (codes "  " ++ l.label)))) at
+    ∙ bytes_at before l.bytes l.label all some
 
 -- the lines of a text are read one by one
-read_laid : (number before : ℕ) (image : List ℕ) (lines : List Line) (bytes : List ℕ) → length image ≡ before → EachByte bytes → IsLaid before lines bytes
+read_laid : (number before : ℕ) (image : List ℕ) (lines : List Line) (bytes : List ℕ) → length image ≡ before
+    → EachByte bytes → IsLaid before lines bytes
     → read_lines number image (text_lines (flat_map line_text lines)) ≡ Ok (image ++ bytes)
 unfolding text_lines
-read_laid number before image [] bytes at all laid = ap (λ xs. Ok xs) (sym (append-nil image) ∙ ap (λ xs. image ++ xs) (sym laid))
+read_laid number before image [] bytes at all laid =
+    ap (λ xs. Ok xs) (sym (append-nil image) ∙ ap (λ xs. image ++ xs) (sym laid))
 read_laid number before image (l ∷ lines) bytes at all laid =
     let rest = laid.0 in
     let both : EachByte (l.bytes ++ rest) = rw laid.1 at all in
     let split : text_lines (line_text l ++ flat_map line_text lines) ≡ body l ∷ text_lines (flat_map line_text lines) =
-    ap text_lines (line-text l (flat_map line_text lines)) ∙ first-line (body l) (flat_map line_text lines) (plain_body l laid.4) in
-    let own : line_bytes (length image) (body l) ≡ Some l.bytes = bytes_on (length image) l (laid.2 ∙ sym at) (bytes_left l.bytes rest both) laid.3 in
+    ap text_lines (line-text l (flat_map line_text lines))
+    ∙ first-line (body l) (flat_map line_text lines) (plain_body l laid.4) in
+    let own : line_bytes (length image) (body l) ≡ Some l.bytes =
+    bytes_on (length image) l (laid.2 ∙ sym at) (bytes_left l.bytes rest both) laid.3 in
     let long : length (image ++ l.bytes) ≡ before + length l.bytes = omega (arith, at, length-append image l.bytes) in
-    let later = read_laid (number + 1) (before + length l.bytes) (image ++ l.bytes) lines rest long (bytes_right l.bytes rest both) laid.5 in
+    let later = read_laid (number + 1) (before + length l.bytes) (image ++ l.bytes) lines rest long
+    (bytes_right l.bytes rest both) laid.5 in
     ap (read_lines number image) split
-    ∙ ap (λ o. bytes_behind number image o (λ more. read_lines (number + 1) more (text_lines (flat_map line_text lines)))) own
+    ∙ ap (λ o. bytes_behind number image o
+    (λ more. read_lines (number + 1) more (text_lines (flat_map line_text lines)))) own
     ∙ later
     ∙ ap (λ xs. Ok xs) (append_assoc image l.bytes rest ∙ ap (λ xs. image ++ xs) (sym laid.1))
 
-back_by : TokenStandsAlone → (image text : List ℕ) (r : Result (List Line) StreamFault) → lines_of image ≡ r → AreBytes image → text_behind [] r ≡ Ok text
+back_by : TokenStandsAlone → (image text : List ℕ) (r : Result (List Line) StreamFault) → lines_of image ≡ r
+    → AreBytes image → text_behind [] r ≡ Ok text
     → read_lines 1 [] (text_lines text) ≡ Ok image
 back_by law image text (Err f) e all h = absurd cc
 back_by law image text (Ok lines) e all h =
     let same : flat_map line_text lines ≡ text = cc in
-    rw (← same) (read_laid 1 0 [] lines image refl (recursion_from_All (λ b. b < 256) image all) (lines_laid law image lines e))
+    rw (← same) (read_laid 1 0 [] lines image refl (recursion_from_All (λ b. b < 256) image all)
+    (lines_laid law image lines e))
 
 -- each listing reads back
 pub reads_back : TokenStandsAlone → ListingReadsBack

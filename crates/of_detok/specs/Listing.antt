@@ -1,6 +1,8 @@
 -- The listing of an image, a line for each token (IEEE 1275-1994, 5.2.2).
-use Rattle.std.specs.Prelude.{◌≡◌, ℕ, zero, suc, ◌+◌, ◌-◌, ◌*◌, ◌/◌, ◌%◌, ℤ, pos, negsuc, ◌≤◌, List, [], ◌∷◌, ◌++◌, map, length, take, drop}
-use Rattle.std.specs.Prelude.{slice_index, slice_range, codes, Option, Some, None, Result, Ok, Err, nat_eq, nat_lt, if◌then◌else◌}
+use Rattle.std.specs.Prelude.{◌≡◌, ℕ, zero, suc, ◌+◌, ◌-◌, ◌*◌, ◌/◌, ◌%◌, ℤ, pos, negsuc, ◌≤◌, List, [], ◌∷◌, ◌++◌}
+use Rattle.std.specs.Prelude.{map, length, take, drop}
+use Rattle.std.specs.Prelude.{slice_index, slice_range, codes, Option, Some, None, Result, Ok, Err, nat_eq, nat_lt}
+use Rattle.std.specs.Prelude.{if◌then◌else◌}
 use Rattle.std.specs.List.{sum, flat_map}
 use Rattle.of_fcodes.specs.Lookup.{name_numbered}
 use Rattle.of_stream.specs.declared.fault.StreamFault.{StreamFault}
@@ -102,7 +104,8 @@ header_label image =
 abbrev pub trailing : ℕ → ℕ → List ℕ → List Line
 trailing zero before bytes = []
 trailing (suc more) before bytes =
-    record { before = before; bytes = take 16 bytes; label = codes "trailing" } ∷ trailing more (before + 16) (drop 16 bytes)
+    record { before = before; bytes = take 16 bytes; label = codes "trailing" } ∷ trailing more (before + 16)
+    (drop 16 bytes)
 
 -- what stands from a position on, behind the end token
 abbrev pub trailing_from : List ℕ → ℕ → List Line

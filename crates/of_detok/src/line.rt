@@ -64,7 +64,6 @@ pub fn write_digits(out: &mut Vec<u8>, count: usize, n: usize) -> Result<(), All
 }
 
 /// Writes the digits of bytes, two a byte.
-#[tactic(auto, using(crate::proofs::Loops::pairs_more, crate::proofs::Loops::pairs_end))]
 fn write_pairs(out: &mut Vec<u8>, bytes: &[u8]) -> Result<(), AllocError>
     ensures { OnOk result (out.new.items ≡ out.old.items ++ pairs bytes.now) }
 {

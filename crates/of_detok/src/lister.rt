@@ -1,8 +1,10 @@
-ghost use Rattle.std.specs.Prelude.{◌≡◌, ◌+◌, ◌-◌, ◌/◌, ◌≤◌, ◌<◌, ◌^◌, ◌++◌, codes, length, take, drop, IfOk, IfErr, OnOk, slice_range};
+ghost use Rattle.std.specs.Prelude.{◌≡◌, ◌+◌, ◌-◌, ◌/◌, ◌≤◌, ◌<◌, ◌^◌, ◌++◌, codes, length, take, drop, IfOk, IfErr};
+ghost use Rattle.std.specs.Prelude.{OnOk, slice_range};
 ghost use Rattle.std.specs.List.{flat_map};
 ghost use Rattle.of_stream.specs.Decoding.{token_shown};
 ghost use Rattle.of_stream.specs.Image.{header_length};
-ghost use Rattle.of_detok.specs.Listing.{header_line, line_text, token_line, trailing_from, lines_behind, text_behind, listed, IsRefused};
+ghost use Rattle.of_detok.specs.Listing.{header_line, line_text, token_line, trailing_from, lines_behind};
+ghost use Rattle.of_detok.specs.Listing.{text_behind, listed, IsRefused};
 
 use crate::fault::DetokFault;
 use crate::labels::{write_header, write_token};
@@ -36,7 +38,8 @@ fn write_token_line(
 ) -> Result<(), AllocError>
     requires rises { position ≤ next }
     requires within { next ≤ length image.now }
-    ensures { OnOk result (out.new.items ≡ out.old.items ++ line_text (token_line image.now position (token_shown token.entry, next))) }
+    ensures { OnOk result (out.new.items
+        ≡ out.old.items ++ line_text (token_line image.now position (token_shown token.entry, next))) }
 {
     write_line(out, position, &image[position..next])?;
     write_token(out, position, token)?;
@@ -47,7 +50,8 @@ fn write_token_line(
 /// Writes a line behind the end token.
 #[tactic(auto, unfolding(crate::specs::Listing::line_text), using(std::proofs::lemmas::List::append_assoc))]
 fn write_trailing_line(out: &mut Vec<u8>, before: usize, bytes: &[u8]) -> Result<(), AllocError>
-    ensures { OnOk result (out.new.items ≡ out.old.items ++ line_text (record { before = before; bytes = bytes.now; label = codes "trailing" })) }
+    ensures { OnOk result (out.new.items
+        ≡ out.old.items ++ line_text (record { before = before; bytes = bytes.now; label = codes "trailing" })) }
 {
     write_line(out, before, bytes)?;
     out.extend_from_slice(b"trailing\n")

@@ -1,4 +1,5 @@
-ghost use Rattle.std.specs.Prelude.{◌≡◌, ◌<◌, ◌≤◌, ◌++◌, ◌∷◌, length, map, IfOk, IfErr, IfSome, Some, None, Ok, if◌then◌else◌, nat_eq};
+ghost use Rattle.std.specs.Prelude.{◌≡◌, ◌<◌, ◌≤◌, ◌++◌, ◌∷◌, length, map, IfOk, IfErr, IfSome, Some, None, Ok};
+ghost use Rattle.std.specs.Prelude.{if◌then◌else◌, nat_eq};
 ghost use Rattle.std.specs.List.{position};
 ghost use Rattle.std.specs.Option.{option_map};
 ghost use Rattle.std.specs.Str.{str_eq_ignore_ascii_case};
@@ -46,7 +47,8 @@ fn byte_of(high: u8, low: u8) -> Option<u8>
 
 /// Appends the bytes of pairs of digits up to two spaces, and says whether two spaces end them.
 fn read_pairs(out: &mut Vec<u8>, mut text: &[u8]) -> Result<bool, AllocError>
-    ensures { IfOk result (λ ended. option_map (λ bytes. out.old.items ++ bytes) (paired text.entry.now) ≡ (if ended then Some out.new.items else None)) }
+    ensures { IfOk result (λ ended. option_map (λ bytes. out.old.items ++ bytes) (paired text.entry.now)
+        ≡ (if ended then Some out.new.items else None)) }
 {
     while let [a, b, rest @ ..] = text {
         if are_spaces(*a, *b) {
@@ -64,7 +66,8 @@ fn read_pairs(out: &mut Vec<u8>, mut text: &[u8]) -> Result<bool, AllocError>
 /// Appends the bytes on a line, and says whether it is a line of a listing.
 #[tactic(auto, unfolding(crate::specs::Reading::line_bytes), using(crate::proofs::Loops::some_by, crate::proofs::Loops::none_by))]
 fn read_line(image: &mut Vec<u8>, line: &[u8]) -> Result<bool, AllocError>
-    ensures { IfOk result (λ is_line. option_map (λ bytes. image.old.items ++ bytes) (line_bytes (length image.old.items) line.now) ≡ (if is_line then Some image.new.items else None)) }
+    ensures { IfOk result (λ is_line. option_map (λ bytes. image.old.items ++ bytes)
+        (line_bytes (length image.old.items) line.now) ≡ (if is_line then Some image.new.items else None)) }
 {
     let before = image.len();
     let (head, digits) = line.split_at(line.len().min(8));

@@ -1,6 +1,8 @@
 -- A token is read back from its bytes, and what is read was read from the bytes of the token.
-use Rattle.std.proofs.Common.{◌≡◌, ℕ, ◌+◌, ◌*◌, ◌/◌, ◌%◌, ◌^◌, ◌<◌, ◌≤◌, ℤ, pos, negsuc, List, [], ◌∷◌, ◌++◌, length, take, drop}
-use Rattle.std.proofs.Common.{Option, Some, None, Bool, true, false, ◌||◌, ◌&&◌, nat_eq, nat_lt, refl, sym, ap, subst, ◌∙◌, arith, append_assoc}
+use Rattle.std.proofs.Common.{◌≡◌, ℕ, ◌+◌, ◌*◌, ◌/◌, ◌%◌, ◌^◌, ◌<◌, ◌≤◌, ℤ, pos, negsuc, List, [], ◌∷◌, ◌++◌, length}
+use Rattle.std.proofs.Common.{take, drop}
+use Rattle.std.proofs.Common.{Option, Some, None, Bool, true, false, ◌||◌, ◌&&◌, nat_eq, nat_lt, refl, sym, ap, subst}
+use Rattle.std.proofs.Common.{◌∙◌, arith, append_assoc}
 use Rattle.std.proofs.lemmas.Bool.Decides.{nat_tests}
 use Rattle.std.proofs.lemmas.Int.{to_z-of_z, of_z-to_z}
 use Rattle.std.proofs.Math.Seq.{take-append_seam, drop-append_seam}
@@ -16,7 +18,8 @@ use Rattle.of_fcodes.specs.declared.operand.Operand.TheVariants as operand
 use Rattle.of_fcodes.specs.Lookup.{operand_numbered}
 use Rattle.of_stream.specs.declared.stream.OffsetSize.{OffsetSize}
 use Rattle.of_stream.specs.declared.stream.OffsetSize.TheVariants.{One, Two}
-use Rattle.of_stream.specs.Decoding.{Argument, Nothing, Literal, String, Code, Named, Offset, Token, code, second, literal, counted, offset}
+use Rattle.of_stream.specs.Decoding.{Argument, Nothing, Literal, String, Code, Named, Offset, Token, code, second}
+use Rattle.of_stream.specs.Decoding.{literal, counted, offset}
 use Rattle.of_stream.specs.Decoding.{argument, named, name_and_code, token_of, token_behind, decoded}
 use Rattle.of_stream.specs.Bytes.{code_bytes, cell_bytes, counted_bytes, offset_bytes, argument_bytes, token_bytes}
 use Rattle.of_stream.specs.Bytes.{is_code, is_offset, fits, operand_for, IsEncodable, AreBytes, TokensReadBack}
@@ -39,7 +42,8 @@ code-append c more h = code-append_by (nat_lt c.0 256) c more refl h
 
 literal-append : (x : Cell) (more : List ℕ) → literal (cell_bytes x ++ more) ≡ found x more
 literal-append x more =
-    let same : ((x.0 / 2 ^ 24 * 256 + x.0 / 2 ^ 16 % 256) * 256 + x.0 / 2 ^ 8 % 256) * 256 + x.0 % 256 ≡ x.0 = omega arith in
+    let same : ((x.0 / 2 ^ 24 * 256 + x.0 / 2 ^ 16 % 256) * 256 + x.0 / 2 ^ 8 % 256) * 256 + x.0 % 256 ≡ x.0 =
+    omega arith in
     ap (λ n. let read : Cell = record { 0 = n } in found read more) same
 
 counted-append : (s more : List ℕ) → counted (counted_bytes s ++ more) ≡ found s more
@@ -62,7 +66,8 @@ offset-append : (size : OffsetSize) (by : ℤ) (more : List ℕ) → is_offset s
     → offset size (offset_bytes size by ++ more) ≡ found by more
 offset-append One by more h = ap (λ z. found z more) (to_z-of_z w8 by (fits_one by h))
 offset-append Two by more h =
-    ap (λ n. found (cast_signed w16 n) more) (joined (cast_unsigned w16 by)) ∙ ap (λ z. found z more) (to_z-of_z w16 by (fits_two by h))
+    ap (λ n. found (cast_signed w16 n) more) (joined (cast_unsigned w16 by))
+    ∙ ap (λ z. found z more) (to_z-of_z w16 by (fits_two by h))
 
 argument-append : (size : OffsetSize) (a : Argument) (more : List ℕ) → fits size a ≡ true
     → argument (operand_for a) size (argument_bytes size a ++ more) ≡ found a more
@@ -103,12 +108,14 @@ abbrev IsFrom : {A : Type 0} → (A → List ℕ) → (A → Bool) → List ℕ 
 IsFrom own test bytes rest x = (test x ≡ true) × (bytes ≡ own x ++ rest)
 
 abbrev ReadsOwn : {A : Type 0} → (List ℕ → Option (A × List ℕ)) → (A → List ℕ) → (A → Bool) → Type 0
-ReadsOwn {A} f own test = (bytes rest : List ℕ) (x : A) → AreBytes bytes → f bytes ≡ found x rest → IsFrom own test bytes rest x
+ReadsOwn {A} f own test = (bytes rest : List ℕ) (x : A) → AreBytes bytes → f bytes ≡ found x rest
+    → IsFrom own test bytes rest x
 
 abbrev code_test : FCode → Bool
 code_test c = is_code c.0
 
-code-two : (b x : ℕ) (bytes rest : List ℕ) (c : FCode) → (nat_eq b 0 || nat_lt 0x0f b) ≡ false → x < 256 → bytes ≡ x ∷ rest
+code-two : (b x : ℕ) (bytes rest : List ℕ) (c : FCode) → (nat_eq b 0 || nat_lt 0x0f b) ≡ false → x < 256
+    → bytes ≡ x ∷ rest
     → c ≡ record { 0 = b * 256 + x } → IsFrom code_bytes code_test (b ∷ bytes) rest c
 code-two b x bytes rest c e last behind same =
     let both : FCode = record { 0 = b * 256 + x } in
@@ -121,7 +128,8 @@ code-two b x bytes rest c e last behind same =
       ap (λ xs. b ∷ xs) behind ∙ ap (λ xs. xs ++ rest) (sym own) ∙ ap (λ y. code_bytes y ++ rest) (sym same),
     )
 
-code-read_by : (t : Bool) (b : ℕ) (bytes rest : List ℕ) (c : FCode) → (nat_eq b 0 || nat_lt 0x0f b) ≡ t → AreBytes (b ∷ bytes)
+code-read_by : (t : Bool) (b : ℕ) (bytes rest : List ℕ) (c : FCode) → (nat_eq b 0 || nat_lt 0x0f b) ≡ t
+    → AreBytes (b ∷ bytes)
     → code (b ∷ bytes) ≡ found c rest → IsFrom code_bytes code_test (b ∷ bytes) rest c
 code-read_by true b bytes rest c e h f =
     let byte : FCode = record { 0 = b } in
@@ -141,7 +149,8 @@ code-read_by false b bytes rest c e h f =
     let x : ℕ = next.0 in
     let both : FCode = record { 0 = b * 256 + x } in
     let small : b < 256 = head_is_byte b bytes h in
-    let last : x < 256 = head_is_byte x rest (All-same (λ y. y < 256) (x ∷ rest) bytes (sym next.1) (tail_is_bytes b bytes h)) in
+    let last : x < 256 = head_is_byte x rest
+    (All-same (λ y. y < 256) (x ∷ rest) bytes (sym next.1) (tail_is_bytes b bytes h)) in
     code-two b x bytes rest c e last next.1 next.2
 
 code-read : ReadsOwn code code_bytes code_test
@@ -170,7 +179,8 @@ literal-read (a ∷ b ∷ c ∷ d ∷ bytes) rest x h f =
     let hb = tail_is_bytes a (b ∷ c ∷ d ∷ bytes) h in
     let hc = tail_is_bytes b (c ∷ d ∷ bytes) hb in
     let hd = tail_is_bytes c (d ∷ bytes) hc in
-    let own = literal-bytes a b c d (head_is_byte b (c ∷ d ∷ bytes) hb) (head_is_byte c (d ∷ bytes) hc) (head_is_byte d bytes hd) in (
+    let own = literal-bytes a b c d (head_is_byte b (c ∷ d ∷ bytes) hb) (head_is_byte c (d ∷ bytes) hc)
+    (head_is_byte d bytes hd) in (
       refl,
       ap (λ xs. a ∷ b ∷ c ∷ d ∷ xs) (second_of_some read x bytes rest f)
           ∙ ap (λ xs. xs ++ rest) (sym own)
@@ -194,7 +204,8 @@ counted-read_by false n bytes rest s e h f =
     let small : n < 256 = head_is_byte n bytes h in
     let short : nat_lt (length s) 256 ≡ true = grind (arith, nat_tests, size) in (
       short,
-      ap (λ xs. n ∷ xs) (sym (take-append-drop n bytes) ∙ ap (λ xs. xs ++ drop n bytes) text ∙ ap (λ xs. s ++ xs) behind)
+      ap (λ xs. n ∷ xs) (sym (take-append-drop n bytes) ∙ ap (λ xs. xs ++ drop n bytes) text
+          ∙ ap (λ xs. s ++ xs) behind)
           ∙ ap (λ k. k ∷ (s ++ rest)) (sym size),
     )
 
@@ -242,13 +253,15 @@ record WasArgument (o : Operand) (size : OffsetSize) (bytes rest : List ℕ) (a 
   pub encoded : bytes ≡ argument_bytes size a ++ rest
 
 -- an argument that is made of what was read
-record IsMadeOf {A : Type 0} (o : Operand) (size : OffsetSize) (own : A → List ℕ) (test : A → Bool) (make : A → Argument) : Type 0 where
+record IsMadeOf {A : Type 0} (o : Operand) (size : OffsetSize) (own : A → List ℕ) (test : A → Bool)
+    (make : A → Argument) : Type 0 where
   pub kind : (x : A) → operand_for (make x) ≡ o
   pub passes : (x : A) → fits size (make x) ≡ test x
   pub encoded : (x : A) → argument_bytes size (make x) ≡ own x
 
 made-read : {A : Type 0} (o : Operand) (size : OffsetSize) (own : A → List ℕ) (test : A → Bool) (make : A → Argument)
-    (bytes rest : List ℕ) (x : A) (a : Argument) → IsMadeOf o size own test make → IsFrom own test bytes rest x → make x ≡ a
+    (bytes rest : List ℕ) (x : A) (a : Argument) → IsMadeOf o size own test make → IsFrom own test bytes rest x
+    → make x ≡ a
     → WasArgument o size bytes rest a
 made-read o size own test make bytes rest x a m from e = record {
   kind = ap operand_for (sym e) ∙ m.kind x;
@@ -256,7 +269,8 @@ made-read o size own test make bytes rest x a m from e = record {
   encoded = from.1 ∙ ap (λ xs. xs ++ rest) (sym (m.encoded x)) ∙ ap (λ y. argument_bytes size y ++ rest) e;
 }
 
-map-read_by : {A : Type 0} (f : List ℕ → Option (A × List ℕ)) (o : Operand) (size : OffsetSize) (own : A → List ℕ) (test : A → Bool) (make : A → Argument)
+map-read_by : {A : Type 0} (f : List ℕ → Option (A × List ℕ)) (o : Operand) (size : OffsetSize) (own : A → List ℕ)
+    (test : A → Bool) (make : A → Argument)
     → IsMadeOf o size own test make → ReadsOwn f own test
     → (r : Option (A × List ℕ)) (bytes rest : List ℕ) (a : Argument) → AreBytes bytes → f bytes ≡ r
     → option_map (with_first make) r ≡ found a rest → WasArgument o size bytes rest a
@@ -264,9 +278,11 @@ map-read_by f o size own test make m reads None bytes rest a h e g = absurd cc
 map-read_by f o size own test make m reads (Some r) bytes rest a h e g =
     let behind : r.1 ≡ rest = second_of_some (make r.0) a r.1 rest g in
     let from = reads bytes r.1 r.0 h e in
-    made-read o size own test make bytes rest r.0 a m (from.0, from.1 ∙ ap (λ xs. own r.0 ++ xs) behind) (first_of_some (make r.0) a r.1 rest g)
+    made-read o size own test make bytes rest r.0 a m (from.0, from.1 ∙ ap (λ xs. own r.0 ++ xs) behind)
+    (first_of_some (make r.0) a r.1 rest g)
 
-named-read_by : (size : OffsetSize) (name bytes behind : List ℕ) (o : Option (FCode × List ℕ)) (rest : List ℕ) (a : Argument)
+named-read_by : (size : OffsetSize) (name bytes behind : List ℕ) (o : Option (FCode × List ℕ)) (rest : List ℕ)
+    (a : Argument)
     → IsFrom counted_bytes is_short bytes behind name → AreBytes behind → code behind ≡ o → named name o ≡ found a rest
     → WasArgument operand.Named size bytes rest a
 named-read_by size name bytes behind None rest a from h e g = absurd cc
@@ -283,12 +299,14 @@ named-read_by size name bytes behind (Some c) rest a from h e g =
           ∙ ap (λ y. argument_bytes size y ++ rest) same;
     }
 
-name_and_code-read_by : (size : OffsetSize) (o : Option (List ℕ × List ℕ)) (bytes rest : List ℕ) (a : Argument) → AreBytes bytes
+name_and_code-read_by : (size : OffsetSize) (o : Option (List ℕ × List ℕ)) (bytes rest : List ℕ) (a : Argument)
+    → AreBytes bytes
     → counted bytes ≡ o → name_and_code o ≡ found a rest → WasArgument operand.Named size bytes rest a
 name_and_code-read_by size None bytes rest a h e g = absurd cc
 name_and_code-read_by size (Some n) bytes rest a h e g =
     let from = counted-read bytes n.1 n.0 h e in
-    let behind = all_behind (counted_bytes n.0) n.1 (All-same (λ b. b < 256) (counted_bytes n.0 ++ n.1) bytes (sym from.1) h) in
+    let behind = all_behind (counted_bytes n.0) n.1
+    (All-same (λ b. b < 256) (counted_bytes n.0 ++ n.1) bytes (sym from.1) h) in
     named-read_by size n.0 bytes n.1 (code n.1) rest a from behind refl g
 
 argument-read : (o : Operand) (size : OffsetSize) (bytes rest : List ℕ) (a : Argument) → AreBytes bytes
@@ -300,20 +318,29 @@ argument-read operand.Nothing size bytes rest a h g =
       encoded = second_of_some Nothing a bytes rest g ∙ ap (λ y. argument_bytes size y ++ rest) same;
     }
 argument-read operand.Literal size bytes rest a h g =
-    map-read_by literal operand.Literal size cell_bytes any Literal (record { kind = λ x. refl; passes = λ x. refl; encoded = λ x. refl }) literal-read (literal bytes) bytes rest a h refl g
+    map-read_by literal operand.Literal size cell_bytes any Literal
+    (record { kind = λ x. refl; passes = λ x. refl; encoded = λ x. refl }) literal-read
+    (literal bytes) bytes rest a h refl g
 argument-read operand.String size bytes rest a h g =
-    map-read_by counted operand.String size counted_bytes is_short String (record { kind = λ x. refl; passes = λ x. refl; encoded = λ x. refl }) counted-read (counted bytes) bytes rest a h refl g
+    map-read_by counted operand.String size counted_bytes is_short String
+    (record { kind = λ x. refl; passes = λ x. refl; encoded = λ x. refl }) counted-read
+    (counted bytes) bytes rest a h refl g
 argument-read operand.FCode size bytes rest a h g =
-    map-read_by code operand.FCode size code_bytes code_test Code (record { kind = λ x. refl; passes = λ x. refl; encoded = λ x. refl }) code-read (code bytes) bytes rest a h refl g
+    map-read_by code operand.FCode size code_bytes code_test Code
+    (record { kind = λ x. refl; passes = λ x. refl; encoded = λ x. refl }) code-read
+    (code bytes) bytes rest a h refl g
 argument-read operand.Named size bytes rest a h g = name_and_code-read_by size (counted bytes) bytes rest a h refl g
 argument-read operand.Offset size bytes rest a h g =
-    map-read_by (offset size) operand.Offset size (offset_bytes size) (is_offset size) Offset (record { kind = λ x. refl; passes = λ x. refl; encoded = λ x. refl }) (offset-read size) (offset size bytes) bytes rest a h refl g
+    map-read_by (offset size) operand.Offset size (offset_bytes size) (is_offset size) Offset
+    (record { kind = λ x. refl; passes = λ x. refl; encoded = λ x. refl }) (offset-read size)
+    (offset size bytes) bytes rest a h refl g
 
 -- what a token was read from
 abbrev WasToken : OffsetSize → List ℕ → List ℕ → Token → Type 0
 WasToken size bytes rest t = IsEncodable size t × (bytes ≡ token_bytes size t ++ rest)
 
-token_of-read : (size : OffsetSize) (bytes behind : List ℕ) (c : FCode) (r : Option (Argument × List ℕ)) (rest : List ℕ) (t : Token)
+token_of-read : (size : OffsetSize) (bytes behind : List ℕ) (c : FCode) (r : Option (Argument × List ℕ))
+    (rest : List ℕ) (t : Token)
     → IsFrom code_bytes code_test bytes behind c → AreBytes behind → argument (operand_numbered c.0) size behind ≡ r
     → token_of c r ≡ found t rest → WasToken size bytes rest t
 unfolding token_bytes
@@ -336,10 +363,12 @@ token_behind-read : (size : OffsetSize) (o : Option (FCode × List ℕ)) (bytes 
 token_behind-read size None bytes rest t h e g = absurd cc
 token_behind-read size (Some c) bytes rest t h e g =
     let from = code-read bytes c.1 c.0 h e in
-    let behind = all_behind (code_bytes c.0) c.1 (All-same (λ b. b < 256) (code_bytes c.0 ++ c.1) bytes (sym from.1) h) in
+    let behind = all_behind (code_bytes c.0) c.1
+    (All-same (λ b. b < 256) (code_bytes c.0 ++ c.1) bytes (sym from.1) h) in
     token_of-read size bytes c.1 c.0 (argument (operand_numbered c.0.0) size c.1) rest t from behind refl g
 
-decoded-read : (size : OffsetSize) (bytes rest : List ℕ) (t : Token) → AreBytes bytes → decoded size bytes ≡ Some (t, rest)
+decoded-read : (size : OffsetSize) (bytes rest : List ℕ) (t : Token) → AreBytes bytes
+    → decoded size bytes ≡ Some (t, rest)
     → WasToken size bytes rest t
 unfolding decoded
 decoded-read size bytes rest t h g = token_behind-read size (code bytes) bytes rest t h refl g

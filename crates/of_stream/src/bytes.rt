@@ -3,7 +3,8 @@
 
 ghost use Rattle.std.specs.Prelude.{◌≡◌, ◌↔◌, ◌<◌, ◌-◌, ◌^◌, ◌++◌, length, IsTrue, OnOk, OnErr, true};
 ghost use Rattle.of_stream.specs.Decoding.{argument_shown, token_shown};
-ghost use Rattle.of_stream.specs.Bytes.{argument_bytes, cell_bytes, code_bytes, counted_bytes, offset_bytes, token_bytes};
+ghost use Rattle.of_stream.specs.Bytes.{argument_bytes, cell_bytes, code_bytes, counted_bytes, offset_bytes};
+ghost use Rattle.of_stream.specs.Bytes.{token_bytes};
 ghost use Rattle.of_stream.specs.Bytes.{IsEncodable, fits, is_code, is_offset, operand_for};
 
 use crate::stream::OffsetSize;

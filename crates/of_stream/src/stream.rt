@@ -86,7 +86,8 @@ impl<'a> Stream<'a> {
         size: OffsetSize,
     ) -> Result<(Token<'a>, usize), StreamFault>
         ensures ok { IfOk result (λ r. token_from self.entry.image.now position size ≡ Some (token_shown r.0, r.1)) }
-        ensures err { IfErr result (λ f. (token_from self.entry.image.now position size ≡ None) × (f ≡ StreamFault.Ended position)) }
+        ensures err { IfErr result (λ f. (token_from self.entry.image.now position size ≡ None) ×
+            (f ≡ StreamFault.Ended position)) }
         ensures rises { IfOk result (λ r. position < r.1) }
         ensures within { IfOk result (λ r. r.1 ≤ length self.entry.image.now) }
     {

@@ -80,47 +80,53 @@ fn tokens(rt: HostRuntime) -> Result<(), Fail> {
     Ok(())
 }
 
-/// The tokens written again.
+/// Whether the token of these bytes has them again where it is written.
+fn is_written_again(alloc: Global, image: &[u8], size: OffsetSize) -> Result<bool, Fail> {
+    let (token, next) = Stream { image }.token_at(0, size)?;
+    if token.length(size) != next || !token.is_encodable(size) {
+        return Ok(false);
+    }
+    let mut out = Vec::new(alloc);
+    token.put(size, &mut out)?;
+    Ok(out.as_slice() == image)
+}
+
 #[test]
 fn bytes(rt: HostRuntime) -> Result<(), Fail> {
     for line in TOKENS.lines() {
         let mut words = line.split_whitespace();
         let image = hex::decode(rt.alloc(), words.next().unwrap_or(""))?;
         let size = size_of(words.next().unwrap_or(""));
-        let (token, next) = Stream { image: &image }.token_at(0, size)?;
-        assert_eq!(rt; token.length(size), next, "{line}");
-        assert!(rt; token.is_encodable(size), "{line}");
-        let mut out = Vec::new(rt.alloc());
-        token.put(size, &mut out)?;
-        assert_eq!(rt; out.as_slice(), image.as_slice(), "{line}");
+        assert!(rt; is_written_again(rt.alloc(), &image, size)?, "{line}");
     }
     Ok(())
 }
 
-/// Tokens that have no bytes.
+/// Whether a token of this FCode has bytes.
+fn has_bytes(code: u16, argument: Argument<'_>, size: OffsetSize) -> bool {
+    let token = Token {
+        code: FCode(code),
+        argument,
+    };
+    token.is_encodable(size)
+}
+
+/// Tokens that have no bytes: 0x00F begins an FCode of two bytes, `b(lit)` has a cell and `dup`
+/// none, and 128 is no offset of one byte.
 #[test]
 fn no_bytes(rt: HostRuntime) {
-    let first_of_two = Token {
-        code: FCode(0x00f),
-        argument: Argument::Nothing,
-    };
-    assert!(rt; !first_of_two.is_encodable(OffsetSize::Two));
-    let literal_without_cell = Token {
-        code: FCode(0x010),
-        argument: Argument::Nothing,
-    };
-    assert!(rt; !literal_without_cell.is_encodable(OffsetSize::Two));
-    let cell_behind_dup = Token {
-        code: FCode(0x047),
-        argument: Argument::Literal(Cell(1)),
-    };
-    assert!(rt; !cell_behind_dup.is_encodable(OffsetSize::Two));
-    let far = Token {
-        code: FCode(0x013),
-        argument: Argument::Offset(128),
-    };
-    assert!(rt; !far.is_encodable(OffsetSize::One));
-    assert!(rt; far.is_encodable(OffsetSize::Two));
+    let one = OffsetSize::One;
+    assert!(rt; !has_bytes(0x00f, Argument::Nothing, one));
+    assert!(rt; !has_bytes(0x010, Argument::Nothing, one));
+    assert!(rt; !has_bytes(0x047, Argument::Literal(Cell(1)), one));
+    assert!(rt; !has_bytes(0x013, Argument::Offset(128), one));
+    assert!(rt; has_bytes(0x013, Argument::Offset(128), OffsetSize::Two));
+}
+
+/// Whether the image ends in the token at a position.
+fn is_cut(image: &[u8], position: usize, size: OffsetSize) -> bool {
+    let fault = Stream { image }.token_at(position, size).err();
+    fault == Some(StreamFault::Ended(position))
 }
 
 /// Each token without its last byte, and one past the end.
@@ -131,10 +137,8 @@ fn cut(rt: HostRuntime) -> Result<(), Fail> {
         let image = hex::decode(rt.alloc(), words.next().unwrap_or(""))?;
         let size = size_of(words.next().unwrap_or(""));
         let short = &image[..image.len().saturating_sub(1)];
-        let fault = Stream { image: short }.token_at(0, size).err();
-        assert_eq!(rt; fault, Some(StreamFault::Ended(0)), "{line}");
-        let past = Stream { image: &image }.token_at(usize::MAX, size).err();
-        assert_eq!(rt; past, Some(StreamFault::Ended(usize::MAX)), "{line}");
+        assert!(rt; is_cut(short, 0, size), "{line}");
+        assert!(rt; is_cut(&image, usize::MAX, size), "{line}");
     }
     Ok(())
 }
@@ -142,51 +146,66 @@ fn cut(rt: HostRuntime) -> Result<(), Fail> {
 /// Offsets in an image of 20 bytes: the token's position, the offset, where it leads from the
 /// image's first byte on, and where the image goes on.
 const TARGETS: &str = "\
-8 3 Some(12) Some(12)
-8 -1 Some(8) Some(8)
-8 -2 Some(7) None
-8 -9 Some(0) None
-8 -10 None None
-10 8 Some(19) Some(19)
-10 9 Some(20) None
-12 0 Some(13) Some(13)
-12 -32768 None None
-12 32767 Some(32780) None
+8 3 12 12
+8 -1 8 8
+8 -2 7 none
+8 -9 0 none
+8 -10 none none
+10 8 19 19
+10 9 20 none
+12 0 13 13
+12 -32768 none none
+12 32767 32780 none
 ";
+
+/// The number of a word, or none.
+fn number(word: Option<&str>) -> Result<Option<usize>, Fail> {
+    match word {
+        Some("none") | None => Ok(None),
+        Some(digits) => Ok(Some(digits.parse()?)),
+    }
+}
 
 #[test]
 fn targets(rt: HostRuntime) -> Result<(), Fail> {
     let stream = Stream { image: &[0; 20] };
     for line in TARGETS.lines() {
         let mut words = line.split_whitespace();
-        let position: usize = words.next().unwrap_or("").parse()?;
+        let position = number(words.next())?.unwrap_or(0);
         let by: i16 = words.next().unwrap_or("").parse()?;
+        let target = number(words.next())?;
+        let landing = number(words.next())?;
         assert!(rt; position < stream.image.len(), "{line}");
-        let target = format!(in rt.alloc(); "{:?}", target_at(position, by))?;
-        assert_eq!(rt; target.as_str(), words.next().unwrap_or(""), "{line}");
-        let landing = format!(in rt.alloc(); "{:?}", stream.landing(position, by))?;
-        assert_eq!(rt; landing.as_str(), words.next().unwrap_or(""), "{line}");
+        assert!(rt; target_at(position, by) == target, "{line}");
+        assert!(rt; stream.landing(position, by) == landing, "{line}");
     }
     Ok(())
 }
 
+/// FCodes, whether they end an image, and the size of offsets behind them where it was one byte.
+const SIZES: &str = "\
+000 true One
+0ff true One
+0cc false Two
+0fe false One
+1cc false One
+";
+
 #[test]
-fn sizes(rt: HostRuntime) {
-    assert_eq!(rt; OffsetSize::One.bytes(), 1);
-    assert_eq!(rt; OffsetSize::Two.bytes(), 2);
-    for (code, is_end, behind) in [
-        (0x000, true, OffsetSize::One),
-        (0x0ff, true, OffsetSize::One),
-        (0x0cc, false, OffsetSize::Two),
-        (0x0fe, false, OffsetSize::One),
-    ] {
+fn sizes(rt: HostRuntime) -> Result<(), Fail> {
+    for line in SIZES.lines() {
+        let (digits, wanted) = line.split_once(' ').unwrap_or(("", ""));
         let token = Token {
-            code: FCode(code),
+            code: FCode(u16::from_str_radix(digits, 16)?),
             argument: Argument::Nothing,
         };
-        assert_eq!(rt; token.is_end(), is_end, "{code:03x}");
-        assert_eq!(rt; token.size_behind(OffsetSize::One), behind, "{code:03x}");
+        let behind = token.size_behind(OffsetSize::One);
+        let said = format!(in rt.alloc(); "{} {:?}", token.is_end(), behind)?;
+        assert_eq!(rt; said.as_str(), wanted, "{line}");
     }
+    assert_eq!(rt; OffsetSize::One.bytes(), 1);
+    assert_eq!(rt; OffsetSize::Two.bytes(), 2);
+    Ok(())
 }
 
 /// What the faults say, a line each.

@@ -16,7 +16,8 @@ returns-in_err-token-clause-err c =
     let p = err_from_is_err_and c.from_residual.result c.from_residual.ensures.1 in
     rw (p.1, p.2, c.in_err-token.ensures.err.1) (
     sym c.loop.invariant
-    ∙ tokens_cut c.loop.out.items image (length image) c.loop.counter c.loop.position c.loop.size c.loop-test.true c.in_err-token.ensures.err.0
+    ∙ tokens_cut c.loop.out.items image (length image) c.loop.counter c.loop.position c.loop.size c.loop-test.true
+    c.in_err-token.ensures.err.0
     )
 
 pub returns-then-is_end-clause-ok : goal.returns-then-is_end-clause-ok
@@ -24,7 +25,8 @@ returns-then-is_end-clause-ok c =
     let image = c.args.stream.image.now in
     rw (c.in_ok-write_trailing.ensures, c.in_ok-write_token_line.ensures) (
     sym c.loop.invariant
-    ∙ tokens_end c.loop.out.items image (length image) c.loop.counter c.loop.position c.loop.size (token_shown c.in_ok-token.token, c.in_ok-token.next)
+    ∙ tokens_end c.loop.out.items image (length image) c.loop.counter c.loop.position c.loop.size
+    (token_shown c.in_ok-token.token, c.in_ok-token.next)
     c.loop-test.true c.in_ok-token.ensures.ok (sym c.is_end.ensures ∙ c.if-is_end.true)
     )
 
@@ -32,7 +34,8 @@ pub loop-preserved : goal.loop-preserved
 loop-preserved c =
     let image = c.args.stream.image.now in
     rw (c.size_behind-size.ensures, c.in_ok-write_token_line.ensures) (
-    sym (tokens_more c.loop.out.items image (length image) c.loop.counter c.loop.position c.loop.size (token_shown c.in_ok-token.token, c.in_ok-token.next)
+    sym (tokens_more c.loop.out.items image (length image) c.loop.counter c.loop.position c.loop.size
+    (token_shown c.in_ok-token.token, c.in_ok-token.next)
     c.loop-test.true c.in_ok-token.ensures.ok (sym c.is_end.ensures ∙ c.if-is_end.false))
     ∙ c.loop.invariant
     )

@@ -5,5 +5,6 @@ use Rattle.of_detok.proofs.lister.write_trailing.Given as goal
 
 abbrev pub invariant-loop-k : goal.invariant-loop-k
 invariant-loop-k l =
-    l.out.items ++ flat_map line_text (trailing (l.count - l.k) (l.position + 16 * l.k) (drop (l.position + 16 * l.k) l.image))
+    l.out.items ++ flat_map line_text (trailing (l.count - l.k) (l.position + 16 * l.k)
+    (drop (l.position + 16 * l.k) l.image))
     ≡ l.fn.out.items ++ flat_map line_text (trailing_from l.image l.position)
