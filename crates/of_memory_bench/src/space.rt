@@ -37,3 +37,34 @@ pub fn moves(alloc: Global, count: u32) -> Result<u32, MemFault> {
     }
     Ok(memory.read32(Cell(DATA))?.0)
 }
+
+/// How many blocks are live where bytes of the heap's last one are read.
+const BLOCKS: u32 = 32_000;
+
+/// Reads so many times the byte at an address.
+fn bytes(memory: &Memory, addr: Cell, count: u32) -> Result<u32, MemFault> {
+    let mut sum = 0u32;
+    for _ in 0..count {
+        sum = sum.wrapping_add(u32::from(memory.read8(addr)?));
+    }
+    Ok(sum)
+}
+
+/// Takes 32,000 blocks of the heap, and reads a byte of the last.
+pub fn heap_reads(alloc: Global, count: u32) -> Result<u32, MemFault> {
+    let mut memory = Memory::new(alloc).map_err(|_| MemFault::NoMemory)?;
+    let mut last = Cell(DATA);
+    for _ in 0..BLOCKS {
+        last = memory.heap_take(Cell(8))?;
+    }
+    bytes(&memory, last, count)
+}
+
+/// Takes as many blocks of the heap, and reads a byte of the data region.
+pub fn data_reads(alloc: Global, count: u32) -> Result<u32, MemFault> {
+    let mut memory = Memory::new(alloc).map_err(|_| MemFault::NoMemory)?;
+    for _ in 0..BLOCKS {
+        let _ = memory.heap_take(Cell(8))?;
+    }
+    bytes(&memory, Cell(DATA), count)
+}

@@ -1,0 +1,5 @@
+//! Tests of the crates that hold the words' meaning, by their public calls.
+#![tactic(auto)]
+
+#[cfg(test)]
+mod format;
