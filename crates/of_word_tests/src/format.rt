@@ -97,8 +97,16 @@ fn cell_text(rt: &impl Abort, alloc: Global, line: &str) -> Result<(), Fail> {
     };
     let x = Cell(u32::from_str_radix(x, 16)?);
     let base = base.parse::<u32>()?.clamp(2, 36);
-    assert_eq!(rt; unsigned_text(x, base).as_bytes(), unsigned.as_bytes(), "{line}");
-    assert_eq!(rt; signed_text(x, base).as_bytes(), signed.as_bytes(), "{line}");
+    assert_eq!(rt;
+        unsigned_text(x, base).as_bytes(),
+        unsigned.as_bytes(),
+        "{line}"
+    );
+    assert_eq!(rt;
+        signed_text(x, base).as_bytes(),
+        signed.as_bytes(),
+        "{line}"
+    );
     Ok(())
 }
 
@@ -120,7 +128,11 @@ fn double(rt: &impl Abort, alloc: Global, line: &str) -> Result<(), Fail> {
     let low = u64::from(u32::from_str_radix(low, 16)?);
     let base = base.parse::<u32>()?.clamp(2, 36);
     let number = Double::new(high * 0x1_0000_0000 + low);
-    assert_eq!(rt; double_text(number, base).as_bytes(), text.as_bytes(), "{line}");
+    assert_eq!(rt;
+        double_text(number, base).as_bytes(),
+        text.as_bytes(),
+        "{line}"
+    );
     Ok(())
 }
 
