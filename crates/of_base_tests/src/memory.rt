@@ -5,18 +5,29 @@ use std::alloc::Global;
 use std::process::Abort;
 use std::test::Fail;
 
+/// The answer of a call that gives nothing.
+fn nothing(answer: Result<(), MemFault>) -> Result<Cell, MemFault> {
+    answer?;
+    Ok(Cell(0))
+}
+
+/// The second address that a call answers.
+fn second(answer: Result<(Cell, Cell), MemFault>) -> Result<Cell, MemFault> {
+    Ok(answer?.1)
+}
+
 /// A call that reads or writes one number, and what it answers.
 fn access(memory: &mut Memory, word: &str, x: Cell, y: Cell) -> Result<Cell, MemFault> {
     match word {
         "read8" => Ok(Cell(u32::from(memory.read8(x)?))),
         "read16" => Ok(Cell(u32::from(memory.read16(x)?))),
         "read32" => memory.read32(x),
-        "write8" => memory.write8(x, y.0 as u8).map(|()| Cell(0)),
-        "write16" => memory.write16(x, y.0 as u16).map(|()| Cell(0)),
-        "write32" => memory.write32(x, y).map(|()| Cell(0)),
-        "read" => memory.check_read(x, y, Width::Four).map(|()| Cell(0)),
-        "write" => memory.check_write(x, y, Width::Four).map(|()| Cell(0)),
-        _ => memory.check_write(x, y, Width::Two).map(|()| Cell(0)),
+        "write8" => nothing(memory.write8(x, (y.0 % 0x100) as u8)),
+        "write16" => nothing(memory.write16(x, (y.0 % 0x1_0000) as u16)),
+        "write32" => nothing(memory.write32(x, y)),
+        "read" => nothing(memory.check_read(x, y, Width::Four)),
+        "write" => nothing(memory.check_write(x, y, Width::Four)),
+        _ => nothing(memory.check_write(x, y, Width::Two)),
     }
 }
 
@@ -24,10 +35,10 @@ fn access(memory: &mut Memory, word: &str, x: Cell, y: Cell) -> Result<Cell, Mem
 fn region(memory: &mut Memory, word: &str, x: Cell, y: Cell) -> Result<Cell, MemFault> {
     match word {
         "take" => memory.heap_take(x),
-        "give" => memory.heap_give(x, y).map(|()| Cell(0)),
+        "give" => nothing(memory.heap_give(x, y)),
         "instance" => memory.instance_take(x),
-        "release" => memory.instance_give(x, y).map(|()| Cell(0)),
-        "allot" => memory.allot(x).map(|()| Cell(0)),
+        "release" => nothing(memory.instance_give(x, y)),
+        "allot" => nothing(memory.allot(x)),
         "here" => Ok(memory.here()),
         "room" => Ok(memory.image_room()),
         "end" => memory.end_of(x),
@@ -45,8 +56,8 @@ fn region(memory: &mut Memory, word: &str, x: Cell, y: Cell) -> Result<Cell, Mem
 /// A call on a range, and what it answers.
 fn range(memory: &mut Memory, word: &str, x: Cell, y: Cell, z: Cell) -> Result<Cell, MemFault> {
     match word {
-        "fill" => memory.fill(x, y, z.0 as u8).map(|()| Cell(0)),
-        "copy" => memory.copy(x, y, z).map(|()| Cell(0)),
+        "fill" => nothing(memory.fill(x, y, (z.0 % 0x100) as u8)),
+        "copy" => nothing(memory.copy(x, y, z)),
         _ => memory.image_push_from(x, y, Cell(z.0.max(1))),
     }
 }
@@ -56,11 +67,11 @@ fn put(memory: &mut Memory, word: &str, x: Cell, y: Cell, text: &[u8]) -> Result
     match word {
         "append" => memory.append(text),
         "append-copy" => memory.append_copy(x, y, text),
-        "store" => memory.write_bytes(x, text).map(|()| Cell(0)),
+        "store" => nothing(memory.write_bytes(x, text)),
         "property" => memory.put_property(text),
         "property-copy" => memory.copy_property(x, y, text),
-        "named" => memory.put_named(text, b"val").map(|pair| pair.1),
-        "named-copy" => memory.copy_named(text, x, y, b"\0").map(|pair| pair.1),
+        "named" => second(memory.put_named(text, b"val")),
+        "named-copy" => second(memory.copy_named(text, x, y, b"\0")),
         _ => memory.image_push(text),
     }
 }
@@ -378,13 +389,19 @@ fn instances_of_a_full_region(rt: HostRuntime) -> Result<(), Fail> {
     let lengths = [Cell(8), Cell(9), Cell(0)];
     let mut addresses = [Cell(1); 3];
     memory.instance_take_all(&lengths, &mut addresses)?;
-    assert_eq!(rt; addresses, [Cell(0x31_ffd0), Cell(0x31_ffd8), Cell(0x31_ffe8)]);
+    assert_eq!(rt;
+        addresses,
+        [Cell(0x31_ffd0), Cell(0x31_ffd8), Cell(0x31_ffe8)]
+    );
     let mut others = [Cell(1); 3];
     assert_eq!(rt; memory.instance_take_all(&lengths, &mut others), Err(Full));
     assert_eq!(rt; others, [Cell(1); 3]);
     let mut wanted = [0u8; 48];
     wanted[32..].fill(7);
-    assert_eq!(rt; memory.slice(Cell(0x31_ffd0), Cell(0x30))?, wanted.as_slice());
+    assert_eq!(rt;
+        memory.slice(Cell(0x31_ffd0), Cell(0x30))?,
+        wanted.as_slice()
+    );
     Ok(())
 }
 
@@ -405,7 +422,10 @@ fn images_are_256_at_most(rt: HostRuntime) -> Result<(), Fail> {
         assert_eq!(rt; memory.image_push(&[])?, Cell(0x60_0000));
     }
     assert_eq!(rt; memory.image_push(&[]), Err(Full));
-    assert_eq!(rt; memory.image_push_from(Cell(0), Cell(0), Cell(1)), Err(Full));
+    assert_eq!(rt;
+        memory.image_push_from(Cell(0), Cell(0), Cell(1)),
+        Err(Full)
+    );
     Ok(())
 }
 

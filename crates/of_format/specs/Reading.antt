@@ -46,5 +46,7 @@ number_read base (char ∷ text) =
 
 -- a cell's text reads as the cell, in each base, unsigned and signed
 pub record ReadsBack : Type 0 where
-  pub unsigned : (base : ℕ) (x : Cell) → 2 ≤ base → base ≤ 36 → IsCell x → number_read base (unsigned_text base x.0) ≡ Some x
-  pub signed : (base : ℕ) (x : Cell) → 2 ≤ base → base ≤ 36 → IsCell x → number_read base (number_text base (signed x)) ≡ Some x
+  pub unsigned : (base : ℕ) (x : Cell)
+      → 2 ≤ base → base ≤ 36 → IsCell x → number_read base (unsigned_text base x.0) ≡ Some x
+  pub signed : (base : ℕ) (x : Cell)
+      → 2 ≤ base → base ≤ 36 → IsCell x → number_read base (number_text base (signed x)) ≡ Some x

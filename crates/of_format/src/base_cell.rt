@@ -1,10 +1,9 @@
 ghost use Rattle.std.specs.Prelude.{◌≡◌, ◌≤◌, IfOk, IfErr, true};
 ghost use Rattle.of_stacks.specs.Throws.{is_listed};
-ghost use Rattle.of_memory.specs.Access.{number_at};
-ghost use Rattle.of_format.specs.Pictured.{base_in};
+ghost use Rattle.of_format.specs.Pictured.{base_in, base_number};
 
 use of_cells::Cell;
-use of_memory::Memory;
+use of_memory::{Memory, scratch_is_open};
 use of_stacks::Throw;
 
 /// Where the cell `base` stands.
@@ -12,10 +11,12 @@ const BASE: Cell = Cell(0x50_0000);
 
 /// The number in the cell `base`, which can always be read.
 fn base_number(memory: &Memory) -> u32
-    ensures { result ≡ number_at memory.now 0x50_0000 4 }
+    ensures { result ≡ base_number memory.now }
 {
+    scratch_is_open();
     match memory.read32(BASE) {
         Ok(number) => number.0,
+        // There is no fault there.
         Err(_) => 0,
     }
 }

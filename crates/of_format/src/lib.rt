@@ -7,8 +7,6 @@ mod laws;
 mod number_text;
 mod pictured;
 mod reading;
-#[cfg(test)]
-mod tests;
 
 pub use base_cell::base;
 pub use digits::{digit, digit_byte};

@@ -1,11 +1,12 @@
 ghost use Rattle.std.specs.Prelude.{◌≡◌, ◌+◌, ◌-◌, ◌<◌, ◌≤◌, [], ◌∷◌, length, true, IfErr};
 ghost use Rattle.of_stacks.specs.Stacks.{Becomes};
 ghost use Rattle.of_stacks.specs.Throws.{is_listed};
+ghost use Rattle.of_memory.specs.Regions.{scratch_start, scratch_limit};
 ghost use Rattle.of_memory.specs.DataSpace.{written};
-ghost use Rattle.of_format.specs.Pictured.{held, text_address};
+ghost use Rattle.of_format.specs.Pictured.{capacity, held, text_address};
 
 use of_cells::Cell;
-use of_memory::Memory;
+use of_memory::{Memory, scratch_is_open};
 use of_stacks::Throw;
 use std::marker::Model;
 
@@ -25,21 +26,27 @@ pub struct Pictured {
 // Clauses see the count of the bytes.
 impl Model for Pictured {
     ghost use Rattle.std.specs.Prelude.{ℕ, ◌≤◌};
+    ghost use Rattle.of_format.specs.Pictured.{capacity};
 
     ghost Value = { ℕ };
 
     ghost view = { λ p. p.count };
 
-    ghost invariant = { λ p. p.count ≤ 128 };
+    ghost invariant = { λ p. p.count ≤ capacity };
 }
 
-/// Stores a byte in the scratch region, where no write fails.
-fn put(memory: &mut Memory, addr: u32, byte: u8)
-    requires from { 0x50_0000 ≤ addr }
-    requires to { addr < 0x50_1000 }
-    ensures { memory.new ≡ written memory.old addr (byte ∷ []) }
+/// Stores bytes in the scratch region, where no write fails.
+fn put(memory: &mut Memory, addr: u32, bytes: &[u8])
+    requires from { scratch_start ≤ addr }
+    requires to { addr + length bytes.now ≤ scratch_limit }
+    ensures { memory.new ≡ written memory.old addr bytes.now }
 {
-    let _ = memory.write8(Cell(addr), byte);
+    scratch_is_open();
+    match memory.write_bytes(Cell(addr), bytes) {
+        Ok(()) => {}
+        // There is no fault there.
+        Err(_) => {}
+    }
 }
 
 impl Pictured {
@@ -60,7 +67,7 @@ impl Pictured {
     /// How many bytes are held.
     pub fn len(&self) -> usize
         ensures value { result ≡ self.now }
-        ensures fits { result ≤ 128 }
+        ensures fits { result ≤ capacity }
     {
         self.count as usize
     }
@@ -77,33 +84,30 @@ impl Pictured {
     /// 6.1.1670).
     #[tactic(auto, unfolding(of_stacks::specs::Throws::is_listed, of_stacks::specs::Throws::listed_numbers))]
     pub fn hold(&mut self, memory: &mut Memory, byte: u8) -> Result<(), Throw>
-        ensures text { Becomes (held memory.old self.old (byte ∷ [])) (memory.old, self.old) (memory.new, self.new) result }
+        ensures text { let after = held memory.old self.old (byte ∷ []) in
+            Becomes after (memory.old, self.old) (memory.new, self.new) result }
         ensures listed { IfErr result (λ t. is_listed t ≡ true) }
     {
         if self.len() == CAPACITY {
             return Err(Throw::PICTURED_OVERFLOW);
         }
         self.count += 1;
-        put(memory, TEXT_END - self.count, byte);
+        put(memory, TEXT_END - self.count, &[byte]);
         Ok(())
     }
 
     /// Puts a text before the bytes that are held, or throws -17 where more than 128 would be held.
     #[tactic(auto, unfolding(of_stacks::specs::Throws::is_listed, of_stacks::specs::Throws::listed_numbers))]
     pub fn hold_text(&mut self, memory: &mut Memory, text: &[u8]) -> Result<(), Throw>
-        ensures text { Becomes (held memory.old self.old text.now) (memory.old, self.old) (memory.new, self.new) result }
+        ensures text { let after = held memory.old self.old text.now in
+            Becomes after (memory.old, self.old) (memory.new, self.new) result }
         ensures listed { IfErr result (λ t. is_listed t ≡ true) }
     {
         if text.len() > CAPACITY - self.len() {
             return Err(Throw::PICTURED_OVERFLOW);
         }
-        let _ = memory.here();
-        let mut rest = text;
-        while let [others @ .., last] = rest {
-            self.count += 1;
-            put(memory, TEXT_END - self.count, *last);
-            rest = others;
-        }
+        self.count += text.len() as u32;
+        put(memory, TEXT_END - self.count, text);
         Ok(())
     }
 }

@@ -21,7 +21,8 @@ unfolding all_from
 all_true p a zero h = refl
 all_true p a (suc n) h =
     let here : p a ≡ true = simp add-zero at (h 0 (omega arith)) in
-    let rest : all_from p (suc a) n ≡ true = all_true p (suc a) n (λ k l. let e : suc a + k ≡ a + suc k = omega arith in rw e (h (suc k) (omega arith))) in
+    let rest : all_from p (suc a) n ≡ true =
+    all_true p (suc a) n (λ k l. let e : suc a + k ≡ a + suc k = omega arith in rw e (h (suc k) (omega arith))) in
     rw here rest
 
 pub all_at : (p : ℕ → Bool) (a n k : ℕ) → all_from p a n ≡ true → k < n → p (a + k) ≡ true
@@ -42,5 +43,6 @@ unfolding all_from
 all_same p q a zero h = refl
 all_same p q a (suc n) h =
     let here : p a ≡ q a = simp add-zero at (h 0 (omega arith)) in
-    let rest : all_from p (suc a) n ≡ all_from q (suc a) n = all_same p q (suc a) n (λ k l. let e : suc a + k ≡ a + suc k = omega arith in rw e (h (suc k) (omega arith))) in
+    let rest : all_from p (suc a) n ≡ all_from q (suc a) n =
+    all_same p q (suc a) n (λ k l. let e : suc a + k ≡ a + suc k = omega arith in rw e (h (suc k) (omega arith))) in
     rw (here, rest) refl

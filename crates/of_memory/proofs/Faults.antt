@@ -16,15 +16,20 @@ some_not_none n l = grind (arith, common_steps)
 differs : (n : ℕ) → n ≢ 0 → eqb n 0 ≡ false
 differs n l = grind (arith, common_steps)
 
-pub address_fault : (m : DataSpace) (a n : ℕ) (w : Width) → 0 < n → are_readable m a n ≡ false → read_fault m a n w ≡ Some Address
+pub address_fault :
+    (m : DataSpace) (a n : ℕ) (w : Width) → 0 < n → are_readable m a n ≡ false → read_fault m a n w ≡ Some Address
 unfolding read_fault
 address_fault m a n w some test = rw (some_not_none n some, test) refl
 
-pub alignment_fault : (m : DataSpace) (a n : ℕ) (w : Width) → 0 < n → are_readable m a n ≡ true → a % bytes_in w ≢ 0 → read_fault m a n w ≡ Some Alignment
+pub alignment_fault :
+    (m : DataSpace) (a n : ℕ) (w : Width) → 0 < n → are_readable m a n ≡ true → a % bytes_in w ≢ 0
+    → read_fault m a n w ≡ Some Alignment
 unfolding read_fault
 alignment_fault m a n w some test odd = rw (some_not_none n some, test, differs (a % bytes_in w) odd) refl
 
-pub no_fault : (m : DataSpace) (a n : ℕ) (w : Width) → 0 < n → are_readable m a n ≡ true → a % bytes_in w ≡ 0 → read_fault m a n w ≡ None
+pub no_fault :
+    (m : DataSpace) (a n : ℕ) (w : Width) → 0 < n → are_readable m a n ≡ true → a % bytes_in w ≡ 0
+    → read_fault m a n w ≡ None
 unfolding read_fault
 no_fault m a n w some test even = rw (some_not_none n some, test, even) refl
 
@@ -37,16 +42,22 @@ unless_ok : {A : Type 0} (f : Option MemFault) (x y : A) → unless f x ≡ Ok y
 unless_ok None x y h = refl
 unless_ok (Some f) x y h = cc
 
-pub write_fault_of_read : (m : DataSpace) (a n : ℕ) (w : Width) (x : ℕ) (e : MemFault) → unless (read_fault m a n w) x ≡ Err e → write_fault m a n w ≡ Some e
+pub write_fault_of_read :
+    (m : DataSpace) (a n : ℕ) (w : Width) (x : ℕ) (e : MemFault) → unless (read_fault m a n w) x ≡ Err e
+    → write_fault m a n w ≡ Some e
 unfolding write_fault
 write_fault_of_read m a n w x e h = let f = unless_err (read_fault m a n w) x e h in rw f refl
 
-pub read_only_fault : (m : DataSpace) (a n : ℕ) (w : Width) (x y : ℕ) → 0 < n → unless (read_fault m a n w) x ≡ Ok y → may_write (region_of a) ≡ false → write_fault m a n w ≡ Some ReadOnly
+pub read_only_fault :
+    (m : DataSpace) (a n : ℕ) (w : Width) (x y : ℕ) → 0 < n → unless (read_fault m a n w) x ≡ Ok y
+    → may_write (region_of a) ≡ false → write_fault m a n w ≡ Some ReadOnly
 unfolding write_fault
 read_only_fault m a n w x y some h test =
     let f = unless_ok (read_fault m a n w) x y h in rw (f, some_not_none n some, test) refl
 
-pub no_write_fault : (m : DataSpace) (a n : ℕ) (w : Width) (x y : ℕ) → 0 < n → unless (read_fault m a n w) x ≡ Ok y → may_write (region_of a) ≡ true → write_fault m a n w ≡ None
+pub no_write_fault :
+    (m : DataSpace) (a n : ℕ) (w : Width) (x y : ℕ) → 0 < n → unless (read_fault m a n w) x ≡ Ok y
+    → may_write (region_of a) ≡ true → write_fault m a n w ≡ None
 unfolding write_fault
 no_write_fault m a n w x y some h test =
     let f = unless_ok (read_fault m a n w) x y h in rw (f, some_not_none n some, test) refl

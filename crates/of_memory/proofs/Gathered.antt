@@ -52,10 +52,13 @@ module _ (old : List ℕ) (from to n s : ℕ) where
   other_holds : (new : List ℕ) (p y k : ℕ) → (to + k ≡ p → ⊥) → Holds new k → Holds (set new p y) k
   other_holds new p y k apart h = get_or-set_other new p (to + k) y 0 apart ∙ h
 
-  written_holds : (new : List ℕ) (y k : ℕ) → to + k < length new → y ≡ get_or old (from + k * s) 0 → Holds (set new (to + k) y) k
+  written_holds :
+      (new : List ℕ) (y k : ℕ) → to + k < length new → y ≡ get_or old (from + k * s) 0 → Holds (set new (to + k) y) k
   written_holds new y k l h = get_or-set_same new (to + k) y 0 l ∙ h
 
-  pub falling_written : (new : List ℕ) (i y : ℕ) → to + n ≤ length old → i < n → from + i * s < to + i → y ≡ get_or new (from + i * s) 0 → Falling new (i + 1) → Falling (set new (to + i) y) i
+  pub falling_written :
+      (new : List ℕ) (i y : ℕ) → to + n ≤ length old → i < n → from + i * s < to + i → y ≡ get_or new (from + i * s) 0
+      → Falling new (i + 1) → Falling (set new (to + i) y) i
   falling_written new i y room l low is f =
       let byte : y ≡ get_or old (from + i * s) 0 = is ∙ f.below (from + i * s) (omega arith) in
       record {
@@ -98,7 +101,9 @@ module _ (old : List ℕ) (from to n s : ℕ) where
   }
 
   -- the byte that is copied is still as it was
-  still : (new : List ℕ) (i : ℕ) → 1 ≤ s → i < n → to + i ≤ from + i * s → Rising new i → get_or new (from + i * s) 0 ≡ get_or old (from + i * s) 0
+  still :
+      (new : List ℕ) (i : ℕ) → 1 ≤ s → i < n → to + i ≤ from + i * s → Rising new i
+      → get_or new (from + i * s) 0 ≡ get_or old (from + i * s) 0
   still new i some l high r =
       elim (cases_lt (from + i * s) (to + n)) [
         | inr out ↦ r.above (from + i * s) out
@@ -110,7 +115,9 @@ module _ (old : List ℕ) (from to n s : ℕ) where
             rw (← at) (r.left k on (omega arith) (omega arith))
       ]
 
-  pub rising_written : (new : List ℕ) (i y : ℕ) → 1 ≤ s → to + n ≤ length old → i < n → to + i ≤ from + i * s → y ≡ get_or new (from + i * s) 0 → Rising new i → Rising (set new (to + i) y) (i + 1)
+  pub rising_written :
+      (new : List ℕ) (i y : ℕ) → 1 ≤ s → to + n ≤ length old → i < n → to + i ≤ from + i * s
+      → y ≡ get_or new (from + i * s) 0 → Rising new i → Rising (set new (to + i) y) (i + 1)
   rising_written new i y some room l high is r =
       let byte : y ≡ get_or old (from + i * s) 0 = is ∙ still new i some l high r in
       record {
@@ -151,19 +158,26 @@ module _ (old : List ℕ) (from to n s : ℕ) where
         | inr high ↦ r.moved k l high
       ]
 
-  in_splice : (ys : List ℕ) (x k : ℕ) → to + length ys ≤ length old → k < length ys → x ≡ to + k → get_or (splice old to ys) x 0 ≡ get_or ys k 0
+  in_splice :
+      (ys : List ℕ) (x k : ℕ) → to + length ys ≤ length old → k < length ys → x ≡ to + k
+      → get_or (splice old to ys) x 0 ≡ get_or ys k 0
   in_splice ys x k room l e = grind (arith, places)
 
-  under_splice : (ys : List ℕ) (x : ℕ) → to + length ys ≤ length old → x < to → get_or (splice old to ys) x 0 ≡ get_or old x 0
+  under_splice :
+      (ys : List ℕ) (x : ℕ) → to + length ys ≤ length old → x < to → get_or (splice old to ys) x 0 ≡ get_or old x 0
   under_splice ys x room l = grind (arith, places)
 
-  over_splice : (ys : List ℕ) (x : ℕ) → to + length ys ≤ length old → to + length ys ≤ x → get_or (splice old to ys) x 0 ≡ get_or old x 0
+  over_splice :
+      (ys : List ℕ) (x : ℕ) → to + length ys ≤ length old → to + length ys ≤ x
+      → get_or (splice old to ys) x 0 ≡ get_or old x 0
   over_splice ys x room l = grind (arith, places)
 
   splice_length : (ys : List ℕ) → to + length ys ≤ length old → length (splice old to ys) ≡ length old
   splice_length ys room = grind (arith, places)
 
-  each : (new : List ℕ) (x : ℕ) → to + n ≤ length old → Rising new n → get_or new x 0 ≡ get_or (splice old to (every old from n s)) x 0
+  each :
+      (new : List ℕ) (x : ℕ) → to + n ≤ length old → Rising new n
+      → get_or new x 0 ≡ get_or (splice old to (every old from n s)) x 0
   each new x room r =
       let ys = every old from n s in
       let many : length ys ≡ n = every_length old from n s in
@@ -174,7 +188,8 @@ module _ (old : List ℕ) (from to n s : ℕ) where
               let k = x - to in
               let at : to + k ≡ x = omega arith in
               let here : get_or new x 0 ≡ get_or old (from + k * s) 0 = rw at at (all_hold new k r (omega arith)) in
-              here ∙ sym (in_splice ys x k (omega arith) (omega arith) (omega arith) ∙ every_at old from n s k (omega arith))
+              here ∙ sym (in_splice ys x k (omega arith) (omega arith) (omega arith) ∙ every_at old from n s k
+              (omega arith))
           | inr l ↦ r.above x l ∙ sym (over_splice ys x (omega arith) (omega arith))
         ]
       ]
@@ -182,4 +197,5 @@ module _ (old : List ℕ) (from to n s : ℕ) where
   pub gathered : (new : List ℕ) → to + n ≤ length old → Rising new n → new ≡ splice old to (every old from n s)
   gathered new room r =
       let many : length (every old from n s) ≡ n = every_length old from n s in
-      ext_get_or 0 new (splice old to (every old from n s)) (r.len ∙ sym (splice_length (every old from n s) (omega arith))) (λ x l. each new x room r)
+      ext_get_or 0 new (splice old to (every old from n s))
+      (r.len ∙ sym (splice_length (every old from n s) (omega arith))) (λ x l. each new x room r)

@@ -21,7 +21,8 @@ room m a n sound e some =
     let at = ranges_are_placed.placed m a n One e some in
     omega (arith, at.some, at.last, at.within, sound.bytes)
 
-next_place : (m : DataSpace) (a n k : ℕ) → read_fault m a n One ≡ None → 0 < n → k ≤ n → place_of (a + k) ≡ place_of a + k
+next_place :
+    (m : DataSpace) (a n k : ℕ) → read_fault m a n One ≡ None → 0 < n → k ≤ n → place_of (a + k) ≡ place_of a + k
 next_place m a n k e some l =
     let at = ranges_are_placed.placed m a n One e some in
     omega (arith, at.some, at.last, at.within)
@@ -30,12 +31,16 @@ no_list : (ys : List ℕ) → length ys ≡ 0 → ys ≡ []
 no_list [] e = refl
 no_list (y ∷ ys) e = absurd (omega arith)
 
-back : (m : DataSpace) (a : ℕ) (ys : List ℕ) → IsSound m → read_fault m a (length ys) One ≡ None → bytes_from (written m a ys) a (length ys) ≡ ys
+back :
+    (m : DataSpace) (a : ℕ) (ys : List ℕ) → IsSound m → read_fault m a (length ys) One ≡ None
+    → bytes_from (written m a ys) a (length ys) ≡ ys
 back m a [] sound e = refl
 back m a (y ∷ ys) sound e = read_back m.bytes (y ∷ ys) (place_of a) (room m a (length (y ∷ ys)) sound e (omega arith))
 
 -- one list of bytes behind another, both in the list of all
-behind : (m : DataSpace) (a : ℕ) (xs ys : List ℕ) → IsSound m → read_fault m a (length xs + length ys) One ≡ None → written (written m a xs) (a + length xs) ys ≡ written m a (xs ++ ys)
+behind :
+    (m : DataSpace) (a : ℕ) (xs ys : List ℕ) → IsSound m → read_fault m a (length xs + length ys) One ≡ None
+    → written (written m a xs) (a + length xs) ys ≡ written m a (xs ++ ys)
 behind m a xs ys sound e =
     elim (cases_eq (length xs + length ys) 0) [
       | inl z ↦
@@ -44,12 +49,16 @@ behind m a xs ys sound e =
           rw (no_xs, no_ys) (written_none (written m a []) (a + 0))
       | inr some ↦
           let n = length xs + length ys in
-          let next : place_of (a + length xs) ≡ place_of a + length xs = next_place m a n (length xs) e (omega arith) (omega arith) in
+          let next : place_of (a + length xs) ≡ place_of a + length xs =
+          next_place m a n (length xs) e (omega arith) (omega arith) in
           let fits : place_of a + n ≤ length m.bytes = room m a n sound e (omega arith) in
-          rw next (ap (λ (l : List ℕ). record m { bytes = l }) (splice_behind m.bytes xs ys (place_of a) (place_of a + length xs) refl (omega arith)))
+          rw next (ap (λ (l : List ℕ). record m { bytes = l })
+          (splice_behind m.bytes xs ys (place_of a) (place_of a + length xs) refl (omega arith)))
     ]
 
-before : (m : DataSpace) (a : ℕ) (xs ys : List ℕ) → IsSound m → read_fault m a (length xs + length ys) One ≡ None → written (written m (a + length xs) ys) a xs ≡ written m a (xs ++ ys)
+before :
+    (m : DataSpace) (a : ℕ) (xs ys : List ℕ) → IsSound m → read_fault m a (length xs + length ys) One ≡ None
+    → written (written m (a + length xs) ys) a xs ≡ written m a (xs ++ ys)
 before m a xs ys sound e =
     elim (cases_eq (length xs + length ys) 0) [
       | inl z ↦
@@ -58,7 +67,8 @@ before m a xs ys sound e =
           rw (no_xs, no_ys) (ap (λ (s : DataSpace). written s a []) (written_none m (a + 0)))
       | inr some ↦
           let n = length xs + length ys in
-          let next : place_of (a + length xs) ≡ place_of a + length xs = next_place m a n (length xs) e (omega arith) (omega arith) in
+          let next : place_of (a + length xs) ≡ place_of a + length xs =
+          next_place m a n (length xs) e (omega arith) (omega arith) in
           let fits : place_of a + n ≤ length m.bytes = room m a n sound e (omega arith) in
           let apart = splice_apart m.bytes xs ys (place_of a) (place_of (a + length xs)) (omega arith) (omega arith) in
           ap (λ (l : List ℕ). record m { bytes = l }) apart ∙ behind m a xs ys sound e

@@ -16,10 +16,13 @@ pub record IsWithin (lo hi : ℕ) (b : Block) : Type 0 where
 
 pub laid_ordered : (low high : ℕ) (bs : List Block) → AreLaid low high bs → low ≤ high
 laid_ordered low high [] h = h.0
-laid_ordered low high (b ∷ bs) h = let e : b.at + b.size ≤ high = laid_ordered (b.at + b.size) high bs h.1 in omega (arith, h.0.above)
+laid_ordered low high (b ∷ bs) h =
+    let e : b.at + b.size ≤ high = laid_ordered (b.at + b.size) high bs h.1 in omega (arith, h.0.above)
 
 -- each block lies between the ends
-pub laid_at : (low high : ℕ) (bs : List Block) (i : ℕ) (d : Block) → AreLaid low high bs → i < length bs → IsWithin low high (get_or bs i d)
+pub laid_at :
+    (low high : ℕ) (bs : List Block) (i : ℕ) (d : Block) → AreLaid low high bs → i < length bs
+    → IsWithin low high (get_or bs i d)
 laid_at low high [] i d h l = absurd (omega arith)
 laid_at low high (b ∷ bs) zero d h l = record {
   low = h.0.above;
@@ -39,8 +42,11 @@ laid_at low high (b ∷ bs) (suc i) d h l =
     }
 
 -- a block of the heap ends with it
-pub heap_block : (bs : List Block) (i : ℕ) (d : Block) → AreLaid heap_start heap_limit bs → i < length bs → (get_or bs i d).at + (get_or bs i d).size ≤ heap_limit
-heap_block bs i d h l = let w : IsWithin heap_start heap_limit (get_or bs i d) = laid_at heap_start heap_limit bs i d h l in w.high
+pub heap_block :
+    (bs : List Block) (i : ℕ) (d : Block) → AreLaid heap_start heap_limit bs → i < length bs
+    → (get_or bs i d).at + (get_or bs i d).size ≤ heap_limit
+heap_block bs i d h l =
+    let w : IsWithin heap_start heap_limit (get_or bs i d) = laid_at heap_start heap_limit bs i d h l in w.high
 
 laid_lower : (low mid high : ℕ) (bs : List Block) → low ≤ mid → low % 8 ≡ 0 → AreLaid mid high bs → AreLaid low high bs
 laid_lower low mid high [] le e h = (omega (arith, h.0), e)
@@ -58,11 +64,14 @@ laid_lower low mid high (b ∷ bs) le e h =
 pub laid_remove : (low high : ℕ) (bs : List Block) (i : ℕ) → AreLaid low high bs → AreLaid low high (remove bs i)
 laid_remove low high [] zero h = h
 laid_remove low high [] (suc i) h = h
-laid_remove low high (b ∷ bs) zero h = laid_lower low (b.at + b.size) high bs (omega (arith, h.0.above)) h.0.low_eighth h.1
+laid_remove low high (b ∷ bs) zero h =
+    laid_lower low (b.at + b.size) high bs (omega (arith, h.0.above)) h.0.low_eighth h.1
 laid_remove low high (b ∷ bs) (suc i) h = (h.0, laid_remove (b.at + b.size) high bs i h.1)
 
 -- no block is longer than its region
-pub no_long : (low high a size : ℕ) (bs : List Block) → AreLaid low high bs → high < low + size → position (is_block a size) bs ≡ None
+pub no_long :
+    (low high a size : ℕ) (bs : List Block) → AreLaid low high bs → high < low + size
+    → position (is_block a size) bs ≡ None
 no_long low high a size bs h long = go (position (is_block a size) bs) refl
   where
     same_size : (b : Block) → is_block a size b ≡ true → b.size ≡ size

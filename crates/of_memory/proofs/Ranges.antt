@@ -53,11 +53,14 @@ same_or : (z : Bool) → ◌≡◌ {A = Option MemFault} (if z || true then None
 same_or true = refl
 same_or false = refl
 
-pub good_read : (m : DataSpace) (a n : ℕ) (w : Width) → are_readable m a n ≡ true → a % bytes_in w ≡ 0 → read_fault m a n w ≡ None
+pub good_read :
+    (m : DataSpace) (a n : ℕ) (w : Width) → are_readable m a n ≡ true → a % bytes_in w ≡ 0 → read_fault m a n w ≡ None
 unfolding read_fault
 good_read m a n w can even = rw (can, even) (same_either (eqb n 0))
 
-good_write : (m : DataSpace) (a n : ℕ) (w : Width) → read_fault m a n w ≡ None → may_write (region_of a) ≡ true → write_fault m a n w ≡ None
+good_write :
+    (m : DataSpace) (a n : ℕ) (w : Width) → read_fault m a n w ≡ None → may_write (region_of a) ≡ true
+    → write_fault m a n w ≡ None
 unfolding write_fault
 good_write m a n w read may = rw (read, may) (same_or (eqb n 0))
 
@@ -87,31 +90,41 @@ reads m a n w e =
 -- some of the numbers that all pass
 all_part : (p : ℕ → Bool) (a n j k : ℕ) → all_from p a n ≡ true → j + k ≤ n → all_from p (a + j) k ≡ true
 all_part p a n j k e l =
-    all_true p (a + j) k (λ i h. let same : a + j + i ≡ a + (j + i) = omega arith in rw same (all_at p a n (j + i) e (omega arith)))
+    all_true p (a + j) k (λ i h.
+    let same : a + j + i ≡ a + (j + i) = omega arith in
+    rw same (all_at p a n (j + i) e (omega arith)))
 
-part_reads : (m : DataSpace) (a n j k : ℕ) (w v : Width) → read_fault m a n w ≡ None → j + k ≤ n → (a + j) % bytes_in v ≡ 0 → read_fault m (a + j) k v ≡ None
+part_reads :
+    (m : DataSpace) (a n j k : ℕ) (w v : Width) → read_fault m a n w ≡ None → j + k ≤ n → (a + j) % bytes_in v ≡ 0
+    → read_fault m (a + j) k v ≡ None
 part_reads m a n j k w v e l even =
     elim (cases_eq n 0) [
       | inl z ↦ no_read_fault m (a + j) k v (omega arith)
-      | inr some ↦ good_read m (a + j) k v (all_part (is_readable m) a n j k (can_read m a n w (omega arith) e).can l) even
+      | inr some ↦
+          let can = (can_read m a n w (omega arith) e).can in
+          good_read m (a + j) k v (all_part (is_readable m) a n j k can l) even
     ]
 
 placed : (m : DataSpace) (a n : ℕ) (w : Width) → read_fault m a n w ≡ None → 0 < n → IsPlaced a n
 placed m a n w e some = range_placed m a n (can_read m a n w some e).can some
 
-same_region : (m : DataSpace) (a n j : ℕ) (w : Width) → read_fault m a n w ≡ None → j < n → region_of (a + j) ≡ region_of a
+same_region :
+    (m : DataSpace) (a n j : ℕ) (w : Width) → read_fault m a n w ≡ None → j < n → region_of (a + j) ≡ region_of a
 same_region m a n j w e l =
     let at = placed m a n w e (omega arith) in
     let q : (a + j) / span ≡ a / span = omega (arith, at.within) in
     rw q refl
 
-part_writes : (m : DataSpace) (a n j k : ℕ) (w v : Width) → write_fault m a n w ≡ None → j + k ≤ n → (a + j) % bytes_in v ≡ 0 → write_fault m (a + j) k v ≡ None
+part_writes :
+    (m : DataSpace) (a n j k : ℕ) (w v : Width) → write_fault m a n w ≡ None → j + k ≤ n → (a + j) % bytes_in v ≡ 0
+    → write_fault m (a + j) k v ≡ None
 part_writes m a n j k w v e l even =
     elim (cases_eq k 0) [
       | inl z ↦ no_write_fault m (a + j) k v z
       | inr some ↦
           let whole = can_write m a n w (omega arith) e in
-          let may : may_write (region_of (a + j)) ≡ true = rw (same_region m a n j w whole.read (omega arith)) whole.may in
+          let may : may_write (region_of (a + j)) ≡ true =
+          rw (same_region m a n j w whole.read (omega arith)) whole.may in
           good_write m (a + j) k v (part_reads m a n j k w v whole.read l even) may
     ]
 
@@ -141,20 +154,26 @@ first_writes m a e =
 same_readable : (m : DataSpace) (p x : ℕ) (ys : List ℕ) → is_readable (written m p ys) x ≡ is_readable m x
 same_readable m p x ys = elim (region_of x) [ None ↦ refl | Some r ↦ refl ]
 
-same_read_fault : (m : DataSpace) (p a n : ℕ) (ys : List ℕ) (w : Width) → read_fault (written m p ys) a n w ≡ read_fault m a n w
+same_read_fault :
+    (m : DataSpace) (p a n : ℕ) (ys : List ℕ) (w : Width) → read_fault (written m p ys) a n w ≡ read_fault m a n w
 unfolding read_fault
 same_read_fault m p a n ys w =
     rw (all_same (is_readable (written m p ys)) (is_readable m) a n (λ k l. same_readable m p (a + k) ys)) refl
 
-same_write_fault : (m : DataSpace) (p a n : ℕ) (ys : List ℕ) (w : Width) → write_fault (written m p ys) a n w ≡ write_fault m a n w
+same_write_fault :
+    (m : DataSpace) (p a n : ℕ) (ys : List ℕ) (w : Width) → write_fault (written m p ys) a n w ≡ write_fault m a n w
 unfolding write_fault
 same_write_fault m p a n ys w = rw (same_read_fault m p a n ys w) refl
 
-second_writes : (m : DataSpace) (a : ℕ) (ys : List ℕ) → write_fault m a 8 Four ≡ None → write_fault (written m a ys) ((a + 4) % 2 ^ 32) 4 Four ≡ None
+second_writes :
+    (m : DataSpace) (a : ℕ) (ys : List ℕ) → write_fault m a 8 Four ≡ None
+    → write_fault (written m a ys) ((a + 4) % 2 ^ 32) 4 Four ≡ None
 second_writes m a ys e =
     let whole = reads m a 8 Four e in
     let even = even_read m a whole in
-    rw (wrapped m a whole) (same_write_fault m a (a + 4) 4 ys Four ∙ part_writes m a 8 4 4 Four Four e (omega arith) (omega (arith, even)))
+    rw (wrapped m a whole)
+    (same_write_fault m a (a + 4) 4 ys Four
+    ∙ part_writes m a 8 4 4 Four Four e (omega arith) (omega (arith, even)))
 
 byte_writes : (m : DataSpace) (a n : ℕ) → write_fault m a (n + 1) One ≡ None → write_fault m a 1 One ≡ None
 byte_writes m a n e = rw add-zero at (part_writes m a (n + 1) 0 1 One One e (omega arith) (omega arith))
@@ -182,7 +201,9 @@ pub ranges_are_placed : RangesArePlaced
 ranges_are_placed = record { placed = placed; ends = ends; region = same_region }
 
 -- the scratch region
-scratch_reads : (m : DataSpace) (a n : ℕ) (w : Width) → scratch_start ≤ a → a + n ≤ scratch_limit → a % bytes_in w ≡ 0 → read_fault m a n w ≡ None
+scratch_reads :
+    (m : DataSpace) (a n : ℕ) (w : Width) → scratch_start ≤ a → a + n ≤ scratch_limit → a % bytes_in w ≡ 0
+    → read_fault m a n w ≡ None
 scratch_reads m a n w from to even =
     elim (cases_eq n 0) [
       | inl z ↦ no_read_fault m a n w z
@@ -192,7 +213,9 @@ scratch_reads m a n w from to even =
           good_read m a n w (plain m a n Scratch region refl (omega (arith, five))) even
     ]
 
-scratch_writes : (m : DataSpace) (a n : ℕ) (w : Width) → scratch_start ≤ a → a + n ≤ scratch_limit → a % bytes_in w ≡ 0 → write_fault m a n w ≡ None
+scratch_writes :
+    (m : DataSpace) (a n : ℕ) (w : Width) → scratch_start ≤ a → a + n ≤ scratch_limit → a % bytes_in w ≡ 0
+    → write_fault m a n w ≡ None
 scratch_writes m a n w from to even =
     elim (cases_eq n 0) [
       | inl z ↦ no_write_fault m a n w z

@@ -29,14 +29,16 @@ pub where_is : (x : ℕ) (b : Block) → (x < b.at) ⊎ (Held x b ⊎ (b.at + b.
 where_is x b =
     elim (cases_lt x b.at) [
       | inl h ↦ inl h
-      | inr h ↦ elim (cases_lt x (b.at + b.size)) [ inl k ↦ inr (inl (record { low = h; high = k })) | inr k ↦ inr (inr k) ]
+      | inr h ↦ elim (cases_lt x (b.at + b.size))
+          [ inl k ↦ inr (inl (record { low = h; high = k })) | inr k ↦ inr (inr k) ]
     ]
 
 -- no block lies below the low end
 pub reach_below : (low high : ℕ) (bs : List Block) (x : ℕ) → AreLaid low high bs → x < low → reach bs x ≡ x
 reach_below low high [] x h l = refl
 reach_below low high (b ∷ bs) x h l =
-    rw (holds_before x b (omega (arith, h.0.above))) (reach_below (b.at + b.size) high bs x h.1 (omega (arith, h.0.above)))
+    rw (holds_before x b (omega (arith, h.0.above)))
+    (reach_below (b.at + b.size) high bs x h.1 (omega (arith, h.0.above)))
 
 pub reach_ge : (bs : List Block) (x : ℕ) → x ≤ reach bs x
 reach_ge [] x = omega arith
@@ -44,7 +46,9 @@ reach_ge (b ∷ bs) x =
     elim (where_is x b) [
       | inl h ↦ rw (holds_before x b h) (reach_ge bs x)
       | inr w ↦ elim w [
-        | inl h ↦ rw (holds_true x b h.low h.high) (let r : b.at + b.size ≤ reach bs (b.at + b.size) = reach_ge bs (b.at + b.size) in omega (arith, h.low, h.high))
+        | inl h ↦ rw (holds_true x b h.low h.high)
+            (let r : b.at + b.size ≤ reach bs (b.at + b.size) = reach_ge bs (b.at + b.size) in omega
+            (arith, h.low, h.high))
         | inr h ↦ rw (holds_after x b h) (reach_ge bs x)
       ]
     ]
@@ -77,7 +81,9 @@ reach_live (b ∷ bs) x y ge lt =
       ]
     ]
 
-ends_at : (b : Block) (bs : List Block) (x r : ℕ) → reach (b ∷ bs) x ≡ r → holds r b ≡ false → is_live bs r ≡ false → is_live (b ∷ bs) (reach (b ∷ bs) x) ≡ false
+ends_at :
+    (b : Block) (bs : List Block) (x r : ℕ) → reach (b ∷ bs) x ≡ r → holds r b ≡ false → is_live bs r ≡ false
+    → is_live (b ∷ bs) (reach (b ∷ bs) x) ≡ false
 ends_at b bs x r e p q = let P : ℕ → Type 0 = λ v. is_live (b ∷ bs) v ≡ false in subst P (sym e) (rw p q)
 
 -- and where it ends is in none
@@ -87,13 +93,17 @@ reach_end low high (b ∷ bs) x h =
     elim (where_is x b) [
       | inl k ↦
           let e : reach bs x ≡ x = reach_below (b.at + b.size) high bs x h.1 (omega arith) in
-          ends_at b bs x (reach bs x) (reach_skips b bs x (holds_before x b k)) (holds_before (reach bs x) b (omega arith)) (reach_end (b.at + b.size) high bs x h.1)
+          ends_at b bs x (reach bs x) (reach_skips b bs x (holds_before x b k))
+          (holds_before (reach bs x) b (omega arith)) (reach_end (b.at + b.size) high bs x h.1)
       | inr w ↦ elim w [
         | inl k ↦
-            ends_at b bs x (reach bs (b.at + b.size)) (reach_takes b bs x k) (holds_after (reach bs (b.at + b.size)) b (reach_ge bs (b.at + b.size))) (reach_end (b.at + b.size) high bs (b.at + b.size) h.1)
+            ends_at b bs x (reach bs (b.at + b.size)) (reach_takes b bs x k)
+            (holds_after (reach bs (b.at + b.size)) b (reach_ge bs (b.at + b.size)))
+            (reach_end (b.at + b.size) high bs (b.at + b.size) h.1)
         | inr k ↦
             let ge : x ≤ reach bs x = reach_ge bs x in
-            ends_at b bs x (reach bs x) (reach_skips b bs x (holds_after x b k)) (holds_after (reach bs x) b (omega arith)) (reach_end (b.at + b.size) high bs x h.1)
+            ends_at b bs x (reach bs x) (reach_skips b bs x (holds_after x b k))
+            (holds_after (reach bs x) b (omega arith)) (reach_end (b.at + b.size) high bs x h.1)
       ]
     ]
 
@@ -104,7 +114,9 @@ pub within : (x y : ℕ) → x ≤ y → nat_le x y ≡ true
 within x y l = grind (arith, common_steps)
 
 -- blocks that end by the address are no matter
-pub reach_drop : (low high : ℕ) (bs : List Block) (i x : ℕ) (d : Block) → AreLaid low high bs → i < length bs → (get_or bs i d).at + (get_or bs i d).size ≤ x → reach (drop (i + 1) bs) x ≡ reach bs x
+pub reach_drop :
+    (low high : ℕ) (bs : List Block) (i x : ℕ) (d : Block) → AreLaid low high bs → i < length bs
+    → (get_or bs i d).at + (get_or bs i d).size ≤ x → reach (drop (i + 1) bs) x ≡ reach bs x
 reach_drop low high [] i x d h l e = absurd (omega arith)
 reach_drop low high (b ∷ bs) zero x d h l e = rw (holds_after x b e) refl
 reach_drop low high (b ∷ bs) (suc i) x d h l e =
@@ -112,22 +124,28 @@ reach_drop low high (b ∷ bs) (suc i) x d h l e =
     let later : reach (drop (i + 1) bs) x ≡ reach bs x = reach_drop (b.at + b.size) high bs i x d h.1 (omega arith) e in
     rw (add-one, holds_after x b (omega (arith, w.low, w.some))) (rw add-one at later)
 
-pub find_drop : (low high : ℕ) (bs : List Block) (i x : ℕ) (d : Block) → AreLaid low high bs → i < length bs → (get_or bs i d).at + (get_or bs i d).size ≤ x → find (holds x) (drop (i + 1) bs) ≡ find (holds x) bs
+pub find_drop :
+    (low high : ℕ) (bs : List Block) (i x : ℕ) (d : Block) → AreLaid low high bs → i < length bs
+    → (get_or bs i d).at + (get_or bs i d).size ≤ x → find (holds x) (drop (i + 1) bs) ≡ find (holds x) bs
 find_drop low high [] i x d h l e = absurd (omega arith)
 find_drop low high (b ∷ bs) zero x d h l e = rw (holds_after x b e) refl
 find_drop low high (b ∷ bs) (suc i) x d h l e =
     let w : IsWithin (b.at + b.size) high (get_or bs i d) = laid_at (b.at + b.size) high bs i d h.1 (omega arith) in
-    let later : find (holds x) (drop (i + 1) bs) ≡ find (holds x) bs = find_drop (b.at + b.size) high bs i x d h.1 (omega arith) e in
+    let later : find (holds x) (drop (i + 1) bs) ≡ find (holds x) bs =
+    find_drop (b.at + b.size) high bs i x d h.1 (omega arith) e in
     rw (add-one, holds_after x b (omega (arith, w.low, w.some))) (rw add-one at later)
 
 -- nor are those that begin beyond it
 pub find_below : (low high : ℕ) (bs : List Block) (x : ℕ) → AreLaid low high bs → x < low → find (holds x) bs ≡ None
 find_below low high [] x h l = refl
 find_below low high (b ∷ bs) x h l =
-    rw (holds_before x b (omega (arith, h.0.above))) (find_below (b.at + b.size) high bs x h.1 (omega (arith, h.0.above)))
+    rw (holds_before x b (omega (arith, h.0.above)))
+    (find_below (b.at + b.size) high bs x h.1 (omega (arith, h.0.above)))
 
 -- what is laid from some block on
-pub laid_drop : (low high : ℕ) (bs : List Block) (i : ℕ) (d : Block) → AreLaid low high bs → i < length bs → AreLaid (get_or bs i d).at high (drop i bs)
+pub laid_drop :
+    (low high : ℕ) (bs : List Block) (i : ℕ) (d : Block) → AreLaid low high bs → i < length bs
+    → AreLaid (get_or bs i d).at high (drop i bs)
 laid_drop low high [] i d h l = absurd (omega arith)
 laid_drop low high (b ∷ bs) zero d h l =
     let first : IsLaid b.at b = record {
@@ -141,7 +159,9 @@ laid_drop low high (b ∷ bs) zero d h l =
 laid_drop low high (b ∷ bs) (suc i) d h l = laid_drop (b.at + b.size) high bs i d h.1 (omega arith)
 
 -- a range is live exactly where it ends no later than its blocks
-pub all_live : (bs : List Block) (a n : ℕ) → AreLaid heap_start heap_limit bs → all_from (is_live bs) a n ≡ nat_le (a + n) (reach bs a)
+pub all_live :
+    (bs : List Block) (a n : ℕ) → AreLaid heap_start heap_limit bs
+    → all_from (is_live bs) a n ≡ nat_le (a + n) (reach bs a)
 all_live bs a n laid =
     let ge : a ≤ reach bs a = reach_ge bs a in
     elim (cases_lt (reach bs a) (a + n)) [

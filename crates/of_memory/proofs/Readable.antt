@@ -18,7 +18,9 @@ size_bound Heap = lit≤ tt
 size_bound Scratch = lit≤ tt
 size_bound Image = lit≤ tt
 
-reads_at : (m : DataSpace) (x w : ℕ) (r : Region) → region_of x ≡ Some r → x % span ≡ w → is_readable m x ≡ (nat_lt w (size_of r) && (not (is_heap r) || is_live m.heap x))
+reads_at :
+    (m : DataSpace) (x w : ℕ) (r : Region) → region_of x ≡ Some r → x % span ≡ w
+    → is_readable m x ≡ (nat_lt w (size_of r) && (not (is_heap r) || is_live m.heap x))
 reads_at m x w r e f = rw (e, f) refl
 
 -- the place of a byte of a range in its region
@@ -38,19 +40,24 @@ beyond : (w s : ℕ) (b : Bool) → s ≤ w → (nat_lt w s && b) ≡ false
 beyond w s b l = grind (arith, common_steps)
 
 -- a range in a region other than the heap
-pub plain : (m : DataSpace) (a n : ℕ) (r : Region) → region_of a ≡ Some r → is_heap r ≡ false → a % span + n ≤ size_of r → are_readable m a n ≡ true
+pub plain :
+    (m : DataSpace) (a n : ℕ) (r : Region) → region_of a ≡ Some r → is_heap r ≡ false → a % span + n ≤ size_of r
+    → are_readable m a n ≡ true
 plain m a n r e h fits =
     all_true (is_readable m) a n (λ k l.
     let small : size_of r ≤ longest = size_bound r in
     let s = in_span a k (omega arith) in
-    reads_at m (a + k) ((a + k) % span) r (s.same ∙ e) refl ∙ rw (h, inside ((a + k) % span) (size_of r) (omega (arith, s.within))) refl)
+    reads_at m (a + k) ((a + k) % span) r (s.same ∙ e) refl ∙ rw
+    (h, inside ((a + k) % span) (size_of r) (omega (arith, s.within))) refl)
 
 -- a range that begins in no region
 pub nowhere : (m : DataSpace) (a n : ℕ) → region_of a ≡ None → 0 < n → are_readable m a n ≡ false
 nowhere m a n e some = all_false (is_readable m) a n 0 some (rw (add-zero, e) refl)
 
 -- a range that leaves its region
-pub outside : (m : DataSpace) (a n : ℕ) (r : Region) → region_of a ≡ Some r → 0 < n → size_of r < a % span + n → are_readable m a n ≡ false
+pub outside :
+    (m : DataSpace) (a n : ℕ) (r : Region) → region_of a ≡ Some r → 0 < n → size_of r < a % span + n
+    → are_readable m a n ≡ false
 outside m a n r e some past =
     let small : size_of r ≤ longest = size_bound r in
     elim (cases_lt (a % span) (size_of r)) [
@@ -59,19 +66,25 @@ outside m a n r e some past =
           let s = in_span a k (omega arith) in
           let w : size_of r ≤ (a + k) % span = omega (arith, s.within) in
           all_false (is_readable m) a n k (omega arith)
-          (reads_at m (a + k) ((a + k) % span) r (s.same ∙ e) refl ∙ beyond ((a + k) % span) (size_of r) (not (is_heap r) || is_live m.heap (a + k)) w)
+          (reads_at m (a + k) ((a + k) % span) r (s.same ∙ e) refl ∙ beyond ((a + k) % span) (size_of r)
+          (not (is_heap r) || is_live m.heap (a + k)) w)
       | inr l ↦
           let z : a + 0 ≡ a = add-zero a in
-          all_false (is_readable m) a n 0 some (rw z (reads_at m a (a % span) r e refl ∙ beyond (a % span) (size_of r) (not (is_heap r) || is_live m.heap a) l))
+          all_false (is_readable m) a n 0 some
+          (rw z (reads_at m a (a % span) r e refl ∙ beyond (a % span) (size_of r)
+          (not (is_heap r) || is_live m.heap a) l))
     ]
 
 -- a range in the heap's region
-pub in_heap : (m : DataSpace) (a n : ℕ) (r : Region) → region_of a ≡ Some r → is_heap r ≡ true → a % span + n ≤ size_of r → are_readable m a n ≡ all_from (is_live m.heap) a n
+pub in_heap :
+    (m : DataSpace) (a n : ℕ) (r : Region) → region_of a ≡ Some r → is_heap r ≡ true → a % span + n ≤ size_of r
+    → are_readable m a n ≡ all_from (is_live m.heap) a n
 in_heap m a n r e h fits =
     all_same (is_readable m) (is_live m.heap) a n (λ k l.
     let small : size_of r ≤ longest = size_bound r in
     let s = in_span a k (omega arith) in
-    reads_at m (a + k) ((a + k) % span) r (s.same ∙ e) refl ∙ rw (h, inside ((a + k) % span) (size_of r) (omega (arith, s.within))) refl)
+    reads_at m (a + k) ((a + k) % span) r (s.same ∙ e) refl ∙ rw
+    (h, inside ((a + k) % span) (size_of r) (omega (arith, s.within))) refl)
 
 heap_size : (r : Region) → is_heap r ≡ true → size_of r ≡ longest
 heap_size Data e = absurd (false≢true e)

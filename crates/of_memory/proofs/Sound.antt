@@ -4,7 +4,9 @@ use Rattle.of_memory.specs.Regions.{byte_count}
 use Rattle.of_memory.proofs.Splices.{AreBytes}
 use Rattle.of_memory.specs.DataSpace.{DataSpace, IsSound}
 
-pub sound_bytes : (m : DataSpace) (bs : List ℕ) → IsSound m → length bs ≡ byte_count → AreBytes bs → IsSound (record m { bytes = bs })
+pub sound_bytes :
+    (m : DataSpace) (bs : List ℕ) → IsSound m → length bs ≡ byte_count → AreBytes bs
+    → IsSound (record m { bytes = bs })
 sound_bytes m bs s len small = record {
   bytes = len;
   small = small;

@@ -6,11 +6,15 @@ use Rattle.std.proofs.lemmas.Bool.{cases_lt}
 use Rattle.of_memory.specs.DataSpace.{splice}
 
 -- one behind another
-pub splice_behind : (l xs ys : List ℕ) (i j : ℕ) → j ≡ i + length xs → j + length ys ≤ length l → splice (splice l i xs) j ys ≡ splice l i (xs ++ ys)
+pub splice_behind :
+    (l xs ys : List ℕ) (i j : ℕ) → j ≡ i + length xs → j + length ys ≤ length l
+    → splice (splice l i xs) j ys ≡ splice l i (xs ++ ys)
 splice_behind l xs ys i j e fits = same_lists _ _ (grind (arith, places)) (λ k d h. grind (arith, places))
 
 -- in either order, where they don't meet
-pub splice_apart : (l xs ys : List ℕ) (i j : ℕ) → i + length xs ≤ j → j + length ys ≤ length l → splice (splice l j ys) i xs ≡ splice (splice l i xs) j ys
+pub splice_apart :
+    (l xs ys : List ℕ) (i j : ℕ) → i + length xs ≤ j → j + length ys ≤ length l
+    → splice (splice l j ys) i xs ≡ splice (splice l i xs) j ys
 splice_apart l xs ys i j apart fits = same_lists _ _ (grind (arith, places)) (λ k d h. grind (arith, places))
 
 -- a part of a list that lies in it has its whole length
@@ -21,16 +25,21 @@ part_length l i n fits = omega (arith, length-take n (drop i l), length-drop i l
 abbrev pub AreBytes : List ℕ → Type 0
 AreBytes xs = All (λ b. b < 256) xs
 
-in_splice : (l ys : List ℕ) (i k d : ℕ) → i + length ys ≤ length l → i ≤ k → k < i + length ys → get_or (splice l i ys) k d ≡ get_or ys (k - i) d
+in_splice :
+    (l ys : List ℕ) (i k d : ℕ) → i + length ys ≤ length l → i ≤ k → k < i + length ys
+    → get_or (splice l i ys) k d ≡ get_or ys (k - i) d
 in_splice l ys i k d fits from to = grind (arith, places)
 
-out_splice : (l ys : List ℕ) (i k d : ℕ) → i + length ys ≤ length l → (k < i) ⊎ (i + length ys ≤ k) → get_or (splice l i ys) k d ≡ get_or l k d
+out_splice :
+    (l ys : List ℕ) (i k d : ℕ) → i + length ys ≤ length l → (k < i) ⊎ (i + length ys ≤ k)
+    → get_or (splice l i ys) k d ≡ get_or l k d
 out_splice l ys i k d fits out = grind (arith, places)
 
 splice_length : (l ys : List ℕ) (i : ℕ) → i + length ys ≤ length l → length (splice l i ys) ≡ length l
 splice_length l ys i fits = grind (arith, places)
 
-pub bytes_spliced : (l ys : List ℕ) (i : ℕ) → i + length ys ≤ length l → AreBytes l → AreBytes ys → AreBytes (splice l i ys)
+pub bytes_spliced :
+    (l ys : List ℕ) (i : ℕ) → i + length ys ≤ length l → AreBytes l → AreBytes ys → AreBytes (splice l i ys)
 bytes_spliced l ys i fits old new k d lt =
     let len : length (splice l i ys) ≡ length l = splice_length l ys i fits in
     elim (cases_lt k i) [

@@ -43,3 +43,6 @@ bytes_every xs i n s fits h k d lt =
 -- no bytes
 pub spread_none : (m : DataSpace) (a n s : ℕ) → n ≡ 0 → read_spread m a n s ≡ Ok []
 spread_none m a n s e = rw (e, no_read_fault m a 0 One refl) refl
+
+-- what a read of bytes that stand apart needs
+pub ruleset spread_facts = (over_some, spread_none)

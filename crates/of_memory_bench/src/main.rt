@@ -15,6 +15,8 @@ fn accesses(rt: &HostRuntime, kind: &str, count: u32) -> Option<u32> {
         "read" => space::reads(rt.alloc(), count).ok(),
         "write" => space::writes(rt.alloc(), count).ok(),
         "move" => space::moves(rt.alloc(), count).ok(),
+        "heap-byte" => space::heap_reads(rt.alloc(), count).ok(),
+        "data-byte" => space::data_reads(rt.alloc(), count).ok(),
         "plain-read" => plain::reads(rt.alloc(), count).ok(),
         "plain-write" => plain::writes(rt.alloc(), count).ok(),
         "plain-move" => plain::moves(rt.alloc(), count).ok(),

@@ -37,3 +37,35 @@ pub fn moves(alloc: Global, count: u32) -> Result<u32, MemFault> {
     }
     Ok(memory.read32(Cell(DATA))?.0)
 }
+
+/// How many blocks are live where bytes of the heap's last one are read.
+const BLOCKS: u32 = 32_000;
+
+/// Reads so many bytes, the eight from an address on in turn.
+fn bytes(memory: &Memory, addr: Cell, count: u32) -> Result<u32, MemFault> {
+    let mut sum = 0u32;
+    for i in 0..count {
+        let at = Cell(addr.0.wrapping_add(i % 8));
+        sum = sum.wrapping_add(u32::from(memory.read8(at)?));
+    }
+    Ok(sum)
+}
+
+/// Takes 32,000 blocks of the heap, and reads bytes of the last.
+pub fn heap_reads(alloc: Global, count: u32) -> Result<u32, MemFault> {
+    let mut memory = Memory::new(alloc).map_err(|_| MemFault::NoMemory)?;
+    let mut last = Cell(DATA);
+    for _ in 0..BLOCKS {
+        last = memory.heap_take(Cell(8))?;
+    }
+    bytes(&memory, last, count)
+}
+
+/// Takes as many blocks of the heap, and reads bytes of the data region.
+pub fn data_reads(alloc: Global, count: u32) -> Result<u32, MemFault> {
+    let mut memory = Memory::new(alloc).map_err(|_| MemFault::NoMemory)?;
+    for _ in 0..BLOCKS {
+        let _ = memory.heap_take(Cell(8))?;
+    }
+    bytes(&memory, Cell(DATA), count)
+}

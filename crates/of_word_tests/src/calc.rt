@@ -6,6 +6,7 @@ use of_cells::Cell;
 use of_fcodes::{PrimitiveWord, Word, word_with_name};
 use of_stacks::{DataStack, Throw};
 use std::alloc::Global;
+use std::process::Abort;
 use std::test::Fail;
 
 /// Runs the word of a name over the stack.
@@ -55,11 +56,11 @@ fn answer(alloc: Global, before: &str, name: &str) -> Result<String, Fail> {
 }
 
 /// Each line of a table: a stack, the top last, a word, and what it leaves or throws.
-fn check(rt: &HostRuntime, table: &str) -> Result<(), Fail> {
+fn check(rt: &impl Abort, alloc: Global, table: &str) -> Result<(), Fail> {
     for line in table.lines() {
         let (before, rest) = line.split_once(':').unwrap_or(("", ""));
         let (name, after) = rest.split_once("--").unwrap_or(("", ""));
-        let given = answer(rt.alloc(), before, name.trim())?;
+        let given = answer(alloc, before, name.trim())?;
         assert_eq!(rt; given.as_str(), after.trim(), "{line}");
     }
     Ok(())
@@ -108,7 +109,7 @@ ffffffff 1 1 2 : d+ -- 0 4
 
 #[test]
 fn arithmetic(rt: HostRuntime) -> Result<(), Fail> {
-    check(&rt, ARITHMETIC)
+    check(&rt, rt.alloc(), ARITHMETIC)
 }
 
 /// Worked out by hand from the definitions of the standards.
@@ -156,7 +157,7 @@ ffffffff fffffffe 1 : within -- ffffffff
 
 #[test]
 fn comparisons(rt: HostRuntime) -> Result<(), Fail> {
-    check(&rt, COMPARISONS)
+    check(&rt, rt.alloc(), COMPARISONS)
 }
 
 /// Worked out by hand from the definitions of the standards.
@@ -179,7 +180,7 @@ const SPLITS: &str = "\
 
 #[test]
 fn splits(rt: HostRuntime) -> Result<(), Fail> {
-    check(&rt, SPLITS)
+    check(&rt, rt.alloc(), SPLITS)
 }
 
 /// Worked out by hand from the definitions of the standards.
@@ -221,7 +222,7 @@ const ARRANGEMENTS: &str = "\
 
 #[test]
 fn arrangements(rt: HostRuntime) -> Result<(), Fail> {
-    check(&rt, ARRANGEMENTS)
+    check(&rt, rt.alloc(), ARRANGEMENTS)
 }
 
 /// Words whose results find no room throw -3; with just enough room they run.

@@ -6,6 +6,8 @@ mod calc;
 #[cfg(test)]
 mod detok;
 #[cfg(test)]
+mod format;
+#[cfg(test)]
 mod prims;
 #[cfg(test)]
 mod stream;

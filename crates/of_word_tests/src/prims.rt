@@ -8,6 +8,7 @@ use of_prims::{
 };
 use of_stacks::{DataStack, Throw};
 use std::alloc::Global;
+use std::process::Abort;
 use std::test::Fail;
 
 /// What stands from 0x100000 on: two cells, two texts with commas, and a text with its length.
@@ -87,13 +88,13 @@ fn shown(alloc: Global, parts: &Parts, thrown: Result<(), Throw>) -> Result<Stri
 }
 
 /// Each line of a table: a stack, the top last, words, and what they leave.
-fn check(rt: &HostRuntime, table: &str) -> Result<(), Fail> {
+fn check(rt: &impl Abort, alloc: Global, table: &str) -> Result<(), Fail> {
     for line in table.lines() {
         let (before, rest) = line.split_once(':').unwrap_or(("", ""));
         let (words, after) = rest.split_once("--").unwrap_or(("", ""));
-        let mut parts = parts_of(rt.alloc(), before)?;
+        let mut parts = parts_of(alloc, before)?;
         let thrown = run_all(&mut parts, words);
-        let given = shown(rt.alloc(), &parts, thrown)?;
+        let given = shown(alloc, &parts, thrown)?;
         assert_eq!(rt; given.as_str(), after, "{line}");
     }
     Ok(())
@@ -177,7 +178,7 @@ ffffffff 2 : < -- ffffffff
 
 #[test]
 fn words(rt: HostRuntime) -> Result<(), Fail> {
-    check(&rt, WORDS)
+    check(&rt, rt.alloc(), WORDS)
 }
 
 /// Words that store; the bytes stand in the order of their addresses.
@@ -207,7 +208,7 @@ c0000000 0 1 : fill --
 
 #[test]
 fn stores(rt: HostRuntime) -> Result<(), Fail> {
-    check(&rt, STORES)
+    check(&rt, rt.alloc(), STORES)
 }
 
 /// Numbers pictured digit by digit.
@@ -225,7 +226,7 @@ fab : <# u#s u#> + 1 - c@ -- 62
 
 #[test]
 fn pictured_text(rt: HostRuntime) -> Result<(), Fail> {
-    check(&rt, PICTURED)
+    check(&rt, rt.alloc(), PICTURED)
 }
 
 /// Words that throw, and leave all as it was.
@@ -266,7 +267,7 @@ c0000000 : count -- c0000000 throws -9
 
 #[test]
 fn faults(rt: HostRuntime) -> Result<(), Fail> {
-    check(&rt, FAULTS)
+    check(&rt, rt.alloc(), FAULTS)
 }
 
 /// Words whose results find no room throw -3, and change nothing.

@@ -83,7 +83,7 @@ impl Memory {
 
     /// Where the first stands of `len` bytes, each `spread` after the one before, or any place where
     /// there are none.
-    #[tactic(auto, using(crate::proofs::Spread::over_some, crate::proofs::Spread::spread_none, crate::proofs::Faults::long_fault))]
+    #[tactic(auto, using(crate::proofs::Spread::spread_facts, crate::proofs::Faults::long_fault))]
     pub(super) fn spread_source(&self, addr: u32, len: u32, spread: u32) -> Result<usize, MemFault>
         ensures value { let bytes = read_spread self.now addr len spread in
             MatchResult result (λ at. bytes ≡ Ok (every self.now.bytes at len spread)) (λ e. bytes ≡ Err e) }

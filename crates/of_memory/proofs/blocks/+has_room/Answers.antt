@@ -12,12 +12,15 @@ returns-then-len-gt-LONGEST-clause-value t c =
     let ns = c.args.lengths.now in
     let d : Cell = record { 0 = 0 } in
     let size = rounded (get_or ns 0 d).0 in
-    let none = too_long c.args.low c.args.high size bs (low_eighth c.args.low c.args.high bs c.requires.laid) (omega arith) in
+    let none =
+    too_long c.args.low c.args.high size bs (low_eighth c.args.low c.args.high bs c.requires.laid) (omega arith) in
     sym (no_room c.args.low c.args.high bs ns d c.in-len1-up.len_at_least none)
 
 pub returns-in_default-insert-clause-value : goal.returns-in_default-insert-clause-value
 returns-in_default-insert-clause-value t c =
     let bs = c.args.blocks.now.items in
     let same : length c.deref.result.now ≡ length bs = ap length c.deref.ensures.value in
-    let more = room_for c.args.low c.args.high c.block_size-size.result c.in-Some.gap.index c.in-Some.gap.at c.deref.result.now c.in-Some.ensures.some in
+    let more =
+    room_for c.args.low c.args.high c.block_size-size.result c.in-Some.gap.index c.in-Some.gap.at c.deref.result.now
+    c.in-Some.ensures.some in
     absurd (omega (arith, same, more, c.requires.room, c.in_default-insert.ensures.full))

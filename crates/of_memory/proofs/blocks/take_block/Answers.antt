@@ -8,12 +8,15 @@ pub returns-then-len-gt-LONGEST-clause-taken : goal.returns-then-len-gt-LONGEST-
 returns-then-len-gt-LONGEST-clause-taken c =
     let bs = c.args.blocks.now.items in
     let size = rounded c.args.len in
-    let none = too_long c.args.low c.args.high size bs (low_eighth c.args.low c.args.high bs c.requires.laid) (omega arith) in
+    let none =
+    too_long c.args.low c.args.high size bs (low_eighth c.args.low c.args.high bs c.requires.laid) (omega arith) in
     (refl, inr (rw none refl))
 
 pub returns-in_err-insert-clause-room : goal.returns-in_err-insert-clause-room
 returns-in_err-insert-clause-room c room refused =
     let bs = c.args.blocks.now.items in
     let same : length c.deref.result.now ≡ length bs = ap length c.deref.ensures.value in
-    let more = room_for c.args.low c.args.high c.block_size-size.result c.in-Some.gap.index c.in-Some.gap.at c.deref.result.now c.in-Some.ensures.some in
+    let more =
+    room_for c.args.low c.args.high c.block_size-size.result c.in-Some.gap.index c.in-Some.gap.at c.deref.result.now
+    c.in-Some.ensures.some in
     absurd (omega (arith, room, same, more, c.in_err-insert.ensures.full))

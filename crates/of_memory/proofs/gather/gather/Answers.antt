@@ -15,7 +15,9 @@ loop-i-preserved c =
     let room : to + n ≤ length old = c.requires.to in
     elim c.if-from-i.branch [
       | then-from-i w ↦
-          rw w.bytes-is (rising_written old from to n s new i (get_or new (from + i * s) 0) c.requires.some room c.loop-i-test.true w.if-from-i.true refl c.loop-i.invariant)
+          rw w.bytes-is (rising_written old from to n s new i
+          (get_or new (from + i * s) 0) c.requires.some room c.loop-i-test.true w.if-from-i.true refl
+          c.loop-i.invariant)
       | else-from-i w ↦
           rw w.bytes-is (rising_kept old from to n s new i c.loop-i-test.true w.if-from-i.false c.loop-i.invariant)
     ]
@@ -23,4 +25,5 @@ loop-i-preserved c =
 pub returns : goal.returns
 returns c =
     let end : c.loop-i.i ≡ c.args.len = omega (arith, c.loop-i.invariant.few) in
-    gathered c.args.bytes.now c.args.from c.args.to c.args.len c.args.spread c.loop-i.bytes c.requires.to (rw end at c.loop-i.invariant)
+    gathered c.args.bytes.now c.args.from c.args.to c.args.len c.args.spread c.loop-i.bytes c.requires.to
+    (rw end at c.loop-i.invariant)

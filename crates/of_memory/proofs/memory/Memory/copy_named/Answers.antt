@@ -17,11 +17,15 @@ returns-clause-value c =
     let b = c.aligned-value_at.result in
     let sound = rw c.self.view_is at c.self.invariant.0 in
     let room : length m.bytes ≡ byte_count = sound.bytes in
-    let few : length xs ≡ n = part_length m.bytes c.in_ok-source.source n (omega (arith, room, c.in_ok-source.ensures.within)) in
+    let few : length xs ≡ n =
+    part_length m.bytes c.in_ok-source.source n (omega (arith, room, c.in_ok-source.ensures.within)) in
     let many : length (xs ++ tail) ≡ n + length tail = omega (arith, few, length-append xs tail) in
     let at : a ≡ aligned m.properties_end = rw (← c.self.view_is) c.aligned-at.ensures in
     let bt : b ≡ aligned (a + length name) = c.aligned-value_at.ensures in
     let end = b + n + length tail in
-    let put = named_copied_fits m (read_bytes m c.args.from.0 n) name xs tail a b end c.in_ok-source.ensures.value at bt (omega arith) (omega arith) (omega arith)
+    let put =
+    named_copied_fits m (read_bytes m c.args.from.0 n) name xs tail a b end c.in_ok-source.ensures.value at bt
+    (omega arith) (omega arith) (omega arith)
     (omega (arith, at, bt, sound.properties_from)) (omega (arith, at, bt, room, many, sound.properties_from)) in
-    rw (c.put.ensures, c.shift_with_tail.ensures, c.place.ensures, c.place-2.ensures, ← c.self.view_is) (rw (← c.self.view_is) at put)
+    rw (c.put.ensures, c.shift_with_tail.ensures, c.place.ensures, c.place-2.ensures, ← c.self.view_is)
+    (rw (← c.self.view_is) at put)

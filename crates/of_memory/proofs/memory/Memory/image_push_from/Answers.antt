@@ -20,8 +20,11 @@ returns-then-len-at-clause-value c =
       | then-len-at-via-then-len-at w ↦
           (image_full m r xs n c.in_ok-source.ensures.value len (inl (omega (arith, free, w.if-len-at.true))), refl)
       | then-len-at-via-else-len-at+then-count-ge-LIMIT w ↦
-          let many : w.count.result ≡ length m.images = rw (← c.self.view_is) w.count.ensures in
-          (image_full m r xs n c.in_ok-source.ensures.value len (inr (omega (arith, many, w.if-count-ge-LIMIT.true))), refl)
+          let many : w.count.result ≡ length m.images = rw (← c.self.view_is) w.count.ensures in (
+            image_full m r xs n c.in_ok-source.ensures.value len
+                (inr (omega (arith, many, w.if-count-ge-LIMIT.true))),
+            refl,
+          )
     ]
 
 pub returns-clause-value : goal.returns-clause-value
@@ -34,6 +37,9 @@ returns-clause-value c =
     let r = read_spread m c.args.from.0 n s in
     let free : c.free-at.result ≡ free_after m.images = rw (← c.self.view_is) c.free-at.ensures in
     let many : c.count.result ≡ length m.images = rw (← c.self.view_is) c.count.ensures in
-    let within : free_after m.images ≤ image_limit = rw (← c.self.view_is) (stacked_limit c.self.inside.images c.self.invariant.0.images) in
-    let put = image_fits m r xs n c.in_ok-source.ensures.value len (omega (arith, free, c.if-len-at.false)) (omega (arith, many, c.if-count-ge-LIMIT.false)) in
+    let within : free_after m.images ≤ image_limit =
+    rw (← c.self.view_is) (stacked_limit c.self.inside.images c.self.invariant.0.images) in
+    let put =
+    image_fits m r xs n c.in_ok-source.ensures.value len (omega (arith, free, c.if-len-at.false))
+    (omega (arith, many, c.if-count-ge-LIMIT.false)) in
     rw (c.gather.ensures, c.place.ensures, c.push.ensures, free, ← c.self.view_is) (rw (← c.self.view_is) at put)

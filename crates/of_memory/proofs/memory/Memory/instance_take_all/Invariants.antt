@@ -8,5 +8,6 @@ use Rattle.of_memory.proofs.memory.Memory.instance_take_all.Given as goal
 abbrev pub invariant-loop-i : goal.invariant-loop-i
 invariant-loop-i l = record {
   room : find_room instance_start instance_limit l.self.instances (drop l.i l.lengths) ≡ true;
-  taken : after (take l.i l.addresses) (instances_taken l.self (drop l.i l.lengths)) ≡ instances_taken l.fn.self l.lengths;
+  taken : after (take l.i l.addresses) (instances_taken l.self (drop l.i l.lengths)) ≡ instances_taken l.fn.self
+      l.lengths;
 }

@@ -15,7 +15,8 @@ returns-then-within-size c =
     let past : size_of r < c.args.addr % span + c.args.len =
     elim c.then-within-size.branch [
       | then-within-size-via-then-within-size w ↦ omega (arith, c.size-size.ensures.value, w.if-within-size.true)
-      | then-within-size-via-else-within-size+then-len-size w ↦ omega (arith, c.size-size.ensures.value, w.if-within-size.false, w.if-len-size.true)
+      | then-within-size-via-else-within-size+then-len-size w ↦ omega
+          (arith, c.size-size.ensures.value, w.if-within-size.false, w.if-len-size.true)
     ] in
     sym (outside c.args.self.now c.args.addr c.args.len r (sym c.in-Some.ensures) c.requires past)
 
@@ -25,7 +26,8 @@ returns-then-is_heap c =
     let fits : c.args.addr % span + c.args.len ≤ size_of r = omega (arith, c.size-size.ensures.value) in
     let heap : is_heap r ≡ true = sym c.is_heap.ensures ∙ c.if-is_heap.true in
     let same : c.deref.result.now ≡ c.args.self.now.heap = rw (← c.self.view_is) c.deref.ensures.value in
-    c.covers.ensures ∙ rw same (sym (in_heap c.args.self.now c.args.addr c.args.len r (sym c.in-Some.ensures) heap fits))
+    c.covers.ensures ∙ rw same (sym (in_heap c.args.self.now c.args.addr c.args.len r
+    (sym c.in-Some.ensures) heap fits))
 
 pub returns-else-is_heap : goal.returns-else-is_heap
 returns-else-is_heap c =

@@ -13,4 +13,6 @@ returns c =
     let few : length xs ≡ n = part_length m.bytes c.args.from n (omega (arith, room, c.requires.from)) in
     c.put.ensures
     ∙ (ap (λ (s : DataSpace). with_bytes s (c.args.to + n) c.args.tail.now) c.shift.ensures
-    ∙ ap (λ (l : List ℕ). record m { bytes = l }) (splice_behind m.bytes xs c.args.tail.now c.args.to (c.args.to + n) (omega (arith, few)) (omega (arith, room, c.requires.to))))
+    ∙ ap (λ (l : List ℕ). record m { bytes = l })
+    (splice_behind m.bytes xs c.args.tail.now c.args.to (c.args.to + n) (omega (arith, few))
+    (omega (arith, room, c.requires.to))))
