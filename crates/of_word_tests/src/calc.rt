@@ -216,8 +216,6 @@ const ARRANGEMENTS: &str = "\
 1 : 2dup -- 1 throws -4
 1 2 3 : 2over -- 1 2 3 throws -4
 1 2 3 4 5 : 2rot -- 1 2 3 4 5 throws -4
-1 : >r -- 1 throws -256
-: execute -- throws -256
 ";
 
 #[test]
