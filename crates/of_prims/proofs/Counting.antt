@@ -1,5 +1,5 @@
 -- A fault of the data space counts before a full stack.
-use Rattle.std.proofs.Common.{◌≡◌, ℕ, ◌≤◌, ℤ, Bool, true, false, [], ◌∷◌, Some, None, nat_le, if◌then◌else◌, refl}
+use Rattle.std.proofs.Common.{◌≡◌, ℕ, ℤ, Bool, true, false, [], ◌∷◌, Some, None, nat_le, if◌then◌else◌, refl}
 use Rattle.of_stacks.specs.declared.throws.Throw.{Throw}
 use Rattle.of_stacks.specs.Throws.{stack_overflow, is_minus}
 use Rattle.of_stacks.specs.Order.{rank, later_rank, counting, fault_if}

@@ -1,5 +1,5 @@
 -- What these words throw has a listed number: each table's own throws, line by line.
-use Rattle.std.proofs.Common.{◌≡◌, ℕ, ◌+◌, ◌-◌, ◌/◌, ◌%◌, ◌^◌, Bool, true, false, ◌||◌, List, [], ◌∷◌, length, nat_lt, Option, Some, None, Result, Ok, Err, if◌then◌else◌, refl}
+use Rattle.std.proofs.Common.{◌≡◌, ℕ, ◌+◌, ◌-◌, ◌/◌, ◌%◌, ◌^◌, Bool, true, false, ◌||◌, List, [], ◌∷◌, length, nat_lt, Option, Some, None, Result, Ok, Err, refl}
 use Rattle.std.specs.Char.{digit_char}
 use Rattle.std.specs.Int.{bytes_high_first}
 use Rattle.of_cells.specs.declared.cells.Cell.{Cell}
@@ -23,7 +23,6 @@ use Rattle.of_memory.specs.declared.width.Width.TheVariants.{One as OneByte, Two
 use Rattle.of_fcodes.specs.declared.words.PrimitiveWord.{PrimitiveWord}
 use Rattle.of_fcodes.specs.declared.words.PrimitiveWord.TheVariants.{Arithmetic, Comparing, Stacks, Addresses, Memory, Splitting, Text, Numbers}
 use Rattle.of_fcodes.specs.declared.words.AddressesWord.{AddressesWord}
-use Rattle.of_fcodes.specs.declared.words.AddressesWord.TheVariants as address
 use Rattle.of_fcodes.specs.declared.words.MemoryWord.{MemoryWord}
 use Rattle.of_fcodes.specs.declared.words.MemoryWord.TheVariants as memory
 use Rattle.of_fcodes.specs.declared.words.TextWord.{TextWord}
@@ -31,7 +30,9 @@ use Rattle.of_fcodes.specs.declared.words.TextWord.TheVariants as text
 use Rattle.of_fcodes.specs.declared.words.NumbersWord.{NumbersWord}
 use Rattle.of_fcodes.specs.declared.words.NumbersWord.TheVariants as numbers
 use Rattle.of_format.specs.Pictured.{held, base_in}
-use Rattle.of_prims.specs.Addresses.{addresses_entry}
+use Rattle.of_prims.specs.declared.address_shapes.Addressing.{Addressing}
+use Rattle.of_prims.specs.declared.address_shapes.Addressing.TheVariants as shape
+use Rattle.of_prims.specs.Addresses.{addressed, addresses_entry, addressing_of}
 use Rattle.of_prims.specs.Data.{Data, Space, number, throw_of, fault_of, unless_fault, unless_thrown, over, stored, appended_under, cell_at}
 use Rattle.of_prims.specs.Listed.{ThrowListedNumbers}
 use Rattle.of_prims.specs.Memory.{memory_entry, fetched, fetched_signed, value_stored}
@@ -82,28 +83,19 @@ unless (Some fault) r h = faults fault
 
 -- ---- addresses
 
+locates_by : (a : Addressing) (here : ℕ) (s : List Cell) → ThrowsListed (addressed a here s)
+unfolding is_listed listed_numbers
+locates_by (shape.Size n) here s = fits (n ∷ s)
+locates_by (shape.Indexed n) here (i ∷ a ∷ s) = tt
+locates_by (shape.Next n) here (a ∷ s) = tt
+locates_by (shape.Scaled n) here (i ∷ s) = tt
+locates_by shape.Aligned here (x ∷ s) = tt
+locates_by shape.Here here s = fits (number here ∷ s)
+locates_by shape.Bounds here (n ∷ a ∷ s) = tt
+locates_by _ here _ = refl
+
 locates : (w : AddressesWord) (here : ℕ) (s : List Cell) → ThrowsListed (addresses_entry w here s)
-unfolding addresses_entry is_listed listed_numbers
-locates address.ByteSize here s = fits (number 1 ∷ s)
-locates address.WordSize here s = fits (number 2 ∷ s)
-locates address.LongSize here s = fits (number 4 ∷ s)
-locates address.CellSize here s = fits (number 4 ∷ s)
-locates address.ByteIndexed here (i ∷ a ∷ s) = tt
-locates address.WordIndexed here (i ∷ a ∷ s) = tt
-locates address.LongIndexed here (i ∷ a ∷ s) = tt
-locates address.CellIndexed here (i ∷ a ∷ s) = tt
-locates address.NextByte here (a ∷ s) = tt
-locates address.NextWord here (a ∷ s) = tt
-locates address.NextLong here (a ∷ s) = tt
-locates address.NextCell here (a ∷ s) = tt
-locates address.Bytes here (i ∷ s) = tt
-locates address.Words here (i ∷ s) = tt
-locates address.Longs here (i ∷ s) = tt
-locates address.Cells here (i ∷ s) = tt
-locates address.Aligned here (x ∷ s) = tt
-locates address.Here here s = fits (number here ∷ s)
-locates address.Bounds here (n ∷ a ∷ s) = tt
-locates _ here _ = refl
+locates w here s = locates_by (addressing_of w) here s
 
 -- ---- memory
 

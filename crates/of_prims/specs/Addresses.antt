@@ -9,36 +9,47 @@ use Rattle.of_stacks.specs.Throws.{stack_underflow}
 use Rattle.of_stacks.specs.Stacks.{within}
 use Rattle.of_fcodes.specs.declared.words.AddressesWord.{AddressesWord}
 use Rattle.of_fcodes.specs.declared.words.AddressesWord.TheVariants.{ByteSize, WordSize, LongSize, CellSize, ByteIndexed, WordIndexed, LongIndexed, CellIndexed, NextByte, NextWord, NextLong, NextCell, Bytes, Words, Longs, Cells, Aligned, Here, Bounds}
+use Rattle.of_prims.specs.declared.address_shapes.Addressing.{Addressing}
+use Rattle.of_prims.specs.declared.address_shapes.Addressing.TheVariants as shape
 use Rattle.of_prims.specs.Data.{number}
 
 -- up to a multiple of 4, modulo 2 ^ 32
 abbrev pub rounded_up : Cell → Cell
 rounded_up x = cell ((x.0 + 3) / 4 * 4)
 
--- an address moved up by so many items of a size
-abbrev pub indexed : Cell → Cell → ℕ → Cell
-indexed a i size = plus a (times i (number size))
+-- what each word takes and leaves, a word a line, with the size of an item
+unfoldable pub addressing_of : AddressesWord → Addressing
+addressing_of ByteSize = shape.Size (number 1)
+addressing_of WordSize = shape.Size (number 2)
+addressing_of LongSize = shape.Size (number 4)
+addressing_of CellSize = shape.Size (number 4)
+addressing_of ByteIndexed = shape.Indexed (number 1)
+addressing_of WordIndexed = shape.Indexed (number 2)
+addressing_of LongIndexed = shape.Indexed (number 4)
+addressing_of CellIndexed = shape.Indexed (number 4)
+addressing_of NextByte = shape.Next (number 1)
+addressing_of NextWord = shape.Next (number 2)
+addressing_of NextLong = shape.Next (number 4)
+addressing_of NextCell = shape.Next (number 4)
+addressing_of Bytes = shape.Scaled (number 1)
+addressing_of Words = shape.Scaled (number 2)
+addressing_of Longs = shape.Scaled (number 4)
+addressing_of Cells = shape.Scaled (number 4)
+addressing_of Aligned = shape.Aligned
+addressing_of Here = shape.Here
+addressing_of Bounds = shape.Bounds
 
--- the table, a word a line, by the next free address
-unfoldable pub addresses_entry : AddressesWord → ℕ → List Cell → Result (List Cell) Throw
-addresses_entry ByteSize here s = within (number 1 ∷ s)
-addresses_entry WordSize here s = within (number 2 ∷ s)
-addresses_entry LongSize here s = within (number 4 ∷ s)
-addresses_entry CellSize here s = within (number 4 ∷ s)
-addresses_entry ByteIndexed here (i ∷ a ∷ s) = Ok (indexed a i 1 ∷ s)
-addresses_entry WordIndexed here (i ∷ a ∷ s) = Ok (indexed a i 2 ∷ s)
-addresses_entry LongIndexed here (i ∷ a ∷ s) = Ok (indexed a i 4 ∷ s)
-addresses_entry CellIndexed here (i ∷ a ∷ s) = Ok (indexed a i 4 ∷ s)
-addresses_entry NextByte here (a ∷ s) = Ok (plus a (number 1) ∷ s)
-addresses_entry NextWord here (a ∷ s) = Ok (plus a (number 2) ∷ s)
-addresses_entry NextLong here (a ∷ s) = Ok (plus a (number 4) ∷ s)
-addresses_entry NextCell here (a ∷ s) = Ok (plus a (number 4) ∷ s)
-addresses_entry Bytes here (i ∷ s) = Ok (times i (number 1) ∷ s)
-addresses_entry Words here (i ∷ s) = Ok (times i (number 2) ∷ s)
-addresses_entry Longs here (i ∷ s) = Ok (times i (number 4) ∷ s)
-addresses_entry Cells here (i ∷ s) = Ok (times i (number 4) ∷ s)
-addresses_entry Aligned here (x ∷ s) = Ok (rounded_up x ∷ s)
-addresses_entry Here here s = within (number here ∷ s)
-addresses_entry Bounds here (n ∷ a ∷ s) = Ok (a ∷ plus a n ∷ s)
+-- what is made of the stack, by the next free address
+abbrev pub addressed : Addressing → ℕ → List Cell → Result (List Cell) Throw
+addressed (shape.Size n) here s = within (n ∷ s)
+addressed (shape.Indexed n) here (i ∷ a ∷ s) = Ok (plus a (times i n) ∷ s)
+addressed (shape.Next n) here (a ∷ s) = Ok (plus a n ∷ s)
+addressed (shape.Scaled n) here (i ∷ s) = Ok (times i n ∷ s)
+addressed shape.Aligned here (x ∷ s) = Ok (rounded_up x ∷ s)
+addressed shape.Here here s = within (number here ∷ s)
+addressed shape.Bounds here (n ∷ a ∷ s) = Ok (a ∷ plus a n ∷ s)
 -- every other stack is too short
-addresses_entry _ here _ = Err stack_underflow
+addressed _ here _ = Err stack_underflow
+
+abbrev pub addresses_entry : AddressesWord → ℕ → List Cell → Result (List Cell) Throw
+addresses_entry w here s = addressed (addressing_of w) here s

@@ -1,6 +1,7 @@
 //! The words over the data stack, the data space and the pictured text.
 #![tactic(auto)]
 
+mod address_shapes;
 mod address_words;
 mod faults;
 mod laws;

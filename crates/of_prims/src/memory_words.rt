@@ -279,7 +279,11 @@ fn give_back(stack: &mut DataStack, memory: &mut Memory) -> Result<(), Throw>
 /// where no block is given back, -8 where the data region is full, -3 where the stack has no room.
 #[tactic(auto, unfolding(crate::specs::Memory::memory_entry))]
 #[inline]
-pub fn run_memory_word(word: MemoryWord, stack: &mut DataStack, memory: &mut Memory) -> Result<(), Throw>
+pub fn run_memory_word(
+    word: MemoryWord,
+    stack: &mut DataStack,
+    memory: &mut Memory,
+) -> Result<(), Throw>
     ensures { Becomes (memory_entry word stack.old memory.old) (stack.old, memory.old) (stack.new, memory.new) result }
 {
     match word {

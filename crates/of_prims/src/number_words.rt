@@ -1,8 +1,8 @@
 ghost use Rattle.std.specs.Prelude.{◌≡◌, ◌≤◌, [], ◌∷◌, length, drop};
-ghost use Rattle.of_stacks.specs.Stacks.{Becomes};
+ghost use Rattle.of_stacks.specs.Stacks.{Becomes, within};
 ghost use Rattle.of_fcodes.specs.declared.words.NumbersWord.{NumbersWord};
 ghost use Rattle.of_prims.specs.Data.{data_of};
-ghost use Rattle.of_prims.specs.Numbers.{numbers_entry, holding};
+ghost use Rattle.of_prims.specs.Numbers.{numbers_entry, beside, holding};
 ghost use Rattle.of_format.specs.Pictured.{held};
 
 use crate::faults::slice;
@@ -204,6 +204,19 @@ fn parse_digit(stack: &mut DataStack, memory: &Memory, pictured: &Pictured) -> R
     Ok(())
 }
 
+/// ( -- n ) a number goes on top.
+#[inline]
+fn push_number(
+    n: Cell,
+    stack: &mut DataStack,
+    memory: &Memory,
+    pictured: &Pictured,
+) -> Result<(), Throw>
+    ensures { Becomes (beside memory.now pictured.now (within (n ∷ stack.old))) (data_of stack.old memory.now pictured.now) (data_of stack.new memory.now pictured.now) result }
+{
+    stack.try_push(n)
+}
+
 /// Runs a word of the group Numbers over the data stack, the data space and the pictured text; a
 /// throw changes nothing.
 ///
@@ -229,16 +242,16 @@ pub fn run_number_word(
         NumbersWord::UnsignedDigit => hold_unsigned_digit(stack, memory, pictured)?,
         NumbersWord::UnsignedDigits => hold_unsigned_digits(stack, memory, pictured)?,
         NumbersWord::UnsignedEnd => end_unsigned_text(stack, memory, pictured)?,
-        NumbersWord::Base => stack.try_push(BASE)?,
+        NumbersWord::Base => push_number(BASE, stack, memory, pictured)?,
         NumbersWord::ParseNumber => parse_number(stack, memory, pictured)?,
         NumbersWord::Digit => parse_digit(stack, memory, pictured)?,
-        NumbersWord::MinusOne => stack.try_push(Cell::TRUE)?,
-        NumbersWord::Zero => stack.try_push(Cell::ZERO)?,
-        NumbersWord::One => stack.try_push(Cell::ONE)?,
-        NumbersWord::Two => stack.try_push(Cell(2))?,
-        NumbersWord::Three => stack.try_push(Cell(3))?,
+        NumbersWord::MinusOne => push_number(Cell::TRUE, stack, memory, pictured)?,
+        NumbersWord::Zero => push_number(Cell::ZERO, stack, memory, pictured)?,
+        NumbersWord::One => push_number(Cell::ONE, stack, memory, pictured)?,
+        NumbersWord::Two => push_number(Cell(2), stack, memory, pictured)?,
+        NumbersWord::Three => push_number(Cell(3), stack, memory, pictured)?,
         NumbersWord::Noop => {}
-        NumbersWord::FcodeRevision => stack.try_push(REVISION)?,
+        NumbersWord::FcodeRevision => push_number(REVISION, stack, memory, pictured)?,
     }
     Ok(())
 }

@@ -169,7 +169,11 @@ fn parse_two(stack: &mut DataStack, memory: &Memory) -> Result<(), Throw>
 /// text is too long or gives no numbers, -3 where the stack has no room.
 #[tactic(auto, unfolding(crate::specs::Text::text_entry))]
 #[inline(never)]
-pub fn run_text_word(word: TextWord, stack: &mut DataStack, memory: &mut Memory) -> Result<(), Throw>
+pub fn run_text_word(
+    word: TextWord,
+    stack: &mut DataStack,
+    memory: &mut Memory,
+) -> Result<(), Throw>
     ensures { Becomes (text_entry word stack.old memory.old) (stack.old, memory.old) (stack.new, memory.new) result }
 {
     match word {
