@@ -6,11 +6,12 @@ use Rattle.of_control.specs.declared.opener.Kind.TheVariants.{CaseSys, Dest, DoS
 use Rattle.of_control.specs.Openers.{is_case_sys, is_orig}
 use Rattle.of_control.specs.Element.{Back, Branch, Case, Do, Element, EndCase, EndOf, Leave, Loop, Mark, Misfit, Of, Plain, Resolve, Roll}
 use Rattle.of_control.specs.Items.{DropSelector, EndArm, EnterLoop, ExitLoop, JumpTo, RepeatLoop, TestArm, is_item, item_count, one_if}
-use Rattle.of_control.specs.Body.{Body, items_of}
+use Rattle.of_control.specs.Body.{Body, IsScoped, items_of}
+use Rattle.of_control.proofs.Scopes.{scoped-nameless}
 use Rattle.of_control.specs.Matching.{IsDestFor, IsMatching, Opening, Partners, is_partner, open_ones, top_origs, top_structure}
 use Rattle.of_control.specs.Targets.{Targets, flat_items, innermost, item_of}
 use Rattle.of_control.specs.Reading.{BlockStart, Draft, Gathered, NamedArm, NamedBody, NamedChoice, NamedCounted, NamedCycle, NamedEnd, NamedJump, NamedLeave, NamedOperation, OpenCase, OpenChoice, OpenDo, OpenMark, OpenOf, Part, PartlyRead, Piece, add_due, add_leave, all_parts, body_of, close_all, close_case, close_counted, close_cycle, close_of, finished, hoisted, innermost_do, joined, open_of, put, put_all, read_next, read_so_far, reading, to_structure, with_last, with_structure}
-use Rattle.of_control.proofs.AgedStack.{after}
+use Rattle.of_control.specs.AgedStack.{after}
 use Rattle.of_control.proofs.MatchingLemmas.{Desc-open, among-get, among-resolved, open-next}
 use Rattle.of_control.proofs.NamedBodies.{Fine, IsIn, Scoped, items-nameless, named_items, named_size}
 use Rattle.of_control.proofs.Pieces.{EndHere, Fine-joined, Frame, Good, Good-hoisted, Keeps, OnCase, OnDo, OnMark, OnOf, Same, SameDraft, Scoped-joined, Structured, Sub, blocks-hoisted, cases, close_all-keeps, do-hoisted, fine_at, frames, frames-hoisted, labels, labels-hoisted, named_items-joined, named_size-joined, nil_append, piece_count, piece_count-hoisted, piece_items, piece_items-hoisted, sub_cons, sub_none, sub_refl, sub_weak, to_structure-keeps}
@@ -380,12 +381,12 @@ all_parts-whole T (OpenOf o c ∷ d) g = tt
 
 abbrev pub Agrees : {A : Type 0} → Targets → List (Element A) → Partners → Option (Body A) → Type 0
 Agrees T es m None = Unit {0}
-Agrees T es m (Some b) = items_of b ≡ flat_items T es m
+Agrees T es m (Some b) = (items_of b ≡ flat_items T es m) × IsScoped 0 false false b
 
 agrees_named : {A : Type 0} → (T : Targets) (es : List (Element A)) (m : Partners) (d : List (Piece A)) (o : Option (NamedBody A)) → Agreeing T es m d → WholeIf T d o → Agrees T es m (body_of o)
 agrees_named T es m d None inv h = tt
 agrees_named T es m d (Some q) inv h =
-    items-nameless T q 0 [] [] None [] 0 0 refl tt tt h.fine h.scoped ∙ sym h.listed ∙ inv.listed
+    (items-nameless T q 0 [] [] None [] 0 0 refl tt tt h.fine h.scoped ∙ sym h.listed ∙ inv.listed, scoped-nameless [] None [] q h.scoped)
 
 agrees_draft : {A : Type 0} → (T : Targets) (es : List (Element A)) (m : Partners) (o : Draft A) → AgreeingDraft T es m o → Agrees T es m (body_of (finished o))
 agrees_draft T es m None inv = tt

@@ -1,12 +1,15 @@
 -- What holds of all definitions, with any type A of plain items.
-use Rattle.std.specs.Prelude.{◌≡◌, ℕ, List, [], ◌∷◌, Some, None, IsTrue, ◌↔◌}
-use Rattle.of_control.specs.Openers.{is_all_closed}
+use Rattle.std.specs.Prelude.{◌≡◌, ℕ, List, [], ◌∷◌, Option, Some, None, IsTrue, ◌↔◌, ◌⊎◌, false, length, ◌≤◌}
+use Rattle.of_control.specs.Openers.{Openers, is_all_closed}
 use Rattle.of_control.specs.Element.{Element}
-use Rattle.of_control.specs.Body.{Body, items_of}
+use Rattle.of_control.specs.Body.{Body, IsScoped, items_of}
 use Rattle.of_control.specs.Matching.{Partners, IsMatching, NeverMore, open_ones}
 use Rattle.of_control.specs.Targets.{flat_items, targets_of}
 use Rattle.of_control.specs.Reading.{reading}
-use Rattle.of_control.specs.Calls.{after_calls, call_answer, call_answers, due_answers, due_openers}
+use Rattle.of_control.specs.Tight.{IsReading, IsTight}
+use Rattle.of_control.specs.AgedStack.{AgedStack, aged_stack}
+use Rattle.of_control.specs.Calls.{AreAnsweredWithin, AreWithin, IsWithin, after_call, after_calls, call_answer, call_answers, due_answers, due_openers}
+use Rattle.of_control.specs.Items.{item_count}
 use Rattle.of_control.specs.Compiling.{compiled}
 
 -- the partners are a matching with never more than `limit` open
@@ -39,10 +42,38 @@ pub record CallsFollowMatching (A : Type 0) (limit : ℕ) : Type 0 where
   pub broken :
       (place : Placing A) (es : List (Element A)) → HasNone limit es → after_calls limit place es ≡ None
 
+-- each list has a bounded matching, or none
+abbrev pub MatchingIsDecided : Type 0 → ℕ → Type 0
+MatchingIsDecided A limit = (es : List (Element A)) → ((m : Partners) × IsBounded limit es m) ⊎ HasNone limit es
+
+-- no call is made at a place past b
+abbrev pub ArePlacedWithin : {A : Type 0} → ℕ → Placing A → List (Element A) → Type 0
+ArePlacedWithin b place [] = Unit {0}
+ArePlacedWithin b place (e ∷ es) = (place es ≤ b) × ArePlacedWithin b place es
+
+-- where no call is made past a place, none keeps or answers one past it: of one call, and of all calls of a list
+pub record PlacesStayWithin (A : Type 0) (limit : ℕ) : Type 0 where
+  pub one :
+      (at b : ℕ) (e : Element A) (os : Openers) →
+      at ≤ b → AreWithin b os → AreWithin b (after_call limit at e os) × IsWithin b (call_answer e os)
+  pub all :
+      (b : ℕ) (place : Placing A) (es : List (Element A)) →
+      ArePlacedWithin b place es →
+      AreWithin b (after_calls limit place es) × AreAnsweredWithin b (call_answers limit place es)
+
 -- a bounded matching that leaves nothing open
 pub record IsMatched {A : Type 0} (limit : ℕ) (es : List (Element A)) (m : Partners) : Type 0 where
   pub bounded : IsBounded limit es m
   pub closed : open_ones es m ≡ []
+
+-- the body of these elements with the partners that were found
+abbrev pub read_by : {A : Type 0} → List (Element A) → AgedStack → Option (Body A)
+read_by es None = None
+read_by es (Some (m, os)) = reading es m
+
+-- the body of a definition, if it has one
+abbrev pub body_in : {A : Type 0} → ℕ → List (Element A) → Option (Body A)
+body_in limit es = read_by es (aged_stack limit es)
 
 -- the stack is closed after the calls exactly where all is matched and bounded,
 -- and a matching has a body exactly where it leaves nothing open
@@ -56,6 +87,15 @@ pub record ClosedIsRead (A : Type 0) (limit : ℕ) : Type 0 where
   pub only :
       (es : List (Element A)) (m : Partners) (b : Body A) →
       IsMatching es m → reading es m ≡ Some b → open_ones es m ≡ []
+  pub found :
+      (es : List (Element A)) (b : Body A) →
+      (body_in limit es ≡ Some b) ↔ ((m : Partners) × IsMatched limit es m × (reading es m ≡ Some b))
+  pub read :
+      (place : Placing A) (es : List (Element A)) →
+      IsTrue (is_all_closed (after_calls limit place es)) ↔ ((b : Body A) × (body_in limit es ≡ Some b))
+  pub scoped :
+      (es : List (Element A)) (m : Partners) (b : Body A) →
+      IsMatching es m → reading es m ≡ Some b → IsScoped 0 false false b
 
 -- the items of a body, in order and with the targets of its nesting, are the elements' items with the places of the
 -- partners as targets
@@ -72,3 +112,16 @@ pub record CompiledIsFlat (A : Type 0) (limit : ℕ) : Type 0 where
   pub whole :
       (es : List (Element A)) (m : Partners) (b : Body A) →
       IsBounded limit es m → reading es m ≡ Some b → compiled limit es ≡ items_of b
+
+-- as many items are compiled as the elements leave, also where there is no matching
+abbrev pub ItemsAreCounted : Type 0 → ℕ → Type 0
+ItemsAreCounted A limit = (es : List (Element A)) → length (compiled limit es) ≡ item_count es
+
+-- tight bodies with equal items are equal, so a definition has one reading at most
+pub record OneReading (A : Type 0) : Type 0 where
+  pub bodies :
+      (b c : Body A) →
+      IsTight 0 false false b → IsTight 0 false false c → items_of b ≡ items_of c → b ≡ c
+  pub readings :
+      (es : List (Element A)) (m : Partners) (b c : Body A) →
+      IsReading es m b → IsReading es m c → b ≡ c

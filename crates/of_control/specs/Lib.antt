@@ -7,4 +7,6 @@ pub mod Targets
 pub mod Reading
 pub mod Calls
 pub mod Compiling
+pub mod AgedStack
+pub mod Tight
 pub mod Law

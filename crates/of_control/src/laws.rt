@@ -1,10 +1,22 @@
 //! What holds of all definitions, said of the calls of `Control` and of what is compiled from their answers.
-ghost use Rattle.of_control.specs.Law.{CallsFollowMatching, ClosedIsRead, CompiledIsFlat, ItemsAreFlat};
+ghost use Rattle.of_control.specs.Law.{CallsFollowMatching, ClosedIsRead, CompiledIsFlat, ItemsAreCounted};
+ghost use Rattle.of_control.specs.Law.{ItemsAreFlat, MatchingIsDecided, OneReading, PlacesStayWithin};
 
 /// A definition has at most one matching. The calls that its elements make answer exactly the places of the partners,
 /// and `None` from the first element on with which there is no matching, or one with more than `N` openers open at once.
 pub fn calls_follow_matching<A, const N: usize>()
     ensures { CallsFollowMatching A N }
+{}
+
+/// A definition has a matching with never more than `N` openers open at once, or it has none.
+pub fn matching_is_decided<A, const N: usize>()
+    ensures { MatchingIsDecided A N }
+{}
+
+/// Where no call is made past a place, no call keeps or answers one past it: not one call, and not all calls of a
+/// definition.
+pub fn places_stay_within<A, const N: usize>()
+    ensures { PlacesStayWithin A N }
 {}
 
 /// `is_closed` holds exactly where all is matched and never more than `N` openers were open at once. A matching has
@@ -23,4 +35,15 @@ pub fn items_are_flat<A>()
 /// and an `endcase`, has exactly these items.
 pub fn compiled_is_flat<A, const N: usize>()
     ensures { CompiledIsFlat A N }
+{}
+
+/// Tight bodies with equal items are equal, so a definition has at most one reading.
+pub fn one_reading<A>()
+    ensures { OneReading A }
+{}
+
+/// A definition that is compiled element by element has one item for each element that leaves one, also after an
+/// element that fits nowhere.
+pub fn items_are_counted<A, const N: usize>()
+    ensures { ItemsAreCounted A N }
 {}
