@@ -22,15 +22,14 @@ const LISTED: &str = "\
 fff - Nothing
 ";
 
-/// The number that a text in hexadecimal digits begins with.
-fn first_number(line: &str) -> Result<u32, Fail> {
-    let digits = line.split_whitespace().next().unwrap_or("");
-    Ok(u32::from_str_radix(digits, 16)?)
+/// What a line begins with.
+fn first_word(line: &str) -> &str {
+    line.split_whitespace().next().unwrap_or("")
 }
 
 /// A line of the table of FCodes, by the calls.
-fn shown_code(alloc: Global, number: u32) -> Result<String, Fail> {
-    let code = FCode(number as u16);
+fn shown_code(alloc: Global, number: u16) -> Result<String, Fail> {
+    let code = FCode(number);
     let name = name_of(code).unwrap_or("-");
     Ok(format!(in alloc; "{number:03x} {name} {:?}", operand_of(code))?)
 }
@@ -38,7 +37,8 @@ fn shown_code(alloc: Global, number: u32) -> Result<String, Fail> {
 #[test]
 fn listed(rt: HostRuntime) -> Result<(), Fail> {
     for line in LISTED.lines() {
-        let shown = shown_code(rt.alloc(), first_number(line)?)?;
+        let number = u16::from_str_radix(first_word(line), 16)?;
+        let shown = shown_code(rt.alloc(), number)?;
         assert_eq!(rt; shown.as_str(), line);
     }
     Ok(())
@@ -96,7 +96,8 @@ fn shown_word(alloc: Global, xt: u32) -> Result<String, Fail> {
 #[test]
 fn written(rt: HostRuntime) -> Result<(), Fail> {
     for line in WRITTEN.lines() {
-        let shown = shown_word(rt.alloc(), first_number(line)?)?;
+        let xt = u32::from_str_radix(first_word(line), 16)?;
+        let shown = shown_word(rt.alloc(), xt)?;
         assert_eq!(rt; shown.as_str(), line);
     }
     Ok(())
