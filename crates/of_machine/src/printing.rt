@@ -117,4 +117,3 @@ fn print_newline(parts: &mut Parts) -> Result<(), Stop>
     parts.console.print(b"\n")?;
     Ok(())
 }
-

@@ -33,11 +33,7 @@ fn bytes_of(memory: &Memory, begin: Cell, size: Cell) -> &[u8]
 
 /// Goes on at a target.
 #[inline]
-fn go_to(
-    target: Option<usize>,
-    source: &mut Source,
-    stack: &mut DataStack,
-) -> Result<bool, Throw>
+fn go_to(target: Option<usize>, source: &mut Source, stack: &mut DataStack) -> Result<bool, Throw>
     ensures { Moves (going_to source.old.size stack.old target) stack.old stack.new source.new result }
 {
     let _ = &stack;
