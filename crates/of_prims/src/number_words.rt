@@ -1,6 +1,8 @@
 ghost use Rattle.std.specs.Prelude.{◌≡◌, ◌≤◌, [], ◌∷◌, length, drop};
 ghost use Rattle.of_stacks.specs.Stacks.{Becomes, within};
 ghost use Rattle.of_fcodes.specs.declared.words.NumbersWord.{NumbersWord};
+ghost use Rattle.of_cells.specs.Doubles.{number_of};
+ghost use Rattle.of_calc.specs.Arithmetic.{double_of};
 ghost use Rattle.of_prims.specs.Data.{data_of};
 ghost use Rattle.of_prims.specs.Numbers.{numbers_entry, beside, holding};
 ghost use Rattle.of_format.specs.Pictured.{held};
@@ -67,6 +69,14 @@ fn hold_sign(
     Ok(())
 }
 
+/// The number of a double that stands in two cells.
+#[inline]
+fn number_of(low: Cell, high: Cell) -> u64
+    ensures { result ≡ number_of (double_of low high) }
+{
+    Double { low, high }.number()
+}
+
 /// ( d -- d ) holds the last digit, and leaves the other ones.
 #[tactic(auto, unfolding(crate::specs::Numbers::numbers_entry))]
 #[inline(never)]
@@ -79,7 +89,7 @@ fn hold_digit(
 {
     let (low, high) = stack.top_two()?;
     let base = u64::from(base(memory)?);
-    let number = Double { low, high }.number();
+    let number = number_of(low, high);
     pictured.hold(memory, digit_byte((number % base) as u32))?;
     let rest = Double::new(number / base);
     stack.replace_two(rest.low);
