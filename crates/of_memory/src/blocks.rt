@@ -58,6 +58,7 @@ fn ended_before(blocks: &[Block], addr: u32) -> usize
 /// Whether the blocks, one after another, hold all of `len` bytes. Only those that hold them are
 /// visited.
 #[tactic(auto, using(crate::proofs::Laid::heap_block))]
+#[inline(never)]
 pub(crate) fn covers(blocks: &[Block], addr: u32, len: u32) -> bool
     requires laid { AreLaid heap_start heap_limit blocks.now }
     requires fits { addr + len ≤ heap_limit }

@@ -233,7 +233,7 @@ fn push_number(
 /// -4 where a cell is missing, then -9 where a text can't be read, -24 where `base` is no base, -17
 /// where the pictured text is full, -3 where the stack has no room.
 #[tactic(auto, unfolding(crate::specs::Numbers::numbers_entry))]
-#[inline(never)]
+#[inline]
 pub fn run_number_word(
     word: NumbersWord,
     stack: &mut DataStack,

@@ -168,7 +168,7 @@ fn parse_two(stack: &mut DataStack, memory: &Memory) -> Result<(), Throw>
 /// -4 where a cell is missing, then -9 or -20 where a range can't be read or written, -24 where a
 /// text is too long or gives no numbers, -3 where the stack has no room.
 #[tactic(auto, unfolding(crate::specs::Text::text_entry))]
-#[inline(never)]
+#[inline]
 pub fn run_text_word(
     word: TextWord,
     stack: &mut DataStack,

@@ -14,6 +14,7 @@ impl Memory {
     ///
     /// Address, if one of them can't be read. No bytes are always good.
     #[tactic(auto, using(crate::proofs::Nothing::slice_none))]
+    #[inline]
     pub fn slice(&self, addr: Cell, len: Cell) -> Result<&[u8], MemFault>
         ensures value { let bytes = read_bytes self.now addr.0 len.0 in
             MatchResult result (λ s. bytes ≡ Ok s.now) (λ e. bytes ≡ Err e) }
