@@ -52,7 +52,7 @@ use Rattle.of_fcodes.specs.declared.console_words.CompilingWord.TheVariants as c
 use Rattle.of_fcodes.specs.Words.{Written, words, first_words, second_words, third_words, fourth_words, fifth_words, sixth_words, seventh_words, eighth_words}
 use Rattle.of_fcodes.specs.Numbers.{number_of, primitive_number, stream_number, arithmetic_number, comparing_number, stacks_number, addresses_number, memory_number, splitting_number, text_number, numbers_number, printing_number, heap_number, keys_number, returns_number, dictionary_number, throws_number, properties_number, tree_number, devices_number, console_number, parsing_number, compiling_number}
 use Rattle.of_fcodes.specs.Rows.{Row, rows, first_rows, second_rows, third_rows, fourth_rows, fifth_rows, sixth_rows, seventh_rows}
-use Rattle.of_fcodes.specs.Finding.{FindsEachWord, name_written, word_with_name, word_with_xt, word_numbered_in, xt_of}
+use Rattle.of_fcodes.specs.Finding.{FindsEachWord, name_written, word_with_name, word_with_xt, word_numbered_in, xt_of, class_of, classes_written}
 
 pub length-words : length words ≡ 331
 unfolding words first_words second_words third_words fourth_words fifth_words sixth_words seventh_words eighth_words
@@ -253,5 +253,16 @@ names_agree : map (λ (r : Row). name_written r.word) rows ≡ map (λ r. r.name
 unfolding words first_words second_words third_words fourth_words fifth_words sixth_words seventh_words eighth_words rows first_rows second_rows third_rows fourth_rows fifth_rows sixth_rows seventh_rows
 names_agree = refl
 
+classes : map (λ (r : Written). class_of r.word) words ≡ classes_written
+unfolding words first_words second_words third_words fourth_words fifth_words sixth_words seventh_words eighth_words
+classes = refl
+
 pub words_found : FindsEachWord
-words_found = record { by_xt = by_xt; by_no_other = by_no_other; by_name = by_name; names_agree = names_agree; few = length-words }
+words_found = record {
+  by_xt = by_xt;
+  by_no_other = by_no_other;
+  by_name = by_name;
+  names_agree = names_agree;
+  few = length-words;
+  classes = classes;
+}

@@ -1,5 +1,5 @@
 -- Written words by number, execution token and name, and their classes.
-use Rattle.std.specs.Prelude.{◌≡◌, ℕ, ◌+◌, ◌-◌, ◌*◌, ◌/◌, ◌%◌, ◌<◌, List, [], ◌∷◌, Option, Some, None, map, slice_get, length, nat_eq, nat_lt, ◌||◌, not, if◌then◌else◌}
+use Rattle.std.specs.Prelude.{◌≡◌, ℕ, ◌+◌, ◌-◌, ◌*◌, ◌/◌, ◌%◌, ◌<◌, List, [], ◌∷◌, ◌++◌, replicate, Option, Some, None, map, slice_get, length, nat_eq, nat_lt, ◌||◌, not, if◌then◌else◌}
 use Rattle.std.specs.Borrow.{Bor}
 use Rattle.std.specs.Option.{option_map, option_map_or}
 use Rattle.std.specs.Str.{str_eq_ignore_ascii_case}
@@ -60,11 +60,18 @@ word_shown w = record { name = w.0.now; word = w.1 }
 
 -- ---- laws
 
+-- the classes in the order of the words: those of the stream, ordinary ones, those that parse, and those that compile
+abbrev pub classes_written : List Class
+classes_written =
+    replicate 32 class.Stream ++ replicate 253 class.Ordinary ++ replicate 20 class.Parsing
+    ++ replicate 26 class.CompileOnly
+
 -- Each written word is found by its execution token, by nothing else, and by its name; and the word of an FCode
--- has the FCode's name.
+-- has the FCode's name. The words of each class stand together.
 pub record FindsEachWord : Type 0 where
   pub by_xt : (w : Word) → word_with_xt (xt_of w) ≡ Some w
   pub by_no_other : (xt : ℕ) (w : Word) → word_with_xt xt ≡ Some w → xt ≡ xt_of w
   pub by_name : map (λ (r : Written). word_with_name r.name) words ≡ map (λ r. Some r.word) words
   pub names_agree : map (λ (r : Row). name_written r.word) rows ≡ map (λ r. r.name) rows
   pub few : length words ≡ 331
+  pub classes : map (λ (r : Written). class_of r.word) words ≡ classes_written

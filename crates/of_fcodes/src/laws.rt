@@ -10,7 +10,7 @@ pub fn names_and_numbers()
 {}
 
 /// Each written word is found by its execution token, by no other number, and by its name; and the
-/// word that an FCode names has the FCode's name.
+/// word that an FCode names has the FCode's name. The words of each class stand together.
 #[tactic(auto, using(crate::proofs::WrittenLemmas::words_found))]
 pub fn written_words_are_found()
     ensures { FindsEachWord }
