@@ -28,11 +28,11 @@ rise-append low mid high (Stays ∷ xs) ys h k = rise-append low mid high xs ys 
 rise-append low mid high (Ends x ∷ xs) ys h k = (h.0, rise-append (suc x) mid high xs ys h.1 k)
 rise-append low mid high (Goes x ∷ xs) ys h k = (h.0, rise-append (suc x) mid high xs ys h.1 k)
 
-rise-ends : (low x high : ℕ) (last : Bool) (ws : List NamedWay) → low ≤ x → Rise (suc x) ws high → Rise low ((if last then Ends x else Stays) ∷ ws) high
+pub rise-ends : (low x high : ℕ) (last : Bool) (ws : List NamedWay) → low ≤ x → Rise (suc x) ws high → Rise low ((if last then Ends x else Stays) ∷ ws) high
 rise-ends low x high true ws l h = (l, h)
 rise-ends low x high false ws l h = rise-more (suc x) low high ws (omega (arith, l)) h
 
-rise-goes : (low b x high : ℕ) (last t : Bool) (ws : List NamedWay) → (t ≡ true → x ≡ b) → low ≤ x → Rise (suc x) ws high → Rise low ((if t then (if last then Ends b else Stays) else Goes x) ∷ ws) high
+pub rise-goes : (low b x high : ℕ) (last t : Bool) (ws : List NamedWay) → (t ≡ true → x ≡ b) → low ≤ x → Rise (suc x) ws high → Rise low ((if t then (if last then Ends b else Stays) else Goes x) ∷ ws) high
 rise-goes low b x high last true ws e l h = rise-ends low b high last ws (subst (λ y. low ≤ y) (e refl) l) (subst (λ y. Rise (suc y) ws high) (e refl) h)
 rise-goes low b x high last false ws e l h = (l, h)
 
@@ -54,10 +54,10 @@ NameBelow b Stays = Unit {0}
 NameBelow b (Ends x) = x < b
 NameBelow b (Goes x) = x < b
 
--- the Blocks that end with the body have later jumps than b
+-- the Blocks that end with the body have no earlier jumps than b
 abbrev pub EndsAbove : ℕ → NamedWay → Type 0
 EndsAbove b Stays = Unit {0}
-EndsAbove b (Ends x) = b < x
+EndsAbove b (Ends x) = b ≤ x
 EndsAbove b (Goes x) = Unit {0}
 
 -- b's jump is in the first part
@@ -67,7 +67,7 @@ pub record HeldIn {A : Type 0} (b : ℕ) (p : NamedBody A) : Type 0 where
   pub split : named_ways p ≡ earlier ++ (Goes b ∷ later)
   pub soon : length earlier < named_first p
 
-reaches : (low b high : ℕ) (xs ys : List NamedWay) → Rise low (xs ++ (Goes b ∷ ys)) high → low ≤ b
+pub reaches : (low b high : ℕ) (xs ys : List NamedWay) → Rise low (xs ++ (Goes b ∷ ys)) high → low ≤ b
 reaches low b high [] ys h = h.0
 reaches low b high (Stays ∷ xs) ys h = reaches low b high xs ys h
 reaches low b high (Ends x ∷ xs) ys h = let g = h.0 in let r = reaches (suc x) b high xs ys h.1 in omega (arith, g, r)
@@ -172,7 +172,7 @@ ways-joined (NamedArm o c p r) s =
     let k = named_size s == 0 in
     ap (λ l. Stays ∷ l) (joined_part kept_in kept_in k (named_ways p) (Stays ∷ named_ways (joined r s)) (Stays ∷ named_ways r) (named_ways s) (λ w. refl) (ap (λ l. Stays ∷ l) (ways-joined r s)))
 
-rise-settled : (low high : ℕ) (k : Bool) (ws : List NamedWay) → Rise low ws high → Rise low (map (settled k) ws) high
+pub rise-settled : (low high : ℕ) (k : Bool) (ws : List NamedWay) → Rise low ws high → Rise low (map (settled k) ws) high
 rise-settled low high k [] h = h
 rise-settled low high k (Stays ∷ ws) h = rise-settled low high k ws h
 rise-settled low high k (Ends x ∷ ws) h = rise-ends low x high k (map (settled k) ws) h.0 (rise-settled (suc x) high k ws h.1)

@@ -1,8 +1,9 @@
--- A body whose names are in scope has its numbers in scope.
+-- A body whose names are in scope has its numbers in scope, and so has a tight body.
 use Rattle.std.proofs.Common.{◌≡◌, ℕ, suc, ◌<◌, Bool, true, false, List, [], ◌∷◌, length, Option, Some, None, refl, ⊎_elim, arith}
 use Rattle.std.specs.Prelude.{◌==◌, if◌then◌else◌, IsTrue, is_some}
 use Rattle.std.proofs.lemmas.Bool.{eqb-false}
-use Rattle.of_control.specs.Body.{IsScoped}
+use Rattle.of_control.specs.Body.{Arm, Block, Body, Choice, Counted, Cycle, End, IsScoped, Jump, LeaveLoop, Operation}
+use Rattle.of_control.specs.Tight.{IsTight}
 use Rattle.of_control.specs.Reading.{NamedArm, NamedBlock, NamedBody, NamedChoice, NamedCounted, NamedCycle, NamedEnd, NamedJump, NamedLeave, NamedOperation, label_index, nameless}
 use Rattle.of_control.proofs.NamedBodies.{IsIn, Scoped}
 
@@ -37,3 +38,14 @@ scoped-nameless ls d cs (NamedCycle c p r) s = (scoped-nameless (c ∷ ls) d [] 
 scoped-nameless ls d cs (NamedCounted q x p l r) s = (scoped-nameless [] (Some x) [] p s.0, scoped-nameless ls d cs r s.1)
 scoped-nameless ls d cs (NamedChoice c p r) s = (scoped-nameless [] d (c ∷ []) p s.0, scoped-nameless ls d cs r s.1)
 scoped-nameless ls d cs (NamedArm o c p r) s = (any_is cs c s.0, scoped-nameless [] d [] p s.1, scoped-nameless ls d cs r s.2)
+
+pub tight_scoped : {A : Type 0} → (n : ℕ) (d c : Bool) (b : Body A) → IsTight n d c b → IsScoped n d c b
+tight_scoped n d c End t = tt
+tight_scoped n d c (Operation a r) t = tight_scoped n d c r t
+tight_scoped n d c (LeaveLoop r) t = (t.0, tight_scoped n d c r t.1)
+tight_scoped n d c (Jump z k r) t = (t.0, tight_scoped n d c r t.1)
+tight_scoped n d c (Block b r) t = (tight_scoped (suc n) d false b t.1, tight_scoped n d c r t.2)
+tight_scoped n d c (Cycle b r) t = (tight_scoped (suc n) d false b t.1, tight_scoped n d c r t.2)
+tight_scoped n d c (Counted q b l r) t = (tight_scoped 0 true false b t.0, tight_scoped n d c r t.1)
+tight_scoped n d c (Choice b r) t = (tight_scoped 0 d true b t.1, tight_scoped n d c r t.2)
+tight_scoped n d c (Arm b r) t = (t.0, tight_scoped 0 d false b t.1, tight_scoped n d c r t.2)
