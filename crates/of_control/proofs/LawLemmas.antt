@@ -1,5 +1,6 @@
 -- The laws.
-use Rattle.std.proofs.Common.{◌≡◌, false, ℕ, List, [], ◌∷◌, Some, None, refl, sym, ap, ◌∙◌, subst, IsTrue, ◌⊎◌, inl, inr}
+use Rattle.std.proofs.Common.{◌≡◌, false, ℕ, List, [], ◌∷◌, Some, None, refl, sym, ap, ◌∙◌, subst, IsTrue, ◌⊎◌, inl}
+use Rattle.std.proofs.Common.{inr}
 use Rattle.std.specs.Prelude.{map}
 use Rattle.of_control.specs.Openers.{is_all_closed}
 use Rattle.of_control.specs.Element.{Element}
@@ -22,8 +23,11 @@ use Rattle.of_control.proofs.Trees.{one_body, one_reading}
 use Rattle.of_control.proofs.CallLemmas.{answers, open_then, no_answer, broken, kept, kept_of}
 
 -- the aged stack has a bounded matching, or there is none
-decided_by : {A : Type 0} → (limit : ℕ) (es : List (Element A)) (c : AgedStack) → aged_stack limit es ≡ c → Sound limit es c → ((m : Partners) × IsBounded limit es m) ⊎ HasNone limit es
-decided_by limit es None e h = inr (λ m b. let f = sym e ∙ complete limit es m b.matching b.few in let bad : ⊥ = cc in bad)
+decided_by :
+    {A : Type 0} → (limit : ℕ) (es : List (Element A)) (c : AgedStack) → aged_stack limit es ≡ c → Sound limit es c →
+    ((m : Partners) × IsBounded limit es m) ⊎ HasNone limit es
+decided_by limit es None e h =
+    inr (λ m b. let f = sym e ∙ complete limit es m b.matching b.few in let bad : ⊥ = cc in bad)
 decided_by limit es (Some (m, os)) e h = inl (m, record { matching = h.0; few = h.1 })
 
 pub calls_follow_matching : (A : Type 0) (limit : ℕ) → CallsFollowMatching A limit
@@ -38,19 +42,28 @@ calls_follow_matching A limit = record {
 pub matching_is_decided : (A : Type 0) (limit : ℕ) → MatchingIsDecided A limit
 matching_is_decided A limit es = decided_by limit es (aged_stack limit es) refl (sound limit es)
 
-matched_from : {A : Type 0} → (limit : ℕ) (place : List (Element A) → ℕ) (es : List (Element A)) (c : AgedStack) → Sound limit es c → IsTrue (is_all_closed (kept_of place es c)) → (m : Partners) × IsMatched limit es m
+matched_from :
+    {A : Type 0} → (limit : ℕ) (place : List (Element A) → ℕ) (es : List (Element A)) (c : AgedStack) →
+    Sound limit es c → IsTrue (is_all_closed (kept_of place es c)) → (m : Partners) × IsMatched limit es m
 matched_from limit place es None h t = let bad : ⊥ = cc in absurd bad
-matched_from limit place es (Some (m, [])) h t = (m, record { bounded = record { matching = h.0; few = h.1 }; closed = sym h.2 })
+matched_from limit place es (Some (m, [])) h t =
+    (m, record { bounded = record { matching = h.0; few = h.1 }; closed = sym h.2 })
 matched_from limit place es (Some (m, x ∷ os)) h t = let bad : ⊥ = cc in absurd bad
 
-closed_matched : {A : Type 0} → (limit : ℕ) (place : List (Element A) → ℕ) (es : List (Element A)) → IsTrue (is_all_closed (after_calls limit place es)) → (m : Partners) × IsMatched limit es m
+closed_matched :
+    {A : Type 0} → (limit : ℕ) (place : List (Element A) → ℕ) (es : List (Element A)) →
+    IsTrue (is_all_closed (after_calls limit place es)) → (m : Partners) × IsMatched limit es m
 closed_matched limit place es t =
-    matched_from limit place es (aged_stack limit es) (sound limit es) (subst (λ c. IsTrue (is_all_closed c)) (kept limit place es) t)
+    matched_from limit place es (aged_stack limit es) (sound limit es)
+    (subst (λ c. IsTrue (is_all_closed c)) (kept limit place es) t)
 
-matched_closed : {A : Type 0} → (limit : ℕ) (place : List (Element A) → ℕ) (es : List (Element A)) → (m : Partners) × IsMatched limit es m → IsTrue (is_all_closed (after_calls limit place es))
+matched_closed :
+    {A : Type 0} → (limit : ℕ) (place : List (Element A) → ℕ) (es : List (Element A)) →
+    (m : Partners) × IsMatched limit es m → IsTrue (is_all_closed (after_calls limit place es))
 matched_closed limit place es w =
     let m = w.0 in
-    let now = open_then limit place es m w.1.bounded.matching w.1.bounded.few ∙ ap (λ l. Some (map (placed place es) l)) w.1.closed in
+    let now = open_then limit place es m w.1.bounded.matching w.1.bounded.few
+    ∙ ap (λ l. Some (map (placed place es) l)) w.1.closed in
     subst (λ c. IsTrue (is_all_closed c)) (sym now) refl
 
 -- ---- bodies
@@ -85,7 +98,8 @@ body_of_matched limit es m w =
       read_so es m r.0 w.bounded.matching r.1,
     )
 
-body_found : {A : Type 0} → (limit : ℕ) (es : List (Element A)) (b : Body A) → IsBodyIn limit es b → body_in limit es ≡ Some b
+body_found :
+    {A : Type 0} → (limit : ℕ) (es : List (Element A)) (b : Body A) → IsBodyIn limit es b → body_in limit es ≡ Some b
 body_found limit es b w =
     let r = body_of_matched limit es w.partners w.matched in
     r.1 ∙ ap Some (one_reading es w.partners r.0 b r.2 w.read)
@@ -114,7 +128,8 @@ closed_is_read A limit = record {
 }
 
 one_in_all :
-    {A : Type 0} → (limit : ℕ) (es : List (Element A)) (b c : Body A) → IsBodyIn limit es b → IsBodyIn limit es c → b ≡ c
+    {A : Type 0} → (limit : ℕ) (es : List (Element A)) (b c : Body A) → IsBodyIn limit es b → IsBodyIn limit es c →
+    b ≡ c
 one_in_all limit es b c v w =
     let same : v.partners ≡ w.partners =
     one_matching es v.partners w.partners v.matched.bounded.matching w.matched.bounded.matching in

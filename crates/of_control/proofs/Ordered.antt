@@ -1,21 +1,17 @@
 -- The pieces of a reading stand in order, so its parts are tight.
-use Rattle.std.proofs.Common.{◌≡◌, ℕ, suc, ◌+◌, ◌<◌, ◌≤◌, Bool, true, false, List, [], ◌∷◌, ◌++◌}
-use Rattle.std.proofs.Common.{length, Option, Some, None, refl, sym, ap, ◌∙◌, subst, arith, ◌⊎◌, ⊎_elim, inl, inr, eqb-true}
+use Rattle.std.proofs.Common.{◌≡◌, ℕ, suc, ◌+◌, ◌<◌, ◌≤◌, Bool, true, false, List, [], ◌∷◌, ◌++◌, length, Option, Some}
+use Rattle.std.proofs.Common.{None, refl, sym, ap, ◌∙◌, subst, arith, ◌⊎◌, ⊎_elim, inl, inr, eqb-true}
 use Rattle.std.specs.Prelude.{◌==◌, if◌then◌else◌, map}
 use Rattle.std.proofs.lemmas.Bool.{ne_eqb}
 use Rattle.std.proofs.lemmas.List.{append-nil, append_assoc, length-append, length-map, map-append}
-use Rattle.of_control.specs.Reading.{BlockStart, Gathered, NamedArm, NamedBlock, NamedBody, NamedChoice}
-use Rattle.of_control.specs.Reading.{NamedCounted, NamedCycle, NamedEnd, NamedJump, NamedLeave, NamedOperation}
-use Rattle.of_control.specs.Reading.{OpenCase, OpenChoice, OpenDo, OpenMark, OpenOf, Part, Piece}
-use Rattle.of_control.specs.Reading.{here, hoisted}
-use Rattle.of_control.specs.Reading.{joined, to_branch, to_structure}
-use Rattle.of_control.specs.Reading.{with_part, with_start}
+use Rattle.of_control.specs.Reading.{BlockStart, Gathered, NamedArm, NamedBlock, NamedBody, NamedChoice, NamedCounted}
+use Rattle.of_control.specs.Reading.{NamedCycle, NamedEnd, NamedJump, NamedLeave, NamedOperation, OpenCase, OpenChoice}
+use Rattle.of_control.specs.Reading.{OpenDo, OpenMark, OpenOf, Part, Piece, here, hoisted, joined, to_branch}
+use Rattle.of_control.specs.Reading.{to_structure, with_part, with_start}
 use Rattle.of_control.proofs.NamedBodies.{named_size}
-use Rattle.of_control.proofs.NamedTight.{Ends, Goes, NamedBegins, NamedTight, NamedWay}
-use Rattle.of_control.proofs.NamedTight.{Stays, kept_in, left, named_ways}
-use Rattle.of_control.proofs.Rising.{HeldIn, Rise, held-joined}
-use Rattle.of_control.proofs.Rising.{rise-joined, settled, tight-joined}
-use Rattle.of_control.proofs.Rising.{ways-joined}
+use Rattle.of_control.proofs.NamedTight.{Ends, Goes, NamedBegins, NamedTight, NamedWay, Stays, kept_in, left}
+use Rattle.of_control.proofs.NamedTight.{named_ways}
+use Rattle.of_control.proofs.Rising.{HeldIn, Rise, held-joined, rise-joined, settled, tight-joined, ways-joined}
 
 -- ---- what a body holds
 
@@ -98,7 +94,13 @@ length-shut :
     length (named_ways r) ≡ named_size r →
     length (map kept_in (named_ways p) ++ (Stays ∷ named_ways r)) ≡ named_size p + suc (named_size r)
 length-shut p r e h =
-    omega (arith, length-append (map kept_in (named_ways p)) (Stays ∷ named_ways r), length-map (named_ways p) kept_in, e, h)
+    omega (
+      arith,
+      length-append (map kept_in (named_ways p)) (Stays ∷ named_ways r),
+      length-map (named_ways p) kept_in,
+      e,
+      h,
+    )
 
 pub length-ways : {A : Type 0} → (p : NamedBody A) → length (named_ways p) ≡ named_size p
 length-ways NamedEnd = refl
@@ -120,15 +122,18 @@ goes_left b c t ws es ls ne e =
     append-nil (map (left b t) ws)
     ∙ ap (map (left b t)) e
     ∙ map-append (left b t) es (Goes c ∷ ls)
-    ∙ ap (λ u. map (left b t) es ++ ((if u then (if t then Ends b else Stays) else Goes c) ∷ map (left b t) ls)) (ne_eqb c b ne)
+    ∙ ap (λ u. map (left b t) es ++ ((if u then (if t then Ends b else Stays) else Goes c) ∷ map (left b t) ls))
+    (ne_eqb c b ne)
 
 soon_of :
-    {A : Type 0} → (f : NamedWay → NamedWay) (c : ℕ) (p : NamedBody A) (g : GoesIn c p) → length (map f g.earlier) < named_size p
+    {A : Type 0} → (f : NamedWay → NamedWay) (c : ℕ) (p : NamedBody A) (g : GoesIn c p) →
+    length (map f g.earlier) < named_size p
 soon_of f c p g =
     let total = sym (length-ways p) ∙ ap length g.split ∙ length-append g.earlier (Goes c ∷ g.later) in
     omega (arith, total, length-map g.earlier f)
 
-pub held_in_block : {A : Type 0} → (b c : ℕ) (p : NamedBody A) → (c ≡ b → ⊥) → GoesIn c p → HeldIn c (NamedBlock b p NamedEnd)
+pub held_in_block :
+    {A : Type 0} → (b c : ℕ) (p : NamedBody A) → (c ≡ b → ⊥) → GoesIn c p → HeldIn c (NamedBlock b p NamedEnd)
 held_in_block b c p ne g =
     record {
       earlier = map (left b true) g.earlier;
@@ -137,7 +142,8 @@ held_in_block b c p ne g =
       soon = soon_of (left b true) c p g;
     }
 
-pub held_in_cycle : {A : Type 0} → (b c : ℕ) (p : NamedBody A) → (c ≡ b → ⊥) → GoesIn c p → HeldIn c (NamedCycle b p NamedEnd)
+pub held_in_cycle :
+    {A : Type 0} → (b c : ℕ) (p : NamedBody A) → (c ≡ b → ⊥) → GoesIn c p → HeldIn c (NamedCycle b p NamedEnd)
 held_in_cycle b c p ne g =
     record {
       earlier = map (left b false) g.earlier;
@@ -152,8 +158,8 @@ abbrev pub none : ℕ → Type 0
 none b = ⊥
 
 -- Latest first, as seen from what comes next: the numbers of jumps and open marks rise and are below `high`, those of
--- open Blocks are below `top`. What comes next holds in its first part the jumps of the Blocks that begin just before it,
--- as H says, and is the first arm of a Choice that begins just before it, as B says.
+-- open Blocks are below `top`. What comes next holds in its first part the jumps of the Blocks that begin just before
+-- it, as H says, and is the first arm of a Choice that begins just before it, as B says.
 abbrev pub Ordered : {A : Type 0} → ℕ → ℕ → (ℕ → Type 0) → Type 0 → List (Piece A) → Type 0
 Ordered high top H B [] = Unit {0}
 Ordered high top H B (Part p ∷ d) =
@@ -180,7 +186,8 @@ ordered-more a b s t H K B C (Part p ∷ d) l m f g h = (
   (
     h.1.0,
     rise-high h.1.0 a b (named_ways p) l h.1.1,
-    ordered-more h.1.0 h.1.0 s t (λ e. HeldIn e p) (λ e. HeldIn e p) (IsArm p) (IsArm p) d (omega arith) m (λ e u x. x) (λ x. x) h.1.2,
+    ordered-more h.1.0 h.1.0 s t (λ e. HeldIn e p) (λ e. HeldIn e p) (IsArm p) (IsArm p) d (omega arith) m (λ e u x. x)
+        (λ x. x) h.1.2,
   ),
 )
 ordered-more a b s t H K B C (BlockStart c ∷ d) l m f g h =
@@ -225,7 +232,8 @@ abbrev pub Falls : (ℕ → Type 0) → ℕ → List ℕ → ℕ → Type 0
 Falls P top [] low = low ≤ top
 Falls P top (c ∷ cs) low = P c × (c < top) × Falls P c cs low
 
-falls-more : (P Q : ℕ → Type 0) (top low : ℕ) (cs : List ℕ) → ((c : ℕ) → P c → Q c) → Falls P top cs low → Falls Q top cs low
+falls-more :
+    (P Q : ℕ → Type 0) (top low : ℕ) (cs : List ℕ) → ((c : ℕ) → P c → Q c) → Falls P top cs low → Falls Q top cs low
 falls-more P Q top low [] f h = h
 falls-more P Q top low (c ∷ cs) f h = (f c h.0, h.1, falls-more P Q c low cs f h.2)
 
@@ -252,7 +260,8 @@ back_here high top H B x d h =
       rise = omega arith;
       tight = tt;
       blocks = omega arith;
-      rest = ordered-more high high top top H (HeldBy H NamedEnd) B (BegunBy B NamedEnd) (x ∷ d) (omega arith) (omega arith)
+      rest = ordered-more high high top top H (HeldBy H NamedEnd) B (BegunBy B NamedEnd) (x ∷ d) (omega arith)
+          (omega arith)
           (λ e u k. inl (k, refl)) (λ k. inl (k, refl)) h;
     }
 
@@ -268,8 +277,10 @@ back_part high low top H B q g t r k =
       rise = rise-joined k.mid low high i q k.rise r;
       tight = tight-joined i q k.tight t;
       blocks = falls-more (LaterBy (λ b. HeldIn b q) i) (LaterBy H (joined i q)) top k.low g.blocks
-          (λ c. ⊎_elim (λ f. inr (goes-joined_last c i q (goes_held c q f))) (λ f. inr (goes-joined_first c i q f))) k.blocks;
-      rest = ordered-more k.mid k.mid k.low k.low (HeldBy (λ b. HeldIn b q) i) (HeldBy H (joined i q)) (BegunBy (IsArm q) i)
+          (λ c. ⊎_elim (λ f. inr (goes-joined_last c i q (goes_held c q f))) (λ f. inr (goes-joined_first c i q f)))
+          k.blocks;
+      rest = ordered-more k.mid k.mid k.low k.low (HeldBy (λ b. HeldIn b q) i) (HeldBy H (joined i q))
+          (BegunBy (IsArm q) i)
           (BegunBy B (joined i q)) (g.from ∷ g.before) (omega arith) (omega arith)
           (λ e u. ⊎_elim (λ f. inr (subst (λ p. HeldIn e (joined p q)) (sym f.1) f.0)) (λ f. inr (held-joined e i q f)))
           (⊎_elim (λ f. inr (subst (λ p. IsArm (joined p q)) (sym f.1) f.0)) (λ f. inr (arm-joined i q f)))

@@ -1,20 +1,20 @@
 -- Readings are tight.
-use Rattle.std.proofs.Common.{◌≡◌, ℕ, suc, ◌+◌, ◌<◌, ◌≤◌, Bool, true, false, List, [], ◌∷◌, ◌++◌}
-use Rattle.std.proofs.Common.{length, Option, Some, None, refl, sym, ap, ◌∙◌, subst, arith, ⊎_elim}
+use Rattle.std.proofs.Common.{◌≡◌, ℕ, suc, ◌+◌, ◌<◌, ◌≤◌, Bool, true, false, List, [], ◌∷◌, ◌++◌, length, Option, Some}
+use Rattle.std.proofs.Common.{None, refl, sym, ap, ◌∙◌, subst, arith, ⊎_elim}
 use Rattle.std.specs.Prelude.{◌==◌, if◌then◌else◌, map, nat_lt}
 use Rattle.std.proofs.lemmas.Bool.{eq-eqb, ne_eqb, ltb-false, ltb-true}
 use Rattle.std.proofs.lemmas.List.{append-nil, length-append, map-append}
-use Rattle.of_control.specs.Element.{Back, Branch, Case, Do, Element, EndCase, EndOf, Leave, Loop, Mark, Misfit}
-use Rattle.of_control.specs.Element.{Of, Plain, Resolve, Roll}
+use Rattle.of_control.specs.Element.{Back, Branch, Case, Do, Element, EndCase, EndOf, Leave, Loop, Mark, Misfit, Of}
+use Rattle.of_control.specs.Element.{Plain, Resolve, Roll}
 use Rattle.of_control.specs.Body.{Body, IsScoped}
 use Rattle.of_control.specs.Matching.{Opening, Partners}
 use Rattle.of_control.specs.Reading.{BlockStart, Draft, Gathered, NamedArm, NamedBlock, NamedBody, NamedChoice}
 use Rattle.of_control.specs.Reading.{NamedCounted, NamedCycle, NamedEnd, NamedJump, NamedLeave, NamedOperation}
-use Rattle.of_control.specs.Reading.{OpenCase, OpenChoice, OpenDo, OpenMark, OpenOf, Part, PartlyRead, Piece}
-use Rattle.of_control.specs.Reading.{add_due, add_leave, all_parts, body_of, close_all, close_block}
-use Rattle.of_control.specs.Reading.{close_case, close_counted, close_cycle, close_of, finished}
-use Rattle.of_control.specs.Reading.{innermost_do, joined, nameless, open_of, put, put_all, read_next, read_so_far}
-use Rattle.of_control.specs.Reading.{reading, to_branch, to_structure, with_last, with_part, with_structure}
+use Rattle.of_control.specs.Reading.{OpenCase, OpenChoice, OpenDo, OpenMark, OpenOf, Part, PartlyRead, Piece, add_due}
+use Rattle.of_control.specs.Reading.{add_leave, all_parts, body_of, close_all, close_block, close_case, close_counted}
+use Rattle.of_control.specs.Reading.{close_cycle, close_of, finished, innermost_do, joined, nameless, open_of, put}
+use Rattle.of_control.specs.Reading.{put_all, read_next, read_so_far, reading, to_branch, to_structure, with_last}
+use Rattle.of_control.specs.Reading.{with_part, with_structure}
 use Rattle.of_control.specs.Tight.{Each, IsTight}
 use Rattle.of_control.proofs.NamedBodies.{named_size}
 use Rattle.of_control.proofs.NamedTight.{Ends, Goes, NamedTight, NamedWay, Stays, kept_in, left, named_ways}
@@ -123,9 +123,11 @@ block_made n b g k e h =
     let all = append-nil (map (left b true) (named_ways p)) in
     let total = sym (length-ways p) ∙ ap length held.split ∙ length-append held.earlier (Goes b ∷ held.later) in
     let rest =
-    ordered-hoisted k.mid n k.low (LaterBy none p) (λ c. HeldIn c (NamedBlock b p NamedEnd)) ⊥ g.blocks g.before k.blocks
+    ordered-hoisted k.mid n k.low (LaterBy none p)
+    (λ c. HeldIn c (NamedBlock b p NamedEnd)) ⊥ g.blocks g.before k.blocks
     (λ c l f. held_in_block b c p (λ x. omega (arith, x, l, below)) (goes_later c p f))
-    (ordered-more k.mid k.mid b k.low (HeldBy none p) (λ c. HeldIn c (NamedBlock b p NamedEnd)) ⊥ ⊥ g.before (omega arith)
+    (ordered-more k.mid k.mid b k.low (HeldBy none p) (λ c. HeldIn c (NamedBlock b p NamedEnd)) ⊥ ⊥ g.before
+    (omega arith)
     (omega (arith, below)) (λ c u f. held_in_block b c p (λ x. omega (arith, x, u)) (goes_by c p f)) (λ x. x) r.2) in (
       (
         (block_by k.mid n b p held k.rise h, k.tight, tt),
@@ -165,7 +167,8 @@ OrderedDraft n None = Unit {0}
 OrderedDraft n (Some d) = Ordered n n none ⊥ d
 
 close_due :
-    {A : Type 0} → (n t : ℕ) (bs : List ℕ) (o : Draft A) → FallFrom t bs → ClosedTo n t o → OrderedDraft n (close_all bs o)
+    {A : Type 0} → (n t : ℕ) (bs : List ℕ) (o : Draft A) → FallFrom t bs → ClosedTo n t o →
+    OrderedDraft n (close_all bs o)
 close_due n t [] None f h = tt
 close_due n t [] (Some d) f h = h.0
 close_due {A = A} n t (b ∷ bs) None f h = close_due {A = A} n b bs None f.1 tt
@@ -182,7 +185,8 @@ Rested n (Some d) = Ordered n n none ⊥ d × ((t : ℕ) → EndsFrom t d)
 one_more :
     {A : Type 0} → (n : ℕ) (p : NamedBody A) (d : List (Piece A)) → NamedTight p → Rise n (named_ways p) (suc n) →
     Ordered n n none ⊥ d → Ordered (suc n) (suc n) none ⊥ (Part p ∷ d)
-one_more n p d t r h = (t, (n, r, ordered_any n n n (suc n) (λ b. HeldIn b p) (IsArm p) d (omega arith) (omega arith) h))
+one_more n p d t r h =
+    (t, (n, r, ordered_any n n n (suc n) (λ b. HeldIn b p) (IsArm p) d (omega arith) (omega arith) h))
 
 leave_rested :
     {A : Type 0} → (n : ℕ) (o : Option ℕ) (d : List (Piece A)) → Ordered n n none ⊥ d → Rested (suc n) (add_leave o d)
@@ -234,7 +238,8 @@ cycle_made {A = A} n z bs p (OpenMark c) before k =
     let r = k.rest in
     let below = r.0 in
     let ws = map (settled false) (named_ways p) in
-    let here : left c false (Goes c) ≡ Stays = ap (λ t. if t then (if false then Ends c else Stays) else Goes c) (eq-eqb c c refl) in
+    let here : left c false (Goes c) ≡ Stays =
+    ap (λ t. if t then (if false then Ends c else Stays) else Goes c) (eq-eqb c c refl) in
     let all = append-nil (map (left c false) (named_ways q)) in
     let e =
     all
@@ -243,10 +248,12 @@ cycle_made {A = A} n z bs p (OpenMark c) before k =
     ∙ ap (λ w. map (left c false) ws ++ (w ∷ [])) here in
     let up =
     rise-append c n (suc n) (map (left c false) ws) (Stays ∷ [])
-    (rise-left c c n false ws (rise-settled c n false (named_ways p) (rise-more k.mid c n (named_ways p) (omega (arith, below)) k.rise)))
+    (rise-left c c n false ws (rise-settled c n false (named_ways p)
+    (rise-more k.mid c n (named_ways p) (omega (arith, below)) k.rise)))
     (omega arith) in
     let other : (x : ℕ) → GoesIn x p → x ≡ c → ⊥ =
-    λ x g s. let m = reaches k.mid x n g.earlier g.later (subst (λ l. Rise k.mid l n) g.split k.rise) in omega (arith, m, s, below) in
+    λ x g s. let m = reaches k.mid x n g.earlier g.later (subst (λ l. Rise k.mid l n) g.split k.rise) in
+    omega (arith, m, s, below) in
     let rest =
     ordered-hoisted c (suc n) k.low (LaterBy none p) (λ x. HeldIn x body) ⊥ bs before
     (falls_top (LaterBy none p) n (suc n) k.low bs (omega arith) k.blocks)
@@ -282,7 +289,8 @@ counted_made {A = A} n l [] p (OpenDo q a) before k =
         (
           k.mid,
           rise-shut k.mid n (named_ways p) k.rise,
-          ordered_any k.mid k.mid k.low (suc n) (λ x. HeldIn x body) ⊥ before (omega arith) (omega (arith, below)) k.rest,
+          ordered_any k.mid k.mid k.low (suc n) (λ x. HeldIn x body) ⊥ before (omega arith)
+              (omega (arith, below)) k.rest,
         ),
       ),
       λ t. (omega arith, (tt, ends-shut t (named_ways p))),
@@ -304,7 +312,8 @@ counted_made n l (b ∷ bs) p (OpenOf o c) before k = tt
 of_made : {A : Type 0} → (n : ℕ) → Made {A = A} n (open_of n)
 of_made n [] p (OpenCase c) before k =
     let below = k.blocks in
-    let rest = ordered_any k.mid k.mid k.low (suc n) (λ x. HeldIn x p) (IsArm p) before (omega arith) (omega (arith, below)) k.rest in
+    let rest = ordered_any k.mid k.mid k.low (suc n) (λ x. HeldIn x p) (IsArm p) before (omega arith)
+    (omega (arith, below)) k.rest in
     let r = k.rise in
     ((tt, (k.tight, (k.mid, rise-high k.mid n (suc n) (named_ways p) (omega arith) r, rest))), λ t. tt)
 of_made n [] p (OpenChoice c) before k =
@@ -356,7 +365,8 @@ endcase_made {A = A} n [] p (OpenCase c) before k =
             (
               k.mid,
               k.rise,
-              ordered_any k.mid k.mid k.low (suc n) (λ x. HeldIn x p) (IsArm p) before (omega arith) (omega (arith, below)) k.rest,
+              ordered_any k.mid k.mid k.low (suc n) (λ x. HeldIn x p) (IsArm p) before (omega arith)
+                  (omega (arith, below)) k.rest,
             ),
           ),
         ),
@@ -385,15 +395,18 @@ endcase_made n [] p (OpenDo q a) before k = tt
 endcase_made n [] p (OpenOf o c) before k = tt
 endcase_made n (b ∷ bs) p from before k = tt
 
-put_rested : {A : Type 0} → (n : ℕ) (e : Element A) (d : List (Piece A)) → Ordered n n none ⊥ d → Rested (suc n) (put n e d)
+put_rested :
+    {A : Type 0} → (n : ℕ) (e : Element A) (d : List (Piece A)) → Ordered n n none ⊥ d → Rested (suc n) (put n e d)
 put_rested n (Plain k) d h = (one_more n (NamedOperation k NamedEnd) d tt (omega arith) h, λ t. (omega arith, (tt, tt)))
 put_rested n (Branch z t) d h = branch_rested n z d h
 put_rested n (Mark p) d h = ((omega arith, ordered_any n n n (suc n) none ⊥ d (omega arith) (omega arith) h), λ t. tt)
 put_rested n (Do q) d h = (ordered_any n (suc n) n (suc n) none ⊥ d (omega arith) (omega arith) h, λ t. tt)
 put_rested n Case d h = (ordered_any n (suc n) n (suc n) none ⊥ d (omega arith) (omega arith) h, λ t. tt)
 put_rested n Leave d h = leave_rested n (innermost_do d) d h
-put_rested n (Back z t) d h = with_back n (close_cycle z) (to_structure d) (back_structure n n none ⊥ d h) (cycle_made n z)
-put_rested n (Loop l) d h = with_back n (close_counted l) (to_structure d) (back_structure n n none ⊥ d h) (counted_made n l)
+put_rested n (Back z t) d h =
+    with_back n (close_cycle z) (to_structure d) (back_structure n n none ⊥ d h) (cycle_made n z)
+put_rested n (Loop l) d h =
+    with_back n (close_counted l) (to_structure d) (back_structure n n none ⊥ d h) (counted_made n l)
 put_rested n Of d h = with_back n (open_of n) (to_structure d) (back_structure n n none ⊥ d h) (of_made n)
 put_rested n EndOf d h = with_back n close_of (to_structure d) (back_structure n n none ⊥ d h) (endof_made n)
 put_rested n EndCase d h = with_back n close_case (to_structure d) (back_structure n n none ⊥ d h) (endcase_made n)
@@ -480,7 +493,8 @@ abbrev AllTight : {A : Type 0} → Option (NamedBody A) → Type 0
 AllTight None = Unit {0}
 AllTight (Some q) = NamedTight q
 
-last_tight : {A : Type 0} → (p : NamedBody A) (o : Option (NamedBody A)) → NamedTight p → AllTight o → AllTight (with_last p o)
+last_tight :
+    {A : Type 0} → (p : NamedBody A) (o : Option (NamedBody A)) → NamedTight p → AllTight o → AllTight (with_last p o)
 last_tight p None h k = tt
 last_tight p (Some q) h k = tight-joined q p k h
 
@@ -502,12 +516,14 @@ draft_tight n None h = tt
 draft_tight n (Some d) h = parts_tight n n none ⊥ d h
 
 body_tight :
-    {A : Type 0} → (o : Option (NamedBody A)) (b : Body A) → AllTight o → body_of o ≡ Some b → IsScoped 0 false false b →
+    {A : Type 0} → (o : Option (NamedBody A)) (b : Body A) → AllTight o → body_of o ≡ Some b →
+    IsScoped 0 false false b →
     IsTight 0 false false b
 body_tight None b h e s = let bad : ⊥ = cc in absurd bad
 body_tight (Some q) b h e s =
     let same : nameless [] q ≡ b = cc in
-    subst (IsTight 0 false false) same (tight-nameless 0 false false [] q h (subst (IsScoped 0 false false) (sym same) s))
+    subst (IsTight 0 false false) same (tight-nameless 0 false false [] q h
+    (subst (IsScoped 0 false false) (sym same) s))
 
 -- a reading that is scoped is tight
 pub reading_tight :

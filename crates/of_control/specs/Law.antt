@@ -7,7 +7,8 @@ use Rattle.of_control.specs.Matching.{Partners, IsMatching, NeverMore, open_ones
 use Rattle.of_control.specs.Targets.{flat_items, targets_of}
 use Rattle.of_control.specs.Reading.{body_in}
 use Rattle.of_control.specs.Tight.{IsReading, IsTight}
-use Rattle.of_control.specs.Calls.{AreAnsweredWithin, AreWithin, IsWithin, after_call, after_calls, call_answer, call_answers, due_answers, due_openers}
+use Rattle.of_control.specs.Calls.{AreAnsweredWithin, AreWithin, IsWithin, after_call, after_calls, call_answer}
+use Rattle.of_control.specs.Calls.{call_answers, due_answers, due_openers}
 use Rattle.of_control.specs.Items.{item_count}
 use Rattle.of_control.specs.Compiling.{compiled}
 

@@ -9,7 +9,8 @@ ghost use Rattle.of_control.specs.Law.{ItemsAreFlat, JumpsStayInside, MatchingIs
 ghost use Rattle.of_control.specs.Law.{PlacesStayWithin};
 
 /// A definition has at most one matching. The calls that its elements make answer exactly the places of the partners,
-/// and `None` from the first element on with which there is no matching, or one with more than `N` openers open at once.
+/// and `None` from the first element on with which there is no matching, or one with more than `N` openers open at
+/// once.
 pub fn calls_follow_matching<A, const N: usize>()
     ensures { CallsFollowMatching A N }
 {}
