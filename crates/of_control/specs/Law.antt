@@ -9,7 +9,7 @@ use Rattle.of_control.specs.Reading.{body_in}
 use Rattle.of_control.specs.Tight.{IsReading, IsTight}
 use Rattle.of_control.specs.Calls.{AreAnsweredWithin, AreWithin, IsWithin, after_call, after_calls, call_answer}
 use Rattle.of_control.specs.Calls.{call_answers, due_answers, due_openers}
-use Rattle.of_control.specs.Items.{item_count}
+use Rattle.of_control.specs.Items.{item_count, performed, plain_items}
 use Rattle.of_control.specs.Compiling.{compiled}
 
 -- the partners are a matching with never more than `limit` open
@@ -121,6 +121,8 @@ pub record CompiledIsFlat (A : Type 0) (limit : ℕ) : Type 0 where
       (es : List (Element A)) (b : Body A) →
       IsBodyIn limit es b → compiled limit es ≡ items_of b
 
--- as many items are compiled as the elements leave, also where there is no matching
-abbrev pub ItemsAreCounted : Type 0 → ℕ → Type 0
-ItemsAreCounted A limit = (es : List (Element A)) → length (compiled limit es) ≡ item_count es
+-- as many items are compiled as the elements leave, and the plain ones are those of the elements, in their order, also
+-- where there is no matching
+pub record ItemsAreCounted (A : Type 0) (limit : ℕ) : Type 0 where
+  pub count : (es : List (Element A)) → length (compiled limit es) ≡ item_count es
+  pub plain : (es : List (Element A)) → plain_items (compiled limit es) ≡ performed es

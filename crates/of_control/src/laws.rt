@@ -55,8 +55,9 @@ pub fn compiled_is_flat<A, const N: usize>()
     ensures { CompiledIsFlat A N }
 {}
 
-/// A definition that is compiled element by element has one item for each element that leaves one, also after an
-/// element that fits nowhere.
+/// A definition that is compiled element by element has one item for each element that leaves one, and its plain items
+/// are those of its operations and of the elements that fit nowhere, in their order; all this also where an element
+/// fits nowhere.
 pub fn items_are_counted<A, const N: usize>()
     ensures { ItemsAreCounted A N }
 {}
