@@ -1,7 +1,7 @@
 //! Calls of `Control` with the answers that the rules give, worked out by hand.
 use of_control::{
     Control, calls_follow_matching, closed_is_read, compiled_is_flat, items_are_counted,
-    items_are_flat, matching_is_decided, one_reading, places_stay_within,
+    items_are_flat, jumps_stay_inside, matching_is_decided, one_reading, places_stay_within,
 };
 use std::process::Abort;
 use std::test::Fail;
@@ -155,10 +155,11 @@ fn limit(rt: HostRuntime) -> Result<(), Fail> {
 fn laws() {
     calls_follow_matching::<u8, 32>();
     closed_is_read::<u8, 32>();
-    items_are_flat::<u8>();
+    items_are_flat::<u8, 32>();
     compiled_is_flat::<u8, 32>();
     items_are_counted::<u8, 32>();
+    jumps_stay_inside::<u8, 32>();
     matching_is_decided::<u8, 32>();
-    one_reading::<u8>();
+    one_reading::<u8, 32>();
     places_stay_within::<u8, 32>();
 }

@@ -1,24 +1,41 @@
 -- The reading's items are the flat ones.
-use Rattle.std.proofs.Common.{◌≡◌, ℕ, suc, ◌+◌, Bool, true, false, List, [], ◌∷◌, ◌++◌, length, Option, Some, None, refl, sym, ap, ◌∙◌, subst, inl, arith, not, append_assoc}
+use Rattle.std.proofs.Common.{◌≡◌, ℕ, suc, ◌+◌, Bool, true, false, List, [], ◌∷◌, ◌++◌, length, Option, Some, None}
+use Rattle.std.proofs.Common.{refl, sym, ap, ◌∙◌, subst, inl, arith, not, append_assoc}
 use Rattle.std.specs.Prelude.{filter, nat_lt, if◌then◌else◌}
 use Rattle.of_control.specs.declared.opener.Kind.{Kind}
 use Rattle.of_control.specs.declared.opener.Kind.TheVariants.{CaseSys, Dest, DoSys, OfSys, Orig}
 use Rattle.of_control.specs.Openers.{is_case_sys, is_orig}
-use Rattle.of_control.specs.Element.{Back, Branch, Case, Do, Element, EndCase, EndOf, Leave, Loop, Mark, Misfit, Of, Plain, Resolve, Roll}
-use Rattle.of_control.specs.Items.{DropSelector, EndArm, EnterLoop, ExitLoop, JumpTo, RepeatLoop, TestArm, is_item, item_count, one_if}
+use Rattle.of_control.specs.Element.{Back, Branch, Case, Do, Element, EndCase, EndOf, Leave, Loop, Mark, Misfit, Of}
+use Rattle.of_control.specs.Element.{Plain, Resolve, Roll}
+use Rattle.of_control.specs.Items.{DropSelector, EndArm, EnterLoop, ExitLoop, JumpTo, RepeatLoop, TestArm, is_item}
+use Rattle.of_control.specs.Items.{item_count, one_if}
 use Rattle.of_control.specs.Body.{Body, IsScoped, items_of}
 use Rattle.of_control.proofs.Scopes.{scoped-nameless}
-use Rattle.of_control.specs.Matching.{IsDestFor, IsMatching, Opening, Partners, is_partner, open_ones, top_origs, top_structure}
+use Rattle.of_control.specs.Matching.{IsDestFor, IsMatching, Opening, Partners, is_partner, open_ones, top_origs}
+use Rattle.of_control.specs.Matching.{top_structure}
 use Rattle.of_control.specs.Targets.{Targets, flat_items, innermost, item_of}
-use Rattle.of_control.specs.Reading.{BlockStart, Draft, Gathered, NamedArm, NamedBody, NamedChoice, NamedCounted, NamedCycle, NamedEnd, NamedJump, NamedLeave, NamedOperation, OpenCase, OpenChoice, OpenDo, OpenMark, OpenOf, Part, PartlyRead, Piece, add_due, add_leave, all_parts, body_of, close_all, close_case, close_counted, close_cycle, close_of, finished, hoisted, innermost_do, joined, open_of, put, put_all, read_next, read_so_far, reading, to_structure, with_last, with_structure}
+use Rattle.of_control.specs.Reading.{BlockStart, Draft, Gathered, NamedArm, NamedBody, NamedChoice, NamedCounted}
+use Rattle.of_control.specs.Reading.{NamedCycle, NamedEnd, NamedJump, NamedLeave, NamedOperation, OpenCase, OpenChoice}
+use Rattle.of_control.specs.Reading.{OpenDo, OpenMark, OpenOf, Part, PartlyRead, Piece, add_due, add_leave, all_parts}
+use Rattle.of_control.specs.Reading.{body_of, close_all, close_case, close_counted, close_cycle, close_of, finished}
+use Rattle.of_control.specs.Reading.{hoisted, innermost_do, joined, open_of, put, put_all, read_next, read_so_far}
+use Rattle.of_control.specs.Reading.{reading, to_structure, with_last, with_structure}
 use Rattle.of_control.specs.AgedStack.{after}
 use Rattle.of_control.proofs.MatchingLemmas.{Desc-open, among-get, among-resolved, open-next}
 use Rattle.of_control.proofs.NamedBodies.{Fine, IsIn, Scoped, items-nameless, named_items, named_size}
-use Rattle.of_control.proofs.Pieces.{EndHere, Fine-joined, Frame, Good, Good-hoisted, Keeps, OnCase, OnDo, OnMark, OnOf, Same, SameDraft, Scoped-joined, Structured, Sub, blocks-hoisted, cases, close_all-keeps, do-hoisted, fine_at, frames, frames-hoisted, labels, labels-hoisted, named_items-joined, named_size-joined, nil_append, piece_count, piece_count-hoisted, piece_items, piece_items-hoisted, sub_cons, sub_none, sub_refl, sub_weak, to_structure-keeps}
-use Rattle.of_control.proofs.Frames.{case_in, case_of-frames, case_stack, do_in, do_of-frames, do_stack, frame_of, frame_pending, frames-closed, frames-resolve, keep_all, pending_is, stack_frames, structure_top}
+use Rattle.of_control.proofs.Pieces.{EndHere, Fine-joined, Frame, Good, Good-hoisted, Keeps, OnCase, OnDo, OnMark, OnOf}
+use Rattle.of_control.proofs.Pieces.{Same, SameDraft, Scoped-joined, Structured, Sub, blocks-hoisted, cases}
+use Rattle.of_control.proofs.Pieces.{close_all-keeps, do-hoisted, fine_at, frames, frames-hoisted, labels}
+use Rattle.of_control.proofs.Pieces.{labels-hoisted, named_items-joined, named_size-joined, nil_append, piece_count}
+use Rattle.of_control.proofs.Pieces.{piece_count-hoisted, piece_items, piece_items-hoisted, sub_cons, sub_none}
+use Rattle.of_control.proofs.Pieces.{sub_refl, sub_weak, to_structure-keeps}
+use Rattle.of_control.proofs.OpenStructures.{case_in, case_of-frames, case_stack, do_in, do_of-frames, do_stack}
+use Rattle.of_control.proofs.OpenStructures.{frame_of, frame_pending, frames-closed, frames-resolve, keep_all}
+use Rattle.of_control.proofs.OpenStructures.{pending_is, stack_frames, structure_top}
 use Rattle.of_control.proofs.SetTargets.{AreTargets, Sets}
 
-pub record Agreeing {A : Type 0} (T : Targets) (es : List (Element A)) (m : Partners) (d : List (Piece A)) : Type 0 where
+pub record Agreeing {A : Type 0} (T : Targets) (es : List (Element A)) (m : Partners)
+    (d : List (Piece A)) : Type 0 where
   pub listed : piece_items T d ≡ flat_items T es m
   pub counted : piece_count d ≡ item_count es
   pub good : Good T d
@@ -29,7 +46,12 @@ AgreeingDraft T es m None = Unit {0}
 AgreeingDraft T es m (Some d) = Agreeing T es m d
 
 -- the next element's pieces
-made : {A : Type 0} → (T : Targets) (e : Element A) (es : List (Element A)) (o : Option Opening) (m : Partners) (d new : List (Piece A)) → Agreeing T es m d → IsMatching (e ∷ es) (o ∷ m) → piece_items T new ≡ piece_items T d ++ item_of T es (open_ones es m) e o → piece_count new ≡ piece_count d + one_if (is_item e) → Good T new → frames new ≡ stack_frames (after (length es) e o (open_ones es m)) → Agreeing T (e ∷ es) (o ∷ m) new
+made :
+    {A : Type 0} → (T : Targets) (e : Element A) (es : List (Element A)) (o : Option Opening) (m : Partners)
+    (d new : List (Piece A)) → Agreeing T es m d → IsMatching (e ∷ es) (o ∷ m) →
+    piece_items T new ≡ piece_items T d ++ item_of T es (open_ones es m) e o →
+    piece_count new ≡ piece_count d + one_if (is_item e) → Good T new →
+    frames new ≡ stack_frames (after (length es) e o (open_ones es m)) → Agreeing T (e ∷ es) (o ∷ m) new
 made T e es o m d new inv is l c g f =
     record {
       listed = l ∙ ap (λ k. k ++ item_of T es (open_ones es m) e o) inv.listed;
@@ -39,16 +61,22 @@ made T e es o m d new inv is l c g f =
     }
 
 -- an element that closes nothing leaves the structures below it
-kept : {A : Type 0} → (T : Targets) (es : List (Element A)) (m : Partners) (d : List (Piece A)) → Agreeing T es m d → frames d ≡ stack_frames (filter (λ y. not (is_partner None y)) (open_ones es m))
+kept :
+    {A : Type 0} → (T : Targets) (es : List (Element A)) (m : Partners) (d : List (Piece A)) → Agreeing T es m d →
+    frames d ≡ stack_frames (filter (λ y. not (is_partner None y)) (open_ones es m))
 kept T es m d inv = inv.framed ∙ ap stack_frames (sym (keep_all (open_ones es m)))
 
 -- ---- leave
-leave_next : {A : Type 0} → (T : Targets) (es : List (Element A)) (m : Partners) (d : List (Piece A)) (o : Option ℕ) → innermost_do d ≡ o → Agreeing T es m d → IsMatching (Leave ∷ es) (None ∷ m) → AgreeingDraft T (Leave ∷ es) (None ∷ m) (add_leave o d)
+leave_next :
+    {A : Type 0} → (T : Targets) (es : List (Element A)) (m : Partners) (d : List (Piece A)) (o : Option ℕ) →
+    innermost_do d ≡ o → Agreeing T es m d → IsMatching (Leave ∷ es) (None ∷ m) →
+    AgreeingDraft T (Leave ∷ es) (None ∷ m) (add_leave o d)
 leave_next T es m d None e inv is = tt
 leave_next T es m d (Some x) e inv is =
     let f : do_in (stack_frames (open_ones es m)) ≡ Some x = ap do_in (sym inv.framed) ∙ sym (do_of-frames d) ∙ e in
     let same = do_stack (length es) (open_ones es m) x f in
-    made T Leave es None m d (Part (NamedLeave x NamedEnd) ∷ d) inv is (ap (λ a. piece_items T d ++ ExitLoop (T.to a) ∷ []) (sym same)) refl (inv.good, tt, (e, tt)) (kept T es m d inv)
+    made T Leave es None m d (Part (NamedLeave x NamedEnd) ∷ d) inv is
+    (ap (λ a. piece_items T d ++ ExitLoop (T.to a) ∷ []) (sym same)) refl (inv.good, tt, (e, tt)) (kept T es m d inv)
 
 -- ---- a cycle
 pub mark_frame : (t : Option ℕ) (k : Kind) (n : ℕ) → IsDestFor t k → frame_of k n ≡ OnMark n ∷ []
@@ -77,30 +105,60 @@ pub of_top : (a b : ℕ) (fs gs : List Frame) → OnOf a ∷ fs ≡ OnOf b ∷ g
 of_top a b fs gs e = (cc, cc)
 
 -- the structure that is closed, seen from the pieces and from the stack
-tops : {A : Type 0} → (T : Targets) (es : List (Element A)) (m : Partners) (d start : List (Piece A)) (x : Opening) (f : Frame) → Agreeing T es m d → frames d ≡ frames start → top_structure (open_ones es m) ≡ Some x → frame_of x.kind x.at ≡ f ∷ [] → frames start ≡ f ∷ stack_frames (filter (λ y. not (is_partner (Some x) y)) (open_ones es m))
+tops :
+    {A : Type 0} → (T : Targets) (es : List (Element A)) (m : Partners) (d start : List (Piece A)) (x : Opening)
+    (f : Frame) → Agreeing T es m d → frames d ≡ frames start → top_structure (open_ones es m) ≡ Some x →
+    frame_of x.kind x.at ≡ f ∷ [] → frames start ≡ f ∷ stack_frames
+    (filter (λ y. not (is_partner (Some x) y)) (open_ones es m))
 tops T es m d start x f inv fr st k =
-    sym fr ∙ inv.framed ∙ frames-closed (open_ones es m) x (Desc-open es m) st ∙ ap (λ l. l ++ stack_frames (filter (λ y. not (is_partner (Some x) y)) (open_ones es m))) k
+    sym fr ∙ inv.framed ∙ frames-closed (open_ones es m) x (Desc-open es m) st
+    ∙ ap (λ l. l ++ stack_frames (filter (λ y. not (is_partner (Some x) y)) (open_ones es m))) k
 
-close_cycle_good : {A : Type 0} → (T : Targets) (z : Bool) (bs : List ℕ) (p : NamedBody A) (c : ℕ) (before d : List (Piece A)) → Keeps T d bs p (OpenMark c ∷ before) → Good T (Part (NamedCycle c (joined p (NamedJump z c NamedEnd)) NamedEnd) ∷ hoisted bs before)
+close_cycle_good :
+    {A : Type 0} → (T : Targets) (z : Bool) (bs : List ℕ) (p : NamedBody A) (c : ℕ) (before d : List (Piece A)) →
+    Keeps T d bs p (OpenMark c ∷ before) →
+    Good T (Part (NamedCycle c (joined p (NamedJump z c NamedEnd)) NamedEnd) ∷ hoisted bs before)
 close_cycle_good {A = A} T z bs p c before d k =
     let h = hoisted bs before in
     let ch = piece_count-hoisted bs before in
-    let inside : Fine T (piece_count before) (joined p (NamedJump z c NamedEnd)) = Fine-joined T (piece_count before) p (NamedJump z c NamedEnd) k.fine tt in
-    let subs : Sub (c ∷ labels before) (c ∷ labels h) = sub_cons c (labels before) (labels h) (labels-hoisted bs before) in
+    let inside : Fine T (piece_count before) (joined p (NamedJump z c NamedEnd)) =
+    Fine-joined T (piece_count before) p (NamedJump z c NamedEnd) k.fine tt in
+    let subs : Sub (c ∷ labels before) (c ∷ labels h) =
+    sub_cons c (labels before) (labels h) (labels-hoisted bs before) in
     let sc = k.scoped (c ∷ labels h) [] (sub_weak c bs (labels h) (blocks-hoisted bs before)) subs (sub_none []) in
     let sj : Scoped {A = A} (c ∷ labels h) (innermost_do before) [] (NamedJump z c NamedEnd) = (inl refl, tt) in
-    let all = Scoped-joined (c ∷ labels h) (innermost_do before) [] p (NamedJump z c NamedEnd) sc sj in
-    (Good-hoisted T bs before k.good.0, (omega (arith, k.good.1, ch), fine_at T (piece_count before) (piece_count h) (joined p (NamedJump z c NamedEnd)) (sym ch) inside, tt), (subst (λ o. Scoped (c ∷ labels h) o [] (joined p (NamedJump z c NamedEnd))) (sym (do-hoisted bs before)) all, tt))
+    let all = Scoped-joined (c ∷ labels h) (innermost_do before) [] p (NamedJump z c NamedEnd) sc sj in (
+      Good-hoisted T bs before k.good.0,
+      (
+        omega (arith, k.good.1, ch),
+        fine_at T (piece_count before) (piece_count h)
+            (joined p (NamedJump z c NamedEnd)) (sym ch) inside,
+        tt,
+      ),
+      (
+        subst (λ o. Scoped (c ∷ labels h) o [] (joined p (NamedJump z c NamedEnd))) (sym (do-hoisted bs before)) all,
+        tt,
+      ),
+    )
 
-cycle_next : {A : Type 0} → (T : Targets) (z : Bool) (t : Option ℕ) (es : List (Element A)) (x : Opening) (m : Partners) (d : List (Piece A)) (bs : List ℕ) (p : NamedBody A) (from : Piece A) (before : List (Piece A)) → Agreeing T es m d → IsMatching (Back z t ∷ es) (Some x ∷ m) → Keeps T d bs p (from ∷ before) → AgreeingDraft T (Back z t ∷ es) (Some x ∷ m) (close_cycle z bs p from before)
+cycle_next :
+    {A : Type 0} → (T : Targets) (z : Bool) (t : Option ℕ) (es : List (Element A)) (x : Opening) (m : Partners)
+    (d : List (Piece A)) (bs : List ℕ) (p : NamedBody A) (from : Piece A) (before : List (Piece A)) →
+    Agreeing T es m d → IsMatching (Back z t ∷ es) (Some x ∷ m) → Keeps T d bs p (from ∷ before) →
+    AgreeingDraft T (Back z t ∷ es) (Some x ∷ m) (close_cycle z bs p from before)
 cycle_next T z t es x m d bs p (OpenMark c) before inv is k =
-    let top = mark_top c x.at (frames before) (stack_frames (filter (λ y. not (is_partner (Some x) y)) (open_ones es m))) (tops T es m d (OpenMark c ∷ before) x (OnMark x.at) inv k.framed is.1.0 (mark_frame t x.kind x.at is.1.1)) in
-    let l : piece_items T before ++ (named_items T (joined p (NamedJump z c NamedEnd)) ++ []) ≡ piece_items T d ++ JumpTo z (T.to x.at) ∷ [] =
-    ap (λ q. piece_items T before ++ q) (sym (nil_append (named_items T (joined p (NamedJump z c NamedEnd)))) ∙ named_items-joined T p (NamedJump z c NamedEnd))
+    let top = mark_top c x.at (frames before)
+    (stack_frames (filter (λ y. not (is_partner (Some x) y)) (open_ones es m)))
+    (tops T es m d (OpenMark c ∷ before) x (OnMark x.at) inv k.framed is.1.0 (mark_frame t x.kind x.at is.1.1)) in
+    let l : piece_items T before ++ (named_items T (joined p (NamedJump z c NamedEnd)) ++ []) ≡ piece_items T d
+    ++ JumpTo z (T.to x.at) ∷ [] =
+    ap (λ q. piece_items T before ++ q) (sym (nil_append (named_items T (joined p (NamedJump z c NamedEnd))))
+    ∙ named_items-joined T p (NamedJump z c NamedEnd))
     ∙ sym (append_assoc (piece_items T before) (named_items T p) (JumpTo z (T.to c) ∷ []))
     ∙ ap (λ q. q ++ JumpTo z (T.to c) ∷ []) (sym k.listed)
     ∙ ap (λ a. piece_items T d ++ JumpTo z (T.to a) ∷ []) top.0 in
-    made T (Back z t) es (Some x) m d (Part (NamedCycle c (joined p (NamedJump z c NamedEnd)) NamedEnd) ∷ hoisted bs before) inv is
+    made T (Back z t) es (Some x) m d (Part
+    (NamedCycle c (joined p (NamedJump z c NamedEnd)) NamedEnd) ∷ hoisted bs before) inv is
     (ap (λ q. q ++ (named_items T (joined p (NamedJump z c NamedEnd)) ++ [])) (piece_items-hoisted T bs before) ∙ l)
     (omega (arith, piece_count-hoisted bs before, k.counted, named_size-joined p (NamedJump z c NamedEnd)))
     (close_cycle_good T z bs p c before d k)
@@ -113,15 +171,24 @@ cycle_next T z t es x m d bs p (OpenChoice c) before inv is k = tt
 cycle_next T z t es x m d bs p (OpenOf o c) before inv is k = tt
 
 -- ---- a loop
-counted_next : {A : Type 0} → (T : Targets) (l : Bool) (es : List (Element A)) (x : Opening) (m : Partners) (d : List (Piece A)) (bs : List ℕ) (p : NamedBody A) (from : Piece A) (before : List (Piece A)) → Agreeing T es m d → IsMatching (Loop l ∷ es) (Some x ∷ m) → T.to x.at ≡ suc (item_count es) → Keeps T d bs p (from ∷ before) → AgreeingDraft T (Loop l ∷ es) (Some x ∷ m) (close_counted l bs p from before)
+counted_next :
+    {A : Type 0} → (T : Targets) (l : Bool) (es : List (Element A)) (x : Opening) (m : Partners) (d : List (Piece A))
+    (bs : List ℕ) (p : NamedBody A) (from : Piece A) (before : List (Piece A)) → Agreeing T es m d →
+    IsMatching (Loop l ∷ es) (Some x ∷ m) → T.to x.at ≡ suc (item_count es) → Keeps T d bs p (from ∷ before) →
+    AgreeingDraft T (Loop l ∷ es) (Some x ∷ m) (close_counted l bs p from before)
 counted_next T l es x m d [] p (OpenDo q a) before inv is to k =
     let st = structure_top (open_ones es m) x is.1.0 (ap is_orig is.1.1) in
-    let top = do_top a x.at (frames before) (stack_frames (filter (λ y. not (is_partner (Some x) y)) (open_ones es m))) (tops T es m d (OpenDo q a ∷ before) x (OnDo x.at) inv k.framed st (ap (λ w. frame_of w x.at) is.1.1)) in
-    let to' : T.to a ≡ suc (suc (piece_count before) + named_size p) = ap T.to top.0 ∙ to ∙ ap suc (sym inv.counted ∙ k.counted) in
+    let top = do_top a x.at (frames before) (stack_frames (filter (λ y. not (is_partner (Some x) y)) (open_ones es m)))
+    (tops T es m d (OpenDo q a ∷ before) x (OnDo x.at) inv k.framed st (ap (λ w. frame_of w x.at) is.1.1)) in
+    let to' : T.to a ≡ suc (suc (piece_count before) + named_size p) = ap T.to top.0 ∙ to
+    ∙ ap suc (sym inv.counted ∙ k.counted) in
     let sc = k.scoped [] [] (sub_refl []) (sub_refl []) (sub_refl []) in
-    let e : piece_items T before ++ (EnterLoop q (T.to a) ∷ (named_items T p ++ RepeatLoop l (T.back a) ∷ [])) ≡ piece_items T d ++ RepeatLoop l (T.back x.at) ∷ [] =
-    sym (append_assoc (piece_items T before) (EnterLoop q (T.to a) ∷ []) (named_items T p ++ RepeatLoop l (T.back a) ∷ []))
-    ∙ sym (append_assoc (piece_items T before ++ EnterLoop q (T.to a) ∷ []) (named_items T p) (RepeatLoop l (T.back a) ∷ []))
+    let e : piece_items T before ++ (EnterLoop q (T.to a) ∷ (named_items T p ++ RepeatLoop l (T.back a) ∷ []))
+    ≡ piece_items T d ++ RepeatLoop l (T.back x.at) ∷ [] =
+    sym (append_assoc (piece_items T before) (EnterLoop q (T.to a) ∷ [])
+    (named_items T p ++ RepeatLoop l (T.back a) ∷ []))
+    ∙ sym (append_assoc (piece_items T before ++ EnterLoop q (T.to a) ∷ []) (named_items T p)
+    (RepeatLoop l (T.back a) ∷ []))
     ∙ ap (λ w. w ++ RepeatLoop l (T.back a) ∷ []) (sym k.listed)
     ∙ ap (λ w. piece_items T d ++ RepeatLoop l (T.back w) ∷ []) top.0 in
     made T (Loop l) es (Some x) m d (Part (NamedCounted q a p l NamedEnd) ∷ before) inv is e
@@ -143,10 +210,14 @@ counted_next T l es x m d (b ∷ bs) p (OpenChoice c) before inv is to k = tt
 counted_next T l es x m d (b ∷ bs) p (OpenOf o c) before inv is to k = tt
 
 -- ---- of
-of_next : {A : Type 0} → (T : Targets) (es : List (Element A)) (m : Partners) (d : List (Piece A)) (bs : List ℕ) (p : NamedBody A) (from : Piece A) (before : List (Piece A)) → Agreeing T es m d → IsMatching (Of ∷ es) (None ∷ m) → Keeps T d bs p (from ∷ before) → AgreeingDraft T (Of ∷ es) (None ∷ m) (open_of (length es) bs p from before)
+of_next :
+    {A : Type 0} → (T : Targets) (es : List (Element A)) (m : Partners) (d : List (Piece A)) (bs : List ℕ)
+    (p : NamedBody A) (from : Piece A) (before : List (Piece A)) → Agreeing T es m d → IsMatching (Of ∷ es) (None ∷ m) →
+    Keeps T d bs p (from ∷ before) → AgreeingDraft T (Of ∷ es) (None ∷ m) (open_of (length es) bs p from before)
 of_next T es m d [] p (OpenCase c) before inv is k =
     let n = length es in
-    let sc = k.scoped (labels before) (cases before) (sub_none (labels before)) (sub_refl (labels before)) (sub_none (cases before)) in
+    let sc = k.scoped (labels before) (cases before) (sub_none (labels before)) (sub_refl (labels before))
+    (sub_none (cases before)) in
     made T Of es None m d (OpenOf n c ∷ OpenChoice c ∷ Part p ∷ before) inv is
     (ap (λ w. w ++ TestArm (T.to n) ∷ []) (sym k.listed))
     (omega (arith, k.counted))
@@ -168,15 +239,23 @@ of_next T es m d [] p (OpenOf o c) before inv is k = tt
 of_next T es m d (b ∷ bs) p from before inv is k = tt
 
 -- ---- endof
-endof_next : {A : Type 0} → (T : Targets) (es : List (Element A)) (x : Opening) (m : Partners) (d : List (Piece A)) (bs : List ℕ) (p : NamedBody A) (from : Piece A) (before : List (Piece A)) → Agreeing T es m d → IsMatching (EndOf ∷ es) (Some x ∷ m) → T.to x.at ≡ suc (item_count es) → Keeps T d bs p (from ∷ before) → AgreeingDraft T (EndOf ∷ es) (Some x ∷ m) (close_of bs p from before)
+endof_next :
+    {A : Type 0} → (T : Targets) (es : List (Element A)) (x : Opening) (m : Partners) (d : List (Piece A)) (bs : List ℕ)
+    (p : NamedBody A) (from : Piece A) (before : List (Piece A)) → Agreeing T es m d →
+    IsMatching (EndOf ∷ es) (Some x ∷ m) → T.to x.at ≡ suc (item_count es) → Keeps T d bs p (from ∷ before) →
+    AgreeingDraft T (EndOf ∷ es) (Some x ∷ m) (close_of bs p from before)
 endof_next T es x m d [] p (OpenOf o c) before inv is to k =
     let st = structure_top (open_ones es m) x is.1.0 (ap is_orig is.1.1) in
-    let top = of_top o x.at (frames before) (stack_frames (filter (λ y. not (is_partner (Some x) y)) (open_ones es m))) (tops T es m d (OpenOf o c ∷ before) x (OnOf x.at) inv k.framed st (ap (λ w. frame_of w x.at) is.1.1)) in
-    let case' : case_in (stack_frames (open_ones es m)) ≡ Some c = ap case_in (sym inv.framed ∙ k.framed) ∙ case_of-frames before c k.good.1 in
+    let top = of_top o x.at (frames before) (stack_frames (filter (λ y. not (is_partner (Some x) y)) (open_ones es m)))
+    (tops T es m d (OpenOf o c ∷ before) x (OnOf x.at) inv k.framed st (ap (λ w. frame_of w x.at) is.1.1)) in
+    let case' : case_in (stack_frames (open_ones es m)) ≡ Some c = ap case_in (sym inv.framed ∙ k.framed)
+    ∙ case_of-frames before c k.good.1 in
     let pass = case_stack (length es) (open_ones es m) c case' in
-    let to' : T.to o ≡ suc (suc (piece_count before) + named_size p) = ap T.to top.0 ∙ to ∙ ap suc (sym inv.counted ∙ k.counted) in
+    let to' : T.to o ≡ suc (suc (piece_count before) + named_size p) = ap T.to top.0 ∙ to
+    ∙ ap suc (sym inv.counted ∙ k.counted) in
     let sc = k.scoped [] [] (sub_refl []) (sub_refl []) (sub_refl []) in
-    let e : piece_items T before ++ (TestArm (T.to o) ∷ (named_items T p ++ EndArm (T.to c) ∷ [])) ≡ piece_items T d ++ EndArm (T.to (innermost is_case_sys (length es) (open_ones es m))) ∷ [] =
+    let e : piece_items T before ++ (TestArm (T.to o) ∷ (named_items T p ++ EndArm (T.to c) ∷ [])) ≡ piece_items T d
+    ++ EndArm (T.to (innermost is_case_sys (length es) (open_ones es m))) ∷ [] =
     sym (append_assoc (piece_items T before) (TestArm (T.to o) ∷ []) (named_items T p ++ EndArm (T.to c) ∷ []))
     ∙ sym (append_assoc (piece_items T before ++ TestArm (T.to o) ∷ []) (named_items T p) (EndArm (T.to c) ∷ []))
     ∙ ap (λ w. w ++ EndArm (T.to c) ∷ []) (sym k.listed)
@@ -194,13 +273,21 @@ endof_next T es x m d [] p (OpenChoice c) before inv is to k = tt
 endof_next T es x m d (b ∷ bs) p from before inv is to k = tt
 
 -- ---- endcase
-endcase_next : {A : Type 0} → (T : Targets) (es : List (Element A)) (x : Opening) (m : Partners) (d : List (Piece A)) (bs : List ℕ) (p : NamedBody A) (from : Piece A) (before : List (Piece A)) → Agreeing T es m d → IsMatching (EndCase ∷ es) (Some x ∷ m) → T.to x.at ≡ suc (item_count es) → Keeps T d bs p (from ∷ before) → AgreeingDraft T (EndCase ∷ es) (Some x ∷ m) (close_case bs p from before)
+endcase_next :
+    {A : Type 0} → (T : Targets) (es : List (Element A)) (x : Opening) (m : Partners) (d : List (Piece A)) (bs : List ℕ)
+    (p : NamedBody A) (from : Piece A) (before : List (Piece A)) → Agreeing T es m d →
+    IsMatching (EndCase ∷ es) (Some x ∷ m) → T.to x.at ≡ suc (item_count es) → Keeps T d bs p (from ∷ before) →
+    AgreeingDraft T (EndCase ∷ es) (Some x ∷ m) (close_case bs p from before)
 endcase_next T es x m d [] p (OpenCase c) before inv is to k =
     let st = structure_top (open_ones es m) x is.1.0 (ap is_orig is.1.1) in
-    let top = case_top c x.at (frames before) (stack_frames (filter (λ y. not (is_partner (Some x) y)) (open_ones es m))) (tops T es m d (OpenCase c ∷ before) x (OnCase x.at) inv k.framed st (ap (λ w. frame_of w x.at) is.1.1)) in
-    let to0 : T.to c ≡ suc (piece_count before + named_size p) = ap T.to top.0 ∙ to ∙ ap suc (sym inv.counted ∙ k.counted) in
+    let top = case_top c x.at (frames before)
+    (stack_frames (filter (λ y. not (is_partner (Some x) y)) (open_ones es m)))
+    (tops T es m d (OpenCase c ∷ before) x (OnCase x.at) inv k.framed st (ap (λ w. frame_of w x.at) is.1.1)) in
+    let to0 : T.to c ≡ suc (piece_count before + named_size p) = ap T.to top.0 ∙ to
+    ∙ ap suc (sym inv.counted ∙ k.counted) in
     let to' : T.to c ≡ suc (piece_count before + named_size p + 0) = omega (arith, to0) in
-    let sc = k.scoped (labels before) (cases before) (sub_none (labels before)) (sub_refl (labels before)) (sub_none (cases before)) in
+    let sc = k.scoped (labels before) (cases before) (sub_none (labels before)) (sub_refl (labels before))
+    (sub_none (cases before)) in
     made T EndCase es (Some x) m d (Part (NamedChoice c NamedEnd NamedEnd) ∷ Part p ∷ before) inv is
     (ap (λ w. w ++ DropSelector ∷ []) (sym k.listed))
     (omega (arith, k.counted))
@@ -208,11 +295,15 @@ endcase_next T es x m d [] p (OpenCase c) before inv is to k =
     top.1
 endcase_next T es x m d [] p (OpenChoice c) before inv is to k =
     let st = structure_top (open_ones es m) x is.1.0 (ap is_orig is.1.1) in
-    let top = case_top c x.at (frames before) (stack_frames (filter (λ y. not (is_partner (Some x) y)) (open_ones es m))) (tops T es m d (OpenChoice c ∷ before) x (OnCase x.at) inv k.framed st (ap (λ w. frame_of w x.at) is.1.1)) in
-    let to' : T.to c ≡ suc (piece_count before + named_size p) = ap T.to top.0 ∙ to ∙ ap suc (sym inv.counted ∙ k.counted) in
+    let top = case_top c x.at (frames before)
+    (stack_frames (filter (λ y. not (is_partner (Some x) y)) (open_ones es m)))
+    (tops T es m d (OpenChoice c ∷ before) x (OnCase x.at) inv k.framed st (ap (λ w. frame_of w x.at) is.1.1)) in
+    let to' : T.to c ≡ suc (piece_count before + named_size p) = ap T.to top.0 ∙ to
+    ∙ ap suc (sym inv.counted ∙ k.counted) in
     let sc = k.scoped [] (c ∷ []) (sub_refl []) (sub_refl []) (sub_refl (c ∷ [])) in
     made T EndCase es (Some x) m d (Part (NamedChoice c p NamedEnd) ∷ before) inv is
-    (sym (append_assoc (piece_items T before) (named_items T p) (DropSelector ∷ [])) ∙ ap (λ w. w ++ DropSelector ∷ []) (sym k.listed))
+    (sym (append_assoc (piece_items T before) (named_items T p) (DropSelector ∷ []))
+    ∙ ap (λ w. w ++ DropSelector ∷ []) (sym k.listed))
     (omega (arith, k.counted))
     (k.good, (to', k.fine, tt), (sc, tt))
     top.1
@@ -227,22 +318,49 @@ endcase_next T es x m d (b ∷ bs) p from before inv is to k = tt
 abbrev Step : {A : Type 0} → Targets → Element A → List (Element A) → Option Opening → Partners → Draft A → Type 0
 Step T e es o m new = AgreeingDraft T (e ∷ es) (o ∷ m) new
 
-with_gathered : {A : Type 0} → (T : Targets) (e : Element A) (es : List (Element A)) (o : Option Opening) (m : Partners) (d : List (Piece A)) (f : List ℕ → NamedBody A → Piece A → List (Piece A) → Draft A) (g : Option (Gathered A)) → Structured T d g → ((bs : List ℕ) (p : NamedBody A) (from : Piece A) (before : List (Piece A)) → Keeps T d bs p (from ∷ before) → Step T e es o m (f bs p from before)) → Step T e es o m (with_structure f g)
+with_gathered :
+    {A : Type 0} → (T : Targets) (e : Element A) (es : List (Element A)) (o : Option Opening) (m : Partners)
+    (d : List (Piece A)) (f : List ℕ → NamedBody A → Piece A → List (Piece A) → Draft A) (g : Option (Gathered A)) →
+    Structured T d g → ((bs : List ℕ) (p : NamedBody A) (from : Piece A) (before : List (Piece A)) →
+    Keeps T d bs p (from ∷ before) → Step T e es o m (f bs p from before)) → Step T e es o m (with_structure f g)
 with_gathered T e es o m d f None h by = tt
 with_gathered T e es o m d f (Some g) h by = by g.blocks g.inside g.from g.before h.0.keeps
 
-put_next : {A : Type 0} → (T : Targets) (e : Element A) (es : List (Element A)) (o : Option Opening) (m : Partners) (d : List (Piece A)) → Agreeing T es m d → IsMatching (e ∷ es) (o ∷ m) → Sets T es e o → Step T e es o m (put (length es) e d)
-put_next T (Plain k) es None m d inv is to = made T (Plain k) es None m d (Part (NamedOperation k NamedEnd) ∷ d) inv is refl refl (inv.good, tt, tt) (kept T es m d inv)
-put_next T (Branch z t) es None m d inv is to = made T (Branch z t) es None m d (Part (NamedJump z (length es) NamedEnd) ∷ BlockStart (length es) ∷ d) inv is refl refl (inv.good, tt, (inl refl, tt)) (kept T es m d inv)
-put_next T (Mark p) es None m d inv is to = made T (Mark p) es None m d (OpenMark (length es) ∷ d) inv is (nil_append (piece_items T d)) (omega arith) (inv.good, to ∙ sym inv.counted) (ap (λ w. OnMark (length es) ∷ w) (kept T es m d inv))
-put_next T (Do q) es None m d inv is to = made T (Do q) es None m d (OpenDo q (length es) ∷ d) inv is refl (omega arith) (inv.good, to ∙ ap suc (sym inv.counted)) (ap (λ w. OnDo (length es) ∷ w) (kept T es m d inv))
-put_next T Case es None m d inv is to = made T Case es None m d (OpenCase (length es) ∷ d) inv is (nil_append (piece_items T d)) (omega arith) inv.good (ap (λ w. OnCase (length es) ∷ w) (kept T es m d inv))
+put_next :
+    {A : Type 0} → (T : Targets) (e : Element A) (es : List (Element A)) (o : Option Opening) (m : Partners)
+    (d : List (Piece A)) → Agreeing T es m d → IsMatching (e ∷ es) (o ∷ m) → Sets T es e o →
+    Step T e es o m (put (length es) e d)
+put_next T (Plain k) es None m d inv is to =
+    made T (Plain k) es None m d (Part (NamedOperation k NamedEnd) ∷ d) inv is refl refl (inv.good, tt, tt)
+    (kept T es m d inv)
+put_next T (Branch z t) es None m d inv is to =
+    made T (Branch z t) es None m d (Part (NamedJump z (length es) NamedEnd) ∷ BlockStart (length es) ∷ d) inv is refl
+    refl (inv.good, tt, (inl refl, tt)) (kept T es m d inv)
+put_next T (Mark p) es None m d inv is to =
+    made T (Mark p) es None m d (OpenMark (length es) ∷ d) inv is (nil_append (piece_items T d)) (omega arith)
+    (inv.good, to ∙ sym inv.counted) (ap (λ w. OnMark (length es) ∷ w) (kept T es m d inv))
+put_next T (Do q) es None m d inv is to =
+    made T (Do q) es None m d (OpenDo q (length es) ∷ d) inv is refl (omega arith)
+    (inv.good, to ∙ ap suc (sym inv.counted)) (ap (λ w. OnDo (length es) ∷ w) (kept T es m d inv))
+put_next T Case es None m d inv is to =
+    made T Case es None m d (OpenCase (length es) ∷ d) inv is (nil_append (piece_items T d)) (omega arith) inv.good
+    (ap (λ w. OnCase (length es) ∷ w) (kept T es m d inv))
 put_next T Leave es None m d inv is to = leave_next T es m d (innermost_do d) refl inv is
-put_next T Of es None m d inv is to = with_gathered T Of es None m d (open_of (length es)) (to_structure d) (to_structure-keeps T d inv.good) (λ bs p from before k. of_next T es m d bs p from before inv is k)
-put_next T (Back z t) es (Some x) m d inv is to = with_gathered T (Back z t) es (Some x) m d (close_cycle z) (to_structure d) (to_structure-keeps T d inv.good) (λ bs p from before k. cycle_next T z t es x m d bs p from before inv is k)
-put_next T (Loop l) es (Some x) m d inv is to = with_gathered T (Loop l) es (Some x) m d (close_counted l) (to_structure d) (to_structure-keeps T d inv.good) (λ bs p from before k. counted_next T l es x m d bs p from before inv is to k)
-put_next T EndOf es (Some x) m d inv is to = with_gathered T EndOf es (Some x) m d close_of (to_structure d) (to_structure-keeps T d inv.good) (λ bs p from before k. endof_next T es x m d bs p from before inv is to k)
-put_next T EndCase es (Some x) m d inv is to = with_gathered T EndCase es (Some x) m d close_case (to_structure d) (to_structure-keeps T d inv.good) (λ bs p from before k. endcase_next T es x m d bs p from before inv is to k)
+put_next T Of es None m d inv is to =
+    with_gathered T Of es None m d (open_of (length es)) (to_structure d) (to_structure-keeps T d inv.good)
+    (λ bs p from before k. of_next T es m d bs p from before inv is k)
+put_next T (Back z t) es (Some x) m d inv is to =
+    with_gathered T (Back z t) es (Some x) m d (close_cycle z) (to_structure d) (to_structure-keeps T d inv.good)
+    (λ bs p from before k. cycle_next T z t es x m d bs p from before inv is k)
+put_next T (Loop l) es (Some x) m d inv is to =
+    with_gathered T (Loop l) es (Some x) m d (close_counted l) (to_structure d) (to_structure-keeps T d inv.good)
+    (λ bs p from before k. counted_next T l es x m d bs p from before inv is to k)
+put_next T EndOf es (Some x) m d inv is to =
+    with_gathered T EndOf es (Some x) m d close_of (to_structure d) (to_structure-keeps T d inv.good)
+    (λ bs p from before k. endof_next T es x m d bs p from before inv is to k)
+put_next T EndCase es (Some x) m d inv is to =
+    with_gathered T EndCase es (Some x) m d close_case (to_structure d) (to_structure-keeps T d inv.good)
+    (λ bs p from before k. endcase_next T es x m d bs p from before inv is to k)
 put_next T (Plain k) es (Some x) m d inv is to = absurd is.1
 put_next T (Branch z t) es (Some x) m d inv is to = absurd is.1
 put_next T (Mark p) es (Some x) m d inv is to = absurd is.1
@@ -259,11 +377,14 @@ put_next T (Roll n) es o m d inv is to = tt
 put_next T (Misfit k) es o m d inv is to = tt
 
 -- ---- the whole list
-pub record AgreeingRead {A : Type 0} (T : Targets) (es : List (Element A)) (m : Partners) (r : PartlyRead A) : Type 0 where
+pub record AgreeingRead {A : Type 0} (T : Targets) (es : List (Element A)) (m : Partners)
+    (r : PartlyRead A) : Type 0 where
   pub due : EndHere T (item_count es) r.due
   pub pieces : AgreeingDraft T es m r.pieces
 
-add_due-ends_step : (T : Targets) (n b c : ℕ) (cs : List ℕ) (t : Bool) → T.to b ≡ n → T.to c ≡ n → EndHere T n cs → EndHere T n (add_due b cs) → EndHere T n (if t then b ∷ c ∷ cs else c ∷ add_due b cs)
+add_due-ends_step :
+    (T : Targets) (n b c : ℕ) (cs : List ℕ) (t : Bool) → T.to b ≡ n → T.to c ≡ n → EndHere T n cs →
+    EndHere T n (add_due b cs) → EndHere T n (if t then b ∷ c ∷ cs else c ∷ add_due b cs)
 add_due-ends_step T n b c cs true e f h k = (e, (f, h))
 add_due-ends_step T n b c cs false e f h k = (f, k)
 
@@ -275,50 +396,89 @@ pub close_all-none : {A : Type 0} → (bs : List ℕ) → close_all {A = A} bs N
 close_all-none [] = refl
 close_all-none (b ∷ bs) = close_all-none bs
 
-inv_same : {A : Type 0} → (T : Targets) (es : List (Element A)) (m : Partners) (d : List (Piece A)) (o : Draft A) → Agreeing T es m d → SameDraft T d o → AgreeingDraft T es m o
+inv_same :
+    {A : Type 0} → (T : Targets) (es : List (Element A)) (m : Partners) (d : List (Piece A)) (o : Draft A) →
+    Agreeing T es m d → SameDraft T d o → AgreeingDraft T es m o
 inv_same T es m d None inv s = tt
 inv_same T es m d (Some e) inv s =
-    record { listed = s.listed ∙ inv.listed; counted = s.counted ∙ inv.counted; good = s.good; framed = s.framed ∙ inv.framed }
+    record {
+      listed = s.listed ∙ inv.listed;
+      counted = s.counted ∙ inv.counted;
+      good = s.good;
+      framed = s.framed
+          ∙ inv.framed;
+    }
 
 same_refl : {A : Type 0} → (T : Targets) (d : List (Piece A)) → Good T d → Same T d d
 same_refl T d g = record { listed = refl; counted = refl; good = g; framed = refl }
 
-flushed : {A : Type 0} → (T : Targets) (es : List (Element A)) (m : Partners) (bs : List ℕ) (o : Draft A) → EndHere T (item_count es) bs → AgreeingDraft T es m o → AgreeingDraft T es m (close_all bs o)
+flushed :
+    {A : Type 0} → (T : Targets) (es : List (Element A)) (m : Partners) (bs : List ℕ) (o : Draft A) →
+    EndHere T (item_count es) bs → AgreeingDraft T es m o → AgreeingDraft T es m (close_all bs o)
 flushed T es m bs None h inv = subst (AgreeingDraft T es m) (sym (close_all-none bs)) tt
 flushed T es m bs (Some d) h inv =
-    inv_same T es m d (close_all bs (Some d)) inv (close_all-keeps T bs d (Some d) (subst (λ n. EndHere T n bs) (sym inv.counted) h) (same_refl T d inv.good))
+    inv_same T es m d (close_all bs (Some d)) inv
+    (close_all-keeps T bs d (Some d) (subst (λ n. EndHere T n bs) (sym inv.counted) h) (same_refl T d inv.good))
 
-put_all_next : {A : Type 0} → (T : Targets) (e : Element A) (es : List (Element A)) (o : Option Opening) (m : Partners) (d : Draft A) → AgreeingDraft T es m d → IsMatching (e ∷ es) (o ∷ m) → Sets T es e o → Step T e es o m (put_all (length es) e d)
+put_all_next :
+    {A : Type 0} → (T : Targets) (e : Element A) (es : List (Element A)) (o : Option Opening) (m : Partners)
+    (d : Draft A) → AgreeingDraft T es m d → IsMatching (e ∷ es) (o ∷ m) → Sets T es e o →
+    Step T e es o m (put_all (length es) e d)
 put_all_next T e es o m None inv is to = tt
 put_all_next T e es o m (Some d) inv is to = put_next T e es o m d inv is to
 
-usual_next : {A : Type 0} → (T : Targets) (e : Element A) (es : List (Element A)) (o : Option Opening) (m : Partners) (r : PartlyRead A) → AgreeingRead T es m r → IsMatching (e ∷ es) (o ∷ m) → Sets T es e o → AgreeingRead T (e ∷ es) (o ∷ m) (record { due = []; pieces = put_all (length es) e (close_all r.due r.pieces) })
+usual_next :
+    {A : Type 0} → (T : Targets) (e : Element A) (es : List (Element A)) (o : Option Opening) (m : Partners)
+    (r : PartlyRead A) → AgreeingRead T es m r → IsMatching (e ∷ es) (o ∷ m) → Sets T es e o →
+    AgreeingRead T (e ∷ es) (o ∷ m) (record { due = []; pieces = put_all (length es) e (close_all r.due r.pieces) })
 usual_next T e es o m r h is to =
-    record { due = tt; pieces = put_all_next T e es o m (close_all r.due r.pieces) (flushed T es m r.due r.pieces h.due h.pieces) is to }
+    record {
+      due = tt;
+      pieces = put_all_next T e es o m (close_all r.due r.pieces)
+          (flushed T es m r.due r.pieces h.due h.pieces) is to;
+    }
 
-resolve_next : {A : Type 0} → (T : Targets) (p : Option ℕ) (es : List (Element A)) (x : Opening) (m : Partners) (o : Draft A) → AgreeingDraft T es m o → IsMatching (Resolve p ∷ es) (Some x ∷ m) → AgreeingDraft T (Resolve p ∷ es) (Some x ∷ m) o
+resolve_next :
+    {A : Type 0} → (T : Targets) (p : Option ℕ) (es : List (Element A)) (x : Opening) (m : Partners) (o : Draft A) →
+    AgreeingDraft T es m o → IsMatching (Resolve p ∷ es) (Some x ∷ m) → AgreeingDraft T (Resolve p ∷ es) (Some x ∷ m) o
 resolve_next T p es x m None inv is = tt
 resolve_next T p es x m (Some d) inv is =
     made T (Resolve p) es (Some x) m d d inv is (nil_append (piece_items T d)) (omega arith) inv.good
-    (inv.framed ∙ sym (frames-resolve (open_ones es m) x (Desc-open es m) (among-resolved p (top_origs (open_ones es m)) x is.1)))
+    (inv.framed ∙ sym (frames-resolve (open_ones es m) x (Desc-open es m)
+    (among-resolved p (top_origs (open_ones es m)) x is.1)))
 
-roll_next : {A : Type 0} → (T : Targets) (n : ℕ) (es : List (Element A)) (x : Opening) (m : Partners) (o : Draft A) → AgreeingDraft T es m o → IsMatching (Roll n ∷ es) (Some x ∷ m) → AgreeingDraft T (Roll n ∷ es) (Some x ∷ m) o
+roll_next :
+    {A : Type 0} → (T : Targets) (n : ℕ) (es : List (Element A)) (x : Opening) (m : Partners) (o : Draft A) →
+    AgreeingDraft T es m o → IsMatching (Roll n ∷ es) (Some x ∷ m) → AgreeingDraft T (Roll n ∷ es) (Some x ∷ m) o
 roll_next T n es x m None inv is = tt
 roll_next T n es x m (Some d) inv is =
     let os = open_ones es m in
     let among = among-get (top_origs os) n x is.1 in
     made T (Roll n) es (Some x) m d d inv is (nil_append (piece_items T d)) (omega arith) inv.good
-    (inv.framed ∙ sym (frames-resolve os x (Desc-open es m) among) ∙ ap (λ l. l ++ stack_frames (filter (λ y. not (is_partner (Some x) y)) os)) (sym (frame_pending x.kind x.at (pending_is os x among))))
+    (inv.framed ∙ sym (frames-resolve os x (Desc-open es m) among)
+    ∙ ap (λ l. l ++ stack_frames (filter (λ y. not (is_partner (Some x) y)) os))
+    (sym (frame_pending x.kind x.at (pending_is os x among))))
 
 ends_at : (T : Targets) (a b : ℕ) (bs : List ℕ) → a ≡ b → EndHere T a bs → EndHere T b bs
 ends_at T a b bs e h = subst (λ n. EndHere T n bs) e h
 
-read_next-keeps : {A : Type 0} → (T : Targets) (e : Element A) (es : List (Element A)) (o : Option Opening) (m : Partners) (r : PartlyRead A) → AgreeingRead T es m r → IsMatching (e ∷ es) (o ∷ m) → Sets T es e o → AgreeingRead T (e ∷ es) (o ∷ m) (read_next (length es) e o r)
+read_next-keeps :
+    {A : Type 0} → (T : Targets) (e : Element A) (es : List (Element A)) (o : Option Opening) (m : Partners)
+    (r : PartlyRead A) → AgreeingRead T es m r → IsMatching (e ∷ es) (o ∷ m) → Sets T es e o →
+    AgreeingRead T (e ∷ es) (o ∷ m) (read_next (length es) e o r)
 read_next-keeps T (Resolve p) es (Some x) m r h is to =
-    record { due = ends_at T (item_count es) (item_count es + 0) (add_due x.at r.due) (omega arith) (add_due-ends T (item_count es) x.at r.due to h.due); pieces = resolve_next T p es x m r.pieces h.pieces is }
+    record {
+      due = ends_at T (item_count es) (item_count es + 0) (add_due x.at r.due) (omega arith)
+          (add_due-ends T (item_count es) x.at r.due to h.due);
+      pieces = resolve_next T p es x m r.pieces h.pieces is;
+    }
 read_next-keeps T (Resolve p) es None m r h is to = absurd is.1
 read_next-keeps T (Roll n) es (Some x) m r h is to =
-    record { due = ends_at T (item_count es) (item_count es + 0) r.due (omega arith) h.due; pieces = roll_next T n es x m r.pieces h.pieces is }
+    record {
+      due = ends_at T (item_count es) (item_count es + 0) r.due (omega arith) h.due;
+      pieces =
+          roll_next T n es x m r.pieces h.pieces is;
+    }
 read_next-keeps T (Roll n) es None m r h is to = absurd is.1
 read_next-keeps T (Plain k) es o m r h is to = usual_next T (Plain k) es o m r h is to
 read_next-keeps T (Branch z t) es o m r h is to = usual_next T (Branch z t) es o m r h is to
@@ -333,11 +493,15 @@ read_next-keeps T EndOf es o m r h is to = usual_next T EndOf es o m r h is to
 read_next-keeps T EndCase es o m r h is to = usual_next T EndCase es o m r h is to
 read_next-keeps T (Misfit k) es o m r h is to = usual_next T (Misfit k) es o m r h is to
 
-pub read_so_far-keeps : {A : Type 0} → (T : Targets) (es : List (Element A)) (m : Partners) → IsMatching es m → AreTargets T es m → AgreeingRead T es m (read_so_far es m)
-read_so_far-keeps T [] [] is to = record { due = tt; pieces = record { listed = refl; counted = refl; good = tt; framed = refl } }
+pub read_so_far-keeps :
+    {A : Type 0} → (T : Targets) (es : List (Element A)) (m : Partners) → IsMatching es m → AreTargets T es m →
+    AgreeingRead T es m (read_so_far es m)
+read_so_far-keeps T [] [] is to =
+    record { due = tt; pieces = record { listed = refl; counted = refl; good = tt; framed = refl } }
 read_so_far-keeps T [] (o ∷ m) is to = absurd is
 read_so_far-keeps T (e ∷ es) [] is to = absurd is
-read_so_far-keeps T (e ∷ es) (o ∷ m) is to = read_next-keeps T e es o m (read_so_far es m) (read_so_far-keeps T es m is.0 to.0) is to.1
+read_so_far-keeps T (e ∷ es) (o ∷ m) is to =
+    read_next-keeps T e es o m (read_so_far es m) (read_so_far-keeps T es m is.0 to.0) is to.1
 
 -- ---- the end
 pub record Whole {A : Type 0} (T : Targets) (d : List (Piece A)) (q : NamedBody A) : Type 0 where
@@ -353,7 +517,10 @@ abbrev WholeIf : {A : Type 0} → Targets → List (Piece A) → Option (NamedBo
 WholeIf T d None = Unit {0}
 WholeIf T d (Some q) = Whole T d q
 
-whole_part : {A : Type 0} → (T : Targets) (p : NamedBody A) (d : List (Piece A)) (o : Option (NamedBody A)) → Fine T (piece_count d) p → Scoped (labels d) (innermost_do d) (cases d) p → WholeIf T d o → WholeIf T (Part p ∷ d) (with_last p o)
+whole_part :
+    {A : Type 0} → (T : Targets) (p : NamedBody A) (d : List (Piece A)) (o : Option (NamedBody A)) →
+    Fine T (piece_count d) p → Scoped (labels d) (innermost_do d) (cases d) p → WholeIf T d o →
+    WholeIf T (Part p ∷ d) (with_last p o)
 whole_part T p d None f s h = tt
 whole_part T p d (Some q) f s h =
     let s1 = subst (λ l. Scoped l (innermost_do d) (cases d) p) h.no_labels s in
@@ -370,7 +537,8 @@ whole_part T p d (Some q) f s h =
     }
 
 all_parts-whole : {A : Type 0} → (T : Targets) (d : List (Piece A)) → Good T d → WholeIf T d (all_parts d)
-all_parts-whole T [] g = record { listed = refl; counted = refl; fine = tt; no_labels = refl; no_do = refl; no_cases = refl; scoped = tt }
+all_parts-whole T [] g =
+    record { listed = refl; counted = refl; fine = tt; no_labels = refl; no_do = refl; no_cases = refl; scoped = tt }
 all_parts-whole T (Part p ∷ d) g = whole_part T p d (all_parts d) g.1 g.2 (all_parts-whole T d g.0)
 all_parts-whole T (BlockStart b ∷ d) g = tt
 all_parts-whole T (OpenMark c ∷ d) g = tt
@@ -383,17 +551,26 @@ abbrev pub Agrees : {A : Type 0} → Targets → List (Element A) → Partners �
 Agrees T es m None = Unit {0}
 Agrees T es m (Some b) = (items_of b ≡ flat_items T es m) × IsScoped 0 false false b
 
-agrees_named : {A : Type 0} → (T : Targets) (es : List (Element A)) (m : Partners) (d : List (Piece A)) (o : Option (NamedBody A)) → Agreeing T es m d → WholeIf T d o → Agrees T es m (body_of o)
+agrees_named :
+    {A : Type 0} → (T : Targets) (es : List (Element A)) (m : Partners) (d : List (Piece A))
+    (o : Option (NamedBody A)) → Agreeing T es m d → WholeIf T d o → Agrees T es m (body_of o)
 agrees_named T es m d None inv h = tt
-agrees_named T es m d (Some q) inv h =
-    (items-nameless T q 0 [] [] None [] 0 0 refl tt tt h.fine h.scoped ∙ sym h.listed ∙ inv.listed, scoped-nameless [] None [] q h.scoped)
+agrees_named T es m d (Some q) inv h = (
+  items-nameless T q 0 [] [] None [] 0 0 refl tt tt h.fine h.scoped ∙ sym h.listed
+      ∙ inv.listed,
+  scoped-nameless [] None [] q h.scoped,
+)
 
-agrees_draft : {A : Type 0} → (T : Targets) (es : List (Element A)) (m : Partners) (o : Draft A) → AgreeingDraft T es m o → Agrees T es m (body_of (finished o))
+agrees_draft :
+    {A : Type 0} → (T : Targets) (es : List (Element A)) (m : Partners) (o : Draft A) → AgreeingDraft T es m o →
+    Agrees T es m (body_of (finished o))
 agrees_draft T es m None inv = tt
 agrees_draft T es m (Some d) inv = agrees_named T es m d (all_parts d) inv (all_parts-whole T d inv.good)
 
 -- the items of the reading are the flat ones, with the same targets
-pub agrees : {A : Type 0} → (T : Targets) (es : List (Element A)) (m : Partners) → IsMatching es m → AreTargets T es m → Agrees T es m (reading es m)
+pub agrees :
+    {A : Type 0} → (T : Targets) (es : List (Element A)) (m : Partners) → IsMatching es m → AreTargets T es m →
+    Agrees T es m (reading es m)
 agrees T es m is to =
     let r = read_so_far es m in
     let h = read_so_far-keeps T es m is to in

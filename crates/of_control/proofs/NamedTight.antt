@@ -1,14 +1,18 @@
 -- A tight body with names is tight without them.
-use Rattle.std.proofs.Common.{◌≡◌, ℕ, suc, ◌<◌, Bool, true, false, List, [], ◌∷◌, ◌++◌, length, refl, sym, ap, ◌∙◌, subst, arith}
+use Rattle.std.proofs.Common.{◌≡◌, ℕ, suc, ◌<◌, Bool, true, false, List, [], ◌∷◌, ◌++◌, length, refl, sym, ap, ◌∙◌}
+use Rattle.std.proofs.Common.{subst, arith}
 use Rattle.std.specs.Prelude.{◌==◌, if◌then◌else◌, map}
 use Rattle.std.proofs.lemmas.Bool.{ne_eqb, eq-eqb}
 use Rattle.std.proofs.lemmas.List.{map-append, length-map}
 use Rattle.of_control.specs.Body.{IsScoped}
-use Rattle.of_control.specs.Reading.{NamedArm, NamedBlock, NamedBody, NamedChoice, NamedCounted, NamedCycle, NamedEnd, NamedJump, NamedLeave, NamedOperation, label_index, nameless}
-use Rattle.of_control.specs.Tight.{AtEnd, BeginsWithArm, Beyond, Each, HasOneJump, Inside, IsBlock, IsCycle, IsOther, IsShorter, IsTight, Way, first_size, outward, shut, ways}
+use Rattle.of_control.specs.Reading.{NamedArm, NamedBlock, NamedBody, NamedChoice, NamedCounted, NamedCycle, NamedEnd}
+use Rattle.of_control.specs.Reading.{NamedJump, NamedLeave, NamedOperation, label_index, nameless}
+use Rattle.of_control.specs.Tight.{AtEnd, BeginsWithArm, Beyond, Each, HasOneJump, Inside, IsBlock, IsCycle, IsOther}
+use Rattle.of_control.specs.Tight.{IsShorter, IsTight, Way, first_size, outward, shut, ways}
 use Rattle.of_control.proofs.NamedBodies.{body_size-nameless, named_size}
 
--- where an item goes, by the name of the part: not out of the body, to its end by leaving this Block, or to this part round it
+-- where an item goes, by the name of the part: not out of the body, to its end by leaving this Block, or to this part
+-- round it
 pub data NamedWay : Type 0 where
   Stays : NamedWay
   Ends : ℕ → NamedWay
@@ -110,66 +114,92 @@ way_in ls Stays = Inside
 way_in ls (Ends x) = AtEnd
 way_in ls (Goes x) = Beyond (label_index x ls)
 
-ends_out : (ls : List ℕ) (x : ℕ) (last : Bool) → (if last then AtEnd else Inside) ≡ way_in ls (if last then Ends x else Stays)
+ends_out :
+    (ls : List ℕ) (x : ℕ) (last : Bool) → (if last then AtEnd else Inside) ≡ way_in ls (if last then Ends x else Stays)
 ends_out ls x true = refl
 ends_out ls x false = refl
 
-goes_out : (ls : List ℕ) (b x : ℕ) (last t : Bool) → outward last (Beyond (if t then 0 else suc (label_index x ls))) ≡ way_in ls (if t then (if last then Ends b else Stays) else Goes x)
+goes_out :
+    (ls : List ℕ) (b x : ℕ) (last t : Bool) →
+    outward last (Beyond (if t then 0 else suc (label_index x ls))) ≡ way_in ls
+    (if t then (if last then Ends b else Stays) else Goes x)
 goes_out ls b x last true = ends_out ls b last
 goes_out ls b x last false = refl
 
-left_out : (b : ℕ) (ls : List ℕ) (last : Bool) (w : NamedWay) → outward last (way_in (b ∷ ls) w) ≡ way_in ls (left b last w)
+left_out :
+    (b : ℕ) (ls : List ℕ) (last : Bool) (w : NamedWay) → outward last (way_in (b ∷ ls) w) ≡ way_in ls (left b last w)
 left_out b ls last Stays = refl
 left_out b ls last (Ends x) = ends_out ls x last
 left_out b ls last (Goes x) = goes_out ls b x last (x == b)
 
-map_out : (f : Way → Way) (g h : NamedWay → Way) (k : NamedWay → NamedWay) → ((w : NamedWay) → f (g w) ≡ h (k w)) → (ws : List NamedWay) → map f (map g ws) ≡ map h (map k ws)
+map_out :
+    (f : Way → Way) (g h : NamedWay → Way) (k : NamedWay → NamedWay) → ((w : NamedWay) → f (g w) ≡ h (k w)) →
+    (ws : List NamedWay) → map f (map g ws) ≡ map h (map k ws)
 map_out f g h k e [] = refl
 map_out f g h k e (w ∷ ws) = ap (λ y. y ∷ map f (map g ws)) (e w) ∙ ap (λ l. h (k w) ∷ l) (map_out f g h k e ws)
 
-part_ways : (f : Way → Way) (g h : NamedWay → Way) (k : NamedWay → NamedWay) (us vs : List Way) (ws zs : List NamedWay) → ((w : NamedWay) → f (g w) ≡ h (k w)) → us ≡ map g ws → vs ≡ map h zs → map f us ++ vs ≡ map h (map k ws ++ zs)
+part_ways :
+    (f : Way → Way) (g h : NamedWay → Way) (k : NamedWay → NamedWay) (us vs : List Way) (ws zs : List NamedWay) →
+    ((w : NamedWay) → f (g w) ≡ h (k w)) → us ≡ map g ws → vs ≡ map h zs → map f us ++ vs ≡ map h (map k ws ++ zs)
 part_ways f g h k us vs ws zs e p q =
-    ap (λ l. map f l ++ vs) p ∙ ap (λ l. l ++ vs) (map_out f g h k e ws) ∙ ap (λ l. map h (map k ws) ++ l) q ∙ sym (map-append h (map k ws) zs)
+    ap (λ l. map f l ++ vs) p ∙ ap (λ l. l ++ vs) (map_out f g h k e ws) ∙ ap (λ l. map h (map k ws) ++ l) q
+    ∙ sym (map-append h (map k ws) zs)
 
-pub ways-nameless : {A : Type 0} → (ls : List ℕ) (p : NamedBody A) → ways (nameless ls p) ≡ map (way_in ls) (named_ways p)
+pub ways-nameless :
+    {A : Type 0} → (ls : List ℕ) (p : NamedBody A) → ways (nameless ls p) ≡ map (way_in ls) (named_ways p)
 ways-nameless ls NamedEnd = refl
 ways-nameless ls (NamedOperation a r) = ap (λ l. Inside ∷ l) (ways-nameless ls r)
 ways-nameless ls (NamedLeave d r) = ap (λ l. Inside ∷ l) (ways-nameless ls r)
 ways-nameless ls (NamedJump z b r) = ap (λ l. Beyond (label_index b ls) ∷ l) (ways-nameless ls r)
 ways-nameless ls (NamedBlock b p r) =
     ap (λ n. map (outward (n == 0)) (ways (nameless (b ∷ ls) p)) ++ ways (nameless ls r)) (body_size-nameless ls r)
-    ∙ part_ways (outward (named_size r == 0)) (way_in (b ∷ ls)) (way_in ls) (left b (named_size r == 0)) (ways (nameless (b ∷ ls) p)) (ways (nameless ls r)) (named_ways p) (named_ways r) (left_out b ls (named_size r == 0)) (ways-nameless (b ∷ ls) p) (ways-nameless ls r)
+    ∙ part_ways (outward (named_size r == 0)) (way_in (b ∷ ls)) (way_in ls) (left b (named_size r == 0))
+    (ways (nameless (b ∷ ls) p)) (ways (nameless ls r)) (named_ways p) (named_ways r)
+    (left_out b ls (named_size r == 0)) (ways-nameless (b ∷ ls) p) (ways-nameless ls r)
 ways-nameless ls (NamedCycle c p r) =
-    part_ways (outward false) (way_in (c ∷ ls)) (way_in ls) (left c false) (ways (nameless (c ∷ ls) p)) (ways (nameless ls r)) (named_ways p) (named_ways r) (left_out c ls false) (ways-nameless (c ∷ ls) p) (ways-nameless ls r)
+    part_ways (outward false) (way_in (c ∷ ls)) (way_in ls) (left c false) (ways (nameless (c ∷ ls) p))
+    (ways (nameless ls r)) (named_ways p) (named_ways r) (left_out c ls false) (ways-nameless (c ∷ ls) p)
+    (ways-nameless ls r)
 ways-nameless ls (NamedCounted q d p l r) =
-    ap (λ k. Inside ∷ k) (part_ways shut (way_in []) (way_in ls) kept_in (ways (nameless [] p)) (Inside ∷ ways (nameless ls r)) (named_ways p) (Stays ∷ named_ways r) (λ w. refl) (ways-nameless [] p) (ap (λ k. Inside ∷ k) (ways-nameless ls r)))
+    ap (λ k. Inside ∷ k) (part_ways shut (way_in []) (way_in ls) kept_in (ways (nameless [] p))
+    (Inside ∷ ways (nameless ls r)) (named_ways p) (Stays ∷ named_ways r) (λ w. refl) (ways-nameless [] p)
+    (ap (λ k. Inside ∷ k) (ways-nameless ls r)))
 ways-nameless ls (NamedChoice c p r) =
-    part_ways shut (way_in []) (way_in ls) kept_in (ways (nameless [] p)) (Inside ∷ ways (nameless ls r)) (named_ways p) (Stays ∷ named_ways r) (λ w. refl) (ways-nameless [] p) (ap (λ k. Inside ∷ k) (ways-nameless ls r))
+    part_ways shut (way_in []) (way_in ls) kept_in (ways (nameless [] p)) (Inside ∷ ways (nameless ls r)) (named_ways p)
+    (Stays ∷ named_ways r) (λ w. refl) (ways-nameless [] p) (ap (λ k. Inside ∷ k) (ways-nameless ls r))
 ways-nameless ls (NamedArm o c p r) =
-    ap (λ k. Inside ∷ k) (part_ways shut (way_in []) (way_in ls) kept_in (ways (nameless [] p)) (Inside ∷ ways (nameless ls r)) (named_ways p) (Stays ∷ named_ways r) (λ w. refl) (ways-nameless [] p) (ap (λ k. Inside ∷ k) (ways-nameless ls r)))
+    ap (λ k. Inside ∷ k) (part_ways shut (way_in []) (way_in ls) kept_in (ways (nameless [] p))
+    (Inside ∷ ways (nameless ls r)) (named_ways p) (Stays ∷ named_ways r) (λ w. refl) (ways-nameless [] p)
+    (ap (λ k. Inside ∷ k) (ways-nameless ls r)))
 
-each_to : (P : NamedWay → Type 0) (Q : Way → Type 0) (f : NamedWay → Way) (ws : List NamedWay) → ((w : NamedWay) → P w → Q (f w)) → Each P ws → Each Q (map f ws)
+each_to :
+    (P : NamedWay → Type 0) (Q : Way → Type 0) (f : NamedWay → Way) (ws : List NamedWay) →
+    ((w : NamedWay) → P w → Q (f w)) → Each P ws → Each Q (map f ws)
 each_to P Q f [] g h = tt
 each_to P Q f (w ∷ ws) g h = (g w h.0, each_to P Q f ws g h.1)
 
 shorter_in : (b : ℕ) (ls : List ℕ) (w : NamedWay) → Shorter b w → IsShorter (way_in (b ∷ ls) w)
 shorter_in b ls Stays h = tt
 shorter_in b ls (Ends x) h = absurd h
-shorter_in b ls (Goes x) h = subst (λ t. IsShorter (Beyond (if t then 0 else suc (label_index x ls)))) (sym (ne_eqb x b h)) tt
+shorter_in b ls (Goes x) h =
+    subst (λ t. IsShorter (Beyond (if t then 0 else suc (label_index x ls)))) (sym (ne_eqb x b h)) tt
 
 other_in : (b : ℕ) (ls : List ℕ) (w : NamedWay) → NotTo b w → IsOther (way_in (b ∷ ls) w)
 other_in b ls Stays h = tt
 other_in b ls (Ends x) h = tt
-other_in b ls (Goes x) h = subst (λ t. IsOther (Beyond (if t then 0 else suc (label_index x ls)))) (sym (ne_eqb x b h)) tt
+other_in b ls (Goes x) h =
+    subst (λ t. IsOther (Beyond (if t then 0 else suc (label_index x ls)))) (sym (ne_eqb x b h)) tt
 
-abbrev jump_in : {A : Type 0} → (b : ℕ) (ls : List ℕ) (p : NamedBody A) → NamedJumpOnce b p → HasOneJump (nameless (b ∷ ls) p)
+abbrev jump_in :
+    {A : Type 0} → (b : ℕ) (ls : List ℕ) (p : NamedBody A) → NamedJumpOnce b p → HasOneJump (nameless (b ∷ ls) p)
 jump_in b ls p j =
     let f = way_in (b ∷ ls) in
     let here : f (Goes b) ≡ Beyond 0 = ap (λ t. Beyond (if t then 0 else suc (label_index b ls))) (eq-eqb b b refl) in
     record {
       earlier = map f j.earlier;
       later = map f j.later;
-      split = ways-nameless (b ∷ ls) p ∙ ap (map f) j.split ∙ map-append f j.earlier (Goes b ∷ j.later) ∙ ap (λ w. map f j.earlier ++ (w ∷ map f j.later)) here;
+      split = ways-nameless (b ∷ ls) p ∙ ap (map f) j.split ∙ map-append f j.earlier (Goes b ∷ j.later)
+          ∙ ap (λ w. map f j.earlier ++ (w ∷ map f j.later)) here;
       shorter = each_to (Shorter b) IsShorter f j.earlier (shorter_in b ls) j.shorter;
       one = each_to (NotTo b) IsOther f j.later (other_in b ls) j.one;
     }
@@ -194,13 +224,20 @@ begins_in (NamedCycle c p r) h = absurd h
 begins_in (NamedCounted q d p l r) h = absurd h
 begins_in (NamedChoice c p r) h = absurd h
 
-pub tight-nameless : {A : Type 0} → (n : ℕ) (d c : Bool) (ls : List ℕ) (p : NamedBody A) → NamedTight p → IsScoped n d c (nameless ls p) → IsTight n d c (nameless ls p)
+pub tight-nameless :
+    {A : Type 0} → (n : ℕ) (d c : Bool) (ls : List ℕ) (p : NamedBody A) → NamedTight p →
+    IsScoped n d c (nameless ls p) → IsTight n d c (nameless ls p)
 tight-nameless n d c ls NamedEnd t s = tt
 tight-nameless n d c ls (NamedOperation a r) t s = tight-nameless n d c ls r t s
 tight-nameless n d c ls (NamedLeave x r) t s = (s.0, tight-nameless n d c ls r t s.1)
 tight-nameless n d c ls (NamedJump z b r) t s = (s.0, tight-nameless n d c ls r t s.1)
-tight-nameless n d c ls (NamedBlock b p r) t s = (block_in b ls p t.0, tight-nameless (suc n) d false (b ∷ ls) p t.1 s.0, tight-nameless n d c ls r t.2 s.1)
-tight-nameless n d c ls (NamedCycle x p r) t s = (cycle_in x ls p t.0, tight-nameless (suc n) d false (x ∷ ls) p t.1 s.0, tight-nameless n d c ls r t.2 s.1)
-tight-nameless n d c ls (NamedCounted q x p l r) t s = (tight-nameless 0 true false [] p t.0 s.0, tight-nameless n d c ls r t.1 s.1)
-tight-nameless n d c ls (NamedChoice x p r) t s = (begins_in p t.0, tight-nameless 0 d true [] p t.1 s.0, tight-nameless n d c ls r t.2 s.1)
-tight-nameless n d c ls (NamedArm o x p r) t s = (s.0, tight-nameless 0 d false [] p t.0 s.1, tight-nameless n d c ls r t.1 s.2)
+tight-nameless n d c ls (NamedBlock b p r) t s =
+    (block_in b ls p t.0, tight-nameless (suc n) d false (b ∷ ls) p t.1 s.0, tight-nameless n d c ls r t.2 s.1)
+tight-nameless n d c ls (NamedCycle x p r) t s =
+    (cycle_in x ls p t.0, tight-nameless (suc n) d false (x ∷ ls) p t.1 s.0, tight-nameless n d c ls r t.2 s.1)
+tight-nameless n d c ls (NamedCounted q x p l r) t s =
+    (tight-nameless 0 true false [] p t.0 s.0, tight-nameless n d c ls r t.1 s.1)
+tight-nameless n d c ls (NamedChoice x p r) t s =
+    (begins_in p t.0, tight-nameless 0 d true [] p t.1 s.0, tight-nameless n d c ls r t.2 s.1)
+tight-nameless n d c ls (NamedArm o x p r) t s =
+    (s.0, tight-nameless 0 d false [] p t.0 s.1, tight-nameless n d c ls r t.1 s.2)

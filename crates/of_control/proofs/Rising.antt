@@ -1,11 +1,14 @@
 -- Where the numbers of the jumps rise with the items, a Block that holds its jump in its first part is tight.
-use Rattle.std.proofs.Common.{◌≡◌, ℕ, suc, ◌+◌, ◌<◌, ◌≤◌, Bool, true, false, List, [], ◌∷◌, ◌++◌, length, refl, sym, ap, ◌∙◌, subst, arith, ⊎_elim}
+use Rattle.std.proofs.Common.{◌≡◌, ℕ, suc, ◌+◌, ◌<◌, ◌≤◌, Bool, true, false, List, [], ◌∷◌, ◌++◌, length, refl, sym, ap}
+use Rattle.std.proofs.Common.{◌∙◌, subst, arith, ⊎_elim}
 use Rattle.std.specs.Prelude.{◌==◌, ◌&&◌, if◌then◌else◌, map}
 use Rattle.std.proofs.lemmas.Bool.{cases_eq, eq-eqb, eqb-true, ne_eqb}
 use Rattle.std.proofs.lemmas.List.{append_assoc, length-map, map-append}
-use Rattle.of_control.specs.Reading.{NamedArm, NamedBlock, NamedBody, NamedChoice, NamedCounted, NamedCycle, NamedEnd, NamedJump, NamedLeave, NamedOperation, joined}
+use Rattle.of_control.specs.Reading.{NamedArm, NamedBlock, NamedBody, NamedChoice, NamedCounted, NamedCycle, NamedEnd}
+use Rattle.of_control.specs.Reading.{NamedJump, NamedLeave, NamedOperation, joined}
 use Rattle.of_control.specs.Tight.{Each}
-use Rattle.of_control.proofs.NamedTight.{Ends, Goes, NamedIsBlock, NamedIsCycle, NamedTight, NamedWay, NotTo, Shorter, Stays, left, kept_in, named_first, named_ways}
+use Rattle.of_control.proofs.NamedTight.{Ends, Goes, NamedIsBlock, NamedIsCycle, NamedTight, NamedWay, NotTo, Shorter}
+use Rattle.of_control.proofs.NamedTight.{Stays, left, kept_in, named_first, named_ways}
 use Rattle.of_control.proofs.NamedBodies.{named_size}
 use Rattle.of_control.proofs.Pieces.{named_size-joined}
 
@@ -22,42 +25,54 @@ rise-more a b high (Stays ∷ ws) l h = rise-more a b high ws l h
 rise-more a b high (Ends x ∷ ws) l h = let g = h.0 in (omega (arith, l, g), h.1)
 rise-more a b high (Goes x ∷ ws) l h = let g = h.0 in (omega (arith, l, g), h.1)
 
-pub rise-append : (low mid high : ℕ) (xs ys : List NamedWay) → Rise low xs mid → Rise mid ys high → Rise low (xs ++ ys) high
+pub rise-append :
+    (low mid high : ℕ) (xs ys : List NamedWay) → Rise low xs mid → Rise mid ys high → Rise low (xs ++ ys) high
 rise-append low mid high [] ys h k = rise-more mid low high ys h k
 rise-append low mid high (Stays ∷ xs) ys h k = rise-append low mid high xs ys h k
 rise-append low mid high (Ends x ∷ xs) ys h k = (h.0, rise-append (suc x) mid high xs ys h.1 k)
 rise-append low mid high (Goes x ∷ xs) ys h k = (h.0, rise-append (suc x) mid high xs ys h.1 k)
 
-rise-ends : (low x high : ℕ) (last : Bool) (ws : List NamedWay) → low ≤ x → Rise (suc x) ws high → Rise low ((if last then Ends x else Stays) ∷ ws) high
+pub rise-ends :
+    (low x high : ℕ) (last : Bool) (ws : List NamedWay) → low ≤ x → Rise (suc x) ws high →
+    Rise low ((if last then Ends x else Stays) ∷ ws) high
 rise-ends low x high true ws l h = (l, h)
 rise-ends low x high false ws l h = rise-more (suc x) low high ws (omega (arith, l)) h
 
-rise-goes : (low b x high : ℕ) (last t : Bool) (ws : List NamedWay) → (t ≡ true → x ≡ b) → low ≤ x → Rise (suc x) ws high → Rise low ((if t then (if last then Ends b else Stays) else Goes x) ∷ ws) high
-rise-goes low b x high last true ws e l h = rise-ends low b high last ws (subst (λ y. low ≤ y) (e refl) l) (subst (λ y. Rise (suc y) ws high) (e refl) h)
+pub rise-goes :
+    (low b x high : ℕ) (last t : Bool) (ws : List NamedWay) → (t ≡ true → x ≡ b) → low ≤ x → Rise (suc x) ws high →
+    Rise low ((if t then (if last then Ends b else Stays) else Goes x) ∷ ws) high
+rise-goes low b x high last true ws e l h =
+    rise-ends low b high last ws (subst (λ y. low ≤ y) (e refl) l) (subst (λ y. Rise (suc y) ws high) (e refl) h)
 rise-goes low b x high last false ws e l h = (l, h)
 
 -- seen from outside of a part they still do
-pub rise-left : (low b high : ℕ) (last : Bool) (ws : List NamedWay) → Rise low ws high → Rise low (map (left b last) ws) high
+pub rise-left :
+    (low b high : ℕ) (last : Bool) (ws : List NamedWay) → Rise low ws high → Rise low (map (left b last) ws) high
 rise-left low b high last [] h = h
 rise-left low b high last (Stays ∷ ws) h = rise-left low b high last ws h
-rise-left low b high last (Ends x ∷ ws) h = rise-ends low x high last (map (left b last) ws) h.0 (rise-left (suc x) b high last ws h.1)
-rise-left low b high last (Goes x ∷ ws) h = rise-goes low b x high last (x == b) (map (left b last) ws) (λ e. eqb-true x b e) h.0 (rise-left (suc x) b high last ws h.1)
+rise-left low b high last (Ends x ∷ ws) h =
+    rise-ends low x high last (map (left b last) ws) h.0 (rise-left (suc x) b high last ws h.1)
+rise-left low b high last (Goes x ∷ ws) h =
+    rise-goes low b x high last (x == b) (map (left b last) ws) (λ e. eqb-true x b e) h.0
+    (rise-left (suc x) b high last ws h.1)
 
 pub rise-kept : (low high : ℕ) (ws : List NamedWay) → Rise low ws high → Rise low (map kept_in ws) high
 rise-kept low high [] h = h
 rise-kept low high (Stays ∷ ws) h = rise-kept low high ws h
-rise-kept low high (Ends x ∷ ws) h = let g = h.0 in rise-kept low high ws (rise-more (suc x) low high ws (omega (arith, g)) h.1)
-rise-kept low high (Goes x ∷ ws) h = let g = h.0 in rise-kept low high ws (rise-more (suc x) low high ws (omega (arith, g)) h.1)
+rise-kept low high (Ends x ∷ ws) h =
+    let g = h.0 in rise-kept low high ws (rise-more (suc x) low high ws (omega (arith, g)) h.1)
+rise-kept low high (Goes x ∷ ws) h =
+    let g = h.0 in rise-kept low high ws (rise-more (suc x) low high ws (omega (arith, g)) h.1)
 
 abbrev pub NameBelow : ℕ → NamedWay → Type 0
 NameBelow b Stays = Unit {0}
 NameBelow b (Ends x) = x < b
 NameBelow b (Goes x) = x < b
 
--- the Blocks that end with the body have later jumps than b
+-- the Blocks that end with the body have no earlier jumps than b
 abbrev pub EndsAbove : ℕ → NamedWay → Type 0
 EndsAbove b Stays = Unit {0}
-EndsAbove b (Ends x) = b < x
+EndsAbove b (Ends x) = b ≤ x
 EndsAbove b (Goes x) = Unit {0}
 
 -- b's jump is in the first part
@@ -67,23 +82,29 @@ pub record HeldIn {A : Type 0} (b : ℕ) (p : NamedBody A) : Type 0 where
   pub split : named_ways p ≡ earlier ++ (Goes b ∷ later)
   pub soon : length earlier < named_first p
 
-reaches : (low b high : ℕ) (xs ys : List NamedWay) → Rise low (xs ++ (Goes b ∷ ys)) high → low ≤ b
+pub reaches : (low b high : ℕ) (xs ys : List NamedWay) → Rise low (xs ++ (Goes b ∷ ys)) high → low ≤ b
 reaches low b high [] ys h = h.0
 reaches low b high (Stays ∷ xs) ys h = reaches low b high xs ys h
 reaches low b high (Ends x ∷ xs) ys h = let g = h.0 in let r = reaches (suc x) b high xs ys h.1 in omega (arith, g, r)
 reaches low b high (Goes x ∷ xs) ys h = let g = h.0 in let r = reaches (suc x) b high xs ys h.1 in omega (arith, g, r)
 
-shorter_by : (low b high : ℕ) (xs ys : List NamedWay) → Rise low (xs ++ (Goes b ∷ ys)) high → Each (EndsAbove b) (xs ++ (Goes b ∷ ys)) → Each (Shorter b) xs
+shorter_by :
+    (low b high : ℕ) (xs ys : List NamedWay) → Rise low (xs ++ (Goes b ∷ ys)) high →
+    Each (EndsAbove b) (xs ++ (Goes b ∷ ys)) → Each (Shorter b) xs
 shorter_by low b high [] ys h k = tt
 shorter_by low b high (Stays ∷ xs) ys h k = (tt, shorter_by low b high xs ys h k.1)
-shorter_by low b high (Ends x ∷ xs) ys h k = let g = k.0 in let r = reaches (suc x) b high xs ys h.1 in absurd (omega (arith, g, r))
-shorter_by low b high (Goes x ∷ xs) ys h k = let r = reaches (suc x) b high xs ys h.1 in (λ e. absurd (omega (arith, e, r)), shorter_by (suc x) b high xs ys h.1 k.1)
+shorter_by low b high (Ends x ∷ xs) ys h k =
+    let g = k.0 in let r = reaches (suc x) b high xs ys h.1 in absurd (omega (arith, g, r))
+shorter_by low b high (Goes x ∷ xs) ys h k =
+    let r = reaches (suc x) b high xs ys h.1 in
+    (λ e. absurd (omega (arith, e, r)), shorter_by (suc x) b high xs ys h.1 k.1)
 
 others_by : (low b high : ℕ) (ys : List NamedWay) → b < low → Rise low ys high → Each (NotTo b) ys
 others_by low b high [] l h = tt
 others_by low b high (Stays ∷ ys) l h = (tt, others_by low b high ys l h)
 others_by low b high (Ends x ∷ ys) l h = let g = h.0 in (tt, others_by (suc x) b high ys (omega (arith, l, g)) h.1)
-others_by low b high (Goes x ∷ ys) l h = let g = h.0 in (λ e. absurd (omega (arith, e, l, g)), others_by (suc x) b high ys (omega (arith, l, g)) h.1)
+others_by low b high (Goes x ∷ ys) l h =
+    let g = h.0 in (λ e. absurd (omega (arith, e, l, g)), others_by (suc x) b high ys (omega (arith, l, g)) h.1)
 
 rise-tail : (low b high : ℕ) (xs ys : List NamedWay) → Rise low (xs ++ (Goes b ∷ ys)) high → Rise (suc b) ys high
 rise-tail low b high [] ys h = h.1
@@ -92,7 +113,9 @@ rise-tail low b high (Ends x ∷ xs) ys h = rise-tail (suc x) b high xs ys h.1
 rise-tail low b high (Goes x ∷ xs) ys h = rise-tail (suc x) b high xs ys h.1
 
 -- what closing a branch needs of what was gathered
-pub block_by : {A : Type 0} → (low high b : ℕ) (p : NamedBody A) → HeldIn b p → Rise low (named_ways p) high → Each (EndsAbove b) (named_ways p) → NamedIsBlock b p
+pub block_by :
+    {A : Type 0} → (low high b : ℕ) (p : NamedBody A) → HeldIn b p → Rise low (named_ways p) high →
+    Each (EndsAbove b) (named_ways p) → NamedIsBlock b p
 block_by low high b p f r k =
     let rs = subst (λ l. Rise low l high) f.split r in
     let ks = subst (Each (EndsAbove b)) f.split k in
@@ -129,7 +152,9 @@ settled_ends : (x : ℕ) (l k : Bool) → (if l && k then Ends x else Stays) ≡
 settled_ends x true k = refl
 settled_ends x false k = refl
 
-settled_goes : (b x : ℕ) (l k t : Bool) → (if t then (if l && k then Ends b else Stays) else Goes x) ≡ settled k (if t then (if l then Ends b else Stays) else Goes x)
+settled_goes :
+    (b x : ℕ) (l k t : Bool) → (if t then (if l && k then Ends b else Stays) else Goes x) ≡ settled k
+    (if t then (if l then Ends b else Stays) else Goes x)
 settled_goes b x l k true = settled_ends b l k
 settled_goes b x l k false = refl
 
@@ -138,18 +163,24 @@ left_settled b l k Stays = refl
 left_settled b l k (Ends x) = settled_ends x l k
 left_settled b l k (Goes x) = settled_goes b x l k (x == b)
 
-map_settled : (f g : NamedWay → NamedWay) (k : Bool) → ((w : NamedWay) → f w ≡ settled k (g w)) → (ws : List NamedWay) → map f ws ≡ map (settled k) (map g ws)
+map_settled :
+    (f g : NamedWay → NamedWay) (k : Bool) → ((w : NamedWay) → f w ≡ settled k (g w)) → (ws : List NamedWay) →
+    map f ws ≡ map (settled k) (map g ws)
 map_settled f g k e [] = refl
 map_settled f g k e (w ∷ ws) = ap (λ y. y ∷ map f ws) (e w) ∙ ap (λ l. settled k (g w) ∷ l) (map_settled f g k e ws)
 
-joined_part : (f g : NamedWay → NamedWay) (k : Bool) (ws us vs zs : List NamedWay) → ((w : NamedWay) → f w ≡ settled k (g w)) → us ≡ map (settled k) vs ++ zs → map f ws ++ us ≡ map (settled k) (map g ws ++ vs) ++ zs
+joined_part :
+    (f g : NamedWay → NamedWay) (k : Bool) (ws us vs zs : List NamedWay) → ((w : NamedWay) → f w ≡ settled k (g w)) →
+    us ≡ map (settled k) vs ++ zs → map f ws ++ us ≡ map (settled k) (map g ws ++ vs) ++ zs
 joined_part f g k ws us vs zs e p =
     ap (λ l. l ++ us) (map_settled f g k e ws)
     ∙ ap (λ l. map (settled k) (map g ws) ++ l) p
     ∙ sym (append_assoc (map (settled k) (map g ws)) (map (settled k) vs) zs)
     ∙ sym (ap (λ l. l ++ zs) (map-append (settled k) (map g ws) vs))
 
-pub ways-joined : {A : Type 0} → (p s : NamedBody A) → named_ways (joined p s) ≡ map (settled (named_size s == 0)) (named_ways p) ++ named_ways s
+pub ways-joined :
+    {A : Type 0} → (p s : NamedBody A) →
+    named_ways (joined p s) ≡ map (settled (named_size s == 0)) (named_ways p) ++ named_ways s
 ways-joined NamedEnd s = refl
 ways-joined (NamedOperation a r) s = ap (λ l. Stays ∷ l) (ways-joined r s)
 ways-joined (NamedLeave d r) s = ap (λ l. Stays ∷ l) (ways-joined r s)
@@ -157,31 +188,43 @@ ways-joined (NamedJump z b r) s = ap (λ l. Goes b ∷ l) (ways-joined r s)
 ways-joined (NamedBlock b p r) s =
     let k = named_size s == 0 in
     let l = named_size r == 0 in
-    ap (λ t. map (left b t) (named_ways p) ++ named_ways (joined r s)) (ap (λ n. n == 0) (named_size-joined r s) ∙ both_last (named_size r) (named_size s))
-    ∙ joined_part (left b (l && k)) (left b l) k (named_ways p) (named_ways (joined r s)) (named_ways r) (named_ways s) (left_settled b l k) (ways-joined r s)
+    ap (λ t. map (left b t) (named_ways p) ++ named_ways (joined r s))
+    (ap (λ n. n == 0) (named_size-joined r s) ∙ both_last (named_size r) (named_size s))
+    ∙ joined_part (left b (l && k)) (left b l) k (named_ways p) (named_ways (joined r s)) (named_ways r) (named_ways s)
+    (left_settled b l k) (ways-joined r s)
 ways-joined (NamedCycle c p r) s =
     let k = named_size s == 0 in
-    joined_part (left c false) (left c false) k (named_ways p) (named_ways (joined r s)) (named_ways r) (named_ways s) (left_settled c false k) (ways-joined r s)
+    joined_part (left c false) (left c false) k (named_ways p) (named_ways (joined r s)) (named_ways r) (named_ways s)
+    (left_settled c false k) (ways-joined r s)
 ways-joined (NamedCounted q d p m r) s =
     let k = named_size s == 0 in
-    ap (λ l. Stays ∷ l) (joined_part kept_in kept_in k (named_ways p) (Stays ∷ named_ways (joined r s)) (Stays ∷ named_ways r) (named_ways s) (λ w. refl) (ap (λ l. Stays ∷ l) (ways-joined r s)))
+    ap (λ l. Stays ∷ l) (joined_part kept_in kept_in k (named_ways p) (Stays ∷ named_ways (joined r s))
+    (Stays ∷ named_ways r) (named_ways s) (λ w. refl) (ap (λ l. Stays ∷ l) (ways-joined r s)))
 ways-joined (NamedChoice c p r) s =
     let k = named_size s == 0 in
-    joined_part kept_in kept_in k (named_ways p) (Stays ∷ named_ways (joined r s)) (Stays ∷ named_ways r) (named_ways s) (λ w. refl) (ap (λ l. Stays ∷ l) (ways-joined r s))
+    joined_part kept_in kept_in k (named_ways p) (Stays ∷ named_ways (joined r s)) (Stays ∷ named_ways r) (named_ways s)
+    (λ w. refl) (ap (λ l. Stays ∷ l) (ways-joined r s))
 ways-joined (NamedArm o c p r) s =
     let k = named_size s == 0 in
-    ap (λ l. Stays ∷ l) (joined_part kept_in kept_in k (named_ways p) (Stays ∷ named_ways (joined r s)) (Stays ∷ named_ways r) (named_ways s) (λ w. refl) (ap (λ l. Stays ∷ l) (ways-joined r s)))
+    ap (λ l. Stays ∷ l) (joined_part kept_in kept_in k (named_ways p) (Stays ∷ named_ways (joined r s))
+    (Stays ∷ named_ways r) (named_ways s) (λ w. refl) (ap (λ l. Stays ∷ l) (ways-joined r s)))
 
-rise-settled : (low high : ℕ) (k : Bool) (ws : List NamedWay) → Rise low ws high → Rise low (map (settled k) ws) high
+pub rise-settled :
+    (low high : ℕ) (k : Bool) (ws : List NamedWay) → Rise low ws high → Rise low (map (settled k) ws) high
 rise-settled low high k [] h = h
 rise-settled low high k (Stays ∷ ws) h = rise-settled low high k ws h
-rise-settled low high k (Ends x ∷ ws) h = rise-ends low x high k (map (settled k) ws) h.0 (rise-settled (suc x) high k ws h.1)
+rise-settled low high k (Ends x ∷ ws) h =
+    rise-ends low x high k (map (settled k) ws) h.0 (rise-settled (suc x) high k ws h.1)
 rise-settled low high k (Goes x ∷ ws) h = (h.0, rise-settled (suc x) high k ws h.1)
 
-pub rise-joined : {A : Type 0} → (low mid high : ℕ) (p s : NamedBody A) → Rise low (named_ways p) mid → Rise mid (named_ways s) high → Rise low (named_ways (joined p s)) high
+pub rise-joined :
+    {A : Type 0} → (low mid high : ℕ) (p s : NamedBody A) → Rise low (named_ways p) mid → Rise mid (named_ways s) high →
+    Rise low (named_ways (joined p s)) high
 rise-joined low mid high p s h k =
     let last = named_size s == 0 in
-    subst (λ l. Rise low l high) (sym (ways-joined p s)) (rise-append low mid high (map (settled last) (named_ways p)) (named_ways s) (rise-settled low mid last (named_ways p) h) k)
+    subst (λ l. Rise low l high) (sym (ways-joined p s))
+    (rise-append low mid high (map (settled last) (named_ways p)) (named_ways s)
+    (rise-settled low mid last (named_ways p) h) k)
 
 pub tight-joined : {A : Type 0} → (p s : NamedBody A) → NamedTight p → NamedTight s → NamedTight (joined p s)
 tight-joined NamedEnd s h k = k
@@ -222,14 +265,19 @@ held-joined b p s f =
       soon = omega (arith, soon, firsts, len);
     }
 
-shorter_than : (low c high : ℕ) (ws : List NamedWay) → c < low → Rise low ws high → Each (Shorter c) (map (settled false) ws)
+shorter_than :
+    (low c high : ℕ) (ws : List NamedWay) → c < low → Rise low ws high → Each (Shorter c) (map (settled false) ws)
 shorter_than low c high [] l h = tt
 shorter_than low c high (Stays ∷ ws) l h = (tt, shorter_than low c high ws l h)
-shorter_than low c high (Ends x ∷ ws) l h = let g = h.0 in (tt, shorter_than (suc x) c high ws (omega (arith, l, g)) h.1)
-shorter_than low c high (Goes x ∷ ws) l h = let g = h.0 in (λ e. absurd (omega (arith, e, l, g)), shorter_than (suc x) c high ws (omega (arith, l, g)) h.1)
+shorter_than low c high (Ends x ∷ ws) l h =
+    let g = h.0 in (tt, shorter_than (suc x) c high ws (omega (arith, l, g)) h.1)
+shorter_than low c high (Goes x ∷ ws) l h =
+    let g = h.0 in (λ e. absurd (omega (arith, e, l, g)), shorter_than (suc x) c high ws (omega (arith, l, g)) h.1)
 
 -- what closing a mark needs of what was gathered
-pub cycle_by : {A : Type 0} → (c high : ℕ) (z : Bool) (p : NamedBody A) → Rise (suc c) (named_ways p) high → NamedIsCycle c (joined p (NamedJump z c NamedEnd))
+pub cycle_by :
+    {A : Type 0} → (c high : ℕ) (z : Bool) (p : NamedBody A) → Rise (suc c) (named_ways p) high →
+    NamedIsCycle c (joined p (NamedJump z c NamedEnd))
 cycle_by c high z p h =
     record {
       jump = record {

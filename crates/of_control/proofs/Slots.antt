@@ -1,5 +1,6 @@
 -- Tight trees of parts with equal slots are equal.
-use Rattle.std.proofs.Common.{◌≡◌, ℕ, zero, suc, ◌+◌, ◌<◌, ◌≤◌, Bool, List, [], ◌∷◌, ◌++◌, length, Option, Some, None, refl, ap, ◌∙◌, subst, arith}
+use Rattle.std.proofs.Common.{◌≡◌, ℕ, zero, suc, ◌+◌, ◌<◌, ◌≤◌, Bool, List, [], ◌∷◌, ◌++◌, length, Option, Some, None}
+use Rattle.std.proofs.Common.{refl, ap, ◌∙◌, subst, arith}
 use Rattle.std.specs.Prelude.{map}
 use Rattle.std.proofs.lemmas.List.{length-append, length-map}
 use Rattle.of_control.specs.Tight.{Each}
@@ -171,7 +172,8 @@ length-behind (ACounted q l) = refl
 length-behind AChoice = refl
 length-behind AnArm = refl
 
-pub length-part : {A : Type 0} → (h : Head A) (n m : ℕ) (xs : List (Slot A)) → length (part h n m xs) ≡ width h (length xs)
+pub length-part :
+    {A : Type 0} → (h : Head A) (n m : ℕ) (xs : List (Slot A)) → length (part h n m xs) ≡ width h (length xs)
 length-part h n m xs =
     let e = n + width h m in
     let a = length-append (before h e) (map (bound h n e) xs ++ behind h) in
@@ -199,7 +201,8 @@ Aims P (Again l) = Unit {0}
 Aims P (Tests u) = P u
 Aims P Drops = Unit {0}
 
-pub each-append : {A : Type 0} → (P : Slot A → Type 0) (xs ys : List (Slot A)) → Each P xs → Each P ys → Each P (xs ++ ys)
+pub each-append :
+    {A : Type 0} → (P : Slot A → Type 0) (xs ys : List (Slot A)) → Each P xs → Each P ys → Each P (xs ++ ys)
 each-append P [] ys h k = k
 each-append P (x ∷ xs) ys h k = (h.0, each-append P xs ys h.1 k)
 
@@ -207,15 +210,19 @@ pub each-left : {A : Type 0} → (P : Slot A → Type 0) (xs ys : List (Slot A))
 each-left P [] ys h = tt
 each-left P (x ∷ xs) ys h = (h.0, each-left P xs ys h.1)
 
-pub each-map : {A : Type 0} → (P Q : Slot A → Type 0) (f : Slot A → Slot A) (xs : List (Slot A)) → ((x : Slot A) → P x → Q (f x)) → Each P xs → Each Q (map f xs)
+pub each-map :
+    {A : Type 0} → (P Q : Slot A → Type 0) (f : Slot A → Slot A) (xs : List (Slot A)) → ((x : Slot A) → P x → Q (f x)) →
+    Each P xs → Each Q (map f xs)
 each-map P Q f [] g h = tt
 each-map P Q f (x ∷ xs) g h = (g x h.0, each-map P Q f xs g h.1)
 
-pub each-more : {A : Type 0} → (P Q : Slot A → Type 0) (xs : List (Slot A)) → ((x : Slot A) → P x → Q x) → Each P xs → Each Q xs
+pub each-more :
+    {A : Type 0} → (P Q : Slot A → Type 0) (xs : List (Slot A)) → ((x : Slot A) → P x → Q x) → Each P xs → Each Q xs
 each-more P Q [] g h = tt
 each-more P Q (x ∷ xs) g h = (g x h.0, each-more P Q xs g h.1)
 
-pub each-both : {A : Type 0} → (P Q : Slot A → Type 0) (xs : List (Slot A)) → Each P xs → Each Q xs → Each (λ x. P x × Q x) xs
+pub each-both :
+    {A : Type 0} → (P Q : Slot A → Type 0) (xs : List (Slot A)) → Each P xs → Each Q xs → Each (λ x. P x × Q x) xs
 each-both P Q [] g h = tt
 each-both P Q (x ∷ xs) g h = ((g.0, h.0), each-both P Q xs g.1 h.1)
 
@@ -250,7 +257,9 @@ aims-unclose P t (Again l) h = tt
 aims-unclose P t (Tests u) h = h
 aims-unclose P t Drops h = tt
 
-aims-bound : {A : Type 0} → (P : ℕ → Type 0) (h : Head A) (n e : ℕ) → P n → P e → (x : Slot A) → Aims P x → Aims P (bound h n e x)
+aims-bound :
+    {A : Type 0} → (P : ℕ → Type 0) (h : Head A) (n e : ℕ) → P n → P e → (x : Slot A) → Aims P x →
+    Aims P (bound h n e x)
 aims-bound P (AnOperation a) n e p q x g = g
 aims-bound P ALeave n e p q x g = g
 aims-bound P (AJump z k) n e p q x g = g
@@ -283,11 +292,16 @@ aims-behind P AnArm = (tt, tt)
 abbrev pub Within : ℕ → ℕ → ℕ → Type 0
 Within a b u = (a ≤ u) × (u ≤ b)
 
-pub within-more : {A : Type 0} → (a b c d : ℕ) → c ≤ a → b ≤ d → (xs : List (Slot A)) → Each (Aims (Within a b)) xs → Each (Aims (Within c d)) xs
+pub within-more :
+    {A : Type 0} → (a b c d : ℕ) → c ≤ a → b ≤ d → (xs : List (Slot A)) → Each (Aims (Within a b)) xs →
+    Each (Aims (Within c d)) xs
 within-more a b c d p q xs h =
-    each-more (Aims (Within a b)) (Aims (Within c d)) xs (aims-more (Within a b) (Within c d) (λ u w. (omega (arith, p, w.0), omega (arith, q, w.1)))) h
+    each-more (Aims (Within a b)) (Aims (Within c d)) xs
+    (aims-more (Within a b) (Within c d) (λ u w. (omega (arith, p, w.0), omega (arith, q, w.1)))) h
 
-pub within-part : {A : Type 0} → (h : Head A) (n m : ℕ) (xs : List (Slot A)) → Each (Aims (Within (starts h n) (starts h n + m))) xs → Each (Aims (Within n (n + width h m))) (part h n m xs)
+pub within-part :
+    {A : Type 0} → (h : Head A) (n m : ℕ) (xs : List (Slot A)) → Each (Aims (Within (starts h n) (starts h n + m))) xs →
+    Each (Aims (Within n (n + width h m))) (part h n m xs)
 within-part h n m xs w =
     let e = n + width h m in
     let P = Within n e in
@@ -297,7 +311,8 @@ within-part h n m xs w =
     let st = starts-is h n in
     let inner = within-more (starts h n) (starts h n + m) n e (omega (arith, st)) (omega (arith, st, wi)) xs w in
     each-append (Aims P) (before h e) (map (bound h n e) xs ++ behind h) (aims-before P h e pe)
-    (each-append (Aims P) (map (bound h n e) xs) (behind h) (each-map (Aims P) (Aims P) (bound h n e) xs (aims-bound P h n e pn pe) inner) (aims-behind P h))
+    (each-append (Aims P) (map (bound h n e) xs) (behind h)
+    (each-map (Aims P) (Aims P) (bound h n e) xs (aims-bound P h n e pn pe) inner) (aims-behind P h))
 
 pub within : {A : Type 0} → (t : Tree A) (n : ℕ) → Each (Aims (Within n (n + size t))) (slots t n)
 within Leaf n = tt
@@ -305,7 +320,8 @@ within (Node h i r) n =
     let e = n + width h (size i) in
     let xs = part h n (size i) (slots i (starts h n)) in
     each-append (Aims (Within n (n + size (Node h i r)))) xs (slots r e)
-    (within-more n e n (n + size (Node h i r)) (omega arith) (omega arith) xs (within-part h n (size i) (slots i (starts h n)) (within i (starts h n))))
+    (within-more n e n (n + size (Node h i r)) (omega arith) (omega arith) xs
+    (within-part h n (size i) (slots i (starts h n)) (within i (starts h n))))
     (within-more e (e + size r) n (n + size (Node h i r)) (omega arith) (omega arith) (slots r e) (within r e))
 
 -- ---- cuts: item c is a cut of these items, from number p on, where none goes across it
@@ -321,23 +337,33 @@ pub cut-left : {A : Type 0} → (p c : ℕ) (xs ys : List (Slot A)) → CutIn p 
 cut-left p c [] ys h = tt
 cut-left p c (x ∷ xs) ys h = (h.0, cut-left (suc p) c xs ys h.1)
 
-pub cut-right : {A : Type 0} → (p c q : ℕ) (xs ys : List (Slot A)) → p + length xs ≡ q → CutIn p c (xs ++ ys) → CutIn q c ys
+pub cut-right :
+    {A : Type 0} → (p c q : ℕ) (xs ys : List (Slot A)) → p + length xs ≡ q → CutIn p c (xs ++ ys) → CutIn q c ys
 cut-right p c q [] ys e h = subst (λ k. CutIn k c ys) (omega (arith, e)) h
 cut-right p c q (x ∷ xs) ys e h = cut-right (suc p) c q xs ys (omega (arith, e)) h.1
 
-pub cut-join : {A : Type 0} → (p c q : ℕ) (xs ys : List (Slot A)) → p + length xs ≡ q → CutIn p c xs → CutIn q c ys → CutIn p c (xs ++ ys)
+pub cut-join :
+    {A : Type 0} → (p c q : ℕ) (xs ys : List (Slot A)) → p + length xs ≡ q → CutIn p c xs → CutIn q c ys →
+    CutIn p c (xs ++ ys)
 cut-join p c q [] ys e h k = subst (λ n. CutIn n c ys) (omega (arith, e)) k
 cut-join p c q (x ∷ xs) ys e h k = (h.0, cut-join (suc p) c q xs ys (omega (arith, e)) h.1 k)
 
-pub cut-low : {A : Type 0} → (p c : ℕ) (xs : List (Slot A)) → p + length xs ≤ c → Each (Aims (λ u. u ≤ c)) xs → CutIn p c xs
+pub cut-low :
+    {A : Type 0} → (p c : ℕ) (xs : List (Slot A)) → p + length xs ≤ c → Each (Aims (λ u. u ≤ c)) xs → CutIn p c xs
 cut-low p c [] l h = tt
-cut-low p c (x ∷ xs) l h =
-    (aims-more (λ u. u ≤ c) (Keeps p c) (λ u w. (λ k. w, λ k. absurd (omega (arith, k, l)))) x h.0, cut-low (suc p) c xs (omega (arith, l)) h.1)
+cut-low p c (x ∷ xs) l h = (
+  aims-more (λ u. u ≤ c) (Keeps p c) (λ u w. (λ k. w, λ k. absurd (omega (arith, k, l)))) x h.0,
+  cut-low (suc p) c xs
+      (omega (arith, l)) h.1,
+)
 
 pub cut-high : {A : Type 0} → (p c : ℕ) (xs : List (Slot A)) → c ≤ p → Each (Aims (λ u. c ≤ u)) xs → CutIn p c xs
 cut-high p c [] l h = tt
-cut-high p c (x ∷ xs) l h =
-    (aims-more (λ u. c ≤ u) (Keeps p c) (λ u w. (λ k. absurd (omega (arith, k, l)), λ k. w)) x h.0, cut-high (suc p) c xs (omega (arith, l)) h.1)
+cut-high p c (x ∷ xs) l h = (
+  aims-more (λ u. c ≤ u) (Keeps p c) (λ u w. (λ k. absurd (omega (arith, k, l)), λ k. w)) x h.0,
+  cut-high
+      (suc p) c xs (omega (arith, l)) h.1,
+)
 
 pub cut-unclose : {A : Type 0} → (p c t : ℕ) (xs : List (Slot A)) → CutIn p c (map (close t) xs) → CutIn p c xs
 cut-unclose p c t [] h = tt

@@ -1,153 +1,22 @@
 -- Tight bodies are tight trees, so tight bodies with equal items are equal.
-use Rattle.std.proofs.Common.{◌≡◌, ℕ, zero, suc, ◌+◌, ◌<◌, ◌≤◌, Bool, true, false, List, [], ◌∷◌, ◌++◌, length, Some, None, refl, sym, ap, ◌∙◌, subst, arith, ⊎_elim}
-use Rattle.std.specs.Prelude.{◌==◌, if◌then◌else◌, IsTrue, map, slice_index}
+use Rattle.std.proofs.Common.{◌≡◌, ℕ, zero, suc, ◌+◌, ◌<◌, ◌≤◌, Bool, true, false, List, [], ◌∷◌, ◌++◌, length, Some}
+use Rattle.std.proofs.Common.{None, refl, sym, ap, ◌∙◌, subst, arith, ⊎_elim}
+use Rattle.std.specs.Prelude.{◌==◌, if◌then◌else◌, map, slice_index}
 use Rattle.std.proofs.lemmas.Bool.{ne_eqb, eq-eqb, cases_eq}
 use Rattle.std.proofs.lemmas.List.{append-nil, append_assoc, map-append, length-map}
 use Rattle.of_control.specs.Element.{Element}
 use Rattle.of_control.specs.Matching.{Partners}
-use Rattle.of_control.specs.Items.{DropSelector, EndArm, EnterLoop, ExitLoop, Item, JumpTo, Perform, RepeatLoop, TestArm}
-use Rattle.of_control.specs.Body.{Arm, Block, Body, Choice, Counted, Cycle, End, Jump, LeaveLoop, Operation, body_size, items_at, items_of}
-use Rattle.of_control.specs.Tight.{AtEnd, BeginsWithArm, Beyond, Each, Inside, IsBlock, IsCycle, IsOther, IsReading, IsShorter, IsTight, Way, first_size, outward, shut, ways}
-use Rattle.of_control.proofs.Slots.{Slot, Does, Leaves, Out, To, Enters, Again, Tests, Drops, AnOperation, ALeave, AJump, ABlock, ACycle, ACounted, AChoice, AnArm, Tree, Leaf, Node, size, close, slots, Aims, each-append, each-map, each-more, each-both, aims-more, Within, within}
+use Rattle.of_control.specs.Items.{DropSelector, EndArm, EnterLoop, ExitLoop, Item, JumpTo, Perform, RepeatLoop}
+use Rattle.of_control.specs.Items.{TestArm}
+use Rattle.of_control.specs.Body.{Arm, Block, Body, Choice, Counted, Cycle, End, Jump, LeaveLoop, Operation, body_size}
+use Rattle.of_control.specs.Body.{items_at, items_of}
+use Rattle.of_control.specs.Tight.{AtEnd, BeginsWithArm, Beyond, Each, Inside, IsBlock, IsCycle, IsOther, IsReading}
+use Rattle.of_control.specs.Tight.{IsShorter, IsTight, Way, outward, shut, ways}
+use Rattle.of_control.proofs.Slots.{Slot, Does, Leaves, Out, To, Enters, Again, Tests, Drops, Tree, size, close, slots}
+use Rattle.of_control.proofs.Slots.{Aims, each-append, each-more, each-both, aims-more, Within, within}
 use Rattle.of_control.proofs.Unique
 use Rattle.of_control.proofs.Unique.{wide_left, IsInner, IsLeft, IsRepeated, IsShut, Tight, first, hits, same}
-
-abbrev pub tree : {A : Type 0} → Body A → Tree A
-tree End = Leaf
-tree (Operation a r) = Node (AnOperation a) Leaf (tree r)
-tree (LeaveLoop r) = Node ALeave Leaf (tree r)
-tree (Jump z k r) = Node (AJump z k) Leaf (tree r)
-tree (Block b r) = Node ABlock (tree b) (tree r)
-tree (Cycle b r) = Node ACycle (tree b) (tree r)
-tree (Counted q b l r) = Node (ACounted q l) (tree b) (tree r)
-tree (Choice b r) = Node AChoice (tree b) (tree r)
-tree (Arm b r) = Node AnArm (tree b) (tree r)
-
-abbrev body : {A : Type 0} → Tree A → Body A
-body Leaf = End
-body (Node (AnOperation a) i r) = Operation a (body r)
-body (Node ALeave i r) = LeaveLoop (body r)
-body (Node (AJump z k) i r) = Jump z k (body r)
-body (Node ABlock i r) = Block (body i) (body r)
-body (Node ACycle i r) = Cycle (body i) (body r)
-body (Node (ACounted q l) i r) = Counted q (body i) l (body r)
-body (Node AChoice i r) = Choice (body i) (body r)
-body (Node AnArm i r) = Arm (body i) (body r)
-
-back : {A : Type 0} → (b : Body A) → body (tree b) ≡ b
-back End = refl
-back (Operation a r) = ap (λ s. Operation a s) (back r)
-back (LeaveLoop r) = ap (λ s. LeaveLoop s) (back r)
-back (Jump z k r) = ap (λ s. Jump z k s) (back r)
-back (Block b r) = ap (λ c. Block c (body (tree r))) (back b) ∙ ap (λ s. Block b s) (back r)
-back (Cycle b r) = ap (λ c. Cycle c (body (tree r))) (back b) ∙ ap (λ s. Cycle b s) (back r)
-back (Counted q b l r) = ap (λ c. Counted q c l (body (tree r))) (back b) ∙ ap (λ s. Counted q b l s) (back r)
-back (Choice b r) = ap (λ c. Choice c (body (tree r))) (back b) ∙ ap (λ s. Choice b s) (back r)
-back (Arm b r) = ap (λ c. Arm c (body (tree r))) (back b) ∙ ap (λ s. Arm b s) (back r)
-
-size-tree : {A : Type 0} → (b : Body A) → size (tree b) ≡ body_size b
-size-tree End = refl
-size-tree (Operation a r) = omega (arith, size-tree r)
-size-tree (LeaveLoop r) = omega (arith, size-tree r)
-size-tree (Jump z k r) = omega (arith, size-tree r)
-size-tree (Block b r) = omega (arith, size-tree b, size-tree r)
-size-tree (Cycle b r) = omega (arith, size-tree b, size-tree r)
-size-tree (Counted q b l r) = omega (arith, size-tree b, size-tree r)
-size-tree (Choice b r) = omega (arith, size-tree b, size-tree r)
-size-tree (Arm b r) = omega (arith, size-tree b, size-tree r)
-
-first-tree : {A : Type 0} → (b : Body A) → first (tree b) ≡ first_size b
-first-tree End = refl
-first-tree (Operation a r) = refl
-first-tree (LeaveLoop r) = refl
-first-tree (Jump z k r) = refl
-first-tree (Block b r) = size-tree b
-first-tree (Cycle b r) = size-tree b
-first-tree (Counted q b l r) = omega (arith, size-tree b)
-first-tree (Choice b r) = omega (arith, size-tree b)
-first-tree (Arm b r) = omega (arith, size-tree b)
-
--- ---- which ways out there are
-
-abbrev IsSeen : {A : Type 0} → ℕ → Bool → Slot A → Type 0
-IsSeen m c (Out (Some z) k) = k < m
-IsSeen m c (Out None zero) = IsTrue c
-IsSeen m c (Out None (suc k)) = ⊥
-IsSeen m c (Does a) = Unit {0}
-IsSeen m c Leaves = Unit {0}
-IsSeen m c (To j u) = Unit {0}
-IsSeen m c (Enters q u) = Unit {0}
-IsSeen m c (Again l) = Unit {0}
-IsSeen m c (Tests u) = Unit {0}
-IsSeen m c Drops = Unit {0}
-
-seen-close : {A : Type 0} → (m t : ℕ) (c : Bool) (x : Slot A) → IsSeen (suc m) false x → IsSeen m c (close t x)
-seen-close m t c (Out (Some z) zero) h = tt
-seen-close m t c (Out (Some z) (suc k)) h = omega (arith, h)
-seen-close m t c (Out None zero) h = tt
-seen-close m t c (Out None (suc k)) h = absurd h
-seen-close m t c (Does a) h = tt
-seen-close m t c Leaves h = tt
-seen-close m t c (To j u) h = tt
-seen-close m t c (Enters q u) h = tt
-seen-close m t c (Again l) h = tt
-seen-close m t c (Tests u) h = tt
-seen-close m t c Drops h = tt
-
-seen-arms : {A : Type 0} → (m t : ℕ) (c : Bool) (x : Slot A) → IsSeen 0 true x → IsSeen m c (close t x)
-seen-arms m t c (Out (Some z) k) h = absurd (omega (arith, h))
-seen-arms m t c (Out None zero) h = tt
-seen-arms m t c (Out None (suc k)) h = absurd h
-seen-arms m t c (Does a) h = tt
-seen-arms m t c Leaves h = tt
-seen-arms m t c (To j u) h = tt
-seen-arms m t c (Enters q u) h = tt
-seen-arms m t c (Again l) h = tt
-seen-arms m t c (Tests u) h = tt
-seen-arms m t c Drops h = tt
-
-seen-shut : {A : Type 0} → (m : ℕ) (c : Bool) (x : Slot A) → IsSeen 0 false x → IsSeen m c x
-seen-shut m c (Out (Some z) k) h = absurd (omega (arith, h))
-seen-shut m c (Out None zero) h = let bad : ⊥ = cc in absurd bad
-seen-shut m c (Out None (suc k)) h = absurd h
-seen-shut m c (Does a) h = tt
-seen-shut m c Leaves h = tt
-seen-shut m c (To j u) h = tt
-seen-shut m c (Enters q u) h = tt
-seen-shut m c (Again l) h = tt
-seen-shut m c (Tests u) h = tt
-seen-shut m c Drops h = tt
-
-seen : {A : Type 0} → (m : ℕ) (d c : Bool) (b : Body A) (n : ℕ) → IsTight m d c b → Each (IsSeen m c) (slots (tree b) n)
-seen m d c End n w = tt
-seen m d c (Operation a r) n w = (tt, seen m d c r (n + 1) w)
-seen m d c (LeaveLoop r) n w = (tt, seen m d c r (n + 1) w.1)
-seen m d c (Jump z k r) n w = (w.0, seen m d c r (n + 1) w.1)
-seen m d c (Block b r) n w =
-    let e = n + size (tree b) in
-    let xs = slots (tree b) n in
-    let inner = each-map (IsSeen (suc m) false) (IsSeen m c) (close e) xs (seen-close m e c) (seen (suc m) d false b n w.1) in
-    each-append (IsSeen m c) (map (close e) xs ++ []) (slots (tree r) e) (each-append (IsSeen m c) (map (close e) xs) [] inner tt) (seen m d c r e w.2)
-seen m d c (Cycle b r) n w =
-    let e = n + size (tree b) in
-    let xs = slots (tree b) n in
-    let inner = each-map (IsSeen (suc m) false) (IsSeen m c) (close n) xs (seen-close m n c) (seen (suc m) d false b n w.1) in
-    each-append (IsSeen m c) (map (close n) xs ++ []) (slots (tree r) e) (each-append (IsSeen m c) (map (close n) xs) [] inner tt) (seen m d c r e w.2)
-seen m d c (Counted q b l r) n w =
-    let e = n + suc (suc (size (tree b))) in
-    let xs = slots (tree b) (suc n) in
-    let inner = each-map (IsSeen 0 false) (IsSeen m c) (λ x. x) xs (seen-shut m c) (seen 0 true false b (suc n) w.0) in
-    (tt, each-append (IsSeen m c) (map (λ x. x) xs ++ (Again l ∷ [])) (slots (tree r) e) (each-append (IsSeen m c) (map (λ x. x) xs) (Again l ∷ []) inner (tt, tt)) (seen m d c r e w.1))
-seen m d c (Choice b r) n w =
-    let e = n + suc (size (tree b)) in
-    let xs = slots (tree b) n in
-    let inner = each-map (IsSeen 0 true) (IsSeen m c) (close e) xs (seen-arms m e c) (seen 0 d true b n w.1) in
-    each-append (IsSeen m c) (map (close e) xs ++ (Drops ∷ [])) (slots (tree r) e) (each-append (IsSeen m c) (map (close e) xs) (Drops ∷ []) inner (tt, tt)) (seen m d c r e w.2)
-seen m d c (Arm b r) n w =
-    let e = n + suc (suc (size (tree b))) in
-    let xs = slots (tree b) (suc n) in
-    let inner = each-map (IsSeen 0 false) (IsSeen m c) (λ x. x) xs (seen-shut m c) (seen 0 d false b (suc n) w.1) in
-    (tt, each-append (IsSeen m c) (map (λ x. x) xs ++ (Out None 0 ∷ [])) (slots (tree r) e) (each-append (IsSeen m c) (map (λ x. x) xs) (Out None 0 ∷ []) inner (w.0, tt)) (seen m d c r e w.2))
+use Rattle.of_control.proofs.BodyTrees.{IsSeen, back, body, first-tree, seen, size-tree, tree}
 
 -- ---- the ways of the items
 
@@ -173,7 +42,9 @@ record Found {A : Type 0} (e : ℕ) (xs : List (Slot A)) (ws : List Way) (w : Wa
   pub way_here : way_of e here ≡ w
   pub ways_after : map (way_of e) later ≡ vs
 
-found : {A : Type 0} → (e : ℕ) (xs : List (Slot A)) (ws : List Way) (w : Way) (vs : List Way) → map (way_of e) xs ≡ ws ++ (w ∷ vs) → Found e xs ws w vs
+found :
+    {A : Type 0} → (e : ℕ) (xs : List (Slot A)) (ws : List Way) (w : Way) (vs : List Way) →
+    map (way_of e) xs ≡ ws ++ (w ∷ vs) → Found e xs ws w vs
 found e [] [] w vs h = let bad : ⊥ = cc in absurd bad
 found e [] (u ∷ ws) w vs h = let bad : ⊥ = cc in absurd bad
 found e (x ∷ xs) [] w vs h =
@@ -194,7 +65,9 @@ found e (x ∷ xs) (u ∷ ws) w vs h =
       ways_after = r.ways_after;
     }
 
-each-unmap : {A : Type 0} → (P : Way → Type 0) (f : Slot A → Way) (xs : List (Slot A)) → Each P (map f xs) → Each (λ x. P (f x)) xs
+each-unmap :
+    {A : Type 0} → (P : Way → Type 0) (f : Slot A → Way) (xs : List (Slot A)) → Each P (map f xs) →
+    Each (λ x. P (f x)) xs
 each-unmap P f [] h = tt
 each-unmap P f (x ∷ xs) h = (h.0, each-unmap P f xs h.1)
 
@@ -264,7 +137,9 @@ record Opened {A : Type 0} (n : ℕ) (i : Tree A) (ws vs : List Way) : Type 0 wh
   pub ways_before : length earlier ≡ length ws
   pub ways_after : length later ≡ length vs
 
-opened : {A : Type 0} → (m n : ℕ) (i : Tree A) (ws vs : List Way) → Each (IsSeen m false) (slots i n) → Each IsShorter ws → Each IsOther vs → map (way_of (n + size i)) (slots i n) ≡ ws ++ (Beyond 0 ∷ vs) → Opened n i ws vs
+opened :
+    {A : Type 0} → (m n : ℕ) (i : Tree A) (ws vs : List Way) → Each (IsSeen m false) (slots i n) → Each IsShorter ws →
+    Each IsOther vs → map (way_of (n + size i)) (slots i n) ≡ ws ++ (Beyond 0 ∷ vs) → Opened n i ws vs
 opened m n i ws vs s p q h =
     let e = n + size i in
     let f = found e (slots i n) ws (Beyond 0) vs h in
@@ -279,9 +154,11 @@ opened m n i ws vs s p q h =
       by = o.0;
       later = f.later;
       split = f.split ∙ ap (λ y. f.earlier ++ (y ∷ f.later)) o.1;
-      inner = each-more (λ x. IsSeen m false x × IsShorter (way_of e x)) IsInner f.earlier (λ x k. inner_is m e x k.0 (shorter_other (way_of e x) k.1)) first_ones;
+      inner = each-more (λ x. IsSeen m false x × IsShorter (way_of e x)) IsInner f.earlier
+          (λ x k. inner_is m e x k.0 (shorter_other (way_of e x) k.1)) first_ones;
       shorter = each-more (λ x. IsShorter (way_of e x)) (λ x. hits e x ≡ false) f.earlier (hits_not e) shorter;
-      one = each-more (λ x. IsSeen m false x × IsOther (way_of e x)) IsInner f.later (λ x k. inner_is m e x k.0 k.1) last_ones;
+      one = each-more (λ x. IsSeen m false x × IsOther (way_of e x)) IsInner f.later
+          (λ x k. inner_is m e x k.0 k.1) last_ones;
       ways_before = sym (length-map f.earlier (way_of e)) ∙ ap length f.ways_before;
       ways_after = sym (length-map f.later (way_of e)) ∙ ap length f.ways_after;
     }
@@ -290,7 +167,9 @@ no_items : {A : Type 0} → (xs : List (Slot A)) → length xs ≡ 0 → xs ≡ 
 no_items [] e = refl
 no_items (x ∷ xs) e = absurd (omega (arith, e))
 
-is_left : {A : Type 0} → (m n : ℕ) (b : Body A) → Each (IsSeen m false) (slots (tree b) n) → ways b ≡ map (way_of (n + size (tree b))) (slots (tree b) n) → IsBlock b → IsLeft n (tree b)
+is_left :
+    {A : Type 0} → (m n : ℕ) (b : Body A) → Each (IsSeen m false) (slots (tree b) n) →
+    ways b ≡ map (way_of (n + size (tree b))) (slots (tree b) n) → IsBlock b → IsLeft n (tree b)
 is_left m n b s w f =
     let o = opened m n (tree b) f.jump.earlier f.jump.later s f.jump.shorter f.jump.one (sym w ∙ f.jump.split) in
     record {
@@ -304,36 +183,47 @@ is_left m n b s w f =
       soon = let l = f.soon in omega (arith, l, o.ways_before, first-tree b);
     }
 
-is_repeated : {A : Type 0} → (m n : ℕ) (b : Body A) → Each (IsSeen m false) (slots (tree b) n) → ways b ≡ map (way_of (n + size (tree b))) (slots (tree b) n) → IsCycle b → IsRepeated n (tree b)
+is_repeated :
+    {A : Type 0} → (m n : ℕ) (b : Body A) → Each (IsSeen m false) (slots (tree b) n) →
+    ways b ≡ map (way_of (n + size (tree b))) (slots (tree b) n) → IsCycle b → IsRepeated n (tree b)
 is_repeated m n b s w f =
     let o = opened m n (tree b) f.jump.earlier f.jump.later s f.jump.shorter f.jump.one (sym w ∙ f.jump.split) in
     record {
       earlier = o.earlier;
       by = o.by;
-      split = o.split ∙ ap (λ l. o.earlier ++ (Out (Some o.by) 0 ∷ l)) (no_items o.later (o.ways_after ∙ ap length f.last));
+      split = o.split ∙ ap (λ l. o.earlier ++ (Out (Some o.by) 0 ∷ l))
+          (no_items o.later (o.ways_after ∙ ap length f.last));
       one = o.inner;
       inside = o.shorter;
     }
 
 -- ---- the ways are those of the items
 
-map_twice : {A : Type 0} → (f : Way → Way) (g h : Slot A → Way) (k : Slot A → Slot A) (xs : List (Slot A)) → Each (λ x. f (g x) ≡ h (k x)) xs → map f (map g xs) ≡ map h (map k xs)
+map_twice :
+    {A : Type 0} → (f : Way → Way) (g h : Slot A → Way) (k : Slot A → Slot A) (xs : List (Slot A)) →
+    Each (λ x. f (g x) ≡ h (k x)) xs → map f (map g xs) ≡ map h (map k xs)
 map_twice f g h k [] e = refl
 map_twice f g h k (x ∷ xs) e = ap (λ y. y ∷ map f (map g xs)) e.0 ∙ ap (λ l. h (k x) ∷ l) (map_twice f g h k xs e.1)
 
-if_other : (b c : Bool) → (if b then (if c then AtEnd else Inside) else Inside) ≡ outward c (if b then AtEnd else Inside)
+if_other :
+    (b c : Bool) → (if b then (if c then AtEnd else Inside) else Inside) ≡ outward c (if b then AtEnd else Inside)
 if_other true c = refl
 if_other false c = refl
 
 -- a jump to u, seen from the Block that ends at s, and from the body round it that ends at e
-seen_out : (u s e : ℕ) → u ≤ s → s ≤ e → outward (s == e) (if u == s then AtEnd else Inside) ≡ if u == e then AtEnd else Inside
+seen_out :
+    (u s e : ℕ) → u ≤ s → s ≤ e → outward (s == e) (if u == s then AtEnd else Inside) ≡ if u == e then AtEnd else Inside
 seen_out u s e a b =
     ⊎_elim
-    (λ g. ap (λ c. outward (s == e) (if c then AtEnd else Inside)) (eq-eqb u s g) ∙ ap (λ v. if v == e then AtEnd else Inside) (sym g))
-    (λ ne. ap (λ c. outward (s == e) (if c then AtEnd else Inside)) (ne_eqb u s ne) ∙ sym (ap (λ c. if c then AtEnd else Inside) (ne_eqb u e (λ g. ne (omega (arith, g, a, b))))))
+    (λ g. ap (λ c. outward (s == e) (if c then AtEnd else Inside)) (eq-eqb u s g)
+    ∙ ap (λ v. if v == e then AtEnd else Inside) (sym g))
+    (λ ne. ap (λ c. outward (s == e) (if c then AtEnd else Inside)) (ne_eqb u s ne)
+    ∙ sym (ap (λ c. if c then AtEnd else Inside) (ne_eqb u e (λ g. ne (omega (arith, g, a, b))))))
     (cases_eq u s)
 
-block_way : {A : Type 0} → (m s e : ℕ) → s ≤ e → (x : Slot A) → IsSeen m false x × Aims (λ u. u ≤ s) x → outward (s == e) (way_of s x) ≡ way_of e (close s x)
+block_way :
+    {A : Type 0} → (m s e : ℕ) → s ≤ e → (x : Slot A) → IsSeen m false x × Aims (λ u. u ≤ s) x →
+    outward (s == e) (way_of s x) ≡ way_of e (close s x)
 block_way m s e l (Out (Some z) zero) h = refl
 block_way m s e l (Out (Some z) (suc k)) h = refl
 block_way m s e l (Out None zero) h = let bad : ⊥ = cc in absurd bad
@@ -350,7 +240,9 @@ block_way m s e l Drops h = refl
 if_false : (b : Bool) → b ≡ false → Inside ≡ if b then AtEnd else Inside
 if_false b e = sym (ap (λ c. if c then AtEnd else Inside) e)
 
-cycle_way : {A : Type 0} → (m n s e : ℕ) → n < s → s ≤ e → (x : Slot A) → IsSeen m false x × (Aims (λ u. u ≤ s) x × (hits s x ≡ false)) → outward false (way_of s x) ≡ way_of e (close n x)
+cycle_way :
+    {A : Type 0} → (m n s e : ℕ) → n < s → s ≤ e → (x : Slot A) →
+    IsSeen m false x × (Aims (λ u. u ≤ s) x × (hits s x ≡ false)) → outward false (way_of s x) ≡ way_of e (close n x)
 cycle_way m n s e l k (Out (Some z) zero) h = if_false (n == e) (ne_eqb n e (λ g. omega (arith, g, l, k)))
 cycle_way m n s e l k (Out (Some z) (suc j)) h = refl
 cycle_way m n s e l k (Out None zero) h = let bad : ⊥ = cc in absurd bad
@@ -359,7 +251,8 @@ cycle_way m n s e l k (To (Some z) u) h =
     let le = h.1.0 in
     let off : (u == s) ≡ false = h.1.1 in
     ap (λ c. outward false (if c then AtEnd else Inside)) off
-    ∙ if_false (u == e) (ne_eqb u e (λ g. let same_end : u ≡ s = omega (arith, g, le, k) in let on = eq-eqb u s same_end in let bad : ⊥ = cc in bad))
+    ∙ if_false (u == e) (ne_eqb u e (λ g. let same_end : u ≡ s = omega (arith, g, le, k) in let on =
+    eq-eqb u s same_end in let bad : ⊥ = cc in bad))
 cycle_way m n s e l k (To None u) h = refl
 cycle_way m n s e l k (Does a) h = refl
 cycle_way m n s e l k Leaves h = refl
@@ -368,7 +261,8 @@ cycle_way m n s e l k (Again j) h = refl
 cycle_way m n s e l k (Tests u) h = refl
 cycle_way m n s e l k Drops h = refl
 
-shut_way : {A : Type 0} → (s e : ℕ) → s < e → (x : Slot A) → IsSeen 0 false x × Aims (λ u. u ≤ s) x → Inside ≡ way_of e x
+shut_way :
+    {A : Type 0} → (s e : ℕ) → s < e → (x : Slot A) → IsSeen 0 false x × Aims (λ u. u ≤ s) x → Inside ≡ way_of e x
 shut_way s e l (Out (Some z) k) h = let a = h.0 in absurd (omega (arith, a))
 shut_way s e l (Out None k) h = refl
 shut_way s e l (To (Some z) u) h = let a = h.1 in if_false (u == e) (ne_eqb u e (λ g. omega (arith, g, a, l)))
@@ -380,7 +274,9 @@ shut_way s e l (Again k) h = refl
 shut_way s e l (Tests u) h = refl
 shut_way s e l Drops h = refl
 
-arms_way : {A : Type 0} → (s e t : ℕ) → s < e → (x : Slot A) → IsSeen 0 true x × Aims (λ u. u ≤ s) x → Inside ≡ way_of e (close t x)
+arms_way :
+    {A : Type 0} → (s e t : ℕ) → s < e → (x : Slot A) → IsSeen 0 true x × Aims (λ u. u ≤ s) x →
+    Inside ≡ way_of e (close t x)
 arms_way s e t l (Out (Some z) k) h = let a = h.0 in absurd (omega (arith, a))
 arms_way s e t l (Out None zero) h = refl
 arms_way s e t l (Out None (suc k)) h = refl
@@ -395,7 +291,9 @@ arms_way s e t l Drops h = refl
 
 -- no item of a tree goes past its end
 before_end : {A : Type 0} → (t : Tree A) (n : ℕ) → Each (Aims (λ u. u ≤ n + size t)) (slots t n)
-before_end t n = each-more (Aims (Within n (n + size t))) (Aims (λ u. u ≤ n + size t)) (slots t n) (aims-more (Within n (n + size t)) (λ u. u ≤ n + size t) (λ u k. k.1)) (within t n)
+before_end t n =
+    each-more (Aims (Within n (n + size t))) (Aims (λ u. u ≤ n + size t)) (slots t n)
+    (aims-more (Within n (n + size t)) (λ u. u ≤ n + size t) (λ u k. k.1)) (within t n)
 
 last_part : (r s e : ℕ) → s + r ≡ e → (r == 0) ≡ (s == e)
 last_part r s e h =
@@ -404,11 +302,16 @@ last_part r s e h =
     (λ ne. ne_eqb r 0 ne ∙ sym (ne_eqb s e (λ g. ne (omega (arith, g, h)))))
     (cases_eq r 0)
 
-joined_ways : {A : Type 0} → (e : ℕ) (xs ys zs : List (Slot A)) (ws vs : List Way) → ws ≡ map (way_of e) xs → vs ≡ map (way_of e) zs → map (way_of e) ys ≡ map (way_of e) xs → ws ++ vs ≡ map (way_of e) (ys ++ zs)
+joined_ways :
+    {A : Type 0} → (e : ℕ) (xs ys zs : List (Slot A)) (ws vs : List Way) → ws ≡ map (way_of e) xs →
+    vs ≡ map (way_of e) zs → map (way_of e) ys ≡ map (way_of e) xs → ws ++ vs ≡ map (way_of e) (ys ++ zs)
 joined_ways e xs ys zs ws vs p q r =
     ap (λ l. l ++ vs) (p ∙ sym r) ∙ ap (λ l. map (way_of e) ys ++ l) q ∙ sym (map-append (way_of e) ys zs)
 
-shut_ways : {A : Type 0} → (e : ℕ) (ws : List Way) (xs : List (Slot A)) (k : Slot A → Slot A) (y : Slot A) (zs : List (Slot A)) (vs : List Way) (g : Slot A → Way) → ws ≡ map g xs → Each (λ x. Inside ≡ way_of e (k x)) xs → way_of e y ≡ Inside → vs ≡ map (way_of e) zs → map shut ws ++ (Inside ∷ vs) ≡ map (way_of e) ((map k xs ++ (y ∷ [])) ++ zs)
+shut_ways :
+    {A : Type 0} → (e : ℕ) (ws : List Way) (xs : List (Slot A)) (k : Slot A → Slot A) (y : Slot A) (zs : List (Slot A))
+    (vs : List Way) (g : Slot A → Way) → ws ≡ map g xs → Each (λ x. Inside ≡ way_of e (k x)) xs → way_of e y ≡ Inside →
+    vs ≡ map (way_of e) zs → map shut ws ++ (Inside ∷ vs) ≡ map (way_of e) ((map k xs ++ (y ∷ [])) ++ zs)
 shut_ways e ws xs k y zs vs g p h yi q =
     ap (λ l. map shut l ++ (Inside ∷ vs)) p
     ∙ ap (λ l. l ++ (Inside ∷ vs)) (map_twice shut g (way_of e) k xs h)
@@ -417,10 +320,14 @@ shut_ways e ws xs k y zs vs g p h yi q =
     ∙ sym (map-append (way_of e) (map k xs) (y ∷ zs))
     ∙ sym (ap (map (way_of e)) (append_assoc (map k xs) (y ∷ []) zs))
 
-inner_ends : {A : Type 0} → (m : ℕ) (c : Bool) (t : Tree A) (n : ℕ) → Each (IsSeen m c) (slots t n) → Each (λ x. IsSeen m c x × Aims (λ u. u ≤ n + size t) x) (slots t n)
+inner_ends :
+    {A : Type 0} → (m : ℕ) (c : Bool) (t : Tree A) (n : ℕ) → Each (IsSeen m c) (slots t n) →
+    Each (λ x. IsSeen m c x × Aims (λ u. u ≤ n + size t) x) (slots t n)
 inner_ends m c t n s = each-both (IsSeen m c) (Aims (λ u. u ≤ n + size t)) (slots t n) s (before_end t n)
 
-ways_are : {A : Type 0} → (m : ℕ) (d c : Bool) (b : Body A) (n e : ℕ) → IsTight m d c b → n + body_size b ≡ e → ways b ≡ map (way_of e) (slots (tree b) n)
+ways_are :
+    {A : Type 0} → (m : ℕ) (d c : Bool) (b : Body A) (n e : ℕ) → IsTight m d c b → n + body_size b ≡ e →
+    ways b ≡ map (way_of e) (slots (tree b) n)
 ways_are m d c End n e w h = refl
 ways_are m d c (Operation a r) n e w h = ap (λ l. Inside ∷ l) (ways_are m d c r (n + 1) e w (omega (arith, h)))
 ways_are m d c (LeaveLoop r) n e w h = ap (λ l. Inside ∷ l) (ways_are m d c r (n + 1) e w.1 (omega (arith, h)))
@@ -432,12 +339,16 @@ ways_are m d c (Block b r) n e w h =
     let inner = ways_are (suc m) d false b n s w.1 (omega (arith, st)) in
     let rest = ways_are m d c r s e w.2 (omega (arith, st, h)) in
     let ends = inner_ends (suc m) false (tree b) n (seen (suc m) d false b n w.1) in
-    let each = each-more (λ x. IsSeen (suc m) false x × Aims (λ u. u ≤ s) x) (λ x. outward (s == e) (way_of s x) ≡ way_of e (close s x)) xs (block_way (suc m) s e (omega (arith, st, h))) ends in
+    let each = each-more (λ x. IsSeen (suc m) false x × Aims (λ u. u ≤ s) x)
+    (λ x. outward (s == e) (way_of s x) ≡ way_of e (close s x)) xs
+    (block_way (suc m) s e (omega (arith, st, h))) ends in
     let left =
     ap (λ p. map (outward p) (ways b)) (last_part (body_size r) s e (omega (arith, st, h)))
     ∙ ap (map (outward (s == e))) inner
     ∙ map_twice (outward (s == e)) (way_of s) (way_of e) (close s) xs each in
-    joined_ways e (map (close s) xs) (map (close s) xs ++ []) (slots (tree r) s) (map (outward (body_size r == 0)) (ways b)) (ways r) left rest (ap (map (way_of e)) (append-nil (map (close s) xs)))
+    joined_ways e (map (close s) xs) (map (close s) xs ++ []) (slots (tree r) s)
+    (map (outward (body_size r == 0)) (ways b)) (ways r) left rest
+    (ap (map (way_of e)) (append-nil (map (close s) xs)))
 ways_are m d c (Cycle b r) n e w h =
     let s = n + size (tree b) in
     let st = size-tree b in
@@ -447,11 +358,16 @@ ways_are m d c (Cycle b r) n e w h =
     let sn = seen (suc m) d false b n w.1 in
     let rep = is_repeated (suc m) n b sn inner w.0 in
     let wd = wide_left n (tree b) rep.earlier [] (Out (Some rep.by) 0) rep.split in
-    let miss = subst (Each (λ x. hits s x ≡ false)) (sym rep.split) (each-append (λ x. hits s x ≡ false) rep.earlier (Out (Some rep.by) 0 ∷ []) rep.inside (refl, tt)) in
-    let ends = each-both (IsSeen (suc m) false) (λ x. Aims (λ u. u ≤ s) x × (hits s x ≡ false)) xs sn (each-both (Aims (λ u. u ≤ s)) (λ x. hits s x ≡ false) xs (before_end (tree b) n) miss) in
-    let each = each-more (λ x. IsSeen (suc m) false x × (Aims (λ u. u ≤ s) x × (hits s x ≡ false))) (λ x. outward false (way_of s x) ≡ way_of e (close n x)) xs (cycle_way (suc m) n s e (omega (arith, wd)) (omega (arith, st, h))) ends in
+    let miss = subst (Each (λ x. hits s x ≡ false)) (sym rep.split)
+    (each-append (λ x. hits s x ≡ false) rep.earlier (Out (Some rep.by) 0 ∷ []) rep.inside (refl, tt)) in
+    let ends = each-both (IsSeen (suc m) false) (λ x. Aims (λ u. u ≤ s) x × (hits s x ≡ false)) xs sn
+    (each-both (Aims (λ u. u ≤ s)) (λ x. hits s x ≡ false) xs (before_end (tree b) n) miss) in
+    let each = each-more (λ x. IsSeen (suc m) false x × (Aims (λ u. u ≤ s) x × (hits s x ≡ false)))
+    (λ x. outward false (way_of s x) ≡ way_of e (close n x)) xs
+    (cycle_way (suc m) n s e (omega (arith, wd)) (omega (arith, st, h))) ends in
     let left = ap (map (outward false)) inner ∙ map_twice (outward false) (way_of s) (way_of e) (close n) xs each in
-    joined_ways e (map (close n) xs) (map (close n) xs ++ []) (slots (tree r) s) (map (outward false) (ways b)) (ways r) left rest (ap (map (way_of e)) (append-nil (map (close n) xs)))
+    joined_ways e (map (close n) xs) (map (close n) xs ++ []) (slots (tree r) s) (map (outward false) (ways b))
+    (ways r) left rest (ap (map (way_of e)) (append-nil (map (close n) xs)))
 ways_are m d c (Counted q b l r) n e w h =
     let s = suc n + size (tree b) in
     let t = n + suc (suc (size (tree b))) in
@@ -460,8 +376,10 @@ ways_are m d c (Counted q b l r) n e w h =
     let inner = ways_are 0 true false b (suc n) s w.0 (omega (arith, st)) in
     let rest = ways_are m d c r t e w.1 (omega (arith, st, h)) in
     let ends = inner_ends 0 false (tree b) (suc n) (seen 0 true false b (suc n) w.0) in
-    let each = each-more (λ x. IsSeen 0 false x × Aims (λ u. u ≤ s) x) (λ x. Inside ≡ way_of e x) xs (shut_way s e (omega (arith, st, h))) ends in
-    ap (λ k. Inside ∷ k) (shut_ways e (ways b) xs (λ x. x) (Again l) (slots (tree r) t) (ways r) (way_of s) inner each refl rest)
+    let each = each-more (λ x. IsSeen 0 false x × Aims (λ u. u ≤ s) x) (λ x. Inside ≡ way_of e x) xs
+    (shut_way s e (omega (arith, st, h))) ends in
+    ap (λ k. Inside ∷ k) (shut_ways e (ways b) xs (λ x. x) (Again l) (slots (tree r) t) (ways r)
+    (way_of s) inner each refl rest)
 ways_are m d c (Choice b r) n e w h =
     let s = n + size (tree b) in
     let t = n + suc (size (tree b)) in
@@ -470,7 +388,8 @@ ways_are m d c (Choice b r) n e w h =
     let inner = ways_are 0 d true b n s w.1 (omega (arith, st)) in
     let rest = ways_are m d c r t e w.2 (omega (arith, st, h)) in
     let ends = inner_ends 0 true (tree b) n (seen 0 d true b n w.1) in
-    let each = each-more (λ x. IsSeen 0 true x × Aims (λ u. u ≤ s) x) (λ x. Inside ≡ way_of e (close t x)) xs (arms_way s e t (omega (arith, st, h))) ends in
+    let each = each-more (λ x. IsSeen 0 true x × Aims (λ u. u ≤ s) x) (λ x. Inside ≡ way_of e (close t x)) xs
+    (arms_way s e t (omega (arith, st, h))) ends in
     shut_ways e (ways b) xs (close t) Drops (slots (tree r) t) (ways r) (way_of s) inner each refl rest
 ways_are m d c (Arm b r) n e w h =
     let s = suc n + size (tree b) in
@@ -480,8 +399,10 @@ ways_are m d c (Arm b r) n e w h =
     let inner = ways_are 0 d false b (suc n) s w.1 (omega (arith, st)) in
     let rest = ways_are m d c r t e w.2 (omega (arith, st, h)) in
     let ends = inner_ends 0 false (tree b) (suc n) (seen 0 d false b (suc n) w.1) in
-    let each = each-more (λ x. IsSeen 0 false x × Aims (λ u. u ≤ s) x) (λ x. Inside ≡ way_of e x) xs (shut_way s e (omega (arith, st, h))) ends in
-    ap (λ k. Inside ∷ k) (shut_ways e (ways b) xs (λ x. x) (Out None 0) (slots (tree r) t) (ways r) (way_of s) inner each refl rest)
+    let each = each-more (λ x. IsSeen 0 false x × Aims (λ u. u ≤ s) x) (λ x. Inside ≡ way_of e x) xs
+    (shut_way s e (omega (arith, st, h))) ends in
+    ap (λ k. Inside ∷ k) (shut_ways e (ways b) xs (λ x. x) (Out None 0) (slots (tree r) t) (ways r)
+    (way_of s) inner each refl rest)
 
 -- ---- tight
 
@@ -516,16 +437,27 @@ tight m d c (Jump z k r) n w = (tt, tt, tight m d c r (n + 1) w.1)
 tight m d c (Block b r) n w =
     let s = n + size (tree b) in
     let st = size-tree b in
-    let sn = seen (suc m) d false b n w.1 in
-    (is_left (suc m) n b sn (ways_are (suc m) d false b n s w.1 (omega (arith, st))) w.0, tight (suc m) d false b n w.1, tight m d c r s w.2)
+    let sn = seen (suc m) d false b n w.1 in (
+      is_left (suc m) n b sn (ways_are (suc m) d false b n s w.1 (omega (arith, st))) w.0,
+      tight (suc m) d false b n w.1,
+      tight m d c r s w.2,
+    )
 tight m d c (Cycle b r) n w =
     let s = n + size (tree b) in
     let st = size-tree b in
-    let sn = seen (suc m) d false b n w.1 in
-    (is_repeated (suc m) n b sn (ways_are (suc m) d false b n s w.1 (omega (arith, st))) w.0, tight (suc m) d false b n w.1, tight m d c r s w.2)
-tight m d c (Counted q b l r) n w = (tt, tight 0 true false b (suc n) w.0, tight m d c r (n + suc (suc (size (tree b)))) w.1)
-tight m d c (Choice b r) n w =
-    ((each-more (IsSeen 0 true) IsShut (slots (tree b) n) seen_is_shut (seen 0 d true b n w.1), begins b w.0), tight 0 d true b n w.1, tight m d c r (n + suc (size (tree b))) w.2)
+    let sn = seen (suc m) d false b n w.1 in (
+      is_repeated (suc m) n b sn (ways_are (suc m) d false b n s w.1 (omega (arith, st))) w.0,
+      tight
+          (suc m) d false b n w.1,
+      tight m d c r s w.2,
+    )
+tight m d c (Counted q b l r) n w =
+    (tt, tight 0 true false b (suc n) w.0, tight m d c r (n + suc (suc (size (tree b)))) w.1)
+tight m d c (Choice b r) n w = (
+  (each-more (IsSeen 0 true) IsShut (slots (tree b) n) seen_is_shut (seen 0 d true b n w.1), begins b w.0),
+  tight 0 d true b n w.1,
+  tight m d c r (n + suc (size (tree b))) w.2,
+)
 tight m d c (Arm b r) n w = (tt, tight 0 d false b (suc n) w.1, tight m d c r (n + suc (suc (size (tree b)))) w.2)
 
 -- ---- the items of a body are those of its tree
@@ -552,7 +484,9 @@ placed ls ps (Again l) = Again l
 placed ls ps (Tests u) = Tests u
 placed ls ps Drops = Drops
 
-placed-close : {A : Type 0} → (m : ℕ) (ls : List ℕ) (ps t s : ℕ) → t ≡ s → (x : Slot A) → IsSeen m false x → placed (t ∷ ls) ps x ≡ placed ls ps (close s x)
+placed-close :
+    {A : Type 0} → (m : ℕ) (ls : List ℕ) (ps t s : ℕ) → t ≡ s → (x : Slot A) → IsSeen m false x →
+    placed (t ∷ ls) ps x ≡ placed ls ps (close s x)
 placed-close m ls ps t s e (Out (Some z) zero) h = ap (To (Some z)) e
 placed-close m ls ps t s e (Out (Some z) (suc k)) h = refl
 placed-close m ls ps t s e (Out None zero) h = let bad : ⊥ = cc in absurd bad
@@ -565,7 +499,9 @@ placed-close m ls ps t s e (Again l) h = refl
 placed-close m ls ps t s e (Tests u) h = refl
 placed-close m ls ps t s e Drops h = refl
 
-placed-arms : {A : Type 0} → (ls : List ℕ) (ps t s : ℕ) → t ≡ s → (x : Slot A) → IsSeen 0 true x → placed [] t x ≡ placed ls ps (close s x)
+placed-arms :
+    {A : Type 0} → (ls : List ℕ) (ps t s : ℕ) → t ≡ s → (x : Slot A) → IsSeen 0 true x →
+    placed [] t x ≡ placed ls ps (close s x)
 placed-arms ls ps t s e (Out (Some z) k) h = absurd (omega (arith, h))
 placed-arms ls ps t s e (Out None zero) h = ap (To None) e
 placed-arms ls ps t s e (Out None (suc k)) h = absurd h
@@ -577,7 +513,8 @@ placed-arms ls ps t s e (Again l) h = refl
 placed-arms ls ps t s e (Tests u) h = refl
 placed-arms ls ps t s e Drops h = refl
 
-placed-shut : {A : Type 0} → (ls ks : List ℕ) (ps qs : ℕ) (x : Slot A) → IsSeen 0 false x → placed ks qs x ≡ placed ls ps x
+placed-shut :
+    {A : Type 0} → (ls ks : List ℕ) (ps qs : ℕ) (x : Slot A) → IsSeen 0 false x → placed ks qs x ≡ placed ls ps x
 placed-shut ls ks ps qs (Out (Some z) k) h = absurd (omega (arith, h))
 placed-shut ls ks ps qs (Out None zero) h = let bad : ⊥ = cc in absurd bad
 placed-shut ls ks ps qs (Out None (suc k)) h = absurd h
@@ -589,42 +526,59 @@ placed-shut ls ks ps qs (Again l) h = refl
 placed-shut ls ks ps qs (Tests u) h = refl
 placed-shut ls ks ps qs Drops h = refl
 
-map_once : {A : Type 0} → (f g k : Slot A → Slot A) (xs : List (Slot A)) → Each (λ x. f x ≡ g (k x)) xs → map f xs ≡ map g (map k xs)
+map_once :
+    {A : Type 0} → (f g k : Slot A → Slot A) (xs : List (Slot A)) → Each (λ x. f x ≡ g (k x)) xs →
+    map f xs ≡ map g (map k xs)
 map_once f g k [] h = refl
 map_once f g k (x ∷ xs) h = ap (λ y. y ∷ map f xs) h.0 ∙ ap (λ l. g (k x) ∷ l) (map_once f g k xs h.1)
 
-joined_items : {A : Type 0} → (g : Slot A → Slot A) (us vs : List (Item A)) (ys zs : List (Slot A)) → map slot_of us ≡ map g ys → map slot_of vs ≡ map g zs → map slot_of (us ++ vs) ≡ map g (ys ++ zs)
+joined_items :
+    {A : Type 0} → (g : Slot A → Slot A) (us vs : List (Item A)) (ys zs : List (Slot A)) → map slot_of us ≡ map g ys →
+    map slot_of vs ≡ map g zs → map slot_of (us ++ vs) ≡ map g (ys ++ zs)
 joined_items g us vs ys zs p q =
     map-append slot_of us vs ∙ ap (λ l. l ++ map slot_of vs) p ∙ ap (λ l. map g ys ++ l) q ∙ sym (map-append g ys zs)
 
-items_are : {A : Type 0} → (m : ℕ) (d c : Bool) (b : Body A) (n : ℕ) (ls : List ℕ) (lv ps : ℕ) → IsTight m d c b → map slot_of (items_at b n ls lv ps) ≡ map (placed ls ps) (slots (tree b) n)
+items_are :
+    {A : Type 0} → (m : ℕ) (d c : Bool) (b : Body A) (n : ℕ) (ls : List ℕ) (lv ps : ℕ) → IsTight m d c b →
+    map slot_of (items_at b n ls lv ps) ≡ map (placed ls ps) (slots (tree b) n)
 items_are m d c End n ls lv ps w = refl
 items_are m d c (Operation a r) n ls lv ps w =
-    ap (λ l. Does a ∷ l) (items_are m d c r (suc n) ls lv ps w ∙ ap (λ k. map (placed ls ps) (slots (tree r) k)) (omega arith))
+    ap (λ l. Does a ∷ l) (items_are m d c r (suc n) ls lv ps w
+    ∙ ap (λ k. map (placed ls ps) (slots (tree r) k)) (omega arith))
 items_are m d c (LeaveLoop r) n ls lv ps w =
-    ap (λ l. Leaves ∷ l) (items_are m d c r (suc n) ls lv ps w.1 ∙ ap (λ k. map (placed ls ps) (slots (tree r) k)) (omega arith))
+    ap (λ l. Leaves ∷ l) (items_are m d c r (suc n) ls lv ps w.1
+    ∙ ap (λ k. map (placed ls ps) (slots (tree r) k)) (omega arith))
 items_are m d c (Jump z k r) n ls lv ps w =
-    ap (λ l. To (Some z) (slice_index ls k) ∷ l) (items_are m d c r (suc n) ls lv ps w.1 ∙ ap (λ i. map (placed ls ps) (slots (tree r) i)) (omega arith))
+    ap (λ l. To (Some z) (slice_index ls k) ∷ l)
+    (items_are m d c r (suc n) ls lv ps w.1 ∙ ap (λ i. map (placed ls ps) (slots (tree r) i)) (omega arith))
 items_are m d c (Block b r) n ls lv ps w =
     let t = n + body_size b in
     let s = n + size (tree b) in
     let st = size-tree b in
     let eq : t ≡ s = omega (arith, st) in
     let xs = slots (tree b) n in
-    let each = each-more (IsSeen (suc m) false) (λ x. placed (t ∷ ls) ps x ≡ placed ls ps (close s x)) xs (placed-close (suc m) ls ps t s eq) (seen (suc m) d false b n w.1) in
-    let inner = items_are (suc m) d false b n (t ∷ ls) lv ps w.1 ∙ map_once (placed (t ∷ ls) ps) (placed ls ps) (close s) xs each ∙ sym (ap (map (placed ls ps)) (append-nil (map (close s) xs))) in
+    let each = each-more (IsSeen (suc m) false) (λ x. placed (t ∷ ls) ps x ≡ placed ls ps (close s x)) xs
+    (placed-close (suc m) ls ps t s eq) (seen (suc m) d false b n w.1) in
+    let inner = items_are (suc m) d false b n (t ∷ ls) lv ps w.1
+    ∙ map_once (placed (t ∷ ls) ps) (placed ls ps) (close s) xs each
+    ∙ sym (ap (map (placed ls ps)) (append-nil (map (close s) xs))) in
     let rest = items_are m d c r t ls lv ps w.2 ∙ ap (λ k. map (placed ls ps) (slots (tree r) k)) eq in
-    joined_items (placed ls ps) (items_at b n (t ∷ ls) lv ps) (items_at r t ls lv ps) (map (close s) xs ++ []) (slots (tree r) s) inner rest
+    joined_items (placed ls ps) (items_at b n (t ∷ ls) lv ps) (items_at r t ls lv ps) (map (close s) xs ++ [])
+    (slots (tree r) s) inner rest
 items_are m d c (Cycle b r) n ls lv ps w =
     let t = n + body_size b in
     let s = n + size (tree b) in
     let st = size-tree b in
     let eq : t ≡ s = omega (arith, st) in
     let xs = slots (tree b) n in
-    let each = each-more (IsSeen (suc m) false) (λ x. placed (n ∷ ls) ps x ≡ placed ls ps (close n x)) xs (placed-close (suc m) ls ps n n refl) (seen (suc m) d false b n w.1) in
-    let inner = items_are (suc m) d false b n (n ∷ ls) lv ps w.1 ∙ map_once (placed (n ∷ ls) ps) (placed ls ps) (close n) xs each ∙ sym (ap (map (placed ls ps)) (append-nil (map (close n) xs))) in
+    let each = each-more (IsSeen (suc m) false) (λ x. placed (n ∷ ls) ps x ≡ placed ls ps (close n x)) xs
+    (placed-close (suc m) ls ps n n refl) (seen (suc m) d false b n w.1) in
+    let inner = items_are (suc m) d false b n (n ∷ ls) lv ps w.1
+    ∙ map_once (placed (n ∷ ls) ps) (placed ls ps) (close n) xs each
+    ∙ sym (ap (map (placed ls ps)) (append-nil (map (close n) xs))) in
     let rest = items_are m d c r t ls lv ps w.2 ∙ ap (λ k. map (placed ls ps) (slots (tree r) k)) eq in
-    joined_items (placed ls ps) (items_at b n (n ∷ ls) lv ps) (items_at r t ls lv ps) (map (close n) xs ++ []) (slots (tree r) s) inner rest
+    joined_items (placed ls ps) (items_at b n (n ∷ ls) lv ps) (items_at r t ls lv ps) (map (close n) xs ++ [])
+    (slots (tree r) s) inner rest
 items_are m d c (Counted q b l r) n ls lv ps w =
     let t = suc (suc n + body_size b) in
     let s = n + suc (suc (size (tree b))) in
@@ -632,12 +586,15 @@ items_are m d c (Counted q b l r) n ls lv ps w =
     let eq : t ≡ s = omega (arith, st) in
     let xs = slots (tree b) (suc n) in
     let f = placed ls ps in
-    let each = each-more (IsSeen 0 false) (λ x. placed [] ps x ≡ placed ls ps x) xs (placed-shut ls [] ps ps) (seen 0 true false b (suc n) w.0) in
+    let each = each-more (IsSeen 0 false) (λ x. placed [] ps x ≡ placed ls ps x) xs (placed-shut ls [] ps ps)
+    (seen 0 true false b (suc n) w.0) in
     let inner = items_are 0 true false b (suc n) [] t ps w.0 ∙ map_once (placed [] ps) f (λ x. x) xs each in
     let rest = items_are m d c r t ls lv ps w.1 ∙ ap (λ k. map f (slots (tree r) k)) eq in
-    let all = joined_items f (items_at b (suc n) [] t ps) (RepeatLoop l (suc n) ∷ items_at r t ls lv ps) (map (λ x. x) xs) (Again l ∷ slots (tree r) s) inner (ap (λ k. Again l ∷ k) rest) in
+    let all = joined_items f (items_at b (suc n) [] t ps) (RepeatLoop l (suc n) ∷ items_at r t ls lv ps)
+    (map (λ x. x) xs) (Again l ∷ slots (tree r) s) inner (ap (λ k. Again l ∷ k) rest) in
     ap (λ u. Enters q u ∷ map slot_of (items_at b (suc n) [] t ps ++ (RepeatLoop l (suc n) ∷ items_at r t ls lv ps))) eq
-    ∙ ap (λ k. Enters q s ∷ k) (all ∙ sym (ap (map f) (append_assoc (map (λ x. x) xs) (Again l ∷ []) (slots (tree r) s))))
+    ∙ ap (λ k. Enters q s ∷ k) (all ∙ sym
+    (ap (map f) (append_assoc (map (λ x. x) xs) (Again l ∷ []) (slots (tree r) s))))
 items_are m d c (Choice b r) n ls lv ps w =
     let t = suc (n + body_size b) in
     let s = n + suc (size (tree b)) in
@@ -645,10 +602,12 @@ items_are m d c (Choice b r) n ls lv ps w =
     let eq : t ≡ s = omega (arith, st) in
     let xs = slots (tree b) n in
     let f = placed ls ps in
-    let each = each-more (IsSeen 0 true) (λ x. placed [] t x ≡ placed ls ps (close s x)) xs (placed-arms ls ps t s eq) (seen 0 d true b n w.1) in
+    let each = each-more (IsSeen 0 true) (λ x. placed [] t x ≡ placed ls ps (close s x)) xs (placed-arms ls ps t s eq)
+    (seen 0 d true b n w.1) in
     let inner = items_are 0 d true b n [] lv t w.1 ∙ map_once (placed [] t) f (close s) xs each in
     let rest = items_are m d c r t ls lv ps w.2 ∙ ap (λ k. map f (slots (tree r) k)) eq in
-    let all = joined_items f (items_at b n [] lv t) (DropSelector ∷ items_at r t ls lv ps) (map (close s) xs) (Drops ∷ slots (tree r) s) inner (ap (λ k. Drops ∷ k) rest) in
+    let all = joined_items f (items_at b n [] lv t) (DropSelector ∷ items_at r t ls lv ps) (map (close s) xs)
+    (Drops ∷ slots (tree r) s) inner (ap (λ k. Drops ∷ k) rest) in
     all ∙ sym (ap (map f) (append_assoc (map (close s) xs) (Drops ∷ []) (slots (tree r) s)))
 items_are m d c (Arm b r) n ls lv ps w =
     let t = suc (suc n + body_size b) in
@@ -657,12 +616,15 @@ items_are m d c (Arm b r) n ls lv ps w =
     let eq : t ≡ s = omega (arith, st) in
     let xs = slots (tree b) (suc n) in
     let f = placed ls ps in
-    let each = each-more (IsSeen 0 false) (λ x. placed [] ps x ≡ placed ls ps x) xs (placed-shut ls [] ps ps) (seen 0 d false b (suc n) w.1) in
+    let each = each-more (IsSeen 0 false) (λ x. placed [] ps x ≡ placed ls ps x) xs (placed-shut ls [] ps ps)
+    (seen 0 d false b (suc n) w.1) in
     let inner = items_are 0 d false b (suc n) [] lv ps w.1 ∙ map_once (placed [] ps) f (λ x. x) xs each in
     let rest = items_are m d c r t ls lv ps w.2 ∙ ap (λ k. map f (slots (tree r) k)) eq in
-    let all = joined_items f (items_at b (suc n) [] lv ps) (EndArm ps ∷ items_at r t ls lv ps) (map (λ x. x) xs) (Out None 0 ∷ slots (tree r) s) inner (ap (λ k. To None ps ∷ k) rest) in
+    let all = joined_items f (items_at b (suc n) [] lv ps) (EndArm ps ∷ items_at r t ls lv ps) (map (λ x. x) xs)
+    (Out None 0 ∷ slots (tree r) s) inner (ap (λ k. To None ps ∷ k) rest) in
     ap (λ u. Tests u ∷ map slot_of (items_at b (suc n) [] lv ps ++ (EndArm ps ∷ items_at r t ls lv ps))) eq
-    ∙ ap (λ k. Tests s ∷ k) (all ∙ sym (ap (map f) (append_assoc (map (λ x. x) xs) (Out None 0 ∷ []) (slots (tree r) s))))
+    ∙ ap (λ k. Tests s ∷ k) (all ∙ sym (ap (map f)
+    (append_assoc (map (λ x. x) xs) (Out None 0 ∷ []) (slots (tree r) s))))
 
 placed-none : {A : Type 0} → (x : Slot A) → IsSeen 0 false x → placed [] 0 x ≡ x
 placed-none (Out (Some z) k) h = absurd (omega (arith, h))
@@ -683,14 +645,18 @@ all_same f (x ∷ xs) h = ap (λ y. y ∷ map f xs) h.0 ∙ ap (λ l. x ∷ l) (
 whole : {A : Type 0} → (b : Body A) → IsTight 0 false false b → map slot_of (items_of b) ≡ slots (tree b) 0
 whole b w =
     items_are 0 false false b 0 [] 0 0 w
-    ∙ all_same (placed [] 0) (slots (tree b) 0) (each-more (IsSeen 0 false) (λ x. placed [] 0 x ≡ x) (slots (tree b) 0) placed-none (seen 0 false false b 0 w))
+    ∙ all_same (placed [] 0) (slots (tree b) 0)
+    (each-more (IsSeen 0 false) (λ x. placed [] 0 x ≡ x) (slots (tree b) 0) placed-none (seen 0 false false b 0 w))
 
 -- tight bodies with the same items are the same
-pub one_body : {A : Type 0} → (b c : Body A) → IsTight 0 false false b → IsTight 0 false false c → items_of b ≡ items_of c → b ≡ c
+pub one_body :
+    {A : Type 0} → (b c : Body A) → IsTight 0 false false b → IsTight 0 false false c → items_of b ≡ items_of c → b ≡ c
 one_body b c w v e =
     let slots_same = sym (whole b w) ∙ ap (map slot_of) e ∙ whole c v in
-    sym (back b) ∙ ap body (same (tree b) (tree c) 0 (tight 0 false false b 0 w) (tight 0 false false c 0 v) slots_same) ∙ back c
+    sym (back b) ∙ ap body (same (tree b) (tree c) 0 (tight 0 false false b 0 w) (tight 0 false false c 0 v) slots_same)
+    ∙ back c
 
 -- a definition has one reading at most
-pub one_reading : {A : Type 0} → (es : List (Element A)) (m : Partners) (b c : Body A) → IsReading es m b → IsReading es m c → b ≡ c
+pub one_reading :
+    {A : Type 0} → (es : List (Element A)) (m : Partners) (b c : Body A) → IsReading es m b → IsReading es m c → b ≡ c
 one_reading es m b c w v = one_body b c w.tight v.tight (w.listed ∙ sym v.listed)

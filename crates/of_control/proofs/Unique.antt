@@ -1,9 +1,15 @@
 -- Tight trees with equal slots are equal.
-use Rattle.std.proofs.Common.{◌≡◌, ℕ, zero, suc, ◌+◌, ◌<◌, ◌≤◌, Bool, true, false, List, [], ◌∷◌, ◌++◌, length, Some, None, refl, sym, ap, ◌∙◌, subst, arith, ⊎_elim, ◌||◌}
+use Rattle.std.proofs.Common.{◌≡◌, ℕ, zero, suc, ◌+◌, ◌<◌, ◌≤◌, Bool, true, false, List, [], ◌∷◌, ◌++◌, length, Some}
+use Rattle.std.proofs.Common.{None, refl, sym, ap, ◌∙◌, subst, arith, ⊎_elim, ◌||◌}
 use Rattle.std.specs.Prelude.{◌==◌, if◌then◌else◌, map}
 use Rattle.std.proofs.lemmas.Bool.{ne_eqb, eq-eqb, cases_lt}
-use Rattle.std.proofs.lemmas.List.{append-nil, append_cancel_left, append_cancel_right, map-append, map-id, length-append, length-map}
-use Rattle.of_control.proofs.Slots.{Slot, Does, Leaves, Out, To, Enters, Again, Tests, Drops, Head, AnOperation, ALeave, AJump, ABlock, ACycle, ACounted, AChoice, AnArm, Tree, Leaf, Node, starts, width-is, width, size, before, behind, close, bound, part, slots, length-slots, length-part, Aims, each-append, each-map, each-more, each-both, aims-more, Within, within-part, within, Keeps, CutIn, cut-left, cut-right, cut-join, cut-low, cut-high, cut-unclose}
+use Rattle.std.proofs.lemmas.List.{append-nil, append_cancel_left, append_cancel_right, map-append, map-id}
+use Rattle.std.proofs.lemmas.List.{length-append, length-map}
+use Rattle.of_control.proofs.Slots.{Slot, Does, Leaves, Out, To, Enters, Again, Tests, Drops, Head, AnOperation, ALeave}
+use Rattle.of_control.proofs.Slots.{AJump, ABlock, ACycle, ACounted, AChoice, AnArm, Tree, Leaf, Node, starts, width-is}
+use Rattle.of_control.proofs.Slots.{width, size, before, behind, close, bound, part, slots, length-slots, length-part}
+use Rattle.of_control.proofs.Slots.{Aims, each-append, each-map, each-more, each-both, aims-more, Within, within-part}
+use Rattle.of_control.proofs.Slots.{within, Keeps, CutIn, cut-left, cut-right, cut-join, cut-low, cut-high, cut-unclose}
 use Rattle.of_control.specs.Tight.{Each}
 
 -- no way out of the part
@@ -100,34 +106,44 @@ Tight n (Node h i r) = Fits h n i × Tight (starts h n) i × Tight (n + width h 
 
 -- ---- the first part of one ends where the first part of the other does
 
-cut_at : {A : Type 0} → (p c : ℕ) (xs ys : List (Slot A)) (x : Slot A) → CutIn p c (xs ++ (x ∷ ys)) → Aims (Keeps (p + length xs) c) x
+cut_at :
+    {A : Type 0} → (p c : ℕ) (xs ys : List (Slot A)) (x : Slot A) → CutIn p c (xs ++ (x ∷ ys)) →
+    Aims (Keeps (p + length xs) c) x
 cut_at p c xs ys x h = (cut-right p c (p + length xs) xs (x ∷ ys) refl h).0
 
 pub leaf_size : {A : Type 0} → (i : Tree A) → IsLeaf i → size i ≡ 0
 leaf_size Leaf h = refl
 leaf_size (Node g j r) h = absurd h
 
-left_covers : {A : Type 0} → (n c : ℕ) (i : Tree A) → IsLeft n i → n + first i ≤ c → CutIn n c (map (close (n + size i)) (slots i n)) → n + size i ≤ c
+left_covers :
+    {A : Type 0} → (n c : ℕ) (i : Tree A) → IsLeft n i → n + first i ≤ c →
+    CutIn n c (map (close (n + size i)) (slots i n)) → n + size i ≤ c
 left_covers n c i f l h =
     let e = n + size i in
     let xs = map (close e) f.earlier in
-    let k = subst (λ ys. CutIn n c ys) (ap (map (close e)) f.split ∙ map-append (close e) f.earlier (Out (Some f.by) 0 ∷ f.later)) h in
+    let k = subst (λ ys. CutIn n c ys) (ap (map (close e)) f.split
+    ∙ map-append (close e) f.earlier (Out (Some f.by) 0 ∷ f.later)) h in
     let w = cut_at n c xs (map (close e) f.later) (To (Some f.by) e) k in
     let lx = length-map f.earlier (close e) in
     let s = f.soon in
     w.0 (omega (arith, lx, l, s))
 
-repeated_covers : {A : Type 0} → (n c : ℕ) (i : Tree A) → IsRepeated n i → n < c → CutIn n c (map (close n) (slots i n)) → n + size i ≤ c
+repeated_covers :
+    {A : Type 0} → (n c : ℕ) (i : Tree A) → IsRepeated n i → n < c → CutIn n c (map (close n) (slots i n)) →
+    n + size i ≤ c
 repeated_covers n c i f l h =
     let xs = map (close n) f.earlier in
-    let k = subst (λ ys. CutIn n c ys) (ap (map (close n)) f.split ∙ map-append (close n) f.earlier (Out (Some f.by) 0 ∷ [])) h in
+    let k = subst (λ ys. CutIn n c ys) (ap (map (close n)) f.split
+    ∙ map-append (close n) f.earlier (Out (Some f.by) 0 ∷ [])) h in
     let w = cut_at n c xs [] (To (Some f.by) n) k in
     let lx = length-map f.earlier (close n) in
     let total = sym (length-slots i n) ∙ ap length f.split ∙ length-append f.earlier (Out (Some f.by) 0 ∷ []) in
     let below : (c ≤ n + length xs) → ⊥ = λ g. let m = w.1 g in omega (arith, m, l) in
     ⊎_elim (λ g. omega (arith, g, lx, total)) (λ g. absurd (below g)) (cases_lt (n + length xs) c)
 
-arm_covers : {A : Type 0} → (n c : ℕ) (i : Tree A) → BeginsWithArm i → n < c → CutIn n c (part AChoice n (size i) (slots i n)) → n + width {A = A} AChoice (size i) ≤ c
+arm_covers :
+    {A : Type 0} → (n c : ℕ) (i : Tree A) → BeginsWithArm i → n < c → CutIn n c (part AChoice n (size i) (slots i n)) →
+    n + width {A = A} AChoice (size i) ≤ c
 arm_covers n c Leaf b l h = omega (arith, l)
 arm_covers n c (Node (AnOperation a) j r) b l h = absurd b
 arm_covers n c (Node ALeave j r) b l h = absurd b
@@ -142,7 +158,8 @@ arm_covers {A = A} n c (Node AnArm j r) b l h =
     let inner = map (bound AnArm n a) (slots j (suc n)) in
     let arm : List (Slot A) = Tests a ∷ (inner ++ (Out None 0 ∷ [])) in
     let one = cut-left n c (map (close e) (arm ++ slots r a)) (Drops ∷ []) h in
-    let two = cut-left n c (map (close e) arm) (map (close e) (slots r a)) (subst (λ ys. CutIn n c ys) (map-append (close e) arm (slots r a)) one) in
+    let two = cut-left n c (map (close e) arm) (map (close e) (slots r a))
+    (subst (λ ys. CutIn n c ys) (map-append (close e) arm (slots r a)) one) in
     let fits : a ≤ c = two.0.0 l in
     let three = subst (λ ys. CutIn (suc n) c ys) (map-append (close e) inner (Out None 0 ∷ [])) two.1 in
     let last = cut_at (suc n) c (map (close e) inner) [] (To None e) three in
@@ -178,9 +195,12 @@ cut_first h i r n =
     let xs = slots i (starts h n) in
     let p = part h n (size i) xs in
     let lp = length-part h n (size i) xs ∙ ap (width h) (length-slots i (starts h n)) in
-    let low = each-more (Aims (Within n e)) (Aims (λ u. u ≤ e)) p (aims-more (Within n e) (λ u. u ≤ e) (λ u k. k.1)) (within-part h n (size i) xs (within i (starts h n))) in
-    let high = each-more (Aims (Within e (e + size r))) (Aims (λ u. e ≤ u)) (slots r e) (aims-more (Within e (e + size r)) (λ u. e ≤ u) (λ u k. k.0)) (within r e) in
-    cut-join n e e p (slots r e) (omega (arith, lp)) (cut-low n e p (omega (arith, lp)) low) (cut-high e e (slots r e) (omega arith) high)
+    let low = each-more (Aims (Within n e)) (Aims (λ u. u ≤ e)) p (aims-more (Within n e) (λ u. u ≤ e) (λ u k. k.1))
+    (within-part h n (size i) xs (within i (starts h n))) in
+    let high = each-more (Aims (Within e (e + size r))) (Aims (λ u. e ≤ u)) (slots r e)
+    (aims-more (Within e (e + size r)) (λ u. e ≤ u) (λ u k. k.0)) (within r e) in
+    cut-join n e e p (slots r e) (omega (arith, lp)) (cut-low n e p (omega (arith, lp)) low)
+    (cut-high e e (slots r e) (omega arith) high)
 
 -- ---- what the first part is
 
@@ -218,7 +238,8 @@ or_true : (b : Bool) → (b || true) ≡ true
 or_true true = refl
 or_true false = refl
 
-hit_there : {A : Type 0} → (e : ℕ) (xs ys : List (Slot A)) (x : Slot A) → hits e x ≡ true → has_hit e (xs ++ (x ∷ ys)) ≡ true
+hit_there :
+    {A : Type 0} → (e : ℕ) (xs ys : List (Slot A)) (x : Slot A) → hits e x ≡ true → has_hit e (xs ++ (x ∷ ys)) ≡ true
 hit_there e [] ys x h = ap (λ b. b || has_hit e ys) h
 hit_there e (y ∷ xs) ys x h = ap (λ b. hits e y || b) (hit_there e xs ys x h) ∙ or_true (hits e y)
 
@@ -250,32 +271,48 @@ misses_arms e (Tests u) h = refl
 misses_arms e Drops h = refl
 
 -- all of these go before e
-pub strict : {A : Type 0} → (a b e : ℕ) → b < e → (xs : List (Slot A)) → Each (Aims (Within a b)) xs → Each (Aims (λ u. u < e)) xs
-strict a b e l xs h = each-more (Aims (Within a b)) (Aims (λ u. u < e)) xs (aims-more (Within a b) (λ u. u < e) (λ u w. omega (arith, l, w.1))) h
+pub strict :
+    {A : Type 0} → (a b e : ℕ) → b < e → (xs : List (Slot A)) → Each (Aims (Within a b)) xs →
+    Each (Aims (λ u. u < e)) xs
+strict a b e l xs h =
+    each-more (Aims (Within a b)) (Aims (λ u. u < e)) xs
+    (aims-more (Within a b) (λ u. u < e) (λ u w. omega (arith, l, w.1))) h
 
-pub missing : {A : Type 0} → (e : ℕ) (xs : List (Slot A)) → Each (Aims (λ u. u < e)) xs → Each (λ x. hits e x ≡ false) xs
+pub missing :
+    {A : Type 0} → (e : ℕ) (xs : List (Slot A)) → Each (Aims (λ u. u < e)) xs → Each (λ x. hits e x ≡ false) xs
 missing e xs h = each-more (Aims (λ u. u < e)) (λ x. hits e x ≡ false) xs (misses e) h
 
-by_head : {A : Type 0} → (e : ℕ) (xs : List (Slot A)) (x : Slot A) (h : Head A) → has_hit e xs ≡ false → last_of Leaves xs ≡ x → by_last (entered xs) x ≡ h → head_of e xs ≡ h
+by_head :
+    {A : Type 0} → (e : ℕ) (xs : List (Slot A)) (x : Slot A) (h : Head A) → has_hit e xs ≡ false →
+    last_of Leaves xs ≡ x → by_last (entered xs) x ≡ h → head_of e xs ≡ h
 by_head e xs x h p q r =
     ap (λ b. if b then ABlock else by_last (entered xs) (last_of Leaves xs)) p ∙ ap (by_last (entered xs)) q ∙ r
 
-leaf_head : {A : Type 0} → (n : ℕ) (i : Tree A) (h : Head A) → IsLeaf i → head_of (n + width h 0) (part h n 0 []) ≡ h → head_of (n + width h (size i)) (part h n (size i) (slots i (starts h n))) ≡ h
+leaf_head :
+    {A : Type 0} → (n : ℕ) (i : Tree A) (h : Head A) → IsLeaf i → head_of (n + width h 0) (part h n 0 []) ≡ h →
+    head_of (n + width h (size i)) (part h n (size i) (slots i (starts h n))) ≡ h
 leaf_head n Leaf h f e = e
 leaf_head n (Node g j r) h f e = absurd f
 
-block_head : {A : Type 0} → (n : ℕ) (i : Tree A) → IsLeft n i → head_of (n + size i) (part ABlock n (size i) (slots i n)) ≡ ABlock
+block_head :
+    {A : Type 0} → (n : ℕ) (i : Tree A) → IsLeft n i →
+    head_of (n + size i) (part ABlock n (size i) (slots i n)) ≡ ABlock
 block_head n i f =
     let e = n + size i in
     let xs = map (close e) f.earlier in
     let ys = map (close e) f.later in
-    let eq = append-nil (map (close e) (slots i n)) ∙ ap (map (close e)) f.split ∙ map-append (close e) f.earlier (Out (Some f.by) 0 ∷ f.later) in
+    let eq = append-nil (map (close e) (slots i n)) ∙ ap (map (close e)) f.split
+    ∙ map-append (close e) f.earlier (Out (Some f.by) 0 ∷ f.later) in
     let hit = ap (has_hit e) eq ∙ hit_there e xs ys (To (Some f.by) e) (eq-eqb e e refl) in
-    ap (λ b. if b then ABlock else by_last (entered (part ABlock n (size i) (slots i n))) (last_of Leaves (part ABlock n (size i) (slots i n)))) hit
+    ap (λ b. if b then ABlock else by_last (entered (part ABlock n (size i) (slots i n)))
+    (last_of Leaves (part ABlock n (size i) (slots i n)))) hit
 
-cycle_parts : {A : Type 0} → (n : ℕ) (i : Tree A) → (f : IsRepeated n i) → part ACycle n (size i) (slots i n) ≡ map (close n) f.earlier ++ (To (Some f.by) n ∷ [])
+cycle_parts :
+    {A : Type 0} → (n : ℕ) (i : Tree A) → (f : IsRepeated n i) →
+    part ACycle n (size i) (slots i n) ≡ map (close n) f.earlier ++ (To (Some f.by) n ∷ [])
 cycle_parts n i f =
-    append-nil (map (close n) (slots i n)) ∙ ap (map (close n)) f.split ∙ map-append (close n) f.earlier (Out (Some f.by) 0 ∷ [])
+    append-nil (map (close n) (slots i n)) ∙ ap (map (close n)) f.split
+    ∙ map-append (close n) f.earlier (Out (Some f.by) 0 ∷ [])
 
 misses_close : {A : Type 0} → (e n : ℕ) → n < e → (x : Slot A) → hits e x ≡ false → hits e (close n x) ≡ false
 misses_close e n l (Out (Some z) zero) h = ne_eqb n e (λ g. omega (arith, g, l))
@@ -289,45 +326,63 @@ misses_close e n l (Again m) h = refl
 misses_close e n l (Tests u) h = refl
 misses_close e n l Drops h = refl
 
-cycle_head : {A : Type 0} → (n : ℕ) (i : Tree A) → IsRepeated n i → head_of (n + size i) (part ACycle n (size i) (slots i n)) ≡ ACycle
+cycle_head :
+    {A : Type 0} → (n : ℕ) (i : Tree A) → IsRepeated n i →
+    head_of (n + size i) (part ACycle n (size i) (slots i n)) ≡ ACycle
 cycle_head {A = A} n i f =
     let e = n + size i in
     let xs = map (close n) f.earlier in
     let total = sym (length-slots i n) ∙ ap length f.split ∙ length-append f.earlier (Out (Some f.by) 0 ∷ []) in
     let l : n < e = omega (arith, total) in
-    let inner = each-map (λ x. hits e x ≡ false) (λ x. hits e x ≡ false) (close n) f.earlier (misses_close e n l) f.inside in
-    let none = no_hit e (xs ++ (To (Some f.by) n ∷ [])) (each-append (λ x. hits e x ≡ false) xs (To (Some f.by) n ∷ []) inner (misses {A = A} e (To (Some f.by) n) l, tt)) in
+    let inner = each-map (λ x. hits e x ≡ false) (λ x. hits e x ≡ false) (close n) f.earlier
+    (misses_close e n l) f.inside in
+    let none = no_hit e (xs ++ (To (Some f.by) n ∷ []))
+    (each-append (λ x. hits e x ≡ false) xs (To (Some f.by) n ∷ []) inner (misses {A = A} e (To (Some f.by) n) l, tt))
+    in
     ap (head_of e) (cycle_parts n i f)
-    ∙ by_head e (xs ++ (To (Some f.by) n ∷ [])) (To (Some f.by) n) ACycle none (last_is Leaves (To (Some f.by) n) xs) refl
+    ∙ by_head e (xs ++ (To (Some f.by) n ∷ [])) (To (Some f.by) n) ACycle none
+    (last_is Leaves (To (Some f.by) n) xs) refl
 
-counted_head : {A : Type 0} → (n : ℕ) (i : Tree A) (q l : Bool) → head_of (n + suc (suc (size i))) (part (ACounted q l) n (size i) (slots i (suc n))) ≡ ACounted q l
+counted_head :
+    {A : Type 0} → (n : ℕ) (i : Tree A) (q l : Bool) →
+    head_of (n + suc (suc (size i))) (part (ACounted q l) n (size i) (slots i (suc n))) ≡ ACounted q l
 counted_head n i q l =
     let e = n + suc (suc (size i)) in
     let xs = map (bound (ACounted q l) n e) (slots i (suc n)) in
-    let inner = each-map (Aims (λ u. u < e)) (Aims (λ u. u < e)) (bound (ACounted q l) n e) (slots i (suc n)) (λ x g. g) (strict (suc n) (suc n + size i) e (omega arith) (slots i (suc n)) (within i (suc n))) in
+    let inner = each-map (Aims (λ u. u < e)) (Aims (λ u. u < e)) (bound (ACounted q l) n e) (slots i (suc n)) (λ x g. g)
+    (strict (suc n) (suc n + size i) e (omega arith) (slots i (suc n)) (within i (suc n))) in
     let all = each-append (Aims (λ u. u < e)) xs (Again l ∷ []) inner (tt, tt) in
     let none = no_hit e (xs ++ (Again l ∷ [])) (missing e (xs ++ (Again l ∷ [])) all) in
-    by_head e (Enters q e ∷ (xs ++ (Again l ∷ []))) (Again l) (ACounted q l) none (last_is (Enters q e) (Again l) xs) refl
+    by_head e (Enters q e ∷ (xs ++ (Again l ∷ []))) (Again l) (ACounted q l) none
+    (last_is (Enters q e) (Again l) xs) refl
 
-arm_head : {A : Type 0} → (n : ℕ) (i : Tree A) → head_of (n + suc (suc (size i))) (part AnArm n (size i) (slots i (suc n))) ≡ AnArm
+arm_head :
+    {A : Type 0} → (n : ℕ) (i : Tree A) →
+    head_of (n + suc (suc (size i))) (part AnArm n (size i) (slots i (suc n))) ≡ AnArm
 arm_head n i =
     let e = n + suc (suc (size i)) in
     let xs = map (bound AnArm n e) (slots i (suc n)) in
-    let inner = each-map (Aims (λ u. u < e)) (Aims (λ u. u < e)) (bound AnArm n e) (slots i (suc n)) (λ x g. g) (strict (suc n) (suc n + size i) e (omega arith) (slots i (suc n)) (within i (suc n))) in
+    let inner = each-map (Aims (λ u. u < e)) (Aims (λ u. u < e)) (bound AnArm n e) (slots i (suc n)) (λ x g. g)
+    (strict (suc n) (suc n + size i) e (omega arith) (slots i (suc n)) (within i (suc n))) in
     let all = each-append (Aims (λ u. u < e)) xs (Out None 0 ∷ []) inner (tt, tt) in
     let none = no_hit e (xs ++ (Out None 0 ∷ [])) (missing e (xs ++ (Out None 0 ∷ [])) all) in
     by_head e (Tests e ∷ (xs ++ (Out None 0 ∷ []))) (Out None 0) AnArm none (last_is (Tests e) (Out None 0) xs) refl
 
-choice_head : {A : Type 0} → (n : ℕ) (i : Tree A) → Each IsShut (slots i n) → head_of (n + suc (size i)) (part AChoice n (size i) (slots i n)) ≡ AChoice
+choice_head :
+    {A : Type 0} → (n : ℕ) (i : Tree A) → Each IsShut (slots i n) →
+    head_of (n + suc (size i)) (part AChoice n (size i) (slots i n)) ≡ AChoice
 choice_head n i s =
     let e = n + suc (size i) in
     let xs = map (close e) (slots i n) in
     let low = strict n (n + size i) e (omega arith) (slots i n) (within i n) in
-    let inner = each-map (λ x. IsShut x × Aims (λ u. u < e) x) (λ x. hits e x ≡ false) (close e) (slots i n) (misses_arms e) (each-both IsShut (Aims (λ u. u < e)) (slots i n) s low) in
+    let inner = each-map (λ x. IsShut x × Aims (λ u. u < e) x) (λ x. hits e x ≡ false) (close e) (slots i n)
+    (misses_arms e) (each-both IsShut (Aims (λ u. u < e)) (slots i n) s low) in
     let none = no_hit e (xs ++ (Drops ∷ [])) (each-append (λ x. hits e x ≡ false) xs (Drops ∷ []) inner (refl, tt)) in
     by_head e (xs ++ (Drops ∷ [])) Drops AChoice none (last_is Leaves Drops xs) refl
 
-head_is : {A : Type 0} → (h : Head A) (n : ℕ) (i : Tree A) → Fits h n i → head_of (n + width h (size i)) (part h n (size i) (slots i (starts h n))) ≡ h
+head_is :
+    {A : Type 0} → (h : Head A) (n : ℕ) (i : Tree A) → Fits h n i →
+    head_of (n + width h (size i)) (part h n (size i) (slots i (starts h n))) ≡ h
 head_is (AnOperation a) n i f = leaf_head n i (AnOperation a) f refl
 head_is ALeave n i f = leaf_head n i ALeave f refl
 head_is (AJump z k) n i f = leaf_head n i (AJump z k) f refl
@@ -376,7 +431,8 @@ abbrev reopened : {A : Type 0} → ℕ → List (Slot A) → List (Slot A)
 reopened e [] = []
 reopened e (x ∷ xs) = if hits e x then way_out x ∷ map unclosed xs else unclosed x ∷ reopened e xs
 
-undone : {A : Type 0} → (f g : Slot A → Slot A) (xs : List (Slot A)) → Each (λ x. g (f x) ≡ x) xs → map g (map f xs) ≡ xs
+undone :
+    {A : Type 0} → (f g : Slot A → Slot A) (xs : List (Slot A)) → Each (λ x. g (f x) ≡ x) xs → map g (map f xs) ≡ xs
 undone f g [] h = refl
 undone f g (x ∷ xs) h = ap (λ y. y ∷ map g (map f xs)) h.0 ∙ ap (λ ys. x ∷ ys) (undone f g xs h.1)
 
@@ -408,29 +464,39 @@ choice-close e (Out None (suc k)) h = absurd h.0
 choice-close e (Out (Some z) k) h = absurd h.0
 choice-close e (Does a) h = refl
 choice-close e Leaves h = refl
-choice-close e (To j u) h = ap (λ b. if b then Out j 0 else To j u) (ne_eqb u e (λ g. let l = h.1 in omega (arith, g, l)))
+choice-close e (To j u) h =
+    ap (λ b. if b then Out j 0 else To j u) (ne_eqb u e (λ g. let l = h.1 in omega (arith, g, l)))
 choice-close e (Enters q u) h = refl
 choice-close e (Again l) h = refl
 choice-close e (Tests u) h = refl
 choice-close e Drops h = refl
 
 unclosed_all : {A : Type 0} → (t : ℕ) (xs : List (Slot A)) → Each IsInner xs → map unclosed (map (close t) xs) ≡ xs
-unclosed_all t xs h = undone (close t) unclosed xs (each-more IsInner (λ x. unclosed (close t x) ≡ x) xs (unclosed-close t) h)
+unclosed_all t xs h =
+    undone (close t) unclosed xs (each-more IsInner (λ x. unclosed (close t x) ≡ x) xs (unclosed-close t) h)
 
-reopened_here : {A : Type 0} → (e : ℕ) (z : Bool) (ys : List (Slot A)) → Each IsInner ys → reopened e (To (Some z) e ∷ map (close e) ys) ≡ Out (Some z) 0 ∷ ys
+reopened_here :
+    {A : Type 0} → (e : ℕ) (z : Bool) (ys : List (Slot A)) → Each IsInner ys →
+    reopened e (To (Some z) e ∷ map (close e) ys) ≡ Out (Some z) 0 ∷ ys
 reopened_here e z ys h =
-    ap (λ b. if b then Out (Some z) 0 ∷ map unclosed (map (close e) ys) else To (Some z) e ∷ reopened e (map (close e) ys)) (eq-eqb e e refl)
+    ap (λ b. if b then Out (Some z) 0 ∷ map unclosed (map (close e) ys) else To (Some z) e ∷ reopened e
+    (map (close e) ys)) (eq-eqb e e refl)
     ∙ ap (λ l. Out (Some z) 0 ∷ l) (unclosed_all e ys h)
 
-reopened_is : {A : Type 0} → (e : ℕ) (z : Bool) (xs ys : List (Slot A)) → Each IsInner xs → Each (λ x. hits e x ≡ false) xs → Each IsInner ys → reopened e (map (close e) xs ++ (To (Some z) e ∷ map (close e) ys)) ≡ xs ++ (Out (Some z) 0 ∷ ys)
+reopened_is :
+    {A : Type 0} → (e : ℕ) (z : Bool) (xs ys : List (Slot A)) → Each IsInner xs → Each (λ x. hits e x ≡ false) xs →
+    Each IsInner ys → reopened e (map (close e) xs ++ (To (Some z) e ∷ map (close e) ys)) ≡ xs ++ (Out (Some z) 0 ∷ ys)
 reopened_is e z [] ys i m j = reopened_here e z ys j
 reopened_is e z (x ∷ xs) ys i m j =
     let rest = map (close e) xs ++ (To (Some z) e ∷ map (close e) ys) in
-    ap (λ b. if b then way_out (close e x) ∷ map unclosed rest else unclosed (close e x) ∷ reopened e rest) (hits-close e x i.0 ∙ m.0)
+    ap (λ b. if b then way_out (close e x) ∷ map unclosed rest else unclosed (close e x) ∷ reopened e rest)
+    (hits-close e x i.0 ∙ m.0)
     ∙ ap (λ y. y ∷ reopened e rest) (unclosed-close e x i.0)
     ∙ ap (λ l. x ∷ l) (reopened_is e z xs ys i.1 m.1 j)
 
-left_inside : {A : Type 0} → (n : ℕ) (i : Tree A) → IsLeft n i → reopened (n + size i) (map (close (n + size i)) (slots i n)) ≡ slots i n
+left_inside :
+    {A : Type 0} → (n : ℕ) (i : Tree A) → IsLeft n i →
+    reopened (n + size i) (map (close (n + size i)) (slots i n)) ≡ slots i n
 left_inside n i f =
     let e = n + size i in
     ap (reopened e) (ap (map (close e)) f.split ∙ map-append (close e) f.earlier (Out (Some f.by) 0 ∷ f.later))
@@ -442,23 +508,30 @@ last_out [] = []
 last_out (x ∷ []) = way_out x ∷ []
 last_out (x ∷ y ∷ xs) = unclosed x ∷ last_out (y ∷ xs)
 
-last_out_is : {A : Type 0} → (n : ℕ) (z : Bool) (xs : List (Slot A)) → Each IsInner xs → last_out (map (close n) xs ++ (To (Some z) n ∷ [])) ≡ xs ++ (Out (Some z) 0 ∷ [])
+last_out_is :
+    {A : Type 0} → (n : ℕ) (z : Bool) (xs : List (Slot A)) → Each IsInner xs →
+    last_out (map (close n) xs ++ (To (Some z) n ∷ [])) ≡ xs ++ (Out (Some z) 0 ∷ [])
 last_out_is n z [] h = refl
 last_out_is n z (x ∷ []) h = ap (λ y. y ∷ Out (Some z) 0 ∷ []) (unclosed-close n x h.0)
 last_out_is n z (x ∷ y ∷ xs) h =
     ap (λ w. w ∷ last_out (map (close n) (y ∷ xs) ++ (To (Some z) n ∷ []))) (unclosed-close n x h.0)
     ∙ ap (λ l. x ∷ l) (last_out_is n z (y ∷ xs) h.1)
 
-repeated_inside : {A : Type 0} → (n : ℕ) (i : Tree A) → IsRepeated n i → last_out (map (close n) (slots i n)) ≡ slots i n
+repeated_inside :
+    {A : Type 0} → (n : ℕ) (i : Tree A) → IsRepeated n i → last_out (map (close n) (slots i n)) ≡ slots i n
 repeated_inside n i f =
     ap last_out (ap (map (close n)) f.split ∙ map-append (close n) f.earlier (Out (Some f.by) 0 ∷ []))
     ∙ last_out_is n f.by f.earlier f.one ∙ sym f.split
 
-choice_inside : {A : Type 0} → (n : ℕ) (i : Tree A) → Each IsShut (slots i n) → map (in_choice (n + suc (size i))) (map (close (n + suc (size i))) (slots i n)) ≡ slots i n
+choice_inside :
+    {A : Type 0} → (n : ℕ) (i : Tree A) → Each IsShut (slots i n) →
+    map (in_choice (n + suc (size i))) (map (close (n + suc (size i))) (slots i n)) ≡ slots i n
 choice_inside n i s =
     let e = n + suc (size i) in
     let low = strict n (n + size i) e (omega arith) (slots i n) (within i n) in
-    undone (close e) (in_choice e) (slots i n) (each-more (λ x. IsShut x × Aims (λ u. u < e) x) (λ x. in_choice e (close e x) ≡ x) (slots i n) (choice-close e) (each-both IsShut (Aims (λ u. u < e)) (slots i n) s low))
+    undone (close e) (in_choice e) (slots i n)
+    (each-more (λ x. IsShut x × Aims (λ u. u < e) x) (λ x. in_choice e (close e x) ≡ x) (slots i n) (choice-close e)
+    (each-both IsShut (Aims (λ u. u < e)) (slots i n) s low))
 
 -- the items inside, from those of the part
 abbrev inside_of : {A : Type 0} → Head A → ℕ → List (Slot A) → List (Slot A)
@@ -475,7 +548,10 @@ leaf_inside : {A : Type 0} → (i : Tree A) (n : ℕ) → IsLeaf i → [] ≡ sl
 leaf_inside Leaf n f = refl
 leaf_inside (Node h j r) n f = absurd f
 
-inside_is : {A : Type 0} → (h : Head A) (n : ℕ) (i : Tree A) → Fits h n i → inside_of h (n + width h (size i)) (map (bound h n (n + width h (size i))) (slots i (starts h n))) ≡ slots i (starts h n)
+inside_is :
+    {A : Type 0} → (h : Head A) (n : ℕ) (i : Tree A) → Fits h n i →
+    inside_of h (n + width h (size i)) (map (bound h n (n + width h (size i))) (slots i (starts h n))) ≡ slots i
+    (starts h n)
 inside_is (AnOperation a) n i f = leaf_inside i (suc n) f
 inside_is ALeave n i f = leaf_inside i (suc n) f
 inside_is (AJump z k) n i f = leaf_inside i (suc n) f
@@ -487,7 +563,8 @@ inside_is AnArm n i f = map-id (slots i (suc n))
 
 -- ---- trees with equal slots
 
-pub split_equal : {A : Type 0} → (xs ys us vs : List (Slot A)) → length xs ≡ length us → xs ++ ys ≡ us ++ vs → (xs ≡ us) × (ys ≡ vs)
+pub split_equal :
+    {A : Type 0} → (xs ys us vs : List (Slot A)) → length xs ≡ length us → xs ++ ys ≡ us ++ vs → (xs ≡ us) × (ys ≡ vs)
 split_equal [] ys [] vs l e = (refl, e)
 split_equal [] ys (u ∷ us) vs l e = absurd (omega (arith, l))
 split_equal (x ∷ xs) ys [] vs l e = absurd (omega (arith, l))
@@ -500,7 +577,8 @@ split_equal (x ∷ xs) ys (u ∷ us) vs l e =
 split_last : {A : Type 0} → (xs us ws : List (Slot A)) → xs ++ ws ≡ us ++ ws → xs ≡ us
 split_last xs us ws e = append_cancel_right xs us ws e
 
-pub wide_left : {A : Type 0} → (n : ℕ) (i : Tree A) (xs ys : List (Slot A)) (x : Slot A) → slots i n ≡ xs ++ (x ∷ ys) → 1 ≤ size i
+pub wide_left :
+    {A : Type 0} → (n : ℕ) (i : Tree A) (xs ys : List (Slot A)) (x : Slot A) → slots i n ≡ xs ++ (x ∷ ys) → 1 ≤ size i
 wide_left n i xs ys x e =
     let total = sym (length-slots i n) ∙ ap length e ∙ length-append xs (x ∷ ys) in
     omega (arith, total)
@@ -520,7 +598,9 @@ inner_size : {A : Type 0} → (h : Head A) (a b : ℕ) → width h a ≡ width h
 inner_size h a b e = omega (arith, e, width-is h a, width-is h b)
 
 -- of two trees with these items, the first part of one is no wider than that of the other
-no_wider : {A : Type 0} → (h g : Head A) (i r j s : Tree A) (n : ℕ) → Tight n (Node h i r) → Fits g n j → slots (Node h i r) n ≡ slots (Node g j s) n → width h (size i) ≤ width g (size j)
+no_wider :
+    {A : Type 0} → (h g : Head A) (i r j s : Tree A) (n : ℕ) → Tight n (Node h i r) → Fits g n j →
+    slots (Node h i r) n ≡ slots (Node g j s) n → width h (size i) ≤ width g (size j)
 no_wider h g i r j s n w f e =
     let c = n + width g (size j) in
     let l = wide g n j f in
@@ -528,16 +608,23 @@ no_wider h g i r j s n w f e =
     omega (arith, k)
 
 -- the same first part: what is inside is the same
-same_inside : {A : Type 0} → (h : Head A) (i j : Tree A) (n : ℕ) → Fits h n i → Fits h n j → width h (size i) ≡ width h (size j) → part h n (size i) (slots i (starts h n)) ≡ part h n (size j) (slots j (starts h n)) → slots i (starts h n) ≡ slots j (starts h n)
+same_inside :
+    {A : Type 0} → (h : Head A) (i j : Tree A) (n : ℕ) → Fits h n i → Fits h n j → width h (size i) ≡ width h (size j) →
+    part h n (size i) (slots i (starts h n)) ≡ part h n (size j) (slots j (starts h n)) →
+    slots i (starts h n) ≡ slots j (starts h n)
 same_inside h i j n f g w e =
     let a = n + width h (size i) in
     let b = n + width h (size j) in
     let ab : b ≡ a = omega (arith, w) in
     let xs = map (bound h n a) (slots i (starts h n)) in
     let ys = map (bound h n a) (slots j (starts h n)) in
-    let moved : part h n (size j) (slots j (starts h n)) ≡ before h a ++ (ys ++ behind h) = ap (λ q. before h q ++ (map (bound h n q) (slots j (starts h n)) ++ behind h)) ab in
-    let inner : xs ≡ ys = append_cancel_right xs ys (behind h) (append_cancel_left (before h a) (xs ++ behind h) (ys ++ behind h) (e ∙ moved)) in
-    let there : inside_of h a ys ≡ slots j (starts h n) = subst (λ q. inside_of h q (map (bound h n q) (slots j (starts h n))) ≡ slots j (starts h n)) ab (inside_is h n j g) in
+    let moved : part h n (size j) (slots j (starts h n)) ≡ before h a ++ (ys ++ behind h) =
+    ap (λ q. before h q ++ (map (bound h n q) (slots j (starts h n)) ++ behind h)) ab in
+    let inner : xs ≡ ys = append_cancel_right xs ys (behind h)
+    (append_cancel_left (before h a) (xs ++ behind h) (ys ++ behind h) (e ∙ moved)) in
+    let there : inside_of h a ys ≡ slots j (starts h n) =
+    subst (λ q. inside_of h q (map (bound h n q) (slots j (starts h n))) ≡ slots j (starts h n)) ab
+    (inside_is h n j g) in
     sym (inside_is h n i f) ∙ ap (inside_of h a) inner ∙ there
 
 record SameParts {A : Type 0} (h g : Head A) (i r j s : Tree A) (n : ℕ) : Type 0 where
@@ -546,7 +633,9 @@ record SameParts {A : Type 0} (h g : Head A) (i r j s : Tree A) (n : ℕ) : Type
   pub parts : part h n (size i) (slots i (starts h n)) ≡ part g n (size j) (slots j (starts g n))
   pub rests : slots r (n + width h (size i)) ≡ slots s (n + width g (size j))
 
-same_parts : {A : Type 0} → (h g : Head A) (i r j s : Tree A) (n : ℕ) → Tight n (Node h i r) → Tight n (Node g j s) → slots (Node h i r) n ≡ slots (Node g j s) n → SameParts h g i r j s n
+same_parts :
+    {A : Type 0} → (h g : Head A) (i r j s : Tree A) (n : ℕ) → Tight n (Node h i r) → Tight n (Node g j s) →
+    slots (Node h i r) n ≡ slots (Node g j s) n → SameParts h g i r j s n
 same_parts h g i r j s n w v e =
     let p = part h n (size i) (slots i (starts h n)) in
     let q = part g n (size j) (slots j (starts g n)) in
@@ -556,7 +645,8 @@ same_parts h g i r j s n w v e =
     let lp = length-part h n (size i) (slots i (starts h n)) ∙ ap (width h) (length-slots i (starts h n)) in
     let lq = length-part g n (size j) (slots j (starts g n)) ∙ ap (width g) (length-slots j (starts g n)) in
     let both = split_equal p (slots r (n + width h (size i))) q (slots s (n + width g (size j))) (lp ∙ eq ∙ sym lq) e in
-    let hd = sym (head_is h n i w.0) ∙ ap (λ k. head_of k p) (ap (λ k. n + k) eq) ∙ ap (head_of (n + width g (size j))) both.0 ∙ head_is g n j v.0 in
+    let hd = sym (head_is h n i w.0) ∙ ap (λ k. head_of k p) (ap (λ k. n + k) eq)
+    ∙ ap (head_of (n + width g (size j))) both.0 ∙ head_is g n j v.0 in
     record { heads = hd; wide = eq; parts = both.0; rests = both.1 }
 
 -- tight trees with the same items are the same

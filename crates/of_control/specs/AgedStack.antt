@@ -1,8 +1,10 @@
 -- The control stack: the open ones, latest first, kept from element to element.
-use Rattle.std.specs.Prelude.{ℕ, suc, Bool, true, false, not, ◌||◌, nat_le, List, [], ◌∷◌, ◌++◌, length, Option, Some, None, slice_get, filter}
+use Rattle.std.specs.Prelude.{ℕ, suc, Bool, true, false, not, ◌||◌, nat_le, List, [], ◌∷◌, ◌++◌, length, Option, Some}
+use Rattle.std.specs.Prelude.{None, slice_get, filter}
 use Rattle.of_control.specs.declared.opener.Kind.{Kind}
 use Rattle.of_control.specs.Openers.{is_case_sys, is_dest_for, is_do_sys, is_of_sys, is_orig_for}
-use Rattle.of_control.specs.Element.{Back, Branch, Case, Do, Element, EndCase, EndOf, Leave, Loop, Mark, Misfit, Of, Plain, Resolve, Roll}
+use Rattle.of_control.specs.Element.{Back, Branch, Case, Do, Element, EndCase, EndOf, Leave, Loop, Mark, Misfit, Of}
+use Rattle.of_control.specs.Element.{Plain, Resolve, Roll}
 use Rattle.of_control.specs.Matching.{Opening, Partners, is_partner, opened_by, top_origs, top_structure}
 
 -- (Misfit k), or what is closed, if anything
@@ -85,7 +87,8 @@ with_room false m os = None
 abbrev pub go_on : {A : Type 0} → ℕ → ℕ → Element A → Answer → Partners → List Opening → AgedStack
 go_on limit n e Broken m os = None
 go_on limit n e Nothing m os = with_room (nat_le (length (after n e None os)) limit) (None ∷ m) (after n e None os)
-go_on limit n e (Closed x) m os = with_room (nat_le (length (after n e (Some x) os)) limit) (Some x ∷ m) (after n e (Some x) os)
+go_on limit n e (Closed x) m os =
+    with_room (nat_le (length (after n e (Some x) os)) limit) (Some x ∷ m) (after n e (Some x) os)
 
 abbrev pub next : {A : Type 0} → ℕ → ℕ → Element A → AgedStack → AgedStack
 next limit n e None = None

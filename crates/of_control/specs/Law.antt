@@ -1,15 +1,15 @@
 -- What holds of all definitions, with any type A of plain items.
-use Rattle.std.specs.Prelude.{◌≡◌, ℕ, List, [], ◌∷◌, Option, Some, None, IsTrue, ◌↔◌, ◌⊎◌, false, length, ◌≤◌}
+use Rattle.std.specs.Prelude.{◌≡◌, ℕ, List, [], ◌∷◌, Some, None, IsTrue, ◌↔◌, ◌⊎◌, false, length, ◌≤◌}
 use Rattle.of_control.specs.Openers.{Openers, is_all_closed}
 use Rattle.of_control.specs.Element.{Element}
 use Rattle.of_control.specs.Body.{Body, IsScoped, items_of}
 use Rattle.of_control.specs.Matching.{Partners, IsMatching, NeverMore, open_ones}
 use Rattle.of_control.specs.Targets.{flat_items, targets_of}
-use Rattle.of_control.specs.Reading.{reading}
+use Rattle.of_control.specs.Reading.{body_in}
 use Rattle.of_control.specs.Tight.{IsReading, IsTight}
-use Rattle.of_control.specs.AgedStack.{AgedStack, aged_stack}
-use Rattle.of_control.specs.Calls.{AreAnsweredWithin, AreWithin, IsWithin, after_call, after_calls, call_answer, call_answers, due_answers, due_openers}
-use Rattle.of_control.specs.Items.{item_count}
+use Rattle.of_control.specs.Calls.{AreAnsweredWithin, AreWithin, IsWithin, after_call, after_calls, call_answer}
+use Rattle.of_control.specs.Calls.{call_answers, due_answers, due_openers}
+use Rattle.of_control.specs.Items.{item_count, performed, plain_items}
 use Rattle.of_control.specs.Compiling.{compiled}
 
 -- the partners are a matching with never more than `limit` open
@@ -66,43 +66,51 @@ pub record IsMatched {A : Type 0} (limit : ℕ) (es : List (Element A)) (m : Par
   pub bounded : IsBounded limit es m
   pub closed : open_ones es m ≡ []
 
--- the body of these elements with the partners that were found
-abbrev pub read_by : {A : Type 0} → List (Element A) → AgedStack → Option (Body A)
-read_by es None = None
-read_by es (Some (m, os)) = reading es m
+-- b is the body of these elements: it is read from partners that leave nothing open, with never more than `limit` open
+pub record IsBodyIn {A : Type 0} (limit : ℕ) (es : List (Element A)) (b : Body A) : Type 0 where
+  pub partners : Partners
+  pub matched : IsMatched limit es partners
+  pub read : IsReading es partners b
 
--- the body of a definition, if it has one
-abbrev pub body_in : {A : Type 0} → ℕ → List (Element A) → Option (Body A)
-body_in limit es = read_by es (aged_stack limit es)
-
--- the stack is closed after the calls exactly where all is matched and bounded,
--- and a matching has a body exactly where it leaves nothing open
+-- the stack is closed after the calls, made anywhere, exactly where all is matched and bounded; exactly there the
+-- elements have a body, and `body_in` finds it
 pub record ClosedIsRead (A : Type 0) (limit : ℕ) : Type 0 where
   pub closed :
       (place : Placing A) (es : List (Element A)) →
       IsTrue (is_all_closed (after_calls limit place es)) ↔ ((m : Partners) × IsMatched limit es m)
   pub body :
-      (es : List (Element A)) (m : Partners) →
-      IsMatching es m → open_ones es m ≡ [] → (b : Body A) × (reading es m ≡ Some b)
-  pub only :
-      (es : List (Element A)) (m : Partners) (b : Body A) →
-      IsMatching es m → reading es m ≡ Some b → open_ones es m ≡ []
-  pub found :
-      (es : List (Element A)) (b : Body A) →
-      (body_in limit es ≡ Some b) ↔ ((m : Partners) × IsMatched limit es m × (reading es m ≡ Some b))
+      (es : List (Element A)) →
+      ((m : Partners) × IsMatched limit es m) ↔ ((b : Body A) × IsBodyIn limit es b)
   pub read :
       (place : Placing A) (es : List (Element A)) →
-      IsTrue (is_all_closed (after_calls limit place es)) ↔ ((b : Body A) × (body_in limit es ≡ Some b))
-  pub scoped :
-      (es : List (Element A)) (m : Partners) (b : Body A) →
-      IsMatching es m → reading es m ≡ Some b → IsScoped 0 false false b
+      IsTrue (is_all_closed (after_calls limit place es)) ↔ ((b : Body A) × IsBodyIn limit es b)
+  pub found :
+      (es : List (Element A)) (b : Body A) →
+      (body_in limit es ≡ Some b) ↔ IsBodyIn limit es b
+
+-- tight bodies with equal items are equal, so elements with these partners have one reading at most, and one body
+pub record OneReading (A : Type 0) (limit : ℕ) : Type 0 where
+  pub bodies :
+      (b c : Body A) →
+      IsTight 0 false false b → IsTight 0 false false c → items_of b ≡ items_of c → b ≡ c
+  pub readings :
+      (es : List (Element A)) (m : Partners) (b c : Body A) →
+      IsReading es m b → IsReading es m c → b ≡ c
+  pub in_all :
+      (es : List (Element A)) (b c : Body A) →
+      IsBodyIn limit es b → IsBodyIn limit es c → b ≡ c
+
+-- no jump of a body crosses a Counted, Choice or Arm
+abbrev pub JumpsStayInside : Type 0 → ℕ → Type 0
+JumpsStayInside A limit =
+    (es : List (Element A)) (b : Body A) → IsBodyIn limit es b → IsScoped 0 false false b
 
 -- the items of a body, in order and with the targets of its nesting, are the elements' items with the places of the
 -- partners as targets
-abbrev pub ItemsAreFlat : Type 0 → Type 0
-ItemsAreFlat A =
+abbrev pub ItemsAreFlat : Type 0 → ℕ → Type 0
+ItemsAreFlat A limit =
     (es : List (Element A)) (m : Partners) (b : Body A) →
-    IsMatching es m → reading es m ≡ Some b → items_of b ≡ flat_items (targets_of es m) es m
+    IsMatching es m → IsBodyIn limit es b → items_of b ≡ flat_items (targets_of es m) es m
 
 -- what is compiled element by element has exactly these items and targets, and at the end those of the body
 pub record CompiledIsFlat (A : Type 0) (limit : ℕ) : Type 0 where
@@ -110,18 +118,11 @@ pub record CompiledIsFlat (A : Type 0) (limit : ℕ) : Type 0 where
       (es : List (Element A)) (m : Partners) →
       IsBounded limit es m → compiled limit es ≡ flat_items (targets_of es m) es m
   pub whole :
-      (es : List (Element A)) (m : Partners) (b : Body A) →
-      IsBounded limit es m → reading es m ≡ Some b → compiled limit es ≡ items_of b
+      (es : List (Element A)) (b : Body A) →
+      IsBodyIn limit es b → compiled limit es ≡ items_of b
 
--- as many items are compiled as the elements leave, also where there is no matching
-abbrev pub ItemsAreCounted : Type 0 → ℕ → Type 0
-ItemsAreCounted A limit = (es : List (Element A)) → length (compiled limit es) ≡ item_count es
-
--- tight bodies with equal items are equal, so a definition has one reading at most
-pub record OneReading (A : Type 0) : Type 0 where
-  pub bodies :
-      (b c : Body A) →
-      IsTight 0 false false b → IsTight 0 false false c → items_of b ≡ items_of c → b ≡ c
-  pub readings :
-      (es : List (Element A)) (m : Partners) (b c : Body A) →
-      IsReading es m b → IsReading es m c → b ≡ c
+-- as many items are compiled as the elements leave, and the plain ones are those of the elements, in their order, also
+-- where there is no matching
+pub record ItemsAreCounted (A : Type 0) (limit : ℕ) : Type 0 where
+  pub count : (es : List (Element A)) → length (compiled limit es) ≡ item_count es
+  pub plain : (es : List (Element A)) → plain_items (compiled limit es) ≡ performed es

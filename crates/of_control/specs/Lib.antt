@@ -4,9 +4,9 @@ pub mod Items
 pub mod Body
 pub mod Matching
 pub mod Targets
+pub mod AgedStack
 pub mod Reading
 pub mod Calls
 pub mod Compiling
-pub mod AgedStack
 pub mod Tight
 pub mod Law

@@ -1,12 +1,14 @@
 -- The bodies that are readings: each Block and Cycle has one jump, and is no wider than that jump needs.
-use Rattle.std.specs.Prelude.{◌≡◌, ℕ, zero, suc, ◌<◌, Bool, true, false, IsTrue, ◌==◌, if◌then◌else◌, List, [], ◌∷◌, ◌++◌, length, map}
+use Rattle.std.specs.Prelude.{◌≡◌, ℕ, zero, suc, ◌<◌, Bool, true, false, IsTrue, ◌==◌, if◌then◌else◌, List, [], ◌∷◌}
+use Rattle.std.specs.Prelude.{◌++◌, length, map}
 use Rattle.of_control.specs.Element.{Element}
 use Rattle.of_control.specs.Matching.{Partners}
 use Rattle.of_control.specs.Targets.{flat_items, targets_of}
-use Rattle.of_control.specs.Body.{Arm, Block, Body, Choice, Counted, Cycle, End, Jump, LeaveLoop, Operation, body_size, items_of}
+use Rattle.of_control.specs.Body.{Arm, Block, Body, Choice, Counted, Cycle, End, Jump, LeaveLoop, Operation, body_size}
+use Rattle.of_control.specs.Body.{items_of}
 
--- where an item of a body goes by a jump: not out of the body, to its end by leaving Blocks that end there, or to the k-th
--- part round the body
+-- where an item of a body goes by a jump: not out of the body, to its end by leaving Blocks that end there, or to the
+-- k-th part round the body
 pub data Way : Type 0 where
   Inside : Way
   AtEnd : Way

@@ -1,9 +1,16 @@
 //! What holds of all definitions, said of the calls of `Control` and of what is compiled from their answers.
+//!
+//! A body is tight where each Block and Cycle has one jump and is no wider than that jump needs, each Choice begins
+//! with its first Arm, and each jump is inside the part that it names. The body of a definition is the tight one whose
+//! items, with the targets that its nesting gives, are the items of the definition's elements, with the places of the
+//! partners as targets.
 ghost use Rattle.of_control.specs.Law.{CallsFollowMatching, ClosedIsRead, CompiledIsFlat, ItemsAreCounted};
-ghost use Rattle.of_control.specs.Law.{ItemsAreFlat, MatchingIsDecided, OneReading, PlacesStayWithin};
+ghost use Rattle.of_control.specs.Law.{ItemsAreFlat, JumpsStayInside, MatchingIsDecided, OneReading};
+ghost use Rattle.of_control.specs.Law.{PlacesStayWithin};
 
 /// A definition has at most one matching. The calls that its elements make answer exactly the places of the partners,
-/// and `None` from the first element on with which there is no matching, or one with more than `N` openers open at once.
+/// and `None` from the first element on with which there is no matching, or one with more than `N` openers open at
+/// once.
 pub fn calls_follow_matching<A, const N: usize>()
     ensures { CallsFollowMatching A N }
 {}
@@ -19,16 +26,27 @@ pub fn places_stay_within<A, const N: usize>()
     ensures { PlacesStayWithin A N }
 {}
 
-/// `is_closed` holds exactly where all is matched and never more than `N` openers were open at once. A matching has
-/// a structured body exactly where it leaves nothing open.
+/// `is_closed` holds, wherever the calls are made, exactly where all is matched and never more than `N` openers were
+/// open at once. Exactly there the definition has a body.
 pub fn closed_is_read<A, const N: usize>()
     ensures { ClosedIsRead A N }
 {}
 
-/// The items of a structured body, with the targets that its nesting gives, are the items of the definition's
+/// Tight bodies with equal items are equal, so a definition has at most one body.
+pub fn one_reading<A, const N: usize>()
+    ensures { OneReading A N }
+{}
+
+/// No jump of a definition's body crosses a Counted, a Choice or an Arm, each `leave` is in a Counted, and each Arm
+/// directly in a Choice.
+pub fn jumps_stay_inside<A, const N: usize>()
+    ensures { JumpsStayInside A N }
+{}
+
+/// The items of a definition's body, with the targets that its nesting gives, are the items of the definition's
 /// elements, with the places of the partners as targets.
-pub fn items_are_flat<A>()
-    ensures { ItemsAreFlat A }
+pub fn items_are_flat<A, const N: usize>()
+    ensures { ItemsAreFlat A N }
 {}
 
 /// A definition that is compiled element by element, with the targets that are set at a resolve, a `loop`, an `endof`
@@ -37,13 +55,9 @@ pub fn compiled_is_flat<A, const N: usize>()
     ensures { CompiledIsFlat A N }
 {}
 
-/// Tight bodies with equal items are equal, so a definition has at most one reading.
-pub fn one_reading<A>()
-    ensures { OneReading A }
-{}
-
-/// A definition that is compiled element by element has one item for each element that leaves one, also after an
-/// element that fits nowhere.
+/// A definition that is compiled element by element has one item for each element that leaves one, and its plain items
+/// are those of its operations and of the elements that fit nowhere, in their order; all this also where an element
+/// fits nowhere.
 pub fn items_are_counted<A, const N: usize>()
     ensures { ItemsAreCounted A N }
 {}
