@@ -1,5 +1,6 @@
 -- What these words throw has a listed number: each table's own throws, line by line.
-use Rattle.std.proofs.Common.{◌≡◌, ℕ, Bool, true, false, List, [], ◌∷◌, length, nat_eq, nat_lt, Option, Some, None, Result, Ok, Err, if◌then◌else◌, refl}
+use Rattle.std.proofs.Common.{◌≡◌, ℕ, Bool, true, false, List, [], ◌∷◌, length, nat_eq, nat_lt, Option, Some, None}
+use Rattle.std.proofs.Common.{Result, Ok, Err, if◌then◌else◌, refl}
 use Rattle.std.specs.List.{slice_get}
 use Rattle.of_cells.specs.declared.cells.Cell.{Cell}
 use Rattle.of_cells.specs.Numbers.{cell}
@@ -10,12 +11,17 @@ use Rattle.of_stacks.specs.Stacks.{within}
 use Rattle.of_fcodes.specs.declared.words.ArithmeticWord.{ArithmeticWord}
 use Rattle.of_fcodes.specs.declared.words.ComparingWord.{ComparingWord}
 use Rattle.of_fcodes.specs.declared.words.SplittingWord.{SplittingWord}
-use Rattle.of_fcodes.specs.declared.words.SplittingWord.TheVariants.{Lwsplit, Wljoin, Lbsplit, Bljoin, Wbsplit, Bwjoin, Wbflip, Lwflip, Lbflip}
+use Rattle.of_fcodes.specs.declared.words.SplittingWord.TheVariants.{Lwsplit, Wljoin, Lbsplit, Bljoin, Wbsplit, Bwjoin}
+use Rattle.of_fcodes.specs.declared.words.SplittingWord.TheVariants.{Wbflip, Lwflip, Lbflip}
 use Rattle.of_fcodes.specs.declared.words.StacksWord.{StacksWord}
-use Rattle.of_fcodes.specs.declared.words.StacksWord.TheVariants.{Drop, Dup, Over, Swap, Rot, MinusRot, Tuck, Nip, Pick, Roll, QuestionDup, Depth, TwoDrop, TwoDup, TwoOver, TwoSwap, TwoRot}
-use Rattle.of_calc.specs.Arithmetic.{Calculation, OfOne, OfTwo, Quotient, Parts, Wide, WideParts, OfDoubles, calculation, calculated, arithmetic_entry}
+use Rattle.of_fcodes.specs.declared.words.StacksWord.TheVariants.{Drop, Dup, Over, Swap, Rot, MinusRot, Tuck, Nip, Pick}
+use Rattle.of_fcodes.specs.declared.words.StacksWord.TheVariants.{Roll, QuestionDup, Depth, TwoDrop, TwoDup, TwoOver}
+use Rattle.of_fcodes.specs.declared.words.StacksWord.TheVariants.{TwoSwap, TwoRot}
+use Rattle.of_calc.specs.Arithmetic.{Calculation, OfOne, OfTwo, Quotient, Parts, Wide, WideParts, OfDoubles}
+use Rattle.of_calc.specs.Arithmetic.{calculation, calculated, arithmetic_entry}
 use Rattle.of_calc.specs.Arranging.{arranging_entry, picked, rolled}
-use Rattle.of_calc.specs.Comparing.{Comparison, FlagOfOne, FlagOfTwo, FlagOfThree, comparison, compared, comparing_entry}
+use Rattle.of_calc.specs.Comparing.{Comparison, FlagOfOne, FlagOfTwo, FlagOfThree, comparison, compared}
+use Rattle.of_calc.specs.Comparing.{comparing_entry}
 use Rattle.of_calc.specs.Splitting.{splitting_entry}
 use Rattle.of_calc.specs.Listed.{ThrowListedNumbers}
 

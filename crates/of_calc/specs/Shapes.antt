@@ -3,8 +3,11 @@ use Rattle.std.specs.Prelude.{Bool, false, List, Result}
 use Rattle.of_cells.specs.declared.cells.Cell.{Cell}
 use Rattle.of_cells.specs.declared.doubles.Double.{Double}
 use Rattle.of_stacks.specs.declared.throws.Throw.{Throw}
-use Rattle.of_calc.specs.Arithmetic.{Calculation, OfOne, OfTwo, Quotient, Parts, Wide, WideParts, OfDoubles, double_of, one_made, two_made, quotient_made, parts_made, wide_made, wide_parts_made, doubles_made}
-use Rattle.of_calc.specs.Comparing.{Comparison, FlagOfOne, FlagOfTwo, FlagOfThree, flag_of_one, flag_of_two, flag_of_three}
+use Rattle.of_calc.specs.Arithmetic.{Calculation, OfOne, OfTwo, Quotient, Parts, Wide, WideParts, OfDoubles, double_of}
+use Rattle.of_calc.specs.Arithmetic.{one_made, two_made, quotient_made, parts_made, wide_made, wide_parts_made}
+use Rattle.of_calc.specs.Arithmetic.{doubles_made}
+use Rattle.of_calc.specs.Comparing.{Comparison, FlagOfOne, FlagOfTwo, FlagOfThree, flag_of_one, flag_of_two}
+use Rattle.of_calc.specs.Comparing.{flag_of_three}
 use Rattle.of_calc.specs.declared.shapes.Shape.{Shape}
 use Rattle.of_calc.specs.declared.shapes.Shape.TheVariants as shape
 use Rattle.of_calc.specs.declared.shapes.Taken.{Taken}

@@ -2,12 +2,14 @@
 -- (IEEE 1275-1994, annex A). Inputs are cut to their width.
 use Rattle.std.specs.Prelude.{List, ◌∷◌, Result, Ok, Err}
 use Rattle.of_cells.specs.declared.cells.Cell.{Cell}
-use Rattle.of_cells.specs.Splitting.{low_byte, second_byte, third_byte, high_byte, low_half, high_half, half_of, cell_of_halves, cell_of_bytes, flipped_half, flipped_halves, flipped_bytes}
+use Rattle.of_cells.specs.Splitting.{low_byte, second_byte, third_byte, high_byte, low_half, high_half, half_of}
+use Rattle.of_cells.specs.Splitting.{cell_of_halves, cell_of_bytes, flipped_half, flipped_halves, flipped_bytes}
 use Rattle.of_stacks.specs.declared.throws.Throw.{Throw}
 use Rattle.of_stacks.specs.Throws.{stack_underflow}
 use Rattle.of_stacks.specs.Stacks.{within}
 use Rattle.of_fcodes.specs.declared.words.SplittingWord.{SplittingWord}
-use Rattle.of_fcodes.specs.declared.words.SplittingWord.TheVariants.{Lwsplit, Wljoin, Lbsplit, Bljoin, Wbsplit, Bwjoin, Wbflip, Lwflip, Lbflip}
+use Rattle.of_fcodes.specs.declared.words.SplittingWord.TheVariants.{Lwsplit, Wljoin, Lbsplit, Bljoin, Wbsplit, Bwjoin}
+use Rattle.of_fcodes.specs.declared.words.SplittingWord.TheVariants.{Wbflip, Lwflip, Lbflip}
 
 -- the table, a word a line
 unfoldable pub splitting_entry : SplittingWord → List Cell → Result (List Cell) Throw

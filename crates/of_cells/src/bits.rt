@@ -1,5 +1,6 @@
 ghost use Rattle.std.specs.Prelude.{◌≡◌, ◌^◌};
-ghost use Rattle.of_cells.specs.Bits.{both, either, differing, inverted, shifted_left, shifted_right, shifted_keeping_sign};
+ghost use Rattle.of_cells.specs.Bits.{both, either, differing, inverted, shifted_left, shifted_right};
+ghost use Rattle.of_cells.specs.Bits.{shifted_keeping_sign};
 
 use crate::cells::Cell;
 

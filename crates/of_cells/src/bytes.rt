@@ -1,5 +1,6 @@
 ghost use Rattle.std.specs.Prelude.{◌≡◌, ◌^◌, ◌<◌};
-ghost use Rattle.of_cells.specs.Splitting.{low_byte, second_byte, third_byte, high_byte, low_half, high_half, half_of, cell_of_halves, cell_of_bytes, flipped_half, flipped_halves, flipped_bytes};
+ghost use Rattle.of_cells.specs.Splitting.{low_byte, second_byte, third_byte, high_byte, low_half, high_half, half_of};
+ghost use Rattle.of_cells.specs.Splitting.{cell_of_halves, cell_of_bytes, flipped_half, flipped_halves, flipped_bytes};
 
 use crate::cells::Cell;
 

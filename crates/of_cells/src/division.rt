@@ -1,6 +1,7 @@
 ghost use Rattle.std.specs.Prelude.{◌≡◌, ◌≢◌, ◌^◌, ◌<◌, ◌*ℤ◌};
 ghost use Rattle.of_cells.specs.Numbers.{signed};
-ghost use Rattle.of_cells.specs.Division.{quotient, remainder, unsigned_quotient, unsigned_remainder, scaled_quotient, scaled_remainder};
+ghost use Rattle.of_cells.specs.Division.{quotient, remainder, unsigned_quotient, unsigned_remainder, scaled_quotient};
+ghost use Rattle.of_cells.specs.Division.{scaled_remainder};
 
 use crate::cells::Cell;
 use crate::doubles::Double;

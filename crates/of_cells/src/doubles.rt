@@ -12,7 +12,8 @@ pub struct Double {
 }
 
 impl Double {
-    ghost use Rattle.of_cells.specs.Doubles.{number_of, double, wide_product, double_quotient, double_remainder, double_sum, double_difference, extended};
+    ghost use Rattle.of_cells.specs.Doubles.{number_of, double, wide_product, double_quotient, double_remainder};
+    ghost use Rattle.of_cells.specs.Doubles.{double_sum, double_difference, extended};
 
     /// The double of a number.
     pub fn new(number: u64) -> Double

@@ -3,7 +3,8 @@
 ghost use Rattle.std.specs.Prelude.{◌≡◌, ℕ, ◌<◌, ◌^◌};
 ghost use Rattle.of_cells.specs.declared.cells.Cell.{Cell};
 ghost use Rattle.of_cells.specs.Division.{DividesBack};
-ghost use Rattle.of_cells.specs.Splitting.{IsByte, IsHalf, IsCell, JoinsItsBytes, JoinsItsHalves, SplitsItsBytes, SplitsItsHalves, SplitsItsHalf, FlipsBack};
+ghost use Rattle.of_cells.specs.Splitting.{IsByte, IsHalf, IsCell, JoinsItsBytes, JoinsItsHalves, SplitsItsBytes};
+ghost use Rattle.of_cells.specs.Splitting.{SplitsItsHalves, SplitsItsHalf, FlipsBack};
 
 /// The floored quotient times the divisor, and the rest, give the number back; the rest is 0 or
 /// has the divisor's sign (Forth 2012, 3.2.2.1).

@@ -1,5 +1,6 @@
 -- Places computed from rows whose numbers rise lead to the rows of these numbers.
-use Rattle.std.proofs.Common.{◌≡◌, ℕ, suc, zero, ◌+◌, ◌≤◌, ◌<◌, Bool, true, false, ◌&&◌, List, [], ◌∷◌, length, drop, get_or, Some, None, nat_eq, nat_lt, refl, ap, sym, ◌∙◌, arith}
+use Rattle.std.proofs.Common.{◌≡◌, ℕ, suc, zero, ◌+◌, ◌≤◌, ◌<◌, Bool, true, false, ◌&&◌, List, [], ◌∷◌, length, drop}
+use Rattle.std.proofs.Common.{get_or, Some, None, nat_eq, nat_lt, refl, ap, sym, ◌∙◌, arith}
 use Rattle.std.specs.Prelude.{slice_get, nat_le}
 use Rattle.std.proofs.lemmas.Bool.Decides.{nat_tests}
 use Rattle.of_fcodes.specs.Rows.{Row}
@@ -76,7 +77,8 @@ row_in-this : (r : Row) (rs : List Row) (n : ℕ) → nat_eq r.number n ≡ true
 row_in-this r rs n h = rw h refl
 
 -- the rows that are left
-rest_is-rising : (b : Bool) (r : Row) (rs : List Row) (n : ℕ) → nat_eq r.number n ≡ b → is_rising n (r ∷ rs) ≡ true → is_rising (suc n) (rest_if b r rs) ≡ true
+rest_is-rising : (b : Bool) (r : Row) (rs : List Row) (n : ℕ) → nat_eq r.number n ≡ b → is_rising n (r ∷ rs) ≡ true
+    → is_rising (suc n) (rest_if b r rs) ≡ true
 rest_is-rising true r rs n e h =
     let parts = and_both (nat_le n r.number) (is_rising (suc r.number) rs) h in
     let same : r.number ≡ n = grind (arith, nat_tests, e) in
@@ -86,11 +88,13 @@ rest_is-rising false r rs n e h =
     let more : nat_le (suc n) r.number ≡ true = grind (arith, nat_tests, e, parts.0) in
     rw (more, parts.1) refl
 
-rest-drop : (b : Bool) (all : List Row) (r : Row) (rs : List Row) (k : ℕ) → drop k all ≡ r ∷ rs → drop (next_if b k) all ≡ rest_if b r rs
+rest-drop : (b : Bool) (all : List Row) (r : Row) (rs : List Row) (k : ℕ) → drop k all ≡ r ∷ rs
+    → drop (next_if b k) all ≡ rest_if b r rs
 rest-drop true all r rs k h = drop-next all rs r k h
 rest-drop false all r rs k h = h
 
-first_found : (b : Bool) (all : List Row) (r : Row) (rs : List Row) (n k : ℕ) → nat_eq r.number n ≡ b → length all ≤ 256 → drop k all ≡ r ∷ rs → is_rising n (r ∷ rs) ≡ true
+first_found : (b : Bool) (all : List Row) (r : Row) (rs : List Row) (n k : ℕ) → nat_eq r.number n ≡ b
+    → length all ≤ 256 → drop k all ≡ r ∷ rs → is_rising n (r ∷ rs) ≡ true
     → slice_get all (place_if b k) ≡ row_in (r ∷ rs) n
 first_found true all r rs n k e len at h = get-drop all rs r k at ∙ sym (row_in-this r rs n e)
 first_found false all r rs n k e len at h =
@@ -98,14 +102,16 @@ first_found false all r rs n k e len at h =
     let least : n < suc r.number = grind (arith, nat_tests, parts.0) in
     get-past all 256 len ∙ sym (row_in-other r rs n e ∙ row_in-below rs (suc r.number) n parts.1 least)
 
-row_in-rest : (b : Bool) (r : Row) (rs : List Row) (n m : ℕ) → nat_eq r.number n ≡ b → n < m → row_in (rest_if b r rs) m ≡ row_in (r ∷ rs) m
+row_in-rest : (b : Bool) (r : Row) (rs : List Row) (n m : ℕ) → nat_eq r.number n ≡ b → n < m
+    → row_in (rest_if b r rs) m ≡ row_in (r ∷ rs) m
 row_in-rest true r rs n m e lt =
     let other : nat_eq r.number m ≡ false = grind (arith, nat_tests, e) in
     sym (row_in-other r rs m other)
 row_in-rest false r rs n m e lt = refl
 
 -- the place of a number leads to its row
-pub place_found : (m n k : ℕ) (all rs : List Row) → length all ≤ 256 → drop k all ≡ rs → is_rising n rs ≡ true → (j : ℕ) → j < m
+pub place_found : (m n k : ℕ) (all rs : List Row) → length all ≤ 256 → drop k all ≡ rs → is_rising n rs ≡ true
+    → (j : ℕ) → j < m
     → slice_get all (get_or (places_from n k rs m) j 256) ≡ row_in rs (n + j)
 place_found zero n k all rs len at h j lt = absurd (omega arith)
 place_found (suc m) n k all [] len at h zero lt = get-past all 256 len

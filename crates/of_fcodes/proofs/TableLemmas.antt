@@ -1,9 +1,11 @@
 -- The places of the table lead from each number to its row.
-use Rattle.std.proofs.Common.{◌≡◌, ℕ, zero, suc, ◌+◌, ◌<◌, ◌≤◌, Bool, true, false, List, [], ◌∷◌, length, get_or, nat_lt, refl, sym, None, ap, ◌∙◌, arith}
+use Rattle.std.proofs.Common.{◌≡◌, ℕ, zero, suc, ◌+◌, ◌<◌, ◌≤◌, Bool, true, false, List, [], ◌∷◌, length, get_or}
+use Rattle.std.proofs.Common.{nat_lt, refl, sym, None, ap, ◌∙◌, arith}
 use Rattle.std.specs.Prelude.{slice_get, slice_index}
 use Rattle.std.proofs.lemmas.Bool.Decides.{nat_tests}
 use Rattle.of_fcodes.specs.declared.table.TheConstants.{PLACES}
-use Rattle.of_fcodes.specs.Rows.{rows, first_rows, second_rows, third_rows, fourth_rows, fifth_rows, sixth_rows, seventh_rows}
+use Rattle.of_fcodes.specs.Rows.{rows, first_rows, second_rows, third_rows, fourth_rows, fifth_rows, sixth_rows}
+use Rattle.of_fcodes.specs.Rows.{seventh_rows}
 use Rattle.of_fcodes.specs.Lookup.{row_in, row_placed, row_numbered, number_named, FindsEachRow}
 use Rattle.of_fcodes.proofs.Agreement.{is_rising, places_from, place_found, row_in-above}
 
@@ -38,7 +40,8 @@ placed_within n h =
     let long : n < length PLACES = omega (arith, length-places) in
     let fits : length rows ≤ 256 = omega (arith, length-rows) in
     let found = place_found 577 0 0 rows rows fits refl numbers_rise n h in
-    let index : slice_index PLACES n ≡ get_or (places_from 0 0 rows 577) n 256 = index-get_or PLACES n long ∙ ap (λ ps. get_or ps n 256) places_are in
+    let index : slice_index PLACES n ≡ get_or (places_from 0 0 rows 577) n 256 =
+        index-get_or PLACES n long ∙ ap (λ ps. get_or ps n 256) places_are in
     let whole : 0 + n ≡ n = omega arith in
     ap (slice_get rows) index ∙ found ∙ ap (row_in rows) whole
 
@@ -57,5 +60,6 @@ row_placed-rows n = placed_if (nat_lt n (length PLACES)) n refl
 
 -- each row is found
 pub rows_found : FindsEachRow
-unfolding row_numbered number_named rows first_rows second_rows third_rows fourth_rows fifth_rows sixth_rows seventh_rows
+unfolding row_numbered number_named rows first_rows second_rows third_rows fourth_rows fifth_rows sixth_rows
+    seventh_rows
 rows_found = record { by_number = refl; by_name = refl }

@@ -1,12 +1,17 @@
 -- The written words are found by their numbers, execution tokens and names.
-use Rattle.std.proofs.Common.{◌≡◌, ℕ, zero, suc, ◌+◌, ◌-◌, ◌*◌, ◌/◌, ◌%◌, ◌<◌, ◌≤◌, Bool, true, false, ◌&&◌, ◌||◌, not, List, [], ◌∷◌, length, map, Option, Some, None, nat_eq, nat_lt, if◌then◌else◌, refl, sym, ap, ◌∙◌, arith}
+use Rattle.std.proofs.Common.{◌≡◌, ℕ, zero, suc, ◌+◌, ◌-◌, ◌*◌, ◌/◌, ◌%◌, ◌<◌, ◌≤◌, Bool, true, false, ◌&&◌, ◌||◌, not}
+use Rattle.std.proofs.Common.{List, [], ◌∷◌, length, map, Option, Some, None, nat_eq, nat_lt, if◌then◌else◌, refl, sym}
+use Rattle.std.proofs.Common.{ap, ◌∙◌, arith}
 use Rattle.std.specs.Prelude.{slice_get}
 use Rattle.std.specs.Option.{option_map}
 use Rattle.std.proofs.lemmas.Bool.Decides.{nat_tests}
 use Rattle.of_fcodes.specs.declared.words.Word.{Word}
-use Rattle.of_fcodes.specs.declared.words.Word.TheVariants.{Stream, Primitive, Printing, Heap, Keys, Returns, Dictionary, Throws, Properties, Tree, Devices, Console, Parsing, Compiling}
+use Rattle.of_fcodes.specs.declared.words.Word.TheVariants.{Stream, Primitive, Printing, Heap, Keys, Returns}
+use Rattle.of_fcodes.specs.declared.words.Word.TheVariants.{Dictionary, Throws, Properties, Tree, Devices, Console}
+use Rattle.of_fcodes.specs.declared.words.Word.TheVariants.{Parsing, Compiling}
 use Rattle.of_fcodes.specs.declared.words.PrimitiveWord.{PrimitiveWord}
-use Rattle.of_fcodes.specs.declared.words.PrimitiveWord.TheVariants.{Arithmetic, Comparing, Stacks, Addresses, Memory, Splitting, Text, Numbers}
+use Rattle.of_fcodes.specs.declared.words.PrimitiveWord.TheVariants.{Arithmetic, Comparing, Stacks, Addresses, Memory}
+use Rattle.of_fcodes.specs.declared.words.PrimitiveWord.TheVariants.{Splitting, Text, Numbers}
 use Rattle.of_fcodes.specs.declared.words.StreamWord.{StreamWord}
 use Rattle.of_fcodes.specs.declared.words.StreamWord.TheVariants as stream
 use Rattle.of_fcodes.specs.declared.words.ArithmeticWord.{ArithmeticWord}
@@ -49,10 +54,17 @@ use Rattle.of_fcodes.specs.declared.console_words.ParsingWord.{ParsingWord}
 use Rattle.of_fcodes.specs.declared.console_words.ParsingWord.TheVariants as parsing
 use Rattle.of_fcodes.specs.declared.console_words.CompilingWord.{CompilingWord}
 use Rattle.of_fcodes.specs.declared.console_words.CompilingWord.TheVariants as compiling
-use Rattle.of_fcodes.specs.Words.{Written, words, first_words, second_words, third_words, fourth_words, fifth_words, sixth_words, seventh_words, eighth_words}
-use Rattle.of_fcodes.specs.Numbers.{number_of, primitive_number, stream_number, arithmetic_number, comparing_number, stacks_number, addresses_number, memory_number, splitting_number, text_number, numbers_number, printing_number, heap_number, keys_number, returns_number, dictionary_number, throws_number, properties_number, tree_number, devices_number, console_number, parsing_number, compiling_number}
-use Rattle.of_fcodes.specs.Rows.{Row, rows, first_rows, second_rows, third_rows, fourth_rows, fifth_rows, sixth_rows, seventh_rows}
-use Rattle.of_fcodes.specs.Finding.{FindsEachWord, name_written, word_with_name, word_with_xt, word_numbered_in, xt_of, class_of, classes_written}
+use Rattle.of_fcodes.specs.Words.{Written, words, first_words, second_words, third_words, fourth_words, fifth_words}
+use Rattle.of_fcodes.specs.Words.{sixth_words, seventh_words, eighth_words}
+use Rattle.of_fcodes.specs.Numbers.{number_of, primitive_number, stream_number, arithmetic_number, comparing_number}
+use Rattle.of_fcodes.specs.Numbers.{stacks_number, addresses_number, memory_number, splitting_number, text_number}
+use Rattle.of_fcodes.specs.Numbers.{numbers_number, printing_number, heap_number, keys_number, returns_number}
+use Rattle.of_fcodes.specs.Numbers.{dictionary_number, throws_number, properties_number, tree_number, devices_number}
+use Rattle.of_fcodes.specs.Numbers.{console_number, parsing_number, compiling_number}
+use Rattle.of_fcodes.specs.Rows.{Row, rows, first_rows, second_rows, third_rows, fourth_rows, fifth_rows, sixth_rows}
+use Rattle.of_fcodes.specs.Rows.{seventh_rows}
+use Rattle.of_fcodes.specs.Finding.{FindsEachWord, name_written, word_with_name, word_with_xt, word_numbered_in, xt_of}
+use Rattle.of_fcodes.specs.Finding.{class_of, classes_written}
 
 pub length-words : length words ≡ 331
 unfolding words first_words second_words third_words fourth_words fifth_words sixth_words seventh_words eighth_words
@@ -73,7 +85,8 @@ unfolding words first_words second_words third_words fourth_words fifth_words si
 placed_stream stream.End0 = refl
 placed_stream _ = refl
 
-placed_arithmetic : (w : ArithmeticWord) → word_numbered_in words (arithmetic_number w) ≡ Some (Primitive (Arithmetic w))
+placed_arithmetic : (w : ArithmeticWord)
+    → word_numbered_in words (arithmetic_number w) ≡ Some (Primitive (Arithmetic w))
 unfolding words first_words second_words third_words fourth_words fifth_words sixth_words seventh_words eighth_words
 placed_arithmetic arithmetic.Plus = refl
 placed_arithmetic _ = refl
@@ -221,7 +234,8 @@ four_divides rest h =
     grind (arith, nat_tests, met)
 
 -- the word at a place has its number
-numbered_at : (n m : ℕ) (list : List Written) (w : Word) → are_numbered n list ≡ true → word_numbered_in list m ≡ Some w → number_of w ≡ n + m
+numbered_at : (n m : ℕ) (list : List Written) (w : Word) → are_numbered n list ≡ true
+    → word_numbered_in list m ≡ Some w → number_of w ≡ n + m
 numbered_at n m [] w h e = let no : ⊥ = cc in absurd no
 numbered_at n zero (r ∷ rs) w h e =
     let same : r.word ≡ w = cc in
@@ -246,11 +260,13 @@ by_no_other : (xt : ℕ) (w : Word) → word_with_xt xt ≡ Some w → xt ≡ xt
 by_no_other xt w e = found_there xt w (nat_lt xt 0xC000_0000) (not (nat_eq (xt % 4) 0)) refl refl e
 
 by_name : map (λ (r : Written). word_with_name r.name) words ≡ map (λ r. Some r.word) words
-unfolding word_with_name words first_words second_words third_words fourth_words fifth_words sixth_words seventh_words eighth_words
+unfolding word_with_name words first_words second_words third_words fourth_words fifth_words sixth_words seventh_words
+    eighth_words
 by_name = refl
 
 names_agree : map (λ (r : Row). name_written r.word) rows ≡ map (λ r. r.name) rows
-unfolding words first_words second_words third_words fourth_words fifth_words sixth_words seventh_words eighth_words rows first_rows second_rows third_rows fourth_rows fifth_rows sixth_rows seventh_rows
+unfolding words first_words second_words third_words fourth_words fifth_words sixth_words seventh_words eighth_words
+    rows first_rows second_rows third_rows fourth_rows fifth_rows sixth_rows seventh_rows
 names_agree = refl
 
 classes : map (λ (r : Written). class_of r.word) words ≡ classes_written

@@ -1,12 +1,15 @@
 -- Written words by number, execution token and name, and their classes.
-use Rattle.std.specs.Prelude.{◌≡◌, ℕ, ◌+◌, ◌-◌, ◌*◌, ◌/◌, ◌%◌, ◌<◌, List, [], ◌∷◌, ◌++◌, replicate, Option, Some, None, map, slice_get, length, nat_eq, nat_lt, ◌||◌, not, if◌then◌else◌}
+use Rattle.std.specs.Prelude.{◌≡◌, ℕ, ◌+◌, ◌-◌, ◌*◌, ◌/◌, ◌%◌, ◌<◌, List, [], ◌∷◌, ◌++◌, replicate, Option, Some, None}
+use Rattle.std.specs.Prelude.{map, slice_get, length, nat_eq, nat_lt, ◌||◌, not, if◌then◌else◌}
 use Rattle.std.specs.Borrow.{Bor}
 use Rattle.std.specs.Option.{option_map, option_map_or}
 use Rattle.std.specs.Str.{str_eq_ignore_ascii_case}
 use Rattle.of_fcodes.specs.declared.class.Class.{Class}
 use Rattle.of_fcodes.specs.declared.class.Class.TheVariants as class
 use Rattle.of_fcodes.specs.declared.words.Word.{Word}
-use Rattle.of_fcodes.specs.declared.words.Word.TheVariants.{Stream, Primitive, Printing, Heap, Keys, Returns, Dictionary, Throws, Properties, Tree, Devices, Console, Parsing, Compiling}
+use Rattle.of_fcodes.specs.declared.words.Word.TheVariants.{Stream, Primitive, Printing, Heap, Keys, Returns}
+use Rattle.of_fcodes.specs.declared.words.Word.TheVariants.{Dictionary, Throws, Properties, Tree, Devices, Console}
+use Rattle.of_fcodes.specs.declared.words.Word.TheVariants.{Parsing, Compiling}
 use Rattle.of_fcodes.specs.Words.{Written, words}
 use Rattle.of_fcodes.specs.Numbers.{number_of}
 use Rattle.of_fcodes.specs.Rows.{Row, rows}

@@ -1,9 +1,12 @@
 -- The number of each written word: its place in the list.
 use Rattle.std.specs.Prelude.{ℕ}
 use Rattle.of_fcodes.specs.declared.words.Word.{Word}
-use Rattle.of_fcodes.specs.declared.words.Word.TheVariants.{Stream, Primitive, Printing, Heap, Keys, Returns, Dictionary, Throws, Properties, Tree, Devices, Console, Parsing, Compiling}
+use Rattle.of_fcodes.specs.declared.words.Word.TheVariants.{Stream, Primitive, Printing, Heap, Keys, Returns}
+use Rattle.of_fcodes.specs.declared.words.Word.TheVariants.{Dictionary, Throws, Properties, Tree, Devices, Console}
+use Rattle.of_fcodes.specs.declared.words.Word.TheVariants.{Parsing, Compiling}
 use Rattle.of_fcodes.specs.declared.words.PrimitiveWord.{PrimitiveWord}
-use Rattle.of_fcodes.specs.declared.words.PrimitiveWord.TheVariants.{Arithmetic, Comparing, Stacks, Addresses, Memory, Splitting, Text, Numbers}
+use Rattle.of_fcodes.specs.declared.words.PrimitiveWord.TheVariants.{Arithmetic, Comparing, Stacks, Addresses, Memory}
+use Rattle.of_fcodes.specs.declared.words.PrimitiveWord.TheVariants.{Splitting, Text, Numbers}
 use Rattle.of_fcodes.specs.declared.words.StreamWord.{StreamWord}
 use Rattle.of_fcodes.specs.declared.words.ArithmeticWord.{ArithmeticWord}
 use Rattle.of_fcodes.specs.declared.words.ComparingWord.{ComparingWord}

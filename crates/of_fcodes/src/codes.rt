@@ -2,7 +2,8 @@ ghost use Rattle.std.specs.Prelude.{◌≡◌, map};
 ghost use Rattle.std.specs.Option.{option_copied, option_map, option_map_or};
 ghost use Rattle.std.specs.Str.{str_eq_ignore_ascii_case};
 ghost use Rattle.of_fcodes.specs.Rows.{rows};
-ghost use Rattle.of_fcodes.specs.Lookup.{row_placed, row_numbered, word_numbered, operand_numbered, name_numbered, number_in, number_named, row_shown};
+ghost use Rattle.of_fcodes.specs.Lookup.{row_placed, row_numbered, word_numbered, operand_numbered, name_numbered};
+ghost use Rattle.of_fcodes.specs.Lookup.{number_in, number_named, row_shown};
 
 use crate::operand::Operand;
 use crate::table::{PLACES, ROWS, Row};

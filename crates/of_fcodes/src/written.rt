@@ -3,7 +3,8 @@ ghost use Rattle.std.specs.Prelude.{◌≡◌, ◌<◌, map, slice_get};
 ghost use Rattle.std.specs.Option.{option_copied, option_map};
 ghost use Rattle.of_fcodes.specs.Numbers.{number_of, primitive_number};
 ghost use Rattle.of_fcodes.specs.Words.{words};
-ghost use Rattle.of_fcodes.specs.Finding.{class_of, name_written, word_in, word_with_name, word_with_xt, word_shown, xt_of};
+ghost use Rattle.of_fcodes.specs.Finding.{class_of, name_written, word_in, word_with_name, word_with_xt, word_shown};
+ghost use Rattle.of_fcodes.specs.Finding.{xt_of};
 
 use crate::class::Class;
 use crate::codes::is_same_name;

@@ -17,10 +17,13 @@ above : (limit n : ℕ) → limit < n → at_most limit (Some n) ≡ None
 above limit n l = grind (arith, nat_tests)
 
 -- a number above the limit stays above it with more digits
-pub too_great : (base limit n : ℕ) (text : List ℕ) → 2 ≤ base → limit < n → at_most limit (with_digits base (Some n) text) ≡ None
+pub too_great : (base limit n : ℕ) (text : List ℕ) → 2 ≤ base → limit < n
+    → at_most limit (with_digits base (Some n) text) ≡ None
 too_great base limit n [] b l = above limit n l
-too_great base limit n (char ∷ text) b l = step (digit_value base char) (λ d. let g = grown base n d b in too_great base limit (n * base + d) text b (omega arith))
+too_great base limit n (char ∷ text) b l = step (digit_value base char) (λ d.
+    let g = grown base n d b in too_great base limit (n * base + d) text b (omega arith))
   where
-    step : (o : Option ℕ) → ((d : ℕ) → at_most limit (with_digits base (Some (n * base + d)) text) ≡ None) → at_most limit (with_digits base (with_digit base (Some n) o) text) ≡ None
+    step : (o : Option ℕ) → ((d : ℕ) → at_most limit (with_digits base (Some (n * base + d)) text) ≡ None)
+        → at_most limit (with_digits base (with_digit base (Some n) o) text) ≡ None
     step None h = rw (no_more_digits base text) refl
     step (Some d) h = h d

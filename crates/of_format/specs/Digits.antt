@@ -1,5 +1,6 @@
 -- Digits, and numbers as text in a base (IEEE 1275-1994, annex A; Forth 2012, 3.2.1.2 and 6.1.0050).
-use Rattle.std.specs.Prelude.{ℕ, zero, suc, ◌+◌, ◌/◌, ◌%◌, ℤ, pos, negsuc, nat_lt, List, [], ◌∷◌, ◌++◌, Option, Some, None, if◌then◌else◌}
+use Rattle.std.specs.Prelude.{ℕ, zero, suc, ◌+◌, ◌/◌, ◌%◌, ℤ, pos, negsuc, nat_lt, List, [], ◌∷◌, ◌++◌, Option, Some}
+use Rattle.std.specs.Prelude.{None, if◌then◌else◌}
 use Rattle.std.specs.Char.{digit_char, digit_value as code_value}
 
 -- the digits of a number in a base, at most `more` and one

@@ -1,12 +1,15 @@
 -- What the steps of a machine throw has a listed number.
-use Rattle.std.proofs.Common.{◌≡◌, ℕ, Bool, true, false, List, [], ◌∷◌, length, nat_eq, nat_lt, Option, Some, None, Result, Ok, Err, if◌then◌else◌, refl}
+use Rattle.std.proofs.Common.{◌≡◌, ℕ, Bool, true, false, List, [], ◌∷◌, length, nat_eq, nat_lt, Option, Some, None}
+use Rattle.std.proofs.Common.{Result, Ok, Err, if◌then◌else◌, refl}
 use Rattle.of_cells.specs.declared.cells.Cell.{Cell}
 use Rattle.of_stacks.specs.declared.throws.Throw.{Throw}
 use Rattle.of_stacks.specs.Throws.{ThrowsListed, is_listed, listed_numbers, stack_overflow, invalid_argument}
 use Rattle.of_stacks.specs.Order.{refused_if}
 use Rattle.of_stacks.specs.Stacks.{within}
 use Rattle.of_fcodes.specs.declared.words.Word.{Word}
-use Rattle.of_fcodes.specs.declared.words.Word.TheVariants.{Stream, Primitive, Printing, Heap, Keys, Returns, Dictionary, Throws, Properties, Tree, Devices, Console, Parsing, Compiling}
+use Rattle.of_fcodes.specs.declared.words.Word.TheVariants.{Stream, Primitive, Printing, Heap, Keys, Returns}
+use Rattle.of_fcodes.specs.declared.words.Word.TheVariants.{Dictionary, Throws, Properties, Tree, Devices, Console}
+use Rattle.of_fcodes.specs.declared.words.Word.TheVariants.{Parsing, Compiling}
 use Rattle.of_fcodes.specs.declared.words.HeapWord.TheVariants.{AllocMem}
 use Rattle.of_fcodes.specs.declared.words.PrintingWord.{PrintingWord}
 use Rattle.of_fcodes.specs.declared.words.PrintingWord.TheVariants as printing
@@ -30,8 +33,11 @@ use Rattle.of_machine.specs.declared.printing.Signs.{Signs}
 use Rattle.of_machine.specs.declared.printing.Signs.TheVariants.{Signed, Unsigned}
 use Rattle.of_machine.specs.declared.tokens.Source.{Source}
 use Rattle.of_machine.specs.Images.{image_bytes}
-use Rattle.of_machine.specs.Words.{number_entry, right_entry, dot_stack_entry, emit_entry, type_read, type_entry, block_taken, alloc_entry, printing_entry, heap_entry, with_data, data_in, word_entry}
-use Rattle.of_machine.specs.Tokens.{Move, After, going_to, branching, branch_entry, stream_entry, pushed_on, literal_entry, stream_of, offset_entry, after_move, after_word, code_entry, argument_entry, behind, token_entry, source_entry}
+use Rattle.of_machine.specs.Words.{number_entry, right_entry, dot_stack_entry, emit_entry, type_read, type_entry}
+use Rattle.of_machine.specs.Words.{block_taken, alloc_entry, printing_entry, heap_entry, with_data, data_in, word_entry}
+use Rattle.of_machine.specs.Tokens.{Move, After, going_to, branching, branch_entry, stream_entry, pushed_on}
+use Rattle.of_machine.specs.Tokens.{literal_entry, stream_of, offset_entry, after_move, after_word, code_entry}
+use Rattle.of_machine.specs.Tokens.{argument_entry, behind, token_entry, source_entry}
 use Rattle.of_machine.specs.States.{State, running_listed, StepsThrowListed}
 
 base_if : (b : Bool) (n : ℕ) → ThrowsListed (refused_if b invalid_argument n)
@@ -42,13 +48,15 @@ base_if false n = tt
 bases : (m : DataSpace) → ThrowsListed (base_in m)
 bases m = base_if _ _
 
-numbers : (signs : Signs) (b : Result ℕ Throw) (s : List Cell) (m : Parts) → ThrowsListed b → ThrowsListed (number_entry signs b s m)
+numbers : (signs : Signs) (b : Result ℕ Throw) (s : List Cell) (m : Parts) → ThrowsListed b
+    → ThrowsListed (number_entry signs b s m)
 unfolding is_listed listed_numbers
 numbers signs b [] m h = refl
 numbers signs (Ok b) (x ∷ s) m h = tt
 numbers signs (Err t) (x ∷ s) m h = h
 
-rights : (signs : Signs) (b : Result ℕ Throw) (s : List Cell) (m : Parts) → ThrowsListed b → ThrowsListed (right_entry signs b s m)
+rights : (signs : Signs) (b : Result ℕ Throw) (s : List Cell) (m : Parts) → ThrowsListed b
+    → ThrowsListed (right_entry signs b s m)
 unfolding is_listed listed_numbers
 rights signs b [] m h = refl
 rights signs b (width ∷ []) m h = refl
@@ -65,7 +73,8 @@ unfolding is_listed listed_numbers
 emits [] m = refl
 emits (char ∷ s) m = tt
 
-types_read : ThrowListedNumbers → (r : Result (List ℕ) MemFault) (s : List Cell) (m : Parts) → ThrowsListed (type_read r s m)
+types_read : ThrowListedNumbers → (r : Result (List ℕ) MemFault) (s : List Cell) (m : Parts)
+    → ThrowsListed (type_read r s m)
 types_read law (Ok text) s m = tt
 types_read law (Err fault) s m = law.faults fault
 
@@ -85,7 +94,8 @@ prints law printing.Emit m = emits m.stack m
 prints law printing.«Type» m = types law m.stack m
 prints law printing.CarriageReturn m = tt
 
-takes : ThrowListedNumbers → (r : Result (ℕ × DataSpace) MemFault) (s : List Cell) (m : Parts) → ThrowsListed (block_taken r s m)
+takes : ThrowListedNumbers → (r : Result (ℕ × DataSpace) MemFault) (s : List Cell) (m : Parts)
+    → ThrowsListed (block_taken r s m)
 takes law (Ok taken) s m = tt
 takes law (Err fault) s m = law.faults fault
 
@@ -120,7 +130,8 @@ unfolding is_listed listed_numbers
 branches_if [] on target = refl
 branches_if (x ∷ s) on target = goes_if (nat_eq x.0 0) on.size s on target
 
-branches : (w : StreamWord) (on : Source) (target : Option ℕ) (s : List Cell) → ThrowsListed (branch_entry w on target s)
+branches : (w : StreamWord) (on : Source) (target : Option ℕ) (s : List Cell)
+    → ThrowsListed (branch_entry w on target s)
 unfolding is_listed listed_numbers
 branches stream.Branch on target s = goes on.size s target
 branches stream.BranchIfZero on target s = branches_if s on target
@@ -140,7 +151,8 @@ unfolding is_listed listed_numbers
 pushes on true s = refl
 pushes on false s = tt
 
-offsets : (w : Option StreamWord) (on : Source) (target : Option ℕ) (s : List Cell) → ThrowsListed (offset_entry w on target s)
+offsets : (w : Option StreamWord) (on : Source) (target : Option ℕ) (s : List Cell)
+    → ThrowsListed (offset_entry w on target s)
 unfolding is_listed listed_numbers
 offsets (Some w) on target s = branches w on target s
 offsets None on target s = refl
@@ -169,12 +181,14 @@ arguments law Nothing w end at on m = codes_run law w on m
 arguments law (Literal x) w end at on m =
     moves m (literal_entry x on m.stack) (pushes on (nat_lt 256 (length (x ∷ m.stack))) (x ∷ m.stack))
 arguments law (Offset by) w end at on m =
-    moves m (offset_entry (stream_of w) on (landing end at by) m.stack) (offsets (stream_of w) on (landing end at by) m.stack)
+    moves m (offset_entry (stream_of w) on (landing end at by) m.stack)
+        (offsets (stream_of w) on (landing end at by) m.stack)
 arguments law (String s) w end at on m = refl
 arguments law (Code c) w end at on m = refl
 arguments law (Named s c) w end at on m = refl
 
-tokens : ThrowListedNumbers → (found : Option (Token × ℕ)) (end : ℕ) (here : Source) (m : Parts) → ThrowsListed (token_entry found end here m)
+tokens : ThrowListedNumbers → (found : Option (Token × ℕ)) (end : ℕ) (here : Source) (m : Parts)
+    → ThrowsListed (token_entry found end here m)
 unfolding is_listed listed_numbers
 tokens law None end here m = refl
 tokens law (Some found) end here m =

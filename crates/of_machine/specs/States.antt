@@ -1,5 +1,6 @@
 -- The abstract machine: its states, and what each call makes of them.
-use Rattle.std.specs.Prelude.{◌≡◌, ◌⊎◌, ℕ, ◌+◌, ◌-◌, ◌^◌, Bool, true, false, List, [], ◌++◌, length, Option, Some, None, is_some, Result, Ok, Err, IsErr, nat_lt, ◌&&◌, if◌then◌else◌, codes}
+use Rattle.std.specs.Prelude.{◌≡◌, ◌⊎◌, ℕ, ◌+◌, ◌-◌, ◌^◌, Bool, true, false, List, [], ◌++◌, length, Option, Some, None}
+use Rattle.std.specs.Prelude.{is_some, Result, Ok, Err, IsErr, nat_lt, ◌&&◌, if◌then◌else◌, codes}
 use Rattle.std.specs.Str.{bytes_eq}
 use Rattle.of_stacks.specs.declared.throws.Throw.{Throw}
 use Rattle.of_stacks.specs.Throws.{ThrowsListed}
@@ -91,7 +92,8 @@ with_after s r a = record {
 -- one step of an image that runs
 abbrev pub running_step : State → Option Running → State
 running_step s None = s
-running_step s (Some r) = with_after s r (settled (source_entry (image_bytes s.parts.memory r.begin r.size) r.source s.parts) s.parts)
+running_step s (Some r) =
+    with_after s r (settled (source_entry (image_bytes s.parts.memory r.begin r.size) r.source s.parts) s.parts)
 
 -- one step
 unfoldable pub stepped : State → State

@@ -1,6 +1,7 @@
 // What is printed goes behind what the console has. Each call makes its room first.
 
-ghost use Rattle.std.specs.Prelude.{◌≡◌, ◌+◌, ◌*◌, ◌≤◌, ◌++◌, [], ◌∷◌, length, reverse, replicate, OnOk, OnErr, vec_len, vec_capacity};
+ghost use Rattle.std.specs.Prelude.{◌≡◌, ◌+◌, ◌*◌, ◌≤◌, ◌++◌, [], ◌∷◌, length, reverse, replicate, OnOk, OnErr};
+ghost use Rattle.std.specs.Prelude.{vec_len, vec_capacity};
 ghost use Rattle.of_cells.specs.Numbers.{signed};
 ghost use Rattle.of_machine.specs.Text.{spaced, cell_text, stack_text, padding, at_right, fault_text};
 

@@ -1,7 +1,8 @@
 ghost use Rattle.std.specs.Prelude.{◌≡◌, IfOk, IfErr, OnOk, OnErr, None, Some};
 ghost use Rattle.of_machine.specs.Images.{image_bytes};
 ghost use Rattle.of_machine.specs.Tokens.{source_if};
-ghost use Rattle.of_machine.specs.States.{idle, stepped, MayGrow, MayGrowAt, given_back, image_refusal, loaded, load_refusal, Settles, Steps, Refuses};
+ghost use Rattle.of_machine.specs.States.{idle, stepped, MayGrow, MayGrowAt, given_back, image_refusal, loaded};
+ghost use Rattle.of_machine.specs.States.{load_refusal, Settles, Steps, Refuses};
 
 use crate::answers::{Progress, Refusal};
 use crate::console::Console;
@@ -59,8 +60,14 @@ impl Model for Machine {
 /// stack, prints its text and ends the image. A refusal changes nothing.
 #[inline]
 fn take_token(running: &mut Running, parts: &mut Parts) -> Result<bool, AllocError>
-    ensures ok { IfOk result (λ goes. Settles (image_bytes parts.old.memory running.old.begin running.old.size) running.old running.new parts.old parts.new goes) }
-    ensures grows { OnErr result (MayGrowAt (image_bytes parts.old.memory running.old.begin running.old.size) running.old.source parts.old) }
+    ensures ok {
+        IfOk result (λ goes. Settles (image_bytes parts.old.memory running.old.begin running.old.size) running.old
+            running.new parts.old parts.new goes)
+    }
+    ensures grows {
+        OnErr result (MayGrowAt (image_bytes parts.old.memory running.old.begin running.old.size) running.old.source
+            parts.old)
+    }
     ensures parts { OnErr result (parts.new ≡ parts.old) }
     ensures running { OnErr result (running.new ≡ running.old) }
 {
@@ -166,7 +173,9 @@ impl Machine {
     /// be read, NoNode where the path is another than `/slot`, and ImageTooLong where the image
     /// region has no room left. A refusal changes nothing.
     pub fn load(&mut self, image: &[u8], path: &str) -> Result<(), Refusal>
-        ensures ok { OnOk result ((load_refusal self.old image.now path.now ≡ None) × (self.new ≡ loaded self.old image.now)) }
+        ensures ok {
+            OnOk result ((load_refusal self.old image.now path.now ≡ None) × (self.new ≡ loaded self.old image.now))
+        }
         ensures err { IfErr result (λ e. load_refusal self.old image.now path.now ≡ Some e) }
         ensures unchanged { OnErr result (self.new ≡ self.old) }
     {

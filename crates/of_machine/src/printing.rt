@@ -2,7 +2,8 @@
 
 ghost use Rattle.std.specs.Prelude.{◌≡◌, ◌≤◌, length, true};
 ghost use Rattle.of_format.specs.Pictured.{base_in};
-ghost use Rattle.of_machine.specs.Words.{digits_of, number_entry, right_entry, dot_stack_entry, emit_entry, type_entry, newline_entry, printing_entry, Makes};
+ghost use Rattle.of_machine.specs.Words.{digits_of, number_entry, right_entry, dot_stack_entry, emit_entry, type_entry};
+ghost use Rattle.of_machine.specs.Words.{newline_entry, printing_entry, Makes};
 
 use crate::parts::Parts;
 use crate::stop::Stop;
@@ -54,7 +55,9 @@ pub fn run_printing_word(word: PrintingWord, parts: &mut Parts) -> Result<(), St
 
 /// `.` and `u.` ( x -- ) print the number and a space; -24 where there is no base
 fn print_number(signs: Signs, parts: &mut Parts) -> Result<(), Stop>
-    ensures { Makes true (number_entry signs (base_in parts.old.memory) parts.old.stack parts.old) parts.old parts.new result }
+    ensures {
+        Makes true (number_entry signs (base_in parts.old.memory) parts.old.stack parts.old) parts.old parts.new result
+    }
 {
     let x = parts.stack.peek()?;
     let text = signs.digits(x, base(&parts.memory)?);
@@ -65,7 +68,9 @@ fn print_number(signs: Signs, parts: &mut Parts) -> Result<(), Stop>
 
 /// `.r` and `u.r` ( x width -- ) print the number at the right of a width; -24 where there is no base
 fn print_at_right(signs: Signs, parts: &mut Parts) -> Result<(), Stop>
-    ensures { Makes true (right_entry signs (base_in parts.old.memory) parts.old.stack parts.old) parts.old parts.new result }
+    ensures {
+        Makes true (right_entry signs (base_in parts.old.memory) parts.old.stack parts.old) parts.old parts.new result
+    }
 {
     let (x, width) = parts.stack.top_two()?;
     let text = signs.digits(x, base(&parts.memory)?);
@@ -77,7 +82,9 @@ fn print_at_right(signs: Signs, parts: &mut Parts) -> Result<(), Stop>
 
 /// `.s` ( -- ) prints all cells, the bottom first; -24 where there are some and no base
 fn print_stack(parts: &mut Parts) -> Result<(), Stop>
-    ensures { Makes true (dot_stack_entry (base_in parts.old.memory) parts.old.stack parts.old) parts.old parts.new result }
+    ensures {
+        Makes true (dot_stack_entry (base_in parts.old.memory) parts.old.stack parts.old) parts.old parts.new result
+    }
 {
     if parts.stack.depth() == 0 {
         return Ok(());

@@ -1,5 +1,7 @@
 ghost use Rattle.std.specs.Prelude.{◌≡◌};
-ghost use Rattle.of_machine.specs.Tokens.{going_to, branching, branch_entry, stream_entry, literal_entry, stream_of, offset_entry, code_entry, source_entry, source_grows, word_grows, Moves, GoesOn};
+ghost use Rattle.of_machine.specs.Tokens.{going_to, branching, branch_entry, stream_entry, literal_entry, stream_of};
+ghost use Rattle.of_machine.specs.Tokens.{offset_entry, code_entry, source_entry, source_grows, word_grows, Moves};
+ghost use Rattle.of_machine.specs.Tokens.{GoesOn};
 ghost use Rattle.of_machine.specs.Images.{image_bytes};
 
 use crate::parts::Parts;
@@ -225,7 +227,11 @@ pub fn run_token(
     source: &mut Source,
     parts: &mut Parts,
 ) -> Result<bool, Stop>
-    ensures { GoesOn (source_grows (image_bytes parts.old.memory begin size) source.old) (source_entry (image_bytes parts.old.memory begin size) source.old parts.old) parts.old parts.new source.new result }
+    ensures {
+        GoesOn (source_grows (image_bytes parts.old.memory begin size) source.old)
+            (source_entry (image_bytes parts.old.memory begin size) source.old parts.old) parts.old parts.new
+            source.new result
+    }
 {
     let at = source.position;
     let image = bytes_of(&parts.memory, begin, size);

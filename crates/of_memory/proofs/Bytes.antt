@@ -1,5 +1,6 @@
 -- The data space as a map from address to byte.
-use Rattle.std.proofs.Common.{◌≡◌, ℕ, ◌+◌, ◌*◌, ◌-◌, ◌<◌, ◌≤◌, nat_le, nat_lt, Bool, true, false, ◌&&◌, inl, inr, List, [], ◌∷◌, length, get_or, take, drop, Some, add-zero, refl, sym, ap, ◌∙◌, arith}
+use Rattle.std.proofs.Common.{◌≡◌, ℕ, ◌+◌, ◌*◌, ◌-◌, ◌<◌, ◌≤◌, nat_le, nat_lt, Bool, true, false, ◌&&◌, inl, inr, List}
+use Rattle.std.proofs.Common.{[], ◌∷◌, length, get_or, take, drop, Some, add-zero, refl, sym, ap, ◌∙◌, arith}
 use Rattle.std.proofs.lemmas.Grind.{common_steps}
 use Rattle.std.proofs.lemmas.List.{places}
 use Rattle.std.proofs.lemmas.Bool.{cases_lt}

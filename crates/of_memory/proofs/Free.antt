@@ -1,5 +1,6 @@
 -- The least address at which a block may be taken.
-use Rattle.std.proofs.Common.{◌≡◌, ℕ, ◌+◌, ◌-◌, ◌*◌, ◌/◌, ◌%◌, ◌<◌, ◌≤◌, zero, suc, nat_le, Bool, true, false, ◌&&◌, ◌||◌, List, ◌∷◌, ◌⊎◌, inl, inr, Some, None, add-zero, refl, sym, ap, ◌∙◌, arith}
+use Rattle.std.proofs.Common.{◌≡◌, ℕ, ◌+◌, ◌-◌, ◌*◌, ◌/◌, ◌%◌, ◌<◌, ◌≤◌, zero, suc, nat_le, Bool, true, false, ◌&&◌}
+use Rattle.std.proofs.Common.{◌||◌, List, ◌∷◌, ◌⊎◌, inl, inr, Some, None, add-zero, refl, sym, ap, ◌∙◌, arith}
 use Rattle.std.proofs.lemmas.Grind.{common_steps}
 use Rattle.std.proofs.lemmas.Bool.{false≢true}
 use Rattle.of_memory.specs.declared.blocks.Block.{Block}

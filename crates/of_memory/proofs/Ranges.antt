@@ -1,5 +1,6 @@
 -- Ranges that can be read or written, and parts of them.
-use Rattle.std.proofs.Common.{◌≡◌, ℕ, ◌+◌, ◌/◌, ◌%◌, ◌^◌, ◌<◌, ◌≤◌, eqb, Bool, true, false, ◌||◌, not, List, if◌then◌else◌, Option, Some, None, inl, inr, add-zero, lit≤, refl, ◌∙◌, arith}
+use Rattle.std.proofs.Common.{◌≡◌, ℕ, ◌+◌, ◌/◌, ◌%◌, ◌^◌, ◌<◌, ◌≤◌, eqb, Bool, true, false, ◌||◌, not, List}
+use Rattle.std.proofs.Common.{if◌then◌else◌, Option, Some, None, inl, inr, add-zero, lit≤, refl, ◌∙◌, arith}
 use Rattle.std.proofs.lemmas.Bool.{cases_eq}
 use Rattle.std.proofs.lemmas.Bool.Decides.{nat_tests}
 use Rattle.of_memory.specs.Regions.{region_of, may_write, span, scratch_start, scratch_limit}

@@ -1,5 +1,6 @@
 -- How far the live blocks hold every address.
-use Rattle.std.proofs.Common.{◌≡◌, ℕ, zero, suc, length, get_or, drop, find, None, add-one, ◌+◌, ◌-◌, ◌<◌, ◌≤◌, nat_le, Bool, true, false, ◌||◌, List, [], ◌∷◌, ◌⊎◌, inl, inr, refl, sym, subst, ◌∙◌, arith}
+use Rattle.std.proofs.Common.{◌≡◌, ℕ, zero, suc, length, get_or, drop, find, None, add-one, ◌+◌, ◌-◌, ◌<◌, ◌≤◌, nat_le}
+use Rattle.std.proofs.Common.{Bool, true, false, ◌||◌, List, [], ◌∷◌, ◌⊎◌, inl, inr, refl, sym, subst, ◌∙◌, arith}
 use Rattle.std.proofs.lemmas.Grind.{common_steps}
 use Rattle.std.proofs.lemmas.Bool.{cases_lt}
 use Rattle.of_memory.specs.Regions.{heap_limit, heap_start}

@@ -1,5 +1,6 @@
 -- Which ranges can be read.
-use Rattle.std.proofs.Common.{◌≡◌, ℕ, ◌+◌, ◌-◌, ◌/◌, ◌%◌, ◌<◌, ◌≤◌, nat_lt, Bool, true, false, ◌&&◌, ◌||◌, inl, inr, not, Option, Some, None, add-zero, refl, sym, ◌∙◌, lit≤, arith}
+use Rattle.std.proofs.Common.{◌≡◌, ℕ, ◌+◌, ◌-◌, ◌/◌, ◌%◌, ◌<◌, ◌≤◌, nat_lt, Bool, true, false, ◌&&◌, ◌||◌, inl, inr}
+use Rattle.std.proofs.Common.{not, Option, Some, None, add-zero, refl, sym, ◌∙◌, lit≤, arith}
 use Rattle.std.proofs.lemmas.Grind.{common_steps}
 use Rattle.std.proofs.lemmas.Bool.{cases_lt, false≢true}
 use Rattle.of_memory.specs.declared.regions.Region.{Region}

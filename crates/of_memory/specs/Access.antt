@@ -1,5 +1,7 @@
 -- Reads and writes: their faults, in the order of the checks, and what they give.
-use Rattle.std.specs.Prelude.{ℕ, ◌+◌, ◌-◌, ◌/◌, ◌%◌, ◌≤◌, zero, suc, Bool, true, ◌&&◌, ◌||◌, ◌==◌, not, nat_lt, find, List, [], ◌∷◌, length, replicate, slice_index, ◌*◌, Option, Some, None, Result, Ok, Err, if◌then◌else◌}
+use Rattle.std.specs.Prelude.{ℕ, ◌+◌, ◌-◌, ◌/◌, ◌%◌, ◌≤◌, zero, suc, Bool, true, ◌&&◌, ◌||◌, ◌==◌, not, nat_lt, find}
+use Rattle.std.specs.Prelude.{List, [], ◌∷◌, length, replicate, slice_index, ◌*◌, Option, Some, None, Result, Ok, Err}
+use Rattle.std.specs.Prelude.{if◌then◌else◌}
 use Rattle.byteorder.specs.Endian.{big_number, big_bytes}
 use Rattle.of_cells.specs.declared.cells.Cell.{Cell}
 use Rattle.of_memory.specs.Width.{bytes_in}

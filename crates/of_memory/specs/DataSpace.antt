@@ -1,7 +1,10 @@
 -- The data space: its bytes, what is taken of each region, and the map from address to byte.
 use Rattle.std.specs.List.{All}
-use Rattle.std.specs.Prelude.{ℕ, ◌+◌, ◌≤◌, ◌<◌, ◌≡◌, ◌%◌, Bool, false, ◌&&◌, ◌||◌, not, nat_lt, List, [], ◌∷◌, ◌++◌, length, take, drop, replicate, slice_index, slice_set, Option, Some, None, if◌then◌else◌}
-use Rattle.of_memory.specs.Regions.{region_of, size_of, is_heap, place_of, span, byte_count, data_start, data_limit, first_property, property_limit, instance_start, instance_limit, heap_start, heap_limit, scratch_start, image_start, image_limit, image_count}
+use Rattle.std.specs.Prelude.{ℕ, ◌+◌, ◌≤◌, ◌<◌, ◌≡◌, ◌%◌, Bool, false, ◌&&◌, ◌||◌, not, nat_lt, List, [], ◌∷◌, ◌++◌}
+use Rattle.std.specs.Prelude.{length, take, drop, replicate, slice_index, slice_set, Option, Some, None, if◌then◌else◌}
+use Rattle.of_memory.specs.Regions.{region_of, size_of, is_heap, place_of, span, byte_count, data_start, data_limit}
+use Rattle.of_memory.specs.Regions.{first_property, property_limit, instance_start, instance_limit, heap_start}
+use Rattle.of_memory.specs.Regions.{heap_limit, scratch_start, image_start, image_limit, image_count}
 use Rattle.of_memory.specs.Blocks.{AreLaid, is_live}
 use Rattle.of_memory.specs.declared.blocks.Block.{Block}
 use Rattle.of_memory.specs.declared.regions.Region.{Region}

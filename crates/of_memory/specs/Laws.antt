@@ -1,5 +1,6 @@
 -- The data space as a finite map from address to byte.
-use Rattle.std.specs.Prelude.{ℕ, ◌+◌, ◌*◌, ◌-◌, ◌<◌, ◌≡◌, ◌&&◌, true, nat_le, nat_lt, List, length, slice_index, Option, Some, if◌then◌else◌}
+use Rattle.std.specs.Prelude.{ℕ, ◌+◌, ◌*◌, ◌-◌, ◌<◌, ◌≡◌, ◌&&◌, true, nat_le, nat_lt, List, length, slice_index, Option}
+use Rattle.std.specs.Prelude.{Some, if◌then◌else◌}
 use Rattle.of_memory.specs.DataSpace.{DataSpace, IsSound, byte_at, bytes_from, written}
 use Rattle.of_memory.specs.Access.{are_readable, every, spread_over}
 use Rattle.of_memory.specs.Regions.{place_of}

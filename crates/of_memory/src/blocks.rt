@@ -1,4 +1,5 @@
-ghost use Rattle.std.specs.Prelude.{find, drop, ◌≡◌, ◌≢◌, ℕ, ◌+◌, ◌*◌, ◌%◌, ◌<◌, ◌≤◌, ◌^◌, vec_len, vec_capacity, length, Some, None, Ok, Err, IfOk, IfSome, MatchOption};
+ghost use Rattle.std.specs.Prelude.{find, drop, ◌≡◌, ◌≢◌, ℕ, ◌+◌, ◌*◌, ◌%◌, ◌<◌, ◌≤◌, ◌^◌, vec_len, vec_capacity};
+ghost use Rattle.std.specs.Prelude.{length, Some, None, Ok, Err, IfOk, IfSome, MatchOption};
 ghost use Rattle.std.specs.List.{position};
 ghost use Rattle.of_memory.specs.Access.{all_from, end_found};
 ghost use Rattle.of_memory.specs.Regions.{longest, heap_start, heap_limit};

@@ -1,5 +1,6 @@
 -- What these words throw has a listed number: each table's own throws, line by line.
-use Rattle.std.proofs.Common.{◌≡◌, ℕ, ◌+◌, ◌-◌, ◌/◌, ◌%◌, ◌^◌, Bool, true, false, ◌||◌, List, [], ◌∷◌, length, nat_lt, Option, Some, None, Result, Ok, Err, refl}
+use Rattle.std.proofs.Common.{◌≡◌, ℕ, ◌+◌, ◌-◌, ◌/◌, ◌%◌, ◌^◌, Bool, true, false, ◌||◌, List, [], ◌∷◌, length, nat_lt}
+use Rattle.std.proofs.Common.{Option, Some, None, Result, Ok, Err, refl}
 use Rattle.std.specs.Char.{digit_char}
 use Rattle.std.specs.Int.{bytes_high_first}
 use Rattle.of_cells.specs.declared.cells.Cell.{Cell}
@@ -8,7 +9,8 @@ use Rattle.of_cells.specs.Doubles.{double, number_of}
 use Rattle.of_cells.specs.Arithmetic.{plus}
 use Rattle.of_cells.specs.Splitting.{low_byte, low_half}
 use Rattle.of_stacks.specs.declared.throws.Throw.{Throw}
-use Rattle.of_stacks.specs.Throws.{ThrowsListed, is_listed, listed_numbers, stack_overflow, pictured_overflow, invalid_argument}
+use Rattle.of_stacks.specs.Throws.{ThrowsListed, is_listed, listed_numbers, stack_overflow, pictured_overflow}
+use Rattle.of_stacks.specs.Throws.{invalid_argument}
 use Rattle.of_stacks.specs.Order.{refused_if, counting, fault_if}
 use Rattle.of_stacks.specs.Stacks.{within}
 use Rattle.of_calc.specs.Arithmetic.{double_of, with_double}
@@ -21,7 +23,8 @@ use Rattle.of_memory.specs.declared.fault.MemFault.{MemFault}
 use Rattle.of_memory.specs.declared.fault.MemFault.TheVariants.{Address, Alignment, ReadOnly, Full, BadBlock, NoMemory}
 use Rattle.of_memory.specs.declared.width.Width.TheVariants.{One as OneByte, Two as TwoBytes, Four as FourBytes}
 use Rattle.of_fcodes.specs.declared.words.PrimitiveWord.{PrimitiveWord}
-use Rattle.of_fcodes.specs.declared.words.PrimitiveWord.TheVariants.{Arithmetic, Comparing, Stacks, Addresses, Memory, Splitting, Text, Numbers}
+use Rattle.of_fcodes.specs.declared.words.PrimitiveWord.TheVariants.{Arithmetic, Comparing, Stacks, Addresses, Memory}
+use Rattle.of_fcodes.specs.declared.words.PrimitiveWord.TheVariants.{Splitting, Text, Numbers}
 use Rattle.of_fcodes.specs.declared.words.AddressesWord.{AddressesWord}
 use Rattle.of_fcodes.specs.declared.words.MemoryWord.{MemoryWord}
 use Rattle.of_fcodes.specs.declared.words.MemoryWord.TheVariants as memory
@@ -33,10 +36,12 @@ use Rattle.of_format.specs.Pictured.{held, base_in}
 use Rattle.of_prims.specs.declared.address_shapes.Addressing.{Addressing}
 use Rattle.of_prims.specs.declared.address_shapes.Addressing.TheVariants as shape
 use Rattle.of_prims.specs.Addresses.{addressed, addresses_entry, addressing_of}
-use Rattle.of_prims.specs.Data.{Data, Space, number, throw_of, fault_of, unless_fault, unless_thrown, over, stored, appended_under, cell_at}
+use Rattle.of_prims.specs.Data.{Data, Space, number, throw_of, fault_of, unless_fault, unless_thrown, over, stored}
+use Rattle.of_prims.specs.Data.{appended_under, cell_at}
 use Rattle.of_prims.specs.Listed.{ThrowListedNumbers}
 use Rattle.of_prims.specs.Memory.{memory_entry, fetched, fetched_signed, value_stored}
-use Rattle.of_prims.specs.Numbers.{numbers_entry, beside, holding, next_digit, all_digits, next_unsigned_digit, all_unsigned_digits, signed_with, with_text, number_parsed}
+use Rattle.of_prims.specs.Numbers.{numbers_entry, beside, holding, next_digit, all_digits, next_unsigned_digit}
+use Rattle.of_prims.specs.Numbers.{all_unsigned_digits, signed_with, with_text, number_parsed}
 use Rattle.of_prims.specs.Prims.{prim_entry, on_stack, in_space}
 use Rattle.of_prims.specs.Text.{text_entry, parted, before, two_read, two_pushed}
 use Rattle.of_prims.proofs.Counting.{some_counts, full_counts}
@@ -77,7 +82,8 @@ appends : (s : List Cell) (r : Result (ℕ × DataSpace) MemFault) → ThrowsLis
 appends s (Ok a) = tt
 appends s (Err fault) = faults fault
 
-unless : {A : Type 0} (fault : Option MemFault) (r : Result A Throw) → ThrowsListed r → ThrowsListed (unless_fault fault r)
+unless : {A : Type 0} (fault : Option MemFault) (r : Result A Throw) → ThrowsListed r
+    → ThrowsListed (unless_fault fault r)
 unless None r h = h
 unless (Some fault) r h = faults fault
 
@@ -112,7 +118,8 @@ unfolding is_listed listed_numbers
 sets x (a ∷ s) m = stores s (write FourBytes m a.0 x.0)
 sets x [] m = refl
 
-thrown_if : {A : Type 0} (b : Bool) (r : Result A Throw) → ThrowsListed r → ThrowsListed (unless_thrown (fault_if b stack_overflow) r)
+thrown_if : {A : Type 0} (b : Bool) (r : Result A Throw) → ThrowsListed r
+    → ThrowsListed (unless_thrown (fault_if b stack_overflow) r)
 unfolding is_listed listed_numbers
 thrown_if true r h = refl
 thrown_if false r h = h
@@ -248,7 +255,8 @@ converts numbers.Hold (char ∷ s) m count = holds s m count ((low_byte char).0 
 converts numbers.Sign (n ∷ s) m count = signs (is_less n (number 0)) s m count
 converts numbers.NextDigit (high ∷ low ∷ s) m count =
     digits (number_of (double_of low high)) s m count (base_in m) (base m)
-converts numbers.AllDigits (high ∷ low ∷ s) m count = all (number_of (double_of low high)) s m count (base_in m) (base m)
+converts numbers.AllDigits (high ∷ low ∷ s) m count =
+    all (number_of (double_of low high)) s m count (base_in m) (base m)
 converts numbers.End (high ∷ low ∷ s) m count = tt
 converts numbers.UnsignedDigit (u ∷ s) m count = unsigned_digits u.0 s m count (base_in m) (base m)
 converts numbers.UnsignedDigits (u ∷ s) m count = all_unsigned u.0 s m count (base_in m) (base m)

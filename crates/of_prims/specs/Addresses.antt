@@ -8,7 +8,10 @@ use Rattle.of_stacks.specs.declared.throws.Throw.{Throw}
 use Rattle.of_stacks.specs.Throws.{stack_underflow}
 use Rattle.of_stacks.specs.Stacks.{within}
 use Rattle.of_fcodes.specs.declared.words.AddressesWord.{AddressesWord}
-use Rattle.of_fcodes.specs.declared.words.AddressesWord.TheVariants.{ByteSize, WordSize, LongSize, CellSize, ByteIndexed, WordIndexed, LongIndexed, CellIndexed, NextByte, NextWord, NextLong, NextCell, Bytes, Words, Longs, Cells, Aligned, Here, Bounds}
+use Rattle.of_fcodes.specs.declared.words.AddressesWord.TheVariants.{ByteSize, WordSize, LongSize, CellSize}
+use Rattle.of_fcodes.specs.declared.words.AddressesWord.TheVariants.{ByteIndexed, WordIndexed, LongIndexed, CellIndexed}
+use Rattle.of_fcodes.specs.declared.words.AddressesWord.TheVariants.{NextByte, NextWord, NextLong, NextCell, Bytes}
+use Rattle.of_fcodes.specs.declared.words.AddressesWord.TheVariants.{Words, Longs, Cells, Aligned, Here, Bounds}
 use Rattle.of_prims.specs.declared.address_shapes.Addressing.{Addressing}
 use Rattle.of_prims.specs.declared.address_shapes.Addressing.TheVariants as shape
 use Rattle.of_prims.specs.Data.{number}

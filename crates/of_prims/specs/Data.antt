@@ -2,7 +2,8 @@
 use Rattle.std.specs.Prelude.{ℕ, List, Option, Some, None, Result, Ok, Err}
 use Rattle.of_cells.specs.declared.cells.Cell.{Cell}
 use Rattle.of_stacks.specs.declared.throws.Throw.{Throw}
-use Rattle.of_stacks.specs.Throws.{aborted, dictionary_overflow, invalid_address, read_only, misaligned, invalid_argument}
+use Rattle.of_stacks.specs.Throws.{aborted, dictionary_overflow, invalid_address, read_only, misaligned}
+use Rattle.of_stacks.specs.Throws.{invalid_argument}
 use Rattle.of_memory.specs.Access.{number_at}
 use Rattle.of_memory.specs.DataSpace.{DataSpace}
 use Rattle.of_memory.specs.declared.fault.MemFault.{MemFault}

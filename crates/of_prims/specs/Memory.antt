@@ -15,8 +15,13 @@ use Rattle.of_memory.specs.Growth.{appended}
 use Rattle.of_memory.specs.declared.fault.MemFault.{MemFault}
 use Rattle.of_memory.specs.declared.width.Width.TheVariants.{One, Two, Four}
 use Rattle.of_fcodes.specs.declared.words.MemoryWord.{MemoryWord}
-use Rattle.of_fcodes.specs.declared.words.MemoryWord.TheVariants.{On, Off, PlusStore, Fetch, FetchLong, FetchWord, FetchSignedWord, FetchByte, Store, StoreLong, StoreWord, StoreByte, FetchTwo, StoreTwo, Move, Fill, Compare, CommaByte, CommaWord, CommaLong, Comma, FreeMem}
-use Rattle.of_prims.specs.Data.{Space, cell_at, number, throw_of, fault_of, unless_fault, unless_thrown, stored, appended_under}
+use Rattle.of_fcodes.specs.declared.words.MemoryWord.TheVariants.{On, Off, PlusStore, Fetch, FetchLong, FetchWord}
+use Rattle.of_fcodes.specs.declared.words.MemoryWord.TheVariants.{FetchSignedWord, FetchByte, Store, StoreLong}
+use Rattle.of_fcodes.specs.declared.words.MemoryWord.TheVariants.{StoreWord, StoreByte, FetchTwo, StoreTwo, Move, Fill}
+use Rattle.of_fcodes.specs.declared.words.MemoryWord.TheVariants.{Compare, CommaByte, CommaWord, CommaLong, Comma}
+use Rattle.of_fcodes.specs.declared.words.MemoryWord.TheVariants.{FreeMem}
+use Rattle.of_prims.specs.Data.{Space, cell_at, number, throw_of, fault_of, unless_fault, unless_thrown, stored}
+use Rattle.of_prims.specs.Data.{appended_under}
 
 -- the number that a read gave, on the stack
 abbrev pub fetched : List Cell → DataSpace → Result ℕ MemFault → Result Space Throw

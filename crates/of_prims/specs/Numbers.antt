@@ -1,7 +1,8 @@
 -- What each word of the group Numbers makes of the data stack, the top first, of the data space and of the pictured
 -- text, or what it throws (IEEE 1275-1994, annex A; Forth 2012, 6.1.0490, 6.1.1670, 6.1.2210, 6.1.0030,
 -- 6.1.0050, 6.1.0040, 6.1.0750).
-use Rattle.std.specs.Prelude.{ℕ, ◌-◌, ◌/◌, ◌%◌, ◌^◌, Bool, true, false, List, ◌∷◌, [], Option, Some, None, Result, Ok, Err}
+use Rattle.std.specs.Prelude.{ℕ, ◌-◌, ◌/◌, ◌%◌, ◌^◌, Bool, true, false, List, ◌∷◌, [], Option, Some, None, Result, Ok}
+use Rattle.std.specs.Prelude.{Err}
 use Rattle.std.specs.Char.{digit_char}
 use Rattle.of_cells.specs.declared.cells.Cell.{Cell}
 use Rattle.of_cells.specs.Numbers.{flag}
@@ -16,7 +17,10 @@ use Rattle.of_memory.specs.Access.{read_fault}
 use Rattle.of_memory.specs.DataSpace.{DataSpace, bytes_from}
 use Rattle.of_memory.specs.declared.width.Width.TheVariants.{One as OneByte}
 use Rattle.of_fcodes.specs.declared.words.NumbersWord.{NumbersWord}
-use Rattle.of_fcodes.specs.declared.words.NumbersWord.TheVariants.{Begin, Hold, Sign, NextDigit, AllDigits, End, UnsignedDigit, UnsignedDigits, UnsignedEnd, Base, ParseNumber, Digit, MinusOne, Zero, One, Two, Three, Noop, FcodeRevision}
+use Rattle.of_fcodes.specs.declared.words.NumbersWord.TheVariants.{Begin, Hold, Sign, NextDigit, AllDigits, End}
+use Rattle.of_fcodes.specs.declared.words.NumbersWord.TheVariants.{UnsignedDigit, UnsignedDigits, UnsignedEnd, Base}
+use Rattle.of_fcodes.specs.declared.words.NumbersWord.TheVariants.{ParseNumber, Digit, MinusOne, Zero, One, Two, Three}
+use Rattle.of_fcodes.specs.declared.words.NumbersWord.TheVariants.{Noop, FcodeRevision}
 use Rattle.of_format.specs.Digits.{digit_value, unsigned_text, double_text}
 use Rattle.of_format.specs.Pictured.{held, base_in, text_address}
 use Rattle.of_format.specs.Reading.{number_read}

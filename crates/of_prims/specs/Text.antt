@@ -1,6 +1,7 @@
 -- What each word of the group Text makes of the data stack, the top first, and of the data space, or what it throws
 -- (IEEE 1275-1994, annex A; Forth 2012, 6.1.0980, 6.1.0770).
-use Rattle.std.specs.Prelude.{ℕ, ◌+◌, ◌-◌, ◌==◌, min, nat_lt, List, ◌∷◌, [], length, take, drop, Option, Some, None, Result, Ok, Err, if◌then◌else◌}
+use Rattle.std.specs.Prelude.{ℕ, ◌+◌, ◌-◌, ◌==◌, min, nat_lt, List, ◌∷◌, [], length, take, drop, Option, Some, None}
+use Rattle.std.specs.Prelude.{Result, Ok, Err, if◌then◌else◌}
 use Rattle.std.specs.Char.{to_ascii_uppercase, to_ascii_lowercase}
 use Rattle.of_cells.specs.declared.cells.Cell.{Cell}
 use Rattle.of_cells.specs.Arithmetic.{plus}
@@ -13,7 +14,8 @@ use Rattle.of_memory.specs.Access.{read_fault, write_fault, number_at}
 use Rattle.of_memory.specs.DataSpace.{DataSpace, bytes_from, written}
 use Rattle.of_memory.specs.declared.width.Width.TheVariants.{One}
 use Rattle.of_fcodes.specs.declared.words.TextWord.{TextWord}
-use Rattle.of_fcodes.specs.declared.words.TextWord.TheVariants.{UpperCase, LowerCase, Pack, Count, Blank, Backspace, Bell, LeftParseString, ParseTwoInts}
+use Rattle.of_fcodes.specs.declared.words.TextWord.TheVariants.{UpperCase, LowerCase, Pack, Count, Blank, Backspace}
+use Rattle.of_fcodes.specs.declared.words.TextWord.TheVariants.{Bell, LeftParseString, ParseTwoInts}
 use Rattle.of_format.specs.Reading.{number_read}
 use Rattle.of_prims.specs.Data.{Space, number, unless_fault, over}
 

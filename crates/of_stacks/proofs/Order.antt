@@ -1,14 +1,17 @@
 -- Of several faults the first counts, and the order is as it is written.
-use Rattle.std.proofs.Common.{◌≡◌, ℕ, zero, suc, ◌+◌, ◌<◌, ◌≤◌, ℤ, Bool, true, false, ◌||◌, List, [], ◌∷◌, ◌++◌, length, Option, Some, None, nat_le, if◌then◌else◌, refl, sym, ap, arith}
+use Rattle.std.proofs.Common.{◌≡◌, ℕ, zero, suc, ◌+◌, ◌<◌, ◌≤◌, ℤ, Bool, true, false, ◌||◌, List, [], ◌∷◌, ◌++◌, length}
+use Rattle.std.proofs.Common.{Option, Some, None, nat_le, if◌then◌else◌, refl, sym, ap, arith}
 use Rattle.std.specs.List.{Contains, list_any}
 use Rattle.std.specs.Prelude.{slice_index_or}
 use Rattle.std.proofs.lemmas.Bool.Decides.{nat_tests}
 use Rattle.of_stacks.specs.declared.throws.Throw.{Throw}
 use Rattle.of_stacks.specs.Throws.{is_minus}
-use Rattle.of_stacks.specs.Order.{rank, later_rank, first_of, counted, counting, FirstCounts, OrderIsWritten, first_faults, last_faults}
+use Rattle.of_stacks.specs.Order.{rank, later_rank, first_of, counted, counting, FirstCounts, OrderIsWritten}
+use Rattle.of_stacks.specs.Order.{first_faults, last_faults}
 
 -- an element behind another
-behind : (fault : Option Throw) (faults : List (Option Throw)) (t : Throw) → Contains faults (Some t) → Contains (fault ∷ faults) (Some t)
+behind : (fault : Option Throw) (faults : List (Option Throw)) (t : Throw) → Contains faults (Some t)
+    → Contains (fault ∷ faults) (Some t)
 behind fault faults t there =
     let below : there.0 < length faults = there.1 in
     (suc there.0, omega (arith, below), there.2)
@@ -21,7 +24,8 @@ one_of u v faults false t e there =
     rw (← same) (behind (Some u) faults v there)
 
 found_at : (u : Throw) (faults : List (Option Throw)) (later : Option Throw) (t : Throw) →
-    counted (Some u) later ≡ Some t → ((v : Throw) → later ≡ Some v → Contains faults (Some v)) → Contains (Some u ∷ faults) (Some t)
+    counted (Some u) later ≡ Some t → ((v : Throw) → later ≡ Some v → Contains faults (Some v))
+        → Contains (Some u ∷ faults) (Some t)
 found_at u faults None t e there = (zero, omega arith, e)
 found_at u faults (Some v) t e there = one_of u v faults (nat_le (rank u.0) (rank v.0)) t e (there v refl)
 
@@ -43,7 +47,8 @@ least_here u (Some v) t e =
     let same : first_of u v ≡ t = cc in
     rw (← same) (first_least u v (nat_le (rank u.0) (rank v.0)) refl).0
 
-least_behind : (fault later : Option Throw) (t v w : Throw) → counted fault later ≡ Some t → later ≡ Some v → rank v.0 ≤ rank w.0 → rank t.0 ≤ rank w.0
+least_behind : (fault later : Option Throw) (t v w : Throw) → counted fault later ≡ Some t → later ≡ Some v
+    → rank v.0 ≤ rank w.0 → rank t.0 ≤ rank w.0
 least_behind None later t v w e f le =
     let same : v ≡ t = cc in
     rw (← same) le
@@ -72,7 +77,8 @@ first_in_rest : (fault : Option Throw) (faults : List (Option Throw)) (t u : Thr
 first_in_rest fault faults t u None f e there le = absurd (none faults u f there)
 first_in_rest fault faults t u (Some v) f e there le = least_behind fault (Some v) t v u e refl (le v refl)
 
-first : (faults : List (Option Throw)) (t u : Throw) → counting faults ≡ Some t → Contains faults (Some u) → rank t.0 ≤ rank u.0
+first : (faults : List (Option Throw)) (t u : Throw) → counting faults ≡ Some t → Contains faults (Some u)
+    → rank t.0 ≤ rank u.0
 first [] t u e there = absurd (omega (arith, there.1))
 first (None ∷ faults) t u e (zero, lt, same) = let no : ⊥ = cc in absurd no
 first (Some v ∷ faults) t u e (zero, lt, same) =
@@ -80,7 +86,8 @@ first (Some v ∷ faults) t u e (zero, lt, same) =
     rw (← here) (least_here v (counting faults) t e)
 first (fault ∷ faults) t u e (suc k, lt, same) =
     let there : Contains faults (Some u) = (k, omega (arith, lt), same) in
-    first_in_rest fault faults t u (counting faults) refl e there (λ (v : Throw) (f : counting faults ≡ Some v). first faults v u f there)
+    first_in_rest fault faults t u (counting faults) refl e there
+        (λ (v : Throw) (f : counting faults ≡ Some v). first faults v u f there)
 
 pub first_counts : FirstCounts
 first_counts = record { found = found; first = first; none = none }

@@ -1,5 +1,6 @@
 -- Of several faults of one word, the one that it throws.
-use Rattle.std.specs.Prelude.{◌≡◌, ℕ, ◌≤◌, ℤ, Bool, false, nat_le, List, [], ◌∷◌, ◌++◌, map, Option, Some, None, Result, Ok, Err, if◌then◌else◌}
+use Rattle.std.specs.Prelude.{◌≡◌, ℕ, ◌≤◌, ℤ, Bool, false, nat_le, List, [], ◌∷◌, ◌++◌, map, Option, Some, None, Result}
+use Rattle.std.specs.Prelude.{Ok, Err, if◌then◌else◌}
 use Rattle.std.specs.List.{Contains, list_any}
 use Rattle.of_stacks.specs.declared.throws.Throw.{Throw}
 use Rattle.of_stacks.specs.Throws.{is_minus, throw}
@@ -90,6 +91,7 @@ ranks_of numbers = map (λ n. rank (throw n).0) numbers
 
 -- the ranks are the places in the written order
 pub record OrderIsWritten : Type 0 where
-  pub first : ranks_of first_faults ≡ 0 ∷ 1 ∷ 2 ∷ 3 ∷ 4 ∷ 5 ∷ 6 ∷ 7 ∷ 8 ∷ 9 ∷ 10 ∷ 11 ∷ 12 ∷ 13 ∷ 14 ∷ 15 ∷ 16 ∷ 17 ∷ 18 ∷ []
+  pub first : ranks_of first_faults
+      ≡ 0 ∷ 1 ∷ 2 ∷ 3 ∷ 4 ∷ 5 ∷ 6 ∷ 7 ∷ 8 ∷ 9 ∷ 10 ∷ 11 ∷ 12 ∷ 13 ∷ 14 ∷ 15 ∷ 16 ∷ 17 ∷ 18 ∷ []
   pub others : (t : Throw) → list_any (λ n. is_minus n t.0) (first_faults ++ last_faults) ≡ false → rank t.0 ≡ 19
   pub last : ranks_of last_faults ≡ 20 ∷ 21 ∷ 22 ∷ []

@@ -1,4 +1,5 @@
-ghost use Rattle.std.specs.Prelude.{◌+◌, IfOk, IfErr, OnOk, reverse, ◌≡◌, ◌<◌, ◌≤◌, List, [], ◌∷◌, length, drop, Ok, Err, Some, None};
+ghost use Rattle.std.specs.Prelude.{◌+◌, IfOk, IfErr, OnOk, reverse, ◌≡◌, ◌<◌, ◌≤◌, List, [], ◌∷◌, length, drop, Ok};
+ghost use Rattle.std.specs.Prelude.{Err, Some, None};
 ghost use Rattle.std.specs.List.{slice_get, remove};
 ghost use Rattle.of_stacks.specs.Throws.{stack_underflow, stack_overflow};
 ghost use Rattle.of_stacks.specs.Stacks.{within, Becomes};

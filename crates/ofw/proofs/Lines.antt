@@ -1,12 +1,14 @@
 -- What the lines of the usage text ask for.
-use Rattle.std.proofs.Common.{not, true≢false, cond, ◌==◌, ◌∷◌, [], codes, ◌≡◌, ◌∙◌, ℕ, Bool, List, Option, Some, None, true, false, arith, refl, sym, ap}
+use Rattle.std.proofs.Common.{not, true≢false, cond, ◌==◌, ◌∷◌, [], codes, ◌≡◌, ◌∙◌, ℕ, Bool, List, Option, Some, None}
+use Rattle.std.proofs.Common.{true, false, arith, refl, sym, ap}
 use Rattle.std.specs.Str.Parse.{digits_value, without_leading_plus}
 use Rattle.std.specs.Str.{bytes_eq}
 use Rattle.std.specs.Option.{option_map_or}
 use Rattle.clap.specs.Faults.{other_fault, flag_word_fault, bundle_fault, word_fault}
 use Rattle.clap.specs.Simple.{Shape, built_leaf, inherited}
 use Rattle.clap.specs.Lexer.{long_of, short_of}
-use Rattle.clap.specs.Walk.{word_met, option, Rule, Waiting, Held, trailing, Text, plain_word, subcommand_or_other, long_or_other, short_or_plain, idle, nothing_held, value}
+use Rattle.clap.specs.Walk.{word_met, option, Rule, Waiting, Held, trailing, Text, plain_word, subcommand_or_other}
+use Rattle.clap.specs.Walk.{long_or_other, short_or_plain, idle, nothing_held, value}
 use Rattle.clap.specs.declared.parser.matches.ValueSource.TheVariants.{CommandLine}
 use Rattle.clap.specs.declared.builder.value_parser.Reading.TheVariants.{AsWritten}
 use Rattle.clap.proofs.OnLiterals.{clap_on_literals}
@@ -14,7 +16,8 @@ use Rattle.clap.specs.ValueTests.{is_unsigned_in}
 use Rattle.clap.specs.Words.{Text}
 use Rattle.clap.specs.declared.builder.value_parser.ValueParser.TheVariants as parser
 use Rattle.clap.proofs.ValueTestLemmas.{Accepts-accepts, accepts-Accepts}
-use Rattle.ofw.specs.CommandLine.{LinesAsk, is_plain, AsksToRun, AsksToList, AsksForLimit, number_in, ofw_app, run_app, detok_app}
+use Rattle.ofw.specs.CommandLine.{LinesAsk, is_plain, AsksToRun, AsksToList, AsksForLimit, number_in, ofw_app, run_app}
+use Rattle.ofw.specs.CommandLine.{detok_app}
 
 -- ---- a word that begins with no hyphen is no option
 
@@ -39,14 +42,16 @@ word_is_plain c w p b rest h e =
     first ∙ second ∙ ap (λ (t : Option Text). short_or_plain c w word t h) (no_short b rest e)
 
 -- and it has no fault of its own
-word_has_no_fault : (s : Shape) (b : ℕ) (rest : Text) (h : Held) → (b == 45) ≡ false → other_fault s None (b ∷ rest) h ≡ []
+word_has_no_fault : (s : Shape) (b : ℕ) (rest : Text) (h : Held) → (b == 45) ≡ false
+    → other_fault s None (b ∷ rest) h ≡ []
 word_has_no_fault s b rest h e =
     let word = b ∷ rest in
     let again = s.args_override_self in
     let first : other_fault s None word h ≡ flag_word_fault s.rules again (long_of word) word h =
     ap (λ (t : Bool). cond t [] (flag_word_fault s.rules again (long_of word) word h)) (no_dashes b rest e) in
     let second = ap (λ (t : Option (Text × Option Text)). flag_word_fault s.rules again t word h) (no_long b rest e) in
-    first ∙ second ∙ ap (λ (t : Option Text). option_map_or (λ flags. bundle_fault s.rules again flags h) t []) (no_short b rest e)
+    first ∙ second ∙ ap (λ (t : Option Text). option_map_or (λ flags. bundle_fault s.rules again flags h) t [])
+        (no_short b rest e)
 
 -- ---- the two subcommands
 
@@ -59,7 +64,8 @@ detok_shape = built_leaf (inherited ofw_app.top detok_app.top)
 -- what is held of a run behind its image and `--limit`
 with_image : Text → Held
 with_image image = record {
-  rows = record { id = codes "image"; values = image ∷ []; count = None; source = Some CommandLine; reading = AsWritten } ∷ [];
+  rows = record { id = codes "image"; values = image ∷ []; count = None; source = Some CommandLine;
+      reading = AsWritten } ∷ [];
   pending = Some (codes "limit", []);
   skip = 0;
 }
@@ -68,7 +74,8 @@ image_met : (s : Shape) (b : ℕ) (rest : Text) → (b == 45) ≡ false
     → word_met s.rules [] false idle 1 (b ∷ rest) nothing_held ≡ (nothing_held, value)
 image_met s b rest e = word_is_plain s.rules idle 1 b rest nothing_held e
 
-image_passes : (s : Shape) (b : ℕ) (rest : Text) → (b == 45) ≡ false → word_fault s [] false idle (b ∷ rest) nothing_held ≡ []
+image_passes : (s : Shape) (b : ℕ) (rest : Text) → (b == 45) ≡ false
+    → word_fault s [] false idle (b ∷ rest) nothing_held ≡ []
 image_passes s b rest e = word_has_no_fault s b rest nothing_held e
 
 limit_met : (image : Text) (b : ℕ) (rest : Text) → (b == 45) ≡ false
@@ -84,18 +91,22 @@ limit_passes image b rest e = word_has_no_fault run_shape b rest (with_image ima
 
 runs : (program : Text) (b : ℕ) (rest : Text) → (b == 45) ≡ false → AsksToRun program (b ∷ rest)
 unfolding clap_on_literals run_shape
-runs program b rest e = (rw (image_met run_shape b rest e) refl, rw (image_met run_shape b rest e, image_passes run_shape b rest e) refl)
+runs program b rest e =
+    (rw (image_met run_shape b rest e) refl, rw (image_met run_shape b rest e, image_passes run_shape b rest e) refl)
 
 lists : (program : Text) (b : ℕ) (rest : Text) → (b == 45) ≡ false → AsksToList program (b ∷ rest)
 unfolding clap_on_literals detok_shape
 lists program b rest e =
-    (rw (image_met detok_shape b rest e) refl, rw (image_met detok_shape b rest e, image_passes detok_shape b rest e) refl)
+    (rw (image_met detok_shape b rest e) refl, rw (image_met detok_shape b rest e, image_passes detok_shape b rest e)
+        refl)
 
 -- a number in the range of limits is one of 64 bits
-limit_read : (limit : Text) → is_unsigned_in 0 1000000000 limit ≡ true → number_in limit ≡ Some (digits_value 10 (without_leading_plus limit))
+limit_read : (limit : Text) → is_unsigned_in 0 1000000000 limit ≡ true
+    → number_in limit ≡ Some (digits_value 10 (without_leading_plus limit))
 limit_read limit e =
     let number = accepts-Accepts false (parser.Unsigned 0 1000000000) limit e in
-    let wide = Accepts-accepts false (parser.Unsigned 0 18446744073709551615) limit (number.0, number.1, number.2, omega arith) in
+    let wide = Accepts-accepts false (parser.Unsigned 0 18446744073709551615) limit
+        (number.0, number.1, number.2, omega arith) in
     rw wide refl
 
 limits : (program : Text) (b : ℕ) (rest : Text) (d : ℕ) (digits : Text) → (b == 45) ≡ false → (d == 45) ≡ false
@@ -103,7 +114,8 @@ limits : (program : Text) (b : ℕ) (rest : Text) (d : ℕ) (digits : Text) → 
 unfolding clap_on_literals run_shape with_image
 limits program b rest d digits e f number = (
   rw (image_met run_shape b rest e, limit_met (b ∷ rest) d digits f, limit_read (d ∷ digits) number) refl,
-  rw (image_met run_shape b rest e, limit_met (b ∷ rest) d digits f, image_passes run_shape b rest e, limit_passes (b ∷ rest) d digits f, number) refl,
+  rw (image_met run_shape b rest e, limit_met (b ∷ rest) d digits f, image_passes run_shape b rest e,
+      limit_passes (b ∷ rest) d digits f, number) refl,
 )
 
 hyphenless : (b : ℕ) → not (b == 45) ≡ true → (b == 45) ≡ false
@@ -117,6 +129,7 @@ pub lines_ask : LinesAsk
 lines_ask program [] e = absurd (true≢false (sym e))
 lines_ask program (b ∷ rest) e = (runs program b rest (hyphenless b e), lists program b rest (hyphenless b e), limited)
   where
-    limited : (limit : Text) → is_plain limit ≡ true → is_unsigned_in 0 1000000000 limit ≡ true → AsksForLimit program (b ∷ rest) limit
+    limited : (limit : Text) → is_plain limit ≡ true → is_unsigned_in 0 1000000000 limit ≡ true
+        → AsksForLimit program (b ∷ rest) limit
     limited [] f number = absurd (true≢false (sym f))
     limited (d ∷ digits) f number = limits program b rest d digits (hyphenless b e) (hyphenless d f) number

@@ -1,10 +1,12 @@
 -- What a command line asks for, in the terms of the parser of command lines: an application has rules
 -- for its words, and a parse gives rows of values that it found.
-use Rattle.std.specs.Prelude.{◌≡◌, ◌==◌, ◌∷◌, [], not, Bool, ℕ, List, false, Option, Some, None, true, codes, option_and_then, unwrap_or, if◌then◌else◌}
+use Rattle.std.specs.Prelude.{◌≡◌, ◌==◌, ◌∷◌, [], not, Bool, ℕ, List, false, Option, Some, None, true, codes}
+use Rattle.std.specs.Prelude.{option_and_then, unwrap_or, if◌then◌else◌}
 use Rattle.std.specs.Str.{bytes_eq}
 use Rattle.std.specs.Str.Parse.{digits_value, without_leading_plus}
 use Rattle.clap.specs.ValueTests.{is_unsigned_in}
-use Rattle.clap.specs.Words.{App, fault_of, app_of, Rule, Row, Text, first_of, one_of, new_app, new_rule, subcommand_of, with_rule, with_subcommand}
+use Rattle.clap.specs.Words.{App, fault_of, app_of, Rule, Row, Text, first_of, one_of, new_app, new_rule, subcommand_of}
+use Rattle.clap.specs.Words.{with_rule, with_subcommand}
 use Rattle.clap.specs.declared.builder.command.Command.{Command}
 use Rattle.clap.specs.declared.builder.command.Command.TheViews.{out-Command}
 use Rattle.clap.specs.declared.builder.action.ArgAction.TheVariants.{Set}
@@ -99,7 +101,8 @@ AsksToRun program image = Asks (program ∷ codes "run" ∷ image ∷ []) (a_run
 -- a run with a limit given
 abbrev pub AsksForLimit : Text → Text → Text → Type 0
 AsksForLimit program image limit =
-    Asks (program ∷ codes "run" ∷ image ∷ codes "--limit" ∷ limit ∷ []) (a_run image (digits_value 10 (without_leading_plus limit)))
+    Asks (program ∷ codes "run" ∷ image ∷ codes "--limit" ∷ limit ∷ [])
+        (a_run image (digits_value 10 (without_leading_plus limit)))
 
 -- a listing of an image
 abbrev pub AsksToList : Text → Text → Type 0
@@ -108,4 +111,5 @@ AsksToList program image = Asks (program ∷ codes "detok" ∷ image ∷ []) (a_
 -- what the lines of the usage text ask for
 abbrev pub LinesAsk : Type 0
 LinesAsk = (program image : Text) → is_plain image ≡ true → AsksToRun program image × AsksToList program image
-    × ((limit : Text) → is_plain limit ≡ true → is_unsigned_in 0 1000000000 limit ≡ true → AsksForLimit program image limit)
+    × ((limit : Text) → is_plain limit ≡ true → is_unsigned_in 0 1000000000 limit ≡ true
+        → AsksForLimit program image limit)

@@ -1,8 +1,10 @@
 -- What the program prints of a file's run or listing, and how it ends.
-use Rattle.std.specs.Prelude.{◌≡◌, ◌≤◌, ◌⊎◌, ℕ, zero, suc, ◌+◌, List, [], ◌∷◌, length, take, Option, Result, Ok, Err, filter, not, nat_eq, if◌then◌else◌}
+use Rattle.std.specs.Prelude.{◌≡◌, ◌≤◌, ◌⊎◌, ℕ, zero, suc, ◌+◌, List, [], ◌∷◌, length, take, Option, Result, Ok, Err}
+use Rattle.std.specs.Prelude.{Some, None, ◌++◌, codes}
+use Rattle.std.specs.Prelude.{filter, not, nat_eq, if◌then◌else◌}
 use Rattle.std.specs.Char.{is_ascii_whitespace}
 use Rattle.std.specs.Io.KnownBytes.{Keeps, Appends}
-use Rattle.hex.specs.Hex.{decode_of}
+use Rattle.hex.specs.Hex.{decode_of, encode_lower}
 use Rattle.hex.specs.declared.error.FromHexError.{FromHexError}
 use Rattle.hex.specs.declared.error.FromHexError.TheVariants as hex
 use Rattle.of_detok.specs.declared.fault.DetokFault.TheVariants as detok
@@ -10,6 +12,7 @@ use Rattle.of_detok.specs.Listing.{listed, IsRefused}
 use Rattle.of_machine.specs.declared.answers.End.{End}
 use Rattle.of_machine.specs.declared.answers.End.TheVariants as end
 use Rattle.of_machine.specs.declared.answers.Refusal.TheVariants as refusal
+use Rattle.of_stream.specs.declared.fault.StreamFault.TheVariants as stream
 use Rattle.of_machine.specs.States.{State, image_refusal, Refuses}
 use Rattle.of_machine.specs.Runs.{RunsTo}
 use Rattle.clap.specs.declared.error.kind.ErrorKind.{ErrorKind}
@@ -46,6 +49,16 @@ status_of (fault.Refused refusal.NoNode) = status.Fault
 status_of (fault.Unlisted (detok.Stream f)) = status.Fault
 status_of (fault.Unlisted (detok.BadLine n)) = status.Fault
 status_of fault.Unwritten = status.Fault
+
+-- the first byte of an image, where it is the byte that is wrong
+abbrev pub bad_start_of : Fault → Option ℕ
+bad_start_of (fault.Refused (refusal.BadStart (stream.BadStart byte))) = Some byte
+bad_start_of (fault.Unlisted (detok.Stream (stream.BadStart byte))) = Some byte
+bad_start_of _ = None
+
+-- the line that is said of it
+abbrev pub bad_start_text : ℕ → List ℕ
+bad_start_text byte = codes "ofw: bad start byte " ++ encode_lower (byte ∷ []) ++ 10 ∷ []
 
 -- a text without its white space
 abbrev pub dense : List ℕ → List ℕ
@@ -88,7 +101,8 @@ PrintsRun file limit old new e = (m : State) × RunsFile file limit m e × Appen
 
 -- nothing was printed, or the first console bytes of the run
 abbrev pub PrintsPart : List ℕ → ℕ → Option (List ℕ) → Option (List ℕ) → Type 0
-PrintsPart file limit old new = Keeps old new ⊎ ((m : State) × ((e : End) × RunsFile file limit m e) × AppendsPart old new m.parts.console)
+PrintsPart file limit old new = Keeps old new
+    ⊎ ((m : State) × ((e : End) × RunsFile file limit m e) × AppendsPart old new m.parts.console)
 
 -- what a text has to do with a fault of its digits or of its image; it has no other faults
 abbrev pub FaultsText : List ℕ → Fault → Type 0

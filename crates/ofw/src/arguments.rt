@@ -3,7 +3,8 @@ ghost use Rattle.clap.specs.Words.{fault_of, first_of, rule_of, FailsBy, found_o
 ghost use Rattle.clap.specs.Values.{kind_of};
 ghost use Rattle.std.specs.String.{string_bytes};
 ghost use Rattle.ofw.specs.Runs.{unasked};
-ghost use Rattle.ofw.specs.CommandLine.{IsBuilt, asked, asked_by, asks, detok_app, image_rule, limit_in, limit_rule, ofw_app, run_app};
+ghost use Rattle.ofw.specs.CommandLine.{IsBuilt, asked, asked_by, asks, detok_app, image_rule, limit_in, limit_rule};
+ghost use Rattle.ofw.specs.CommandLine.{ofw_app, run_app};
 
 use crate::status::Status;
 use clap::error::ErrorKind;

@@ -31,7 +31,9 @@ fn print_run<R: Read, W: Write>(
     limit: u64,
     out: &mut W,
 ) -> Result<End, Fault>
-    ensures { IfSome (R.remaining image.old) (λ file. Prints file limit (W.contents out.old) (W.contents out.new) result) }
+    ensures {
+        IfSome (R.remaining image.old) (λ file. Prints file limit (W.contents out.old) (W.contents out.new) result)
+    }
 {
     let text = read_whole(alloc, image)?;
     let (machine, end) = run_text(alloc, &text, limit)?;
@@ -50,7 +52,9 @@ pub fn run<R: Read, W: Write, E: Write>(
     out: &mut W,
     errors: &mut E,
 ) -> Status
-    ensures { IfSome (R.remaining image.old) (λ file. EndsWith file limit (W.contents out.old) (W.contents out.new) result) }
+    ensures {
+        IfSome (R.remaining image.old) (λ file. EndsWith file limit (W.contents out.old) (W.contents out.new) result)
+    }
 {
     match print_run(alloc, image, limit, out) {
         Ok(End::Done) => Status::Done,
@@ -106,7 +110,10 @@ pub fn answer<R: Read, W: Write, E: Write>(
     out: &mut W,
     errors: &mut E,
 ) -> Status
-    ensures { IfSome (R.remaining image.old) (λ file. Answers (asked request.entry) file (W.contents out.old) (W.contents out.new) result) }
+    ensures {
+        IfSome (R.remaining image.old) (λ file. Answers (asked request.entry) file (W.contents out.old)
+            (W.contents out.new) result)
+    }
 {
     match request {
         Request::Run { limit, .. } => run(alloc, image, limit, out, errors),

@@ -3,6 +3,7 @@ ghost use Rattle.std.specs.Prelude.{◌≡◌};
 use crate::status::Status;
 use of_detok::DetokFault;
 use of_machine::Refusal;
+use of_stream::StreamFault;
 use thiserror::Error;
 
 /// Why the program can't do what it was asked.
@@ -46,7 +47,18 @@ pub enum Fault {
 }
 
 impl Fault {
-    ghost use Rattle.ofw.specs.Runs.{status_of};
+    ghost use Rattle.ofw.specs.Runs.{bad_start_of, status_of};
+
+    /// The first byte of the image, where it is the byte that is wrong.
+    pub fn bad_start(self) -> Option<u8>
+        ensures { result ≡ bad_start_of self }
+    {
+        match self {
+            Fault::Refused(Refusal::BadStart(StreamFault::BadStart(byte))) => Some(byte),
+            Fault::Unlisted(DetokFault::Stream(StreamFault::BadStart(byte))) => Some(byte),
+            _ => None,
+        }
+    }
 
     /// How the program ends with this fault.
     pub fn status(self) -> Status

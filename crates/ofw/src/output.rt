@@ -1,9 +1,10 @@
-ghost use Rattle.std.specs.Prelude.{◌≡◌, IfErr, OnOk, OnErr};
+ghost use Rattle.std.specs.Prelude.{◌≡◌, IfErr, IfSome, OnOk, OnErr};
 ghost use Rattle.std.specs.Io.KnownBytes.{Appends};
-ghost use Rattle.ofw.specs.Runs.{AppendsPart, status_of};
+ghost use Rattle.ofw.specs.Runs.{AppendsPart, bad_start_of, bad_start_text, status_of};
 
 use crate::fault::Fault;
 use crate::status::Status;
+use hex::encode_to_slice;
 use std::io::Write;
 
 /// Writes all bytes, in as many writes as it takes.
@@ -25,10 +26,45 @@ pub fn write_whole<W: Write>(out: &mut W, bytes: &[u8]) -> Result<(), Fault>
     Ok(())
 }
 
-/// Says on the error output what is wrong, and gives the status that belongs to it.
-pub fn report<E: Write>(fault: Fault, errors: &mut E) -> Status
-    ensures { result ≡ status_of fault }
+/// The line that is said of an image whose first byte begins none: the byte in two digits.
+fn bad_start_text(byte: u8) -> [u8; 23]
+    ensures { result ≡ bad_start_text byte }
 {
-    let _ = writeln!(errors, "ofw: {fault}");
+    let mut text = *b"ofw: bad start byte 00\n";
+    let _ = encode_to_slice([byte], &mut text[20..22]);
+    text
+}
+
+/// Says what is wrong, on a line of its own.
+///
+/// Unwritten where a write fails: what went out is then the first part of the line.
+fn say<E: Write>(fault: Fault, errors: &mut E) -> Result<(), Fault>
+    ensures ok {
+        OnOk result (IfSome (bad_start_of fault) (λ byte.
+            Appends (E.contents errors.old) (E.contents errors.new) (bad_start_text byte)))
+    }
+    ensures err {
+        OnErr result (IfSome (bad_start_of fault) (λ byte.
+            AppendsPart (E.contents errors.old) (E.contents errors.new) (bad_start_text byte)))
+    }
+{
+    match fault.bad_start() {
+        Some(byte) => write_whole(errors, &bad_start_text(byte)),
+        None => writeln!(errors, "ofw: {fault}").map_err(|_| Fault::Unwritten),
+    }
+}
+
+/// Says on the error output what is wrong, and gives the status that belongs to it.
+///
+/// Of a bad start byte goes out `ofw: bad start byte`, the byte in two hexadecimal digits and a
+/// newline, or the first part of it where a write fails.
+pub fn report<E: Write>(fault: Fault, errors: &mut E) -> Status
+    ensures status { result ≡ status_of fault }
+    ensures said {
+        IfSome (bad_start_of fault) (λ byte.
+            AppendsPart (E.contents errors.old) (E.contents errors.new) (bad_start_text byte))
+    }
+{
+    let _ = say(fault, errors);
     fault.status()
 }

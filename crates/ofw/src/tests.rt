@@ -189,7 +189,8 @@ const LISTINGS: [(&[u8], u32, &str, &str, Status); 4] = [
     (
         FIVE,
         999,
-        "000000: f108020a0000000d  start1\n000008: a7  2\n000009: a8  3\n00000a: 1e  +\n00000b: 9d  .\n00000c: 00  end0\n",
+        "000000: f108020a0000000d  start1\n000008: a7  2\n000009: a8  3\n\
+         00000a: 1e  +\n00000b: 9d  .\n00000c: 00  end0\n",
         "",
         Status::Done,
     ),

@@ -1,7 +1,8 @@
 ghost use Rattle.std.specs.Prelude.{◌≡◌, ◌+◌, ◌*◌, ◌-◌, ◌<◌, ◌≤◌, take, drop, Some, None, Ok, Err, IfOk, MatchResult};
 ghost use Rattle.of_memory.specs.Regions.{place_of, byte_count};
 ghost use Rattle.of_memory.specs.DataSpace.{IsSound};
-ghost use Rattle.of_memory.specs.Access.{are_readable, read_fault, write_fault, read_bytes, read_spread, every, spread_over, unless, end_of};
+ghost use Rattle.of_memory.specs.Access.{are_readable, read_fault, write_fault, read_bytes, read_spread, every};
+ghost use Rattle.of_memory.specs.Access.{spread_over, unless, end_of};
 ghost use Rattle.of_memory.specs.Outcomes.{TakesNoMemory};
 
 use super::Memory;

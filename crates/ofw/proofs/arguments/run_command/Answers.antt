@@ -9,4 +9,5 @@ returns c =
     let image = c.image_argument.ensures in
     let limit = c.limit_argument.ensures in
     let with_image = c.in_ok-arg.ensures.shape image.1 ∙ ap₂ with_rule new_is image.0 in
-    IfOk-weaker c.arg-2.result _ _ (λ r h. (h.shape limit.1 ∙ ap₂ with_rule with_image limit.0, search rules)) c.arg-2.ensures
+    IfOk-weaker c.arg-2.result _ _ (λ r h. (h.shape limit.1 ∙ ap₂ with_rule with_image limit.0, search rules))
+        c.arg-2.ensures

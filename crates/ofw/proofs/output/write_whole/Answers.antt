@@ -15,4 +15,5 @@ loop-gone-preserved g c = record {
 }
 
 pub returns-in-Err-clause-err : goal.returns-in-Err-clause-err
-returns-in-Err-clause-err g c = (c.loop-gone.gone, Appends-kept _ _ _ _ c.loop-gone.invariant.written c.in-Err.ensures.bytes)
+returns-in-Err-clause-err g c =
+    (c.loop-gone.gone, Appends-kept _ _ _ _ c.loop-gone.invariant.written c.in-Err.ensures.bytes)

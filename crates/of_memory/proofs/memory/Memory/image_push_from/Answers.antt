@@ -5,7 +5,8 @@ use Rattle.of_memory.specs.Access.{every, read_spread}
 use Rattle.of_memory.proofs.Spread.{every_length}
 use Rattle.of_memory.proofs.Grown.{image_fits, image_full, stacked_limit}
 use Rattle.of_memory.proofs.memory.Memory.image_push_from.Goals as goal
-use Rattle.of_memory.proofs.memory.Memory.image_push_from.Goals.{then-len-at-via-then-len-at, then-len-at-via-else-len-at+then-count-ge-LIMIT}
+use Rattle.of_memory.proofs.memory.Memory.image_push_from.Goals.{then-len-at-via-then-len-at}
+use Rattle.of_memory.proofs.memory.Memory.image_push_from.Goals.{then-len-at-via-else-len-at+then-count-ge-LIMIT}
 
 pub returns-then-len-at-clause-value : goal.returns-then-len-at-clause-value
 returns-then-len-at-clause-value c =

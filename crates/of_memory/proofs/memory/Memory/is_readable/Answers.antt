@@ -2,7 +2,8 @@ use Rattle.std.proofs.Common.{◌≡◌, ◌+◌, ◌%◌, ◌<◌, ◌≤◌, t
 use Rattle.of_memory.specs.Regions.{region_of, size_of, is_heap, span}
 use Rattle.of_memory.proofs.Readable.{plain, nowhere, outside, in_heap}
 use Rattle.of_memory.proofs.memory.Memory.is_readable.Goals as goal
-use Rattle.of_memory.proofs.memory.Memory.is_readable.Goals.{then-within-size-via-then-within-size, then-within-size-via-else-within-size+then-len-size}
+use Rattle.of_memory.proofs.memory.Memory.is_readable.Goals.{then-within-size-via-then-within-size}
+use Rattle.of_memory.proofs.memory.Memory.is_readable.Goals.{then-within-size-via-else-within-size+then-len-size}
 
 pub returns-in_default : goal.returns-in_default
 returns-in_default c =
