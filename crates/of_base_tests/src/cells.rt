@@ -222,6 +222,10 @@ fn doubles(rt: HostRuntime) {
     assert_eq!(rt; most.number(), 0xffff_fffe_0000_0001);
     assert_eq!(rt; Double::new(0x1_0000_0002).high, Cell(1));
     assert_eq!(rt; Double::extend(Cell(0xffff_fffe)).high, Cell::TRUE);
+}
+
+#[test]
+fn sums_and_parts_of_doubles(rt: HostRuntime) {
     let five = Double::new(0x5_0000_0003);
     assert_eq!(rt;
         (five.modulo(Cell(2)), five.div(Cell(2))),

@@ -1,5 +1,6 @@
 use of_cells::Cell;
 use of_stacks::{CAPACITY, DataStack, Throw, first_fault_counts, order_is_written, text_of};
+use std::alloc::Global;
 use std::test::Fail;
 
 /// Makes a call on the stack, and answers the cell that it gives, or 0.
@@ -167,25 +168,39 @@ const FAULTS: &str = "\
 -10 throws -10
 ";
 
+/// The faults of a line, with none behind each.
+fn faults_of(alloc: Global, faults: &str) -> Result<Vec<Option<Throw>>, Fail> {
+    let mut found = Vec::new(alloc);
+    for word in faults.split_whitespace() {
+        found.push(Some(Throw(word.parse()?)))?;
+        found.push(None)?;
+    }
+    Ok(found)
+}
+
+/// The fault of a list that counts, two by two.
+fn first_of(faults: &[Option<Throw>]) -> Option<Throw> {
+    faults.iter().fold(None, |first, fault| match (first, *fault) {
+        (Some(first), Some(fault)) => Some(first.first_of(fault)),
+        (first, None) => first,
+        (None, fault) => fault,
+    })
+}
+
 #[test]
 fn the_first_fault_counts(rt: HostRuntime) -> Result<(), Fail> {
     for line in FAULTS.lines() {
-        let mut found = Vec::new(rt.alloc());
-        let mut first = None;
-        let mut words = line.split_whitespace();
-        while let Some(word) = words.next() {
-            if word == "throws" {
-                break;
-            }
-            let fault = Throw(word.parse()?);
-            first = Some(first.map_or(fault, |other: Throw| other.first_of(fault)));
-            found.push(Some(fault))?;
-            found.push(None)?;
-        }
-        let wanted = Some(Throw(words.next().unwrap_or("").parse()?));
-        assert_eq!(rt; Throw::counting(&found), wanted, "{line}");
-        assert_eq!(rt; first, wanted, "{line}");
+        let (faults, wanted) = line.split_once(" throws ").unwrap_or((line, ""));
+        let faults = faults_of(rt.alloc(), faults)?;
+        let wanted = Some(Throw(wanted.parse()?));
+        assert_eq!(rt; Throw::counting(&faults), wanted, "{line}");
+        assert_eq!(rt; first_of(&faults), wanted, "{line}");
     }
+    Ok(())
+}
+
+#[test]
+fn no_fault_counts_where_there_is_none(rt: HostRuntime) -> Result<(), Fail> {
     assert_eq!(rt; Throw::counting(&[None]), None);
     first_fault_counts();
     order_is_written();

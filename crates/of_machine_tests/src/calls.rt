@@ -33,45 +33,54 @@ fn loads_are_refused(rt: HostRuntime) -> Result<(), Fail> {
 }
 
 #[test]
-fn steps(rt: HostRuntime) -> Result<(), Fail> {
-    let image = decode(rt.alloc(), FIVE)?;
+fn nothing_to_do(rt: HostRuntime) -> Result<(), Fail> {
     let mut machine = Machine::new(rt.alloc())?;
     assert_eq!(rt; machine.step()?, Progress::Ended);
+    assert_eq!(rt; machine.is_running(), false);
+    Ok(())
+}
+
+/// A machine that is to run `2 3 + .`.
+fn loaded(alloc: Global) -> Result<Machine, Fail> {
+    let image = decode(alloc, FIVE)?;
+    let mut machine = Machine::new(alloc)?;
     machine.load(&image, "/slot")?;
+    Ok(machine)
+}
+
+#[test]
+fn steps(rt: HostRuntime) -> Result<(), Fail> {
+    let mut machine = loaded(rt.alloc())?;
     assert_eq!(rt; machine.is_running(), true);
     assert_eq!(rt; machine.step()?, Progress::Done);
     assert_eq!(rt; machine.stack(), [Cell(2)].as_slice());
     Ok(())
 }
 
-/// The first bytes of the image region, as the machine has them.
-fn image_region(machine: &Machine, alloc: Global) -> Result<Vec<u8>, Fail> {
-    let mut bytes = Vec::new(alloc);
-    for addr in 0x60_0000u32..0x60_000e {
-        bytes.push(machine.byte(Cell(addr)).unwrap_or(0xff))?;
-    }
-    Ok(bytes)
+/// Whether the image region begins with these bytes.
+fn stands_in_the_region(machine: &Machine, bytes: &[u8]) -> bool {
+    bytes
+        .iter()
+        .zip(0x60_0000u32..)
+        .all(|(byte, addr)| machine.byte(Cell(addr)) == Some(*byte))
 }
 
-/// A running image stands in the image region, and is given back at its end.
+/// A running image stands in the image region, and behind it are zeros.
 #[test]
 fn images_stand_in_the_data_space(rt: HostRuntime) -> Result<(), Fail> {
-    let mut image = decode(rt.alloc(), FIVE)?;
-    let mut machine = Machine::new(rt.alloc())?;
-    machine.load(&image, "/slot")?;
-    image.push(0)?;
-    assert_eq!(rt;
-        image_region(&machine, rt.alloc())?.as_slice(),
-        image.as_slice()
-    );
-    for _ in 0..5 {
-        assert_eq!(rt; machine.step()?, Progress::Done);
-    }
-    assert_eq!(rt;
-        image_region(&machine, rt.alloc())?.as_slice(),
-        [0; 14].as_slice()
-    );
+    let machine = loaded(rt.alloc())?;
+    let image = decode(rt.alloc(), "f108020a0000000da7a81e9d000000")?;
+    assert!(rt; stands_in_the_region(&machine, &image));
     assert_eq!(rt; machine.byte(Cell(0x64_0000)), None);
+    Ok(())
+}
+
+/// An image is given back at its end.
+#[test]
+fn images_are_given_back(rt: HostRuntime) -> Result<(), Fail> {
+    let image = decode(rt.alloc(), FIVE)?;
+    let (machine, _) = run_script(rt.alloc(), &image, 5)?;
+    assert!(rt; stands_in_the_region(&machine, &[0; 14]));
     Ok(())
 }
 

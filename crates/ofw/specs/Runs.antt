@@ -7,11 +7,14 @@ use Rattle.std.specs.Io.KnownBytes.{Keeps, Appends}
 use Rattle.hex.specs.Hex.{decode_of, encode_lower}
 use Rattle.hex.specs.declared.error.FromHexError.{FromHexError}
 use Rattle.hex.specs.declared.error.FromHexError.TheVariants as hex
+use Rattle.of_detok.specs.declared.fault.DetokFault.{DetokFault}
 use Rattle.of_detok.specs.declared.fault.DetokFault.TheVariants as detok
 use Rattle.of_detok.specs.Listing.{listed, IsRefused}
 use Rattle.of_machine.specs.declared.answers.End.{End}
 use Rattle.of_machine.specs.declared.answers.End.TheVariants as end
+use Rattle.of_machine.specs.declared.answers.Refusal.{Refusal}
 use Rattle.of_machine.specs.declared.answers.Refusal.TheVariants as refusal
+use Rattle.of_stream.specs.declared.fault.StreamFault.{StreamFault}
 use Rattle.of_stream.specs.declared.fault.StreamFault.TheVariants as stream
 use Rattle.of_machine.specs.States.{State, image_refusal, Refuses}
 use Rattle.of_machine.specs.Runs.{RunsTo}
@@ -50,10 +53,22 @@ status_of (fault.Unlisted (detok.Stream f)) = status.Fault
 status_of (fault.Unlisted (detok.BadLine n)) = status.Fault
 status_of fault.Unwritten = status.Fault
 
+-- the status of a result: that of what was done, or that of the fault
+abbrev pub status_in : {A : Type 0} → (A → Status) → Result A Fault → Status
+status_in done (Ok x) = done x
+status_in done (Err f) = status_of f
+
+-- the byte that begins no image, where that is the fault
+abbrev pub start_byte_of : StreamFault → Option ℕ
+start_byte_of (stream.BadStart byte) = Some byte
+start_byte_of stream.Start0 = None
+start_byte_of stream.Short = None
+start_byte_of (stream.Ended position) = None
+
 -- the first byte of an image, where it is the byte that is wrong
 abbrev pub bad_start_of : Fault → Option ℕ
-bad_start_of (fault.Refused (refusal.BadStart (stream.BadStart byte))) = Some byte
-bad_start_of (fault.Unlisted (detok.Stream (stream.BadStart byte))) = Some byte
+bad_start_of (fault.Refused (refusal.BadStart f)) = start_byte_of f
+bad_start_of (fault.Unlisted (detok.Stream f)) = start_byte_of f
 bad_start_of _ = None
 
 -- the line that is said of it
@@ -104,51 +119,43 @@ abbrev pub PrintsPart : List ℕ → ℕ → Option (List ℕ) → Option (List 
 PrintsPart file limit old new = Keeps old new
     ⊎ ((m : State) × ((e : End) × RunsFile file limit m e) × AppendsPart old new m.parts.console)
 
--- what a text has to do with a fault of its digits or of its image; it has no other faults
-abbrev pub FaultsText : List ℕ → Fault → Type 0
-FaultsText text (fault.BadDigit line c) = image_in text (decode_of (dense text)) ≡ Err (fault.BadDigit line c)
-FaultsText text fault.OddDigits = image_in text (decode_of (dense text)) ≡ Err fault.OddDigits
-FaultsText text (fault.Refused r) =
-    (image : List ℕ) × (decode_of (dense text) ≡ Ok image) × Refuses (image_refusal image) r
-FaultsText text (fault.Unlisted f) =
-    (image : List ℕ) × (decode_of (dense text) ≡ Ok image) × IsRefused (listed image) f
-FaultsText text fault.NoMemory = Unit {0}
-FaultsText text fault.ArgumentNotText = ⊥
-FaultsText text fault.Unopened = ⊥
-FaultsText text fault.Unread = ⊥
-FaultsText text fault.Endless = ⊥
-FaultsText text fault.Unwritten = ⊥
+-- an image's faults: what the monitor refuses it for, or why it has no listing
+abbrev pub FaultsImage : List ℕ → Fault → Type 0
+FaultsImage image f =
+    ((r : Refusal) × (f ≡ fault.Refused r) × Refuses (image_refusal image) r)
+    ⊎ ((d : DetokFault) × (f ≡ fault.Unlisted d) × IsRefused (listed image) d)
 
--- what a file that was opened has to do with a fault: of its text, of its end, of a read or of a write
+-- the faults of a text's digits, or for memory
+abbrev pub FaultsDigits : List ℕ → Fault → Type 0
+FaultsDigits text f = (f ≡ fault.NoMemory) ⊎ (image_in text (decode_of (dense text)) ≡ Err f)
+
+-- a text's faults: of its digits, or of the image that they give
+abbrev pub FaultsText : List ℕ → Fault → Type 0
+FaultsText text f =
+    FaultsDigits text f ⊎ ((image : List ℕ) × (decode_of (dense text) ≡ Ok image) × FaultsImage image f)
+
+-- the faults of a file that was opened: of a read, of its end, of a write or of its text
 abbrev pub FaultsFile : List ℕ → Fault → Type 0
-FaultsFile file fault.Unread = Unit {0}
-FaultsFile file fault.Endless = 16777216 ≤ length file
-FaultsFile file fault.Unwritten = Unit {0}
-FaultsFile file (fault.BadDigit line c) = FaultsText file (fault.BadDigit line c)
-FaultsFile file fault.OddDigits = FaultsText file fault.OddDigits
-FaultsFile file (fault.Refused r) = FaultsText file (fault.Refused r)
-FaultsFile file (fault.Unlisted f) = FaultsText file (fault.Unlisted f)
-FaultsFile file fault.NoMemory = Unit {0}
-FaultsFile file fault.ArgumentNotText = ⊥
-FaultsFile file fault.Unopened = ⊥
+FaultsFile file f =
+    (f ≡ fault.Unread)
+    ⊎ ((f ≡ fault.Endless) × (16777216 ≤ length file))
+    ⊎ (f ≡ fault.Unwritten)
+    ⊎ FaultsText file f
 
 -- what was printed of the run, or of a part of it beside a fault
 abbrev pub Prints : List ℕ → ℕ → Option (List ℕ) → Option (List ℕ) → Result End Fault → Type 0
 Prints file limit old new (Ok e) = PrintsRun file limit old new e
 Prints file limit old new (Err f) = PrintsPart file limit old new × FaultsFile file f
 
--- the program gave up with a fault that has this status
-abbrev pub GivesUp : List ℕ → ℕ → Option (List ℕ) → Option (List ℕ) → Status → Type 0
-GivesUp file limit old new s =
-    PrintsPart file limit old new × ((f : Fault) × (status_of f ≡ s) × FaultsFile file f)
+-- the status of a run's end
+abbrev pub end_status : End → Status
+end_status end.Done = status.Done
+end_status end.LimitReached = status.LimitReached
 
--- what each status says of the output, and of the file
+-- the program ends with this status, that of the run's end or of a fault, and printed what belongs to it
 abbrev pub EndsWith : List ℕ → ℕ → Option (List ℕ) → Option (List ℕ) → Status → Type 0
-EndsWith file limit old new status.Done = PrintsRun file limit old new end.Done
-EndsWith file limit old new status.LimitReached = PrintsRun file limit old new end.LimitReached
-EndsWith file limit old new status.Fault = GivesUp file limit old new status.Fault
-EndsWith file limit old new status.NoMemory = GivesUp file limit old new status.NoMemory
-EndsWith file limit old new status.Usage = ⊥
+EndsWith file limit old new s =
+    (r : Result End Fault) × (status_in end_status r ≡ s) × Prints file limit old new r
 
 -- ---- listings
 
@@ -168,15 +175,10 @@ abbrev pub Lists : List ℕ → Option (List ℕ) → Option (List ℕ) → Resu
 Lists file old new (Ok _) = ListsAll file old new
 Lists file old new (Err f) = ListsPart file old new × FaultsFile file f
 
--- what each status says of the output, and of the file
+-- the program ends with this status, done or that of a fault, and printed what belongs to it
 abbrev pub ListsWith : List ℕ → Option (List ℕ) → Option (List ℕ) → Status → Type 0
-ListsWith file old new status.Done = ListsAll file old new
-ListsWith file old new status.LimitReached = ⊥
-ListsWith file old new status.Fault =
-    ListsPart file old new × ((f : Fault) × (status_of f ≡ status.Fault) × FaultsFile file f)
-ListsWith file old new status.NoMemory =
-    ListsPart file old new × ((f : Fault) × (status_of f ≡ status.NoMemory) × FaultsFile file f)
-ListsWith file old new status.Usage = ⊥
+ListsWith file old new s =
+    (r : Result (Unit {0}) Fault) × (status_in (λ _. status.Done) r ≡ s) × Lists file old new r
 
 -- ---- requests
 

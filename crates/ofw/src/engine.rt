@@ -36,9 +36,13 @@ fn print_run<R: Read, W: Write>(
     }
 {
     let text = read_whole(alloc, image)?;
-    let (machine, end) = run_text(alloc, &text, limit)?;
-    write_whole(out, machine.console())?;
-    Ok(end)
+    match run_text(alloc, &text, limit) {
+        Ok((machine, end)) => {
+            write_whole(out, machine.console())?;
+            Ok(end)
+        }
+        Err(fault) => Err(fault),
+    }
 }
 
 /// Runs an image for at most `limit` steps, prints what the run prints, and gives the status.
@@ -80,8 +84,10 @@ fn print_listing<R: Read, W: Write>(alloc: Global, image: &mut R, out: &mut W) -
     ensures { IfSome (R.remaining image.old) (λ file. Lists file (W.contents out.old) (W.contents out.new) result) }
 {
     let text = read_whole(alloc, image)?;
-    let lines = list_text(alloc, &text)?;
-    write_whole(out, &lines)
+    match list_text(alloc, &text) {
+        Ok(lines) => write_whole(out, &lines),
+        Err(fault) => Err(fault),
+    }
 }
 
 /// Prints the listing of an image, and gives the status.

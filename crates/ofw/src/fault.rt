@@ -1,4 +1,5 @@
 ghost use Rattle.std.specs.Prelude.{◌≡◌};
+ghost use Rattle.ofw.specs.Runs.{start_byte_of};
 
 use crate::status::Status;
 use of_detok::DetokFault;
@@ -46,6 +47,16 @@ pub enum Fault {
     NoMemory,
 }
 
+/// The byte that begins no image, where that is the fault.
+fn start_byte(fault: StreamFault) -> Option<u8>
+    ensures { result ≡ start_byte_of fault }
+{
+    match fault {
+        StreamFault::BadStart(byte) => Some(byte),
+        StreamFault::Start0 | StreamFault::Short | StreamFault::Ended(_) => None,
+    }
+}
+
 impl Fault {
     ghost use Rattle.ofw.specs.Runs.{bad_start_of, status_of};
 
@@ -54,8 +65,8 @@ impl Fault {
         ensures { result ≡ bad_start_of self }
     {
         match self {
-            Fault::Refused(Refusal::BadStart(StreamFault::BadStart(byte))) => Some(byte),
-            Fault::Unlisted(DetokFault::Stream(StreamFault::BadStart(byte))) => Some(byte),
+            Fault::Refused(Refusal::BadStart(fault)) => start_byte(fault),
+            Fault::Unlisted(DetokFault::Stream(fault)) => start_byte(fault),
             _ => None,
         }
     }

@@ -1,6 +1,6 @@
-ghost use Rattle.std.specs.Prelude.{◌≡◌, ◌⊎◌, ◌≤◌, length, IfOk, IfErr, IfSome, Err};
+ghost use Rattle.std.specs.Prelude.{◌≡◌, ◌⊎◌, ◌≤◌, length, IfOk, IfErr, IfSome};
 ghost use Rattle.hex.specs.Hex.{decode_of};
-ghost use Rattle.ofw.specs.Runs.{dense, digit_place, line_at, fault_of, image_in};
+ghost use Rattle.ofw.specs.Runs.{dense, digit_place, line_at, fault_of, FaultsDigits};
 
 use crate::fault::Fault;
 use hex::FromHexError;
@@ -112,7 +112,7 @@ fn fault_of(text: &[u8], error: FromHexError) -> Fault
 /// OddDigits, or BadDigit with the line of the first byte that is no digit; NoMemory.
 pub fn image_of(alloc: Global, text: &[u8]) -> Result<Vec<u8>, Fault>
     ensures ok { IfOk result (λ image. decode_of (dense text.now) ≡ Ok image.items) }
-    ensures err { IfErr result (λ e. (e ≡ Fault.NoMemory) ⊎ (image_in text.now (decode_of (dense text.now)) ≡ Err e)) }
+    ensures err { IfErr result (λ e. FaultsDigits text.now e) }
 {
     let Ok(digits) = without_whitespace(alloc, text) else {
         return Err(Fault::NoMemory);

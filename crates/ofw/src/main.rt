@@ -32,30 +32,39 @@ fn answer(rt: &HostRuntime, request: Request) -> Status {
     engine::answer(rt.alloc(), request, &mut file, &mut out, &mut errors)
 }
 
-fn main(rt: HostRuntime) -> ExitCode {
-    let words = match env::args(&rt) {
+/// The words of the command line.
+fn words(rt: &HostRuntime) -> Result<Vec<String>, Fault> {
+    let words = match env::args(rt) {
         Ok(words) => words,
         Err(error) => {
-            let fault = match error.kind() {
+            return Err(match error.kind() {
                 io::ErrorKind::OutOfMemory => Fault::NoMemory,
                 _ => Fault::ArgumentNotText,
-            };
-            return ExitCode::from(report(fault, &mut rt.stderr()).code());
+            });
         }
     };
-    let words: Vec<String> = match words.collect(rt.alloc()) {
-        Ok(words) => words,
-        Err(_) => return ExitCode::from(report(Fault::NoMemory, &mut rt.stderr()).code()),
-    };
-    match parse(rt.alloc(), &words) {
-        Ok(Some(request)) => ExitCode::from(answer(&rt, request).code()),
-        Ok(None) => ExitCode::from(Status::Usage.code()),
-        Err(error) => {
-            let status = match (status_of(&error), error.print(&rt)) {
-                (Status::Done, Err(_)) => Status::Fault,
-                (status, _) => status,
-            };
-            ExitCode::from(status.code())
-        }
+    match words.collect(rt.alloc()) {
+        Ok(words) => Ok(words),
+        Err(_) => Err(Fault::NoMemory),
     }
+}
+
+/// Does what the words ask for, or says why it can't be done.
+fn obey(rt: &HostRuntime, words: &[String]) -> Status {
+    match parse(rt.alloc(), words) {
+        Ok(Some(request)) => answer(rt, request),
+        Ok(None) => Status::Usage,
+        Err(error) => match (status_of(&error), error.print(rt)) {
+            (Status::Done, Err(_)) => Status::Fault,
+            (status, _) => status,
+        },
+    }
+}
+
+fn main(rt: HostRuntime) -> ExitCode {
+    let status = match words(&rt) {
+        Ok(words) => obey(&rt, &words),
+        Err(fault) => report(fault, &mut rt.stderr()),
+    };
+    ExitCode::from(status.code())
 }
