@@ -1,0 +1,3 @@
+pub mod Words
+pub mod Calls
+pub mod Index
