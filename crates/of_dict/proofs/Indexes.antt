@@ -1,8 +1,10 @@
 -- What keeps the index: words that change but for their names, a word more, the newest word taken away.
-use Rattle.std.proofs.Common.{◌≡◌, ℕ, zero, suc, ◌+◌, ◌<◌, ◌≤◌, Bool, true, false, cond, List, [], ◌∷◌, ◌++◌, length, set, Option, Some, None}
-use Rattle.std.proofs.Common.{get_or, refl, sym, ◌∙◌, ap, subst, arith, nat_eq, is_some, length-append, get_or-set_other, get_or-set_same, ◌≢◌, ◌-◌, inl, inr, IsSome}
+use Rattle.std.proofs.Common.{◌≡◌, ℕ, zero, suc, ◌+◌, ◌<◌, ◌≤◌, Bool, true, false, cond, List, [], ◌∷◌, ◌++◌, length}
+use Rattle.std.proofs.Common.{set, Option, Some, None}
+use Rattle.std.proofs.Common.{get_or, refl, sym, ◌∙◌, ap, subst, arith, nat_eq, is_some, length-append}
+use Rattle.std.proofs.Common.{get_or-set_other, get_or-set_same, ◌≢◌, ◌-◌, inl, inr, IsSome}
 use Rattle.std.specs.Cmp.Lexicographic.{pointwise}
-use Rattle.std.proofs.lemmas.List.{get_or_append_left, get_or_at, get_or_past, length-set}
+use Rattle.std.proofs.lemmas.List.{get_or_append_left, get_or_at, length-set}
 use Rattle.std.proofs.lemmas.Bool.{cases_lt, false≢true}
 use Rattle.arrayvec.specs.ArrayVec.{ArrayVec}
 use Rattle.of_dict.specs.declared.word.Change.{Change}
@@ -11,24 +13,28 @@ use Rattle.of_dict.specs.declared.word.Word.{Word}
 use Rattle.of_dict.specs.Words.{has_key, is_named, lower, name_in, newest, newest_below, word_at}
 use Rattle.of_dict.specs.Calls.{changed_in}
 use Rattle.of_dict.specs.Index.{IsIndexed, after}
-use Rattle.of_dict.proofs.Searches.{has_own_key, newest_below-found, newest_below-same, newest_below-skip, newest_below-some, same_key}
+use Rattle.of_dict.proofs.Searches.{has_own_key, newest_below-found, newest_below-same, newest_below-skip}
+use Rattle.of_dict.proofs.Searches.{newest_below-some, same_key}
 
 -- the index serves each list of words with the same names
-pub IsIndexed-same_names : (words other : List (Option Word)) (older : List (Option ℕ)) (newest : ArrayVec ℕ → Option ℕ)
+pub IsIndexed-same_names : (words other : List (Option Word)) (older : List (Option ℕ))
+    (newest : ArrayVec ℕ → Option ℕ)
     → length other ≡ length words → ((k : ℕ) → name_in (word_at other k) ≡ name_in (word_at words k))
     → IsIndexed words older newest → IsIndexed other older newest
 IsIndexed-same_names words other older newest len same indexed =
-    let same_search : (key : List ℕ) (n : ℕ) → newest_below (has_key words key) n ≡ newest_below (has_key other key) n =
+    let same_search : (key : List ℕ) (n : ℕ)
+    → newest_below (has_key words key) n ≡ newest_below (has_key other key) n =
     λ key n. newest_below-same (has_key words key) (has_key other key) n (λ k _. ap (is_named key) (sym (same k))) in
     record {
       room = omega (arith, indexed.room, len);
       links = indexed.links ∙ sym len;
-      heads = λ key. indexed.heads key ∙ same_search key.items (length words) ∙ ap (newest_below (has_key other key.items)) (sym len);
+      heads = λ key. indexed.heads key ∙ same_search key.items (length words)
+          ∙ ap (newest_below (has_key other key.items)) (sym len);
       chain = λ n name e. indexed.chain n name (sym (same n) ∙ e) ∙ same_search (lower name) n;
       names = λ n name e. indexed.names n name (sym (same n) ∙ e);
     }
 
-name_in-set : (words : List (Option Word)) (n k : ℕ) (w : Option Word) → name_in w ≡ name_in (get_or words n None)
+pub name_in-set : (words : List (Option Word)) (n k : ℕ) (w : Option Word) → name_in w ≡ name_in (get_or words n None)
     → name_in (get_or (set words n w) k None) ≡ name_in (get_or words k None)
 name_in-set [] n k w e = refl
 name_in-set (x ∷ xs) zero zero w e = e
@@ -41,7 +47,8 @@ pub IsIndexed-set : (words : List (Option Word)) (older : List (Option ℕ)) (ne
     (w : Option Word) → name_in w ≡ name_in (get_or words n None) → IsIndexed words older newest
     → IsIndexed (set words n w) older newest
 IsIndexed-set words older newest n w e indexed =
-    IsIndexed-same_names words (set words n w) older newest (length-set words n w) (λ k. name_in-set words n k w e) indexed
+    IsIndexed-same_names words (set words n w) older newest (length-set words n w)
+    (λ k. name_in-set words n k w e) indexed
 
 name_in-after : (change : Change) (word : Word) → (after change word).name ≡ word.name
 name_in-after (Kind kind) word = refl
@@ -68,15 +75,17 @@ some_same : (a b : List ℕ) → Some a ≡ Some b → a ≡ b
 some_same a b e = cc
 
 -- whatever has a name is one of the words
-pub name_is_within : (words : List (Option Word)) (n : ℕ) (name : List ℕ) → name_in (word_at words n) ≡ Some name → n < length words
+pub name_is_within : (words : List (Option Word)) (n : ℕ) (name : List ℕ)
+    → name_in (word_at words n) ≡ Some name → n < length words
 name_is_within [] n name e = absurd (no_name name e)
 name_is_within (w ∷ ws) zero name e = omega arith
 name_is_within (w ∷ ws) (suc n) name e = let l = name_is_within ws n name e in omega (arith, l)
 
-below-push : (words : List (Option Word)) (w : Option Word) (n : ℕ) → n < length words → word_at (words ++ w ∷ []) n ≡ word_at words n
+pub below-push : (words : List (Option Word)) (w : Option Word) (n : ℕ) → n < length words
+    → word_at (words ++ w ∷ []) n ≡ word_at words n
 below-push words w n l = get_or_append_left words (w ∷ []) None n l
 
-end-push : (words : List (Option Word)) (w : Option Word) → word_at (words ++ w ∷ []) (length words) ≡ w
+pub end-push : (words : List (Option Word)) (w : Option Word) → word_at (words ++ w ∷ []) (length words) ≡ w
 end-push words w = get_or_at words w [] None (length words) refl
 
 search-push : (words : List (Option Word)) (w : Option Word) (key : List ℕ) (n : ℕ) → n ≤ length words
@@ -99,8 +108,10 @@ pub record IsLinked (words : List (Option Word)) (older : List (Option ℕ)) (ne
     (w : Option Word) (link : Option ℕ) (other : ArrayVec ℕ → Option ℕ) : Type 0 where
   pub fits : length words < 8192
   pub short : (name : List ℕ) → name_in w ≡ Some name → length name ≤ 31
-  pub linked : (name : List ℕ) → name_in w ≡ Some name → link ≡ newest_below (has_key words (lower name)) (length words)
-  pub updated : (key : ArrayVec ℕ) → other key ≡ cond (is_named key.items (name_in w)) (Some (length words)) (newest key)
+  pub linked : (name : List ℕ) → name_in w ≡ Some name → link ≡ newest_below (has_key words (lower name))
+      (length words)
+  pub updated : (key : ArrayVec ℕ) → other key ≡ cond (is_named key.items (name_in w)) (Some (length words))
+      (newest key)
 
 chain-push : (words : List (Option Word)) (older : List (Option ℕ)) (newest : ArrayVec ℕ → Option ℕ) (w : Option Word)
     (link : Option ℕ) (other : ArrayVec ℕ → Option ℕ)
@@ -115,7 +126,8 @@ chain-push words older newest w link other indexed l n name e =
           ∙ sym (search-push words w (lower name) n (omega (arith, small)))
       | inr large ↦
           let same : n ≡ length words = omega (arith, large, within, length-append words (w ∷ [])) in
-          let its : name_in w ≡ Some name = sym (ap name_in (end-push words w)) ∙ ap (λ k. name_in (word_at (words ++ w ∷ []) k)) (sym same) ∙ e in
+          let its : name_in w ≡ Some name = sym (ap name_in (end-push words w))
+          ∙ ap (λ k. name_in (word_at (words ++ w ∷ []) k)) (sym same) ∙ e in
           get_or_at older link [] None n (indexed.links ∙ sym same)
           ∙ l.linked name its ∙ sym (search-push words w (lower name) (length words) (omega arith))
           ∙ ap (newest_below (has_key (words ++ w ∷ []) (lower name))) (sym same)
@@ -131,14 +143,16 @@ short-push (x ∷ xs) w all last zero name e = all 0 name e
 short-push (x ∷ xs) w all last (suc n) name e = short-push xs w (λ k. all (suc k)) last n name e
 
 -- the index with one more word
-pub IsIndexed-push : (words : List (Option Word)) (older : List (Option ℕ)) (newest : ArrayVec ℕ → Option ℕ) (w : Option Word)
+pub IsIndexed-push : (words : List (Option Word)) (older : List (Option ℕ))
+    (newest : ArrayVec ℕ → Option ℕ) (w : Option Word)
     (link : Option ℕ) (other : ArrayVec ℕ → Option ℕ)
     → IsIndexed words older newest → IsLinked words older newest w link other
     → IsIndexed (words ++ w ∷ []) (older ++ link ∷ []) other
 IsIndexed-push words older newest w link other indexed l = record {
   room = omega (arith, l.fits, length-append words (w ∷ []));
   links = omega (arith, indexed.links, length-append words (w ∷ []), length-append older (link ∷ []));
-  heads = λ key. l.updated key ∙ ap (cond (is_named key.items (name_in w)) (Some (length words))) (indexed.heads key) ∙ sym (head-push words w key.items);
+  heads = λ key. l.updated key ∙ ap (cond (is_named key.items (name_in w)) (Some (length words)))
+      (indexed.heads key) ∙ sym (head-push words w key.items);
   chain = chain-push words older newest w link other indexed l;
   names = short-push words w indexed.names l.short;
 }
@@ -166,7 +180,7 @@ below-taken words n m key h =
     (λ k l. let ne : k ≢ n = omega (arith, l, h) in ap (λ v. is_named key (name_in v)) (other-taken words n k ne))
 
 -- with no word above it, a search that finds nothing at n is one below n
-above-taken : (p : ℕ → Bool) (n m : ℕ) → n < m → p n ≡ false → ((k : ℕ) → n < k → k < m → p k ≡ false)
+pub above-taken : (p : ℕ → Bool) (n m : ℕ) → n < m → p n ≡ false → ((k : ℕ) → n < k → k < m → p k ≡ false)
     → newest_below p m ≡ newest_below p n
 above-taken p n m l at above =
     let from : (k : ℕ) → n ≤ k → k < n + (m - n) → p k ≡ false =
@@ -178,7 +192,8 @@ above-taken p n m l at above =
     ap (newest_below p) whole ∙ newest_below-skip p n (m - n) from
 
 -- a word without a name leaves the index of the others
-pub none_is_linked : (words : List (Option Word)) (older : List (Option ℕ)) (newest : ArrayVec ℕ → Option ℕ) (w : Option Word)
+pub none_is_linked : (words : List (Option Word)) (older : List (Option ℕ))
+    (newest : ArrayVec ℕ → Option ℕ) (w : Option Word)
     → name_in w ≡ None → length words < 8192 → IsLinked words older newest w None newest
 none_is_linked words older newest w e room = record {
   fits = room;
@@ -188,9 +203,11 @@ none_is_linked words older newest w e room = record {
 }
 
 -- a word with a name is the newest of that name
-pub name_is_linked : (words : List (Option Word)) (older : List (Option ℕ)) (newest : ArrayVec ℕ → Option ℕ) (w : Option Word)
+pub name_is_linked : (words : List (Option Word)) (older : List (Option ℕ))
+    (newest : ArrayVec ℕ → Option ℕ) (w : Option Word)
     (name : List ℕ) (key : ArrayVec ℕ) (link : Option ℕ) (other : ArrayVec ℕ → Option ℕ)
-    → IsIndexed words older newest → length words < 8192 → name_in w ≡ Some name → key.items ≡ lower name → length name ≤ 31
+    → IsIndexed words older newest → length words < 8192 → name_in w ≡ Some name → key.items ≡ lower name
+    → length name ≤ 31
     → link ≡ newest key
     → ((q : ArrayVec ℕ) → other q ≡ cond (pointwise nat_eq key.items q.items) (Some (length words)) (newest q))
     → IsLinked words older newest w link other
@@ -199,7 +216,8 @@ name_is_linked words older newest w name key link other indexed room e its short
     record {
       fits = room;
       short = λ text t. subst (λ n. length n ≤ 31) (same text t) short;
-      linked = λ text t. linked ∙ indexed.heads key ∙ ap (λ k. newest_below (has_key words k) (length words)) (its ∙ ap lower (same text t));
+      linked = λ text t. linked ∙ indexed.heads key ∙ ap (λ k. newest_below (has_key words k) (length words))
+          (its ∙ ap lower (same text t));
       updated = λ q. updated q ∙ rw (e, its) refl;
     }
 
@@ -213,7 +231,8 @@ pub newest_is_within : (words : List (Option Word)) (n : ℕ) → newest_word wo
 newest_is_within words n e = (newest_is words n e).0
 
 -- searches by a key that the newest word doesn't have, and once it is taken away
-search-other : (words : List (Option Word)) (n : ℕ) (key : List ℕ) → newest_word words ≡ Some n → has_key words key n ≡ false
+search-other : (words : List (Option Word)) (n : ℕ) (key : List ℕ) → newest_word words ≡ Some n
+    → has_key words key n ≡ false
     → newest_below (has_key words key) (length words) ≡ newest_below (has_key words key) n
 search-other words n key e at =
     let is = newest_is words n e in
@@ -239,15 +258,21 @@ name-taken words n k name e its =
     let is = newest_is words n e in
     let within = name_is_within (set words n None) k name its in
     elim (cases_lt k n) [
-      | inl small ↦ (let ne : k ≢ n = omega (arith, small) in (small, sym (ap name_in (other-taken words n k ne)) ∙ its))
+      | inl small ↦ (let ne : k ≢ n = omega (arith, small) in (
+        small,
+        sym (ap name_in
+            (other-taken words n k ne)) ∙ its,
+      ))
       | inr large ↦ elim (cases_lt n k) [
         | inl above ↦
             let ne : k ≢ n = omega (arith, above) in
             let was = sym (ap name_in (other-taken words n k ne)) ∙ its in
-            absurd (no_word (word_at words k) name (is.2 k above (omega (arith, within, length-set words n None))) was)
+            absurd (no_word (word_at words k) name (is.2 k above (omega
+            (arith, within, length-set words n None))) was)
         | inr below ↦
             let same : k ≡ n = omega (arith, large, below) in
-            absurd (no_name name (sym (ap name_in (ap (word_at (set words n None)) same ∙ same-taken words n is.0)) ∙ its))
+            absurd (no_name name (sym (ap name_in (ap (word_at (set words n None)) same
+            ∙ same-taken words n is.0)) ∙ its))
       ]
     ]
 
@@ -261,7 +286,8 @@ taken-head words n name key false link head test e its chain at =
     at ∙ search-other words n key e (ap (is_named key) its ∙ sym test)
 
 -- the index once the newest word is taken away
-pub IsIndexed-taken : (words : List (Option Word)) (older : List (Option ℕ)) (newest other : ArrayVec ℕ → Option ℕ) (n : ℕ)
+pub IsIndexed-taken : (words : List (Option Word)) (older : List (Option ℕ))
+    (newest other : ArrayVec ℕ → Option ℕ) (n : ℕ)
     (name : List ℕ) (key : ArrayVec ℕ) → IsIndexed words older newest → newest_word words ≡ Some n
     → name_in (word_at words n) ≡ Some name → key.items ≡ lower name
     → ((q : ArrayVec ℕ) → other q ≡ cond (pointwise nat_eq key.items q.items) (get_or older n None) (newest q))
@@ -271,7 +297,8 @@ IsIndexed-taken words older newest other n name key indexed e its keyed updated 
     record {
       room = omega (arith, indexed.room, length-set words n None);
       links = indexed.links ∙ sym (length-set words n None);
-      heads = λ q. updated q ∙ taken-head words n name q.items (pointwise nat_eq key.items q.items) (get_or older n None) (newest q)
+      heads = λ q. updated q ∙ taken-head words n name q.items (pointwise nat_eq key.items q.items)
+          (get_or older n None) (newest q)
           (rw keyed refl) e its (indexed.chain n name its) (indexed.heads q) ∙ sym (search-taken words n q.items e);
       chain = λ k other_name t.
           let was = name-taken words n k other_name e t in
@@ -280,7 +307,8 @@ IsIndexed-taken words older newest other n name key indexed e its keyed updated 
     }
 
 -- the name of a word is found
-pub head_is_some : (words : List (Option Word)) (older : List (Option ℕ)) (newest : ArrayVec ℕ → Option ℕ) (n : ℕ) (name : List ℕ)
+pub head_is_some : (words : List (Option Word)) (older : List (Option ℕ))
+    (newest : ArrayVec ℕ → Option ℕ) (n : ℕ) (name : List ℕ)
     (key : ArrayVec ℕ) → IsIndexed words older newest → n < length words → name_in (word_at words n) ≡ Some name
     → key.items ≡ lower name → IsSome (newest key)
 head_is_some words older newest n name key indexed l its keyed =

@@ -1,19 +1,17 @@
 -- Searches from the newest number down, and along the words of one name.
-use Rattle.std.proofs.Common.{◌≡◌, ℕ, zero, suc, ◌+◌, ◌<◌, ◌≤◌, Bool, true, false, cond, List, [], ◌∷◌, length, set, Option, Some, None}
-use Rattle.std.proofs.Common.{get_or, inl, inr, IsSome, refl, sym, ◌∙◌, ap, subst, arith, nat_eq, ◌&&◌, not, Decides, rules}
+use Rattle.std.proofs.Common.{◌≡◌, ℕ, zero, suc, ◌+◌, ◌<◌, ◌≤◌, Bool, true, false, cond, List, length, Option, Some}
+use Rattle.std.proofs.Common.{None}
+use Rattle.std.proofs.Common.{get_or, ◌-◌, inl, inr, IsSome, refl, sym, ◌∙◌, ap, subst, arith, nat_eq}
 use Rattle.std.specs.Char.{to_ascii_lowercase}
 use Rattle.std.specs.Cmp.Lexicographic.{pointwise}
-use Rattle.std.proofs.lemmas.List.{length-map, length-set}
+use Rattle.std.proofs.lemmas.List.{length-map}
 use Rattle.std.proofs.lemmas.Bool.{cases_lt, false≢true}
 use Rattle.std.proofs.lemmas.Bool.Decides.{Decides-eqb}
 use Rattle.std.proofs.lemmas.Slice.Eq.{slice_eq-Decides}
-use Rattle.of_dict.specs.declared.word.Change.{Change}
-use Rattle.of_dict.specs.declared.word.Change.TheVariants.{Hidden, Immediate, Kind}
 use Rattle.of_dict.specs.declared.word.Word.{Word}
 use Rattle.of_dict.specs.Words.{bears, found, has_key, is_hidden_in, is_named, lower, name_in, newest_below, word_at}
 use Rattle.arrayvec.specs.ArrayVec.{ArrayVec}
-use Rattle.of_dict.specs.Calls.{changed_in}
-use Rattle.of_dict.specs.Index.{IsIndexed, IsNamed, after, bearer, left_from, visible_from}
+use Rattle.of_dict.specs.Index.{IsIndexed, IsNamed, bearer, left_from, visible_from}
 
 -- a search by one test is that by another, where they agree below
 pub newest_below-same : (p q : ℕ → Bool) (n : ℕ) → ((k : ℕ) → k < n → p k ≡ q k) → newest_below p n ≡ newest_below q n
@@ -26,7 +24,11 @@ pub left_from-newest_below : (p : ℕ → Bool) (n : ℕ) → left_from (newest_
 left_from-newest_below p zero = omega arith
 left_from-newest_below p (suc n) =
     let below = left_from-newest_below p n in
-    elim (p n) as (λ b. left_from (cond b (Some n) (newest_below p n)) ≤ suc n) [ true ↦ omega arith | false ↦ omega (arith, below) ]
+    elim (p n) as (λ b. left_from (cond b (Some n) (newest_below p n)) ≤ suc n) [
+      | true ↦ omega arith
+      | false
+          ↦ omega (arith, below)
+    ]
 
 pub same_key : (name key : List ℕ) → pointwise nat_eq (lower name) key ≡ true → lower name ≡ key
 same_key name key e = (slice_eq-Decides Decides-eqb (lower name) key (pointwise nat_eq (lower name) key) refl).0 e
@@ -43,17 +45,19 @@ is_named-self name =
     (slice_eq-Decides Decides-eqb (lower name) (lower name) (pointwise nat_eq (lower name) (lower name)) refl).1 refl
 
 -- the step of a search at the words of one name
-is_bearer_of : (words : List (Option Word)) (name other : List ℕ) (n : ℕ) → lower name ≡ lower other
+pub is_bearer_of : (words : List (Option Word)) (name other : List ℕ) (n : ℕ) → lower name ≡ lower other
     → bears words name n ≡ bears words other n
 is_bearer_of words name other n e = rw e refl
 
 entered-step : (words : List (Option Word)) (name : List ℕ) (n : ℕ) (b : Bool) → has_key words (lower name) n ≡ b
     → newest_below (bears words name) n ≡ visible_from words (newest_below (has_key words (lower name)) n)
-    → newest_below (bears words name) (suc n) ≡ visible_from words (cond b (Some n) (newest_below (has_key words (lower name)) n))
+    → newest_below (bears words name) (suc n) ≡ visible_from words (cond b (Some n) (newest_below
+    (has_key words (lower name)) n))
 entered-step words name n false e below = rw e below
 entered-step words name n true e below =
     let other = named (lower name) (name_in (word_at words n)) e in
-    newest_below-same (bears words name) (bears words other.0) (suc n) (λ k l. is_bearer_of words name other.0 k other.2)
+    newest_below-same (bears words name) (bears words other.0) (suc n)
+    (λ k l. is_bearer_of words name other.0 k other.2)
     ∙ sym (ap (bearer words n) other.1)
 
 -- the newest word that bears a name is found along the words of that name
@@ -63,8 +67,10 @@ entered words name zero = refl
 entered words name (suc n) =
     entered-step words name n (has_key words (lower name) n) refl (entered words name n)
 
-named-step : (words : List (Option Word)) (key : List ℕ) (n : ℕ) (b : Bool) → has_key words key n ≡ b → n < length words
-    → IsNamed words (newest_below (has_key words key) n) → IsNamed words (cond b (Some n) (newest_below (has_key words key) n))
+named-step : (words : List (Option Word)) (key : List ℕ) (n : ℕ) (b : Bool) → has_key words key n ≡ b
+    → n < length words
+    → IsNamed words (newest_below (has_key words key) n) → IsNamed words (cond b (Some n) (newest_below
+    (has_key words key) n))
 named-step words key n false e l below = below
 named-step words key n true e l below =
     let other = named key (name_in (word_at words n)) e in (l, (other.0, other.1))
@@ -74,7 +80,8 @@ pub found_is_named : (words : List (Option Word)) (key : List ℕ) (n : ℕ) →
     → IsNamed words (newest_below (has_key words key) n)
 found_is_named words key zero h = tt
 found_is_named words key (suc n) h =
-    named-step words key n (has_key words key n) refl (omega (arith, h)) (found_is_named words key n (omega (arith, h)))
+    named-step words key n (has_key words key n) refl (omega (arith, h)) (found_is_named words key n (omega
+    (arith, h)))
 
 pub has_own_key : (words : List (Option Word)) (n : ℕ) (name : List ℕ) → name_in (word_at words n) ≡ Some name
     → has_key words (lower name) n ≡ true
@@ -94,7 +101,8 @@ pub visible_from-shown : (words : List (Option Word)) (n : ℕ) → IsNamed word
 visible_from-shown words n named shown = bearer-shown words n named.1.0 named.1.1 shown
 
 -- from a hidden word on, what is found is found from the next older one of its name
-pub visible_from-hidden : (words : List (Option Word)) (older : List (Option ℕ)) (newest : ArrayVec ℕ → Option ℕ) (n : ℕ)
+pub visible_from-hidden : (words : List (Option Word)) (older : List (Option ℕ))
+    (newest : ArrayVec ℕ → Option ℕ) (n : ℕ)
     → IsIndexed words older newest → IsNamed words (Some n) → is_hidden_in (word_at words n) ≡ true
     → visible_from words (Some n) ≡ visible_from words (get_or older n None)
 visible_from-hidden words older newest n indexed named hidden =
@@ -116,18 +124,26 @@ newest_below-none p zero h = refl
 newest_below-none p (suc n) h =
     rw (h n (omega arith)) (newest_below-none p n (λ k l. h k (omega (arith, l))))
 
-not_true : (b : Bool) → (b ≡ true → ⊥) → b ≡ false
+pub not_true : (b : Bool) → (b ≡ true → ⊥) → b ≡ false
 not_true false h = refl
 not_true true h = absurd (h refl)
 
 -- no word has a name that is too long
-pub no_long_name : (words : List (Option Word)) (older : List (Option ℕ)) (newest : ArrayVec ℕ → Option ℕ) (name : List ℕ)
+pub no_long_name : (words : List (Option Word)) (older : List (Option ℕ))
+    (newest : ArrayVec ℕ → Option ℕ) (name : List ℕ)
     (n : ℕ) → IsIndexed words older newest → 31 < length name → newest_below (has_key words (lower name)) n ≡ None
 no_long_name words older newest name n indexed long =
     newest_below-none (has_key words (lower name)) n (λ k _. not_true (has_key words (lower name) k) (λ e.
     let other = named (lower name) (name_in (word_at words k)) e in
     let short = indexed.names k other.0 other.1 in
-    omega (arith, long, short, ap length other.2, length-map name to_ascii_lowercase, length-map other.0 to_ascii_lowercase)))
+    omega (
+      arith,
+      long,
+      short,
+      ap length other.2,
+      length-map name to_ascii_lowercase,
+      length-map other.0 to_ascii_lowercase,
+    )))
 
 -- a name is found along the words of that name
 pub found-entered : (words : List (Option Word)) (name : List ℕ)
@@ -160,15 +176,18 @@ pub newest_below-found : (p : ℕ → Bool) (m n : ℕ) → newest_below p m ≡
 newest_below-found p zero n e = absurd (nothing_found n e)
 newest_below-found p (suc m) n e = found-step p m n (p m) refl (newest_below-found p m n) e
 
-skip-step : (p : ℕ → Bool) (m : ℕ) (found : Option ℕ) → p m ≡ false → newest_below p m ≡ found → newest_below p (suc m) ≡ found
+skip-step : (p : ℕ → Bool) (m : ℕ) (found : Option ℕ) → p m ≡ false → newest_below p m ≡ found
+    → newest_below p (suc m) ≡ found
 skip-step p m found at below = rw at below
 
 -- numbers that don't pass can be left out at the top
-pub newest_below-skip : (p : ℕ → Bool) (n d : ℕ) → ((k : ℕ) → n ≤ k → k < n + d → p k ≡ false) → newest_below p (n + d) ≡ newest_below p n
+pub newest_below-skip : (p : ℕ → Bool) (n d : ℕ) → ((k : ℕ) → n ≤ k → k < n + d → p k ≡ false)
+    → newest_below p (n + d) ≡ newest_below p n
 newest_below-skip p n zero h = ap (newest_below p) (omega arith)
 newest_below-skip p n (suc d) h =
     let more : n + suc d ≡ suc (n + d) = omega arith in
-    ap (newest_below p) more ∙ skip-step p (n + d) (newest_below p n) (h (n + d) (omega arith) (omega arith)) (newest_below-skip p n d (λ k l u. h k l (omega (arith, u))))
+    ap (newest_below p) more ∙ skip-step p (n + d) (newest_below p n) (h (n + d) (omega arith) (omega arith))
+    (newest_below-skip p n d (λ k l u. h k l (omega (arith, u))))
 
 some-step : (n : ℕ) (b : Bool) (below : Option ℕ) → IsSome below → IsSome (cond b (Some n) below)
 some-step n true below some = refl
@@ -189,3 +208,12 @@ pub borne_before : (words : List (Option Word)) (older : List (Option ℕ)) (new
     → newest_below (bears words name) n ≡ visible_from words (get_or older n None)
 borne_before words older newest n name indexed e =
     entered words name n ∙ ap (visible_from words) (sym (indexed.chain n name e))
+
+-- what is found is the only number that passes with none above it
+pub newest_below-is : (p : ℕ → Bool) (n m : ℕ) → n < m → p n ≡ true → ((k : ℕ) → n < k → k < m → p k ≡ false)
+    → newest_below p m ≡ Some n
+newest_below-is p n m l at above =
+    let whole : m ≡ suc n + (m - suc n) = omega (arith, l) in
+    let last : newest_below p (suc n) ≡ Some n = rw at refl in
+    ap (newest_below p) whole
+    ∙ newest_below-skip p (suc n) (m - suc n) (λ k a b. above k (omega (arith, a)) (omega (arith, b, l))) ∙ last

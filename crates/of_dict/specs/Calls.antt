@@ -1,12 +1,12 @@
 -- What the calls of the dictionary leave and answer (Forth 2012, 3.3.1, 3.4.2; IEEE 1275-1994, 5.3.3.1).
-use Rattle.std.specs.Prelude.{ℕ, suc, zero, ◌≡◌, ◌==◌, Bool, true, false, nat_le, nat_lt, List, [], ◌∷◌, ◌++◌, length}
-use Rattle.std.specs.Prelude.{slice_set, Option, Some, None, Result, Ok, Err, if◌then◌else◌, is_some}
+use Rattle.std.specs.Prelude.{ℕ, ◌≡◌, ◌==◌, false, nat_le, nat_lt, List, [], ◌∷◌, ◌++◌, length}
+use Rattle.std.specs.Prelude.{slice_set, Option, Some, None, Result, Ok, Err, if◌then◌else◌}
 use Rattle.of_dict.specs.declared.fault.DictFault.{DictFault}
 use Rattle.of_dict.specs.declared.fault.DictFault.TheVariants.{EmptyName, Full, LongName, NoMemory}
 use Rattle.of_dict.specs.declared.word.Kind.{Kind}
 use Rattle.of_dict.specs.declared.word.OwnWord.{OwnWord}
 use Rattle.of_dict.specs.declared.word.Word.{Word}
-use Rattle.of_dict.specs.Words.{bears, capacity, found, longest_name, name_in, newest, newest_below, word_at}
+use Rattle.of_dict.specs.Words.{capacity, longest_name, newest, word_at}
 
 -- a word as it is made: neither immediate nor hidden
 abbrev pub made : Option (List ℕ) → Kind → Word

@@ -1,13 +1,14 @@
 -- How words are found without a walk over the list: each name has its newest word, and each word the next older one
 -- of its name.
-use Rattle.std.specs.Prelude.{ℕ, suc, ◌≡◌, ◌≤◌, ◌<◌, Bool, true, List, length, slice_index_or, Option, Some, None}
+use Rattle.std.specs.Prelude.{ℕ, suc, ◌≡◌, ◌≤◌, ◌<◌, true, List, length, slice_index_or, Option, Some, None}
 use Rattle.arrayvec.specs.ArrayVec.{ArrayVec}
 use Rattle.of_dict.specs.declared.word.Change.{Change}
 use Rattle.of_dict.specs.declared.word.Change.TheVariants.{Hidden, Immediate, Kind}
 use Rattle.of_dict.specs.declared.word.Word.{Word}
 use Rattle.of_dict.specs.Words.{bears, capacity, has_key, longest_name, lower, name_in, newest_below, word_at}
 
-pub record IsIndexed (words : List (Option Word)) (older : List (Option ℕ)) (newest : ArrayVec ℕ → Option ℕ) : Type 0 where
+pub record IsIndexed (words : List (Option Word)) (older : List (Option ℕ))
+    (newest : ArrayVec ℕ → Option ℕ) : Type 0 where
   pub room : length words ≤ capacity
   pub links : length older ≡ length words
   pub heads : (key : ArrayVec ℕ) → newest key ≡ newest_below (has_key words key.items) (length words)

@@ -1,6 +1,6 @@
 -- The own words that were ever made, in the order of making: a word's number is its place in the list, and None
 -- stands where a word was taken away (Forth 2012, 3.3.1; IEEE 1275-1994, 5.3.3.1).
-use Rattle.std.specs.Prelude.{ℕ, suc, zero, ◌+◌, ◌*◌, Bool, true, false, ◌&&◌, not, nat_eq, List, map, length}
+use Rattle.std.specs.Prelude.{ℕ, suc, zero, ◌+◌, ◌*◌, Bool, false, ◌&&◌, not, nat_eq, List, map, length}
 use Rattle.std.specs.Prelude.{slice_index_or, Option, Some, None, option_and_then, if◌then◌else◌, is_some}
 use Rattle.std.specs.Char.{to_ascii_lowercase}
 use Rattle.std.specs.Cmp.Lexicographic.{pointwise}
@@ -70,7 +70,8 @@ found words name = newest_below (bears words name) (length words)
 abbrev pub spelling : List (Option Word) → ℕ → Option (List ℕ) → Option (List ℕ)
 spelling words n None = None
 spelling words n (Some name) =
-    if is_some (newest_below (bears words name) n) then None else option_and_then (λ m. name_in (word_at words m)) (found words name)
+    if is_some (newest_below (bears words name) n) then None else option_and_then (λ m. name_in
+    (word_at words m)) (found words name)
 
 -- what `words` prints in the place of a number: nothing for a word that is hidden or has no name
 abbrev pub listed : List (Option Word) → ℕ → Option (List ℕ)

@@ -3,10 +3,12 @@
 
 mod dict;
 mod fault;
+mod laws;
 mod name;
 mod word;
 
 pub use dict::Dict;
 pub use fault::DictFault;
+pub use laws::{changes_are_found, names_are_listed_once, newest_is_found};
 pub use name::{LONGEST_NAME, Name};
 pub use word::{CAPACITY, Kind, OwnWord, Slot, Word};

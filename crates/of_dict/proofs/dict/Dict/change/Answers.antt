@@ -1,4 +1,4 @@
-use Rattle.std.proofs.Common.{◌≡◌, ◌∙◌, Option, None, ap, arith, get_or}
+use Rattle.std.proofs.Common.{◌≡◌, ◌∙◌, None, ap, arith, get_or}
 use Rattle.std.proofs.lemmas.List.{get_or_read}
 use Rattle.of_dict.specs.Words.{name_in}
 use Rattle.of_dict.proofs.Indexes.{IsIndexed-set, name_in-changed}

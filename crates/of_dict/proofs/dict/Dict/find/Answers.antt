@@ -6,7 +6,8 @@ use Rattle.of_dict.proofs.dict.Dict.find.Goals as goal
 
 pub visible_from-requires : goal.visible_from-requires
 visible_from-requires c =
-    rw c.newest_named.ensures (found_is_named c.args.self.now (lower c.args.name.now) (length c.args.self.now) (omega arith))
+    rw c.newest_named.ensures (found_is_named c.args.self.now (lower c.args.name.now) (length c.args.self.now)
+    (omega arith))
 
 pub returns : goal.returns
 returns c =

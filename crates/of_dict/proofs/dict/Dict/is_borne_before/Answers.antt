@@ -18,8 +18,12 @@ visible_from-requires c =
     let indexed = rw c.self.view_is at c.self.invariant in
     let within = name_is_within words c.args.word.0 c.args.name.now c.requires in
     let link : c.index.result.now ≡ get_or c.self.inside.older.items c.args.word.0 None =
-    get_or_read c.self.inside.older.items c.args.word.0 _ (omega (arith, within, indexed.links)) c.index.ensures None in
-    rw link (older_is_named words c.self.inside.older.items _ c.args.word.0 indexed (within, (c.args.name.now, c.requires)))
+    get_or_read c.self.inside.older.items c.args.word.0 _ (omega
+    (arith, within, indexed.links)) c.index.ensures None in
+    rw link (older_is_named words c.self.inside.older.items _ c.args.word.0 indexed (
+      within,
+      (c.args.name.now, c.requires),
+    ))
 
 pub returns : goal.returns
 returns c =
@@ -27,7 +31,8 @@ returns c =
     let indexed = rw c.self.view_is at c.self.invariant in
     let within = name_is_within words c.args.word.0 c.args.name.now c.requires in
     let link : c.index.result.now ≡ get_or c.self.inside.older.items c.args.word.0 None =
-    get_or_read c.self.inside.older.items c.args.word.0 _ (omega (arith, within, indexed.links)) c.index.ensures None in
+    get_or_read c.self.inside.older.items c.args.word.0 _ (omega
+    (arith, within, indexed.links)) c.index.ensures None in
     let borne = borne_before words c.self.inside.older.items _ c.args.word.0 c.args.name.now indexed c.requires in
     c.is_some.ensures ∙ sym (number_is_some c.visible_from.result)
     ∙ ap is_some (c.visible_from.ensures ∙ ap (visible_from words) link ∙ sym borne)
