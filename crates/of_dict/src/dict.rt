@@ -104,7 +104,7 @@ impl Dict {
     }
 
     /// Makes a word, neither immediate nor hidden, and answers its number, the next that was never
-    /// used. A name has 1 to 31 bytes (IEEE 1275-1994, 5.3.1.1.1).
+    /// used. A name has 1 to 31 bytes (Forth 2012, 3.3.1.2).
     ///
     /// `Full` comes where 8,192 words were made, then `EmptyName`, then `LongName`; `NoMemory` may
     /// stand in place of any. A refused word leaves nothing behind.
@@ -289,14 +289,15 @@ impl Dict {
         self.change(word, Change::Immediate);
     }
 
-    /// Leaves a word out of every search, and out of what `words` prints.
+    /// Leaves a word out of every search and out of what `words` prints, as `:` does (Forth 2012,
+    /// 6.1.0450).
     pub fn hide(&mut self, word: OwnWord)
         ensures { self.new ≡ changed (λ w. record w { hidden = true }) self.old word.0 }
     {
         self.change(word, Change::Hidden(true));
     }
 
-    /// Lets a word be found again.
+    /// Lets a word be found again, as `;` does (Forth 2012, 6.1.0460).
     pub fn reveal(&mut self, word: OwnWord)
         ensures { self.new ≡ changed (λ w. record w { hidden = false }) self.old word.0 }
     {

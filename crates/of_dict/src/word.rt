@@ -42,7 +42,7 @@ pub enum Kind {
     /// Adds the offset to an address.
     Field { offset: Cell },
 
-    /// Works on a slot that each instance of a package has: `number` is the slot's in its package.
+    /// Works on a slot that each instance of a package has: `number` is the slot's.
     PerInstance { slot: Slot, number: u32 },
 }
 
