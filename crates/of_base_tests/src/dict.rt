@@ -226,7 +226,17 @@ fn execution_tokens(rt: HostRuntime) {
 }
 
 #[test]
-fn laws_hold(_rt: HostRuntime) {
+fn faults(rt: HostRuntime) -> Result<(), Fail> {
+    let first = format!(in rt.alloc(); "{}; {}", DictFault::Full, DictFault::EmptyName)?;
+    let last = format!(in rt.alloc(); "{}; {}", DictFault::LongName, DictFault::NoMemory)?;
+    assert_eq!(rt; first.as_str(), "the dictionary is full; the name is empty");
+    assert_eq!(rt; last.as_str(), "the name is too long; out of memory");
+    Ok(())
+}
+
+/// The laws hold.
+#[test]
+fn laws() {
     newest_is_found();
     changes_are_found();
     names_are_listed_once();
