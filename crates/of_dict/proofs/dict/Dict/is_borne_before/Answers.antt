@@ -1,0 +1,38 @@
+use Rattle.std.proofs.Common.{◌≡◌, ◌∙◌, Option, Some, None, refl, ap, arith, sym, get_or, is_some}
+use Rattle.std.proofs.lemmas.List.{get_or_read}
+use Rattle.std.specs.Option.{option_map}
+use Rattle.of_dict.specs.declared.word.OwnWord.{OwnWord}
+use Rattle.of_dict.specs.Index.{visible_from}
+use Rattle.of_dict.proofs.Indexes.{name_is_within}
+use Rattle.of_dict.proofs.Searches.{borne_before, older_is_named}
+use Rattle.of_dict.proofs.dict.Dict.is_borne_before.Goals as goal
+
+-- a word's number is there where the word is
+number_is_some : (found : Option OwnWord) → is_some (option_map (λ word. word.0) found) ≡ is_some found
+number_is_some None = refl
+number_is_some (Some word) = refl
+
+pub visible_from-requires : goal.visible_from-requires
+visible_from-requires c =
+    let words = c.args.self.now in
+    let indexed = rw c.self.view_is at c.self.invariant in
+    let within = name_is_within words c.args.word.0 c.args.name.now c.requires in
+    let link : c.index.result.now ≡ get_or c.self.inside.older.items c.args.word.0 None =
+    get_or_read c.self.inside.older.items c.args.word.0 _ (omega
+    (arith, within, indexed.links)) c.index.ensures None in
+    rw link (older_is_named words c.self.inside.older.items _ c.args.word.0 indexed (
+      within,
+      (c.args.name.now, c.requires),
+    ))
+
+pub returns : goal.returns
+returns c =
+    let words = c.args.self.now in
+    let indexed = rw c.self.view_is at c.self.invariant in
+    let within = name_is_within words c.args.word.0 c.args.name.now c.requires in
+    let link : c.index.result.now ≡ get_or c.self.inside.older.items c.args.word.0 None =
+    get_or_read c.self.inside.older.items c.args.word.0 _ (omega
+    (arith, within, indexed.links)) c.index.ensures None in
+    let borne = borne_before words c.self.inside.older.items _ c.args.word.0 c.args.name.now indexed c.requires in
+    c.is_some.ensures ∙ sym (number_is_some c.visible_from.result)
+    ∙ ap is_some (c.visible_from.ensures ∙ ap (visible_from words) link ∙ sym borne)
