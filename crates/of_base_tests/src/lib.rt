@@ -12,4 +12,6 @@ mod fcodes;
 #[cfg(test)]
 mod memory;
 #[cfg(test)]
+mod returns;
+#[cfg(test)]
 mod stacks;
