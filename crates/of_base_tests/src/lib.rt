@@ -15,3 +15,5 @@ mod memory;
 mod returns;
 #[cfg(test)]
 mod stacks;
+#[cfg(test)]
+mod tokens;

@@ -169,11 +169,12 @@ fn words(rt: HostRuntime) -> Result<(), Fail> {
 
 /// The number of a line at a place.
 fn number(line: &str, place: usize) -> Result<u32, Fail> {
-    Ok(line
-        .split_whitespace()
-        .nth(place)
-        .unwrap_or("0")
-        .parse::<u32>()?)
+    Ok(
+        line.split_whitespace()
+            .nth(place)
+            .unwrap_or("0")
+            .parse::<u32>()?,
+    )
 }
 
 #[test]
