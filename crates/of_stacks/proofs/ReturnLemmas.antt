@@ -8,11 +8,12 @@ use Rattle.std.proofs.Math.Seq.{take-append-add}
 use Rattle.std.proofs.lemmas.Grind.{replicate_next}
 use Rattle.of_cells.specs.declared.cells.Cell.{Cell}
 use Rattle.of_stacks.specs.declared.return_item.ExceptionFrame.{ExceptionFrame}
+use Rattle.of_stacks.specs.declared.return_item.Reading.{Reading}
 use Rattle.of_stacks.specs.declared.return_item.ReturnItem.{ReturnItem}
 use Rattle.of_stacks.specs.declared.return_item.ReturnItem.TheVariants.{Return, Loop, User, Handler, Source, Caller}
 use Rattle.of_stacks.specs.Loops.{open_loops}
-use Rattle.of_stacks.specs.Unwinding.{latest_handler, beneath_handler, nought, to_depth}
-use Rattle.of_stacks.specs.ReturnLaws.{is_own, loop_in, LoopsAreOwn, is_handler, ThrowsCut}
+use Rattle.of_stacks.specs.Unwinding.{latest_handler, beneath_handler, latest_source, beneath_source, nought, to_depth}
+use Rattle.of_stacks.specs.ReturnLaws.{is_own, loop_in, LoopsAreOwn, is_handler, is_source, EndsCut, ThrowsCut}
 use Rattle.of_stacks.proofs.Reversed.{reverse_take, reverse_drop}
 
 own_alone : (own : List ReturnItem) → list_all is_own own ≡ true → open_loops own ≡ filter_map loop_in own
@@ -103,3 +104,28 @@ by_depth depth s false e = cut depth s (grind (arith, nat_tests, e))
 
 pub throws_cut : ThrowsCut
 throws_cut = record { handler = cut_above; none = cut_all; cells = λ (depth : ℕ) (s : List Cell). by_depth depth s (nat_lt (length s) depth) refl }
+
+ended_above : (above r : List ReturnItem) (s : Reading) → list_any is_source above ≡ false →
+    (latest_source (above ++ Source s ∷ r) ≡ Some s) × (beneath_source (above ++ Source s ∷ r) ≡ r)
+unfolding latest_source beneath_source
+ended_above [] r s e = (refl, refl)
+ended_above (Return to ∷ above) r s e = ended_above above r s e
+ended_above (Loop l ∷ above) r s e = ended_above above r s e
+ended_above (User x ∷ above) r s e = ended_above above r s e
+ended_above (Handler h ∷ above) r s e = ended_above above r s e
+ended_above (Caller c ∷ above) r s e = ended_above above r s e
+ended_above (Source t ∷ above) r s e = absurd cc
+
+ended_all : (items : List ReturnItem) → list_any is_source items ≡ false →
+    (latest_source items ≡ None) × (beneath_source items ≡ [])
+unfolding latest_source beneath_source
+ended_all [] e = (refl, refl)
+ended_all (Return to ∷ r) e = ended_all r e
+ended_all (Loop l ∷ r) e = ended_all r e
+ended_all (User x ∷ r) e = ended_all r e
+ended_all (Handler h ∷ r) e = ended_all r e
+ended_all (Caller c ∷ r) e = ended_all r e
+ended_all (Source t ∷ r) e = absurd cc
+
+pub ends_cut : EndsCut
+ends_cut = record { source = ended_above; none = ended_all }

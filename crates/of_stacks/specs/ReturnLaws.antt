@@ -7,10 +7,11 @@ use Rattle.of_cells.specs.Arithmetic.{plus, minus}
 use Rattle.of_cells.specs.Splitting.{IsCell}
 use Rattle.of_stacks.specs.declared.return_item.LoopParameters.{LoopParameters}
 use Rattle.of_stacks.specs.declared.return_item.ExceptionFrame.{ExceptionFrame}
+use Rattle.of_stacks.specs.declared.return_item.Reading.{Reading}
 use Rattle.of_stacks.specs.declared.return_item.ReturnItem.{ReturnItem}
 use Rattle.of_stacks.specs.declared.return_item.ReturnItem.TheVariants.{Return, Loop, User, Handler, Source, Caller}
 use Rattle.of_stacks.specs.Loops.{open_loops, passes_limit}
-use Rattle.of_stacks.specs.Unwinding.{latest_handler, beneath_handler, nought, to_depth}
+use Rattle.of_stacks.specs.Unwinding.{latest_handler, beneath_handler, latest_source, beneath_source, nought, to_depth}
 
 -- the item is of the running word: no word returns to it, and nothing is due or read on with at it
 abbrev pub is_own : ReturnItem → Bool
@@ -43,6 +44,23 @@ is_handler (Loop l) = false
 is_handler (User x) = false
 is_handler (Source s) = false
 is_handler (Caller c) = false
+
+abbrev pub is_source : ReturnItem → Bool
+is_source (Source s) = true
+is_source (Return to) = false
+is_source (Loop l) = false
+is_source (User x) = false
+is_source (Handler h) = false
+is_source (Caller c) = false
+
+-- the end of an image or text cuts the return stack at the source above which there is none
+pub record EndsCut : Type 0 where
+  pub source :
+      (above r : List ReturnItem) (s : Reading) → list_any is_source above ≡ false →
+      (latest_source (above ++ Source s ∷ r) ≡ Some s) × (beneath_source (above ++ Source s ∷ r) ≡ r)
+  pub none :
+      (items : List ReturnItem) → list_any is_source items ≡ false →
+      (latest_source items ≡ None) × (beneath_source items ≡ [])
 
 -- A throw cuts the return stack at the handler above which there is none. The data stack keeps its lowest cells,
 -- as many as the depth says, and cells of 0 where they are fewer.

@@ -1,6 +1,6 @@
 // A law has no parameters and does nothing: its contract is the law.
 ghost use Rattle.of_stacks.specs.Order.{FirstCounts, OrderIsWritten};
-ghost use Rattle.of_stacks.specs.ReturnLaws.{LimitsArePassed, LoopsAreOwn, ThrowsCut};
+ghost use Rattle.of_stacks.specs.ReturnLaws.{EndsCut, LimitsArePassed, LoopsAreOwn, ThrowsCut};
 
 /// Of the faults that a word finds the one counts that stands first in the order, and one counts
 /// where one is found.
@@ -20,6 +20,12 @@ pub fn order_is_written()
 #[tactic(auto, using(crate::proofs::ReturnLemmas::loops_are_own))]
 pub fn loops_are_own()
     ensures { LoopsAreOwn }
+{}
+
+/// The end of an image or text cuts the return stack at the latest source.
+#[tactic(auto, using(crate::proofs::ReturnLemmas::ends_cut))]
+pub fn ends_cut()
+    ensures { EndsCut }
 {}
 
 /// A throw cuts the return stack at the latest handler, and the data stack keeps its lowest cells.

@@ -11,7 +11,7 @@ mod throws;
 
 pub use data_stack::{CAPACITY, DataStack};
 pub use laws::{
-    first_fault_counts, limits_are_passed, loops_are_own, order_is_written, throws_cut,
+    ends_cut, first_fault_counts, limits_are_passed, loops_are_own, order_is_written, throws_cut,
 };
 pub use return_item::{
     Continuation, Due, ExceptionFrame, Input, LoopExit, LoopParameters, Reading, ReturnItem,

@@ -3,11 +3,11 @@ ghost use Rattle.of_stacks.specs.Throws.{return_stack_overflow};
 ghost use Rattle.of_stacks.specs.Stacks.{Becomes};
 ghost use Rattle.of_stacks.specs.Returns.{fitting, top_item, user_on_top, return_on_top, user_pushed};
 ghost use Rattle.of_stacks.specs.Loops.{open_loops, loop_on_top, index_of, goes_on, turned};
-ghost use Rattle.of_stacks.specs.Unwinding.{latest_handler, beneath_handler, unwound};
+ghost use Rattle.of_stacks.specs.Unwinding.{latest_handler, beneath_handler, latest_source, beneath_source, unwound};
 
 use crate::data_stack::DataStack;
 use crate::loops::{open_loop, passes_limit};
-use crate::return_item::{Continuation, ExceptionFrame, LoopParameters, ReturnItem};
+use crate::return_item::{Continuation, ExceptionFrame, LoopParameters, Reading, ReturnItem};
 use crate::throws::Throw;
 use arrayvec::ArrayVec;
 use of_cells::Cell;
@@ -279,6 +279,25 @@ impl ReturnStack {
             exit: current.exit,
         }));
         Ok(true)
+    }
+
+    /// Takes the latest source with all items above it, as the end of an image or text does (IEEE
+    /// 1275-1994, `end0`), and answers what is read on with. Where there is none, the stack becomes
+    /// empty.
+    #[tactic(auto, unfolding(crate::specs::Unwinding::latest_source, crate::specs::Unwinding::beneath_source))]
+    pub fn end_source(&mut self) -> Option<Reading>
+        ensures reading { result ≡ latest_source self.old }
+        ensures items { self.new ≡ beneath_source self.old }
+    {
+        match self.pop() {
+            Some(ReturnItem::Source(reading)) => Some(reading),
+            Some(ReturnItem::Return(_)) => self.end_source(),
+            Some(ReturnItem::Loop(_)) => self.end_source(),
+            Some(ReturnItem::User(_)) => self.end_source(),
+            Some(ReturnItem::Handler(_)) => self.end_source(),
+            Some(ReturnItem::Caller(_)) => self.end_source(),
+            None => None,
+        }
     }
 
     /// Does to both stacks what a throw does (Forth 2012, 9.6.1.2275), and answers what the latest
