@@ -1,8 +1,8 @@
 #!/usr/bin/env bash
 # Prints how many instructions the calls of the return stack take, counted by callgrind as the difference of
-# two runs: a cell put and taken, a return entered and left, a step of a loop, the index of a loop and of the
-# loop that it stands in, and a throw that is caught. Each has the call of a function and the loop that
-# repeats it.
+# two runs: a cell put and taken, a return entered and left, a step of a loop, such a step and the index of that
+# loop or of the one that it stands in, and a throw that is caught. Each has the calls of functions that aren't
+# in line and the loop that repeats them.
 # usage: bench/returns.sh [COUNT]
 set -euo pipefail
 top=$(cd "$(dirname "${BASH_SOURCE[0]}")/.." && pwd)
@@ -16,7 +16,7 @@ instructions() {
         sed -n 's/.*Collected : \([0-9]*\).*/\1/p'
 }
 
-for kind in cells returns loop +loop i j throw; do
+for kind in cells returns loop +loop loop-i loop-j throw; do
     less=$(instructions "$kind" "$count")
     more=$(instructions "$kind" $((2 * count)))
     tenths=$(((more - less) * 10 / count))

@@ -1,7 +1,7 @@
 use of_cells::Cell;
 use of_stacks::{
     Continuation, DataStack, Due, ExceptionFrame, Input, LoopExit, LoopParameters, Reading,
-    ReturnItem, ReturnStack, Throw, limits_are_passed, loops_are_own, throws_cut,
+    ReturnItem, ReturnStack, Throw, ends_cut, limits_are_passed, loops_are_own, throws_cut,
 };
 use of_stream::OffsetSize;
 use std::alloc::Global;
@@ -82,6 +82,8 @@ fn call(name: &str, n: u32, stack: &mut ReturnStack) -> Result<u32, Throw> {
             Continuation::Code(cell) => Ok(cell),
             Continuation::Source => Ok(0),
         },
+        "end0" => Ok(u32::from(stack.end_source() == Some(reading()))),
+        "due" => Ok(u32::from(stack.peek().is_some_and(|item| item.is_due()))),
         _ => Err(Throw::ABORT),
     }
 }
@@ -119,6 +121,11 @@ j 0 : l4/9 return l5/9 : -26 : l4/9 return l5/9
 unloop 0 : u1 l5/9 : 5 : u1
 unloop 0 : l5/9 u1 : -26 : l5/9 u1
 unloop 0 : : -26 :
+end0 0 : u1 source source l1/2 u2 : 1 : u1 source
+end0 0 : u1 return : 0 :
+due 0 : u1 h3 : 1 : u1 h3
+due 0 : caller : 1 : caller
+due 0 : caller return : 0 : caller return
 +loop 1 : l5/9 u1 : -26 : l5/9 u1
 +loop 1 : return : -26 : return
 ";
@@ -162,6 +169,7 @@ fn words(rt: HostRuntime) -> Result<(), Fail> {
         let left = stack_of(parts.next().unwrap_or(""))?;
         assert_eq!(rt; stack.items(), left.items(), "{line}");
     }
+    ends_cut();
     limits_are_passed();
     loops_are_own();
     Ok(())

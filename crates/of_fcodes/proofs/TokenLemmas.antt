@@ -1,8 +1,10 @@
 -- The token table: how it is made and cleared, and that it is a finite map.
-use Rattle.std.proofs.Common.{◌≡◌, ℕ, zero, suc, ◌+◌, ◌<◌, List, [], ◌∷◌, ◌++◌, length, map, set, get_or, Option, Some, None, nat_eq, true, false, Bool, if◌then◌else◌, refl, sym, ap, ◌∙◌, arith}
+use Rattle.std.proofs.Common.{◌≡◌, ℕ, zero, suc, ◌+◌, ◌<◌, List, [], ◌∷◌, ◌++◌, length, map, set, get_or, Option}
+use Rattle.std.proofs.Common.{Some, None, nat_eq, true, false, Bool, if◌then◌else◌, refl, sym, ap, ◌∙◌, arith}
 use Rattle.std.proofs.lemmas.Bool.Decides.{nat_tests}
 use Rattle.of_fcodes.specs.declared.token_table.TokenEntry.{TokenEntry}
-use Rattle.of_fcodes.specs.Tokens.{Table, entry_in, assigned, unless_named, cleared, first_entry, first_entries, first_table, TableIsMap}
+use Rattle.of_fcodes.specs.Tokens.{Table, entry_in, assigned, unless_named, cleared, first_entry, first_entries}
+use Rattle.of_fcodes.specs.Tokens.{first_table, TableIsMap}
 
 pub no_entries : first_entries 0 0 ≡ []
 unfolding first_entries
@@ -13,7 +15,8 @@ unfolding first_table
 all_entries = refl
 
 -- one entry more
-entries_more : (n count k : ℕ) → k ≡ n + count → first_entries n count ++ first_entry k ∷ [] ≡ first_entries n (suc count)
+entries_more : (n count k : ℕ) → k ≡ n + count →
+    first_entries n count ++ first_entry k ∷ [] ≡ first_entries n (suc count)
 unfolding first_entries
 entries_more n zero k e = let same : k ≡ n = omega (arith, e) in ap (λ m. first_entry m ∷ []) same
 entries_more n (suc count) k e = ap (λ t. first_entry n ∷ t) (entries_more (suc n) count k (omega (arith, e)))
@@ -65,8 +68,10 @@ found_assigned : (t : Table) (n m : ℕ) (entry : TokenEntry) → n < length t �
     entry_in (assigned t n entry) m ≡ (if nat_eq m n then Some entry else entry_in t m)
 found_assigned [] n m entry h = absurd (omega arith)
 found_assigned (x ∷ t) zero zero entry h = refl
-found_assigned (x ∷ t) zero (suc m) entry h = let other : nat_eq (suc m) 0 ≡ false = grind (arith, nat_tests) in rw other refl
-found_assigned (x ∷ t) (suc n) zero entry h = let other : nat_eq 0 (suc n) ≡ false = grind (arith, nat_tests) in rw other refl
+found_assigned (x ∷ t) zero (suc m) entry h =
+    let other : nat_eq (suc m) 0 ≡ false = grind (arith, nat_tests) in rw other refl
+found_assigned (x ∷ t) (suc n) zero entry h =
+    let other : nat_eq 0 (suc n) ≡ false = grind (arith, nat_tests) in rw other refl
 found_assigned (x ∷ t) (suc n) (suc m) entry h = rw (same_number n m) (found_assigned t n m entry (omega arith))
 
 found_cleared : (t : Table) (xt n : ℕ) → entry_in (cleared xt t) n ≡ unless_named xt (entry_in t n)

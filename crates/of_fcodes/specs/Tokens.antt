@@ -1,6 +1,7 @@
 -- The token table (IEEE 1275-1994, 5.2.2.2, `get-token` and `set-token`): for each FCode its entry or none, in the
 -- order of their numbers.
-use Rattle.std.specs.Prelude.{◌≡◌, ◌<◌, ℕ, zero, suc, false, List, [], ◌∷◌, length, map, nat_eq, Option, Some, None, slice_get, slice_set, unwrap_or, if◌then◌else◌}
+use Rattle.std.specs.Prelude.{◌≡◌, ◌<◌, ℕ, zero, suc, false, List, [], ◌∷◌, length, map, nat_eq, Option, Some, None}
+use Rattle.std.specs.Prelude.{slice_get, slice_set, unwrap_or, if◌then◌else◌}
 use Rattle.std.specs.Option.{option_map}
 use Rattle.of_fcodes.specs.declared.token_table.TokenEntry.{TokenEntry}
 use Rattle.of_fcodes.specs.declared.words.Word.{Word}

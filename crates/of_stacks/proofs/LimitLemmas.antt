@@ -1,5 +1,6 @@
 -- A step passes the limit where it crosses the boundary before it.
-use Rattle.std.proofs.Common.{◌≡◌, ◌↔◌, ℕ, suc, ◌+◌, ◌-◌, ◌^◌, ◌%◌, ◌≤◌, ◌<◌, ℤ, pos, negsuc, ◌+ℤ◌, Bool, true, false, ◌||◌, nat_lt, nat_le, refl, sym, ap, ◌∙◌, arith}
+use Rattle.std.proofs.Common.{◌≡◌, ◌↔◌, ℕ, ◌+◌, ◌-◌, ◌^◌, ◌%◌, ◌≤◌, ◌<◌, ℤ, pos, negsuc, ◌+ℤ◌, Bool, true, false}
+use Rattle.std.proofs.Common.{◌||◌, nat_lt, sym, ap, ◌∙◌, arith}
 use Rattle.std.specs.Prelude.{int_lt, int_le}
 use Rattle.std.specs.Int.{w32}
 use Rattle.std.proofs.lemmas.Int.{ints, to_z_pos}
@@ -33,14 +34,13 @@ comes i l a b = omega arith
 goes_back : (i l : ℕ) → i < 2 ^ 32 → l < 2 ^ 32 → (i + (2 ^ 32 - (i + (2 ^ 32 - l)) % 2 ^ 32 % 2 ^ 32)) % 2 ^ 32 ≡ l
 goes_back i l a b = omega arith
 
-far : (i l k : ℕ) → i < 2 ^ 32 → 0 < k → k < 2 ^ 31 → (i + k % 2 ^ 32) % 2 ^ 32 ≡ l → (i + (2 ^ 32 - l)) % 2 ^ 32 ≡ 2 ^ 32 - k
+far : (i l k : ℕ) → i < 2 ^ 32 → 0 < k → k < 2 ^ 31 → (i + k % 2 ^ 32) % 2 ^ 32 ≡ l →
+    (i + (2 ^ 32 - l)) % 2 ^ 32 ≡ 2 ^ 32 - k
 far i l k a b c e = omega (arith, e)
 
-near : (i l k : ℕ) → i < 2 ^ 32 → k < 2 ^ 31 + 1 → (i + (2 ^ 32 - k % 2 ^ 32)) % 2 ^ 32 ≡ l → (i + (2 ^ 32 - l)) % 2 ^ 32 ≡ k
+near : (i l k : ℕ) → i < 2 ^ 32 → k < 2 ^ 31 + 1 → (i + (2 ^ 32 - k % 2 ^ 32)) % 2 ^ 32 ≡ l →
+    (i + (2 ^ 32 - l)) % 2 ^ 32 ≡ k
 near i l k a b e = omega (arith, e)
-
-distance : Cell → Cell → ℕ
-distance index limit = (minus index limit).0
 
 to_limit : (index limit step : Cell) → IsCell index → IsCell limit → signed step ≡ pos step.0 →
     passes_limit index limit step ≡ true → (k : ℕ) × (0 < k) × (k ≤ step.0) × (plus index (cell k) ≡ limit)
@@ -55,7 +55,8 @@ from_limit : (index limit step : Cell) (k : ℕ) → IsCell index → step.0 < 2
     0 < k → k ≤ step.0 → plus index (cell k) ≡ limit → passes_limit index limit step ≡ true
 from_limit index limit step k a small is some within e =
     let d = (index.0 + (2 ^ 32 - limit.0)) % 2 ^ 32 in
-    let away : d ≡ 2 ^ 32 - k = far index.0 limit.0 k a some (omega (arith, small, within)) (ap (λ (x : Cell). x.0) e) in
+    let away : d ≡ 2 ^ 32 - k =
+    far index.0 limit.0 k a some (omega (arith, small, within)) (ap (λ (x : Cell). x.0) e) in
     let over : 2 ^ 32 ≤ d + step.0 = omega (arith, away, within, small) in
     ap (λ z. outside (pos d +ℤ z)) is ∙ is_over d step.0 over
 
@@ -81,20 +82,25 @@ backwards step large small =
     let test : nat_lt step.0 (2 ^ 31) ≡ false = grind (arith, nat_tests) in
     rw test (ap negsuc (omega arith))
 
+forwards : (index limit step : Cell) → IsCell index → IsCell limit → step.0 < 2 ^ 31 →
+    (passes_limit index limit step ≡ true) ↔ ((k : ℕ) × (0 < k) × (k ≤ step.0) × (plus index (cell k) ≡ limit))
+forwards index limit step a b small =
+    let is : signed step ≡ pos step.0 = to_z_pos w32 step.0 small in
+    (to_limit index limit step a b is, λ h. from_limit index limit step h.0 a small is h.1 h.2 h.3)
+
+shorter : (k n : ℕ) → k ≤ 2 ^ 32 - n - 1 → n < 2 ^ 32 → k < 2 ^ 32 - n
+shorter k n h small = omega (arith, h, small)
+
+back : (index limit step : Cell) → IsCell index → IsCell limit → 2 ^ 31 ≤ step.0 → IsCell step →
+    (passes_limit index limit step ≡ true) ↔ ((k : ℕ) × (k < 2 ^ 32 - step.0) × (minus index (cell k) ≡ limit))
+back index limit step a b large small =
+    let m = 2 ^ 32 - step.0 - 1 in
+    let is : signed step ≡ negsuc m = backwards step large small in (
+      λ (h : passes_limit index limit step ≡ true).
+          (let r = back_to_limit index limit step m a b is h in (r.0, shorter r.0 step.0 r.1 small, r.2)),
+      λ (h : (k : ℕ) × (k < 2 ^ 32 - step.0) × (minus index (cell k) ≡ limit)).
+          back_from_limit index limit step m h.0 a (omega (arith, large, small)) is (omega (arith, small, h.1)) h.2,
+    )
+
 pub limits_are_passed : LimitsArePassed
-limits_are_passed = record {
-  forward = λ (index limit step : Cell) (a : IsCell index) (b : IsCell limit) (small : step.0 < 2 ^ 31). (
-    to_limit index limit step a b (to_z_pos w32 step.0 small),
-    λ (h : (k : ℕ) × (0 < k) × (k ≤ step.0) × (plus index (cell k) ≡ limit)).
-        from_limit index limit step h.0 a small (to_z_pos w32 step.0 small) h.1 h.2 h.3,
-  );
-  back = λ (index limit step : Cell) (a : IsCell index) (b : IsCell limit) (large : 2 ^ 31 ≤ step.0) (c : IsCell step). (
-    λ (h : passes_limit index limit step ≡ true).
-        (let r = back_to_limit index limit step (2 ^ 32 - step.0 - 1) a b (backwards step large c) h in
-        let short : r.0 < 2 ^ 32 - step.0 = omega (arith, c, r.1) in
-        (r.0, short, r.2)),
-    λ (h : (k : ℕ) × (k < 2 ^ 32 - step.0) × (minus index (cell k) ≡ limit)).
-        back_from_limit index limit step (2 ^ 32 - step.0 - 1) h.0 a (omega (arith, large, c)) (backwards step large c)
-        (omega (arith, c, h.1)) h.2,
-  );
-}
+limits_are_passed = record { forward = forwards; back = back }

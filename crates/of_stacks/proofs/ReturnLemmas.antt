@@ -1,9 +1,10 @@
 -- The laws of the return stack.
-use Rattle.std.proofs.Common.{◌≡◌, ℕ, zero, suc, ◌+◌, ◌-◌, ◌≤◌, ◌<◌, Bool, true, false, ◌||◌, ◌&&◌, List, [], ◌∷◌, ◌++◌, length, take, drop, reverse, Option, Some, None, refl, sym, ap, ◌∙◌, arith, nat_lt, if◌then◌else◌}
+use Rattle.std.proofs.Common.{◌≡◌, ℕ, zero, suc, ◌+◌, ◌-◌, ◌≤◌, Bool, true, false, List, [], ◌∷◌, ◌++◌, length, take}
+use Rattle.std.proofs.Common.{drop, reverse, Some, None, refl, sym, ap, ◌∙◌, arith, nat_lt, if◌then◌else◌}
 use Rattle.std.specs.Prelude.{filter_map, replicate}
 use Rattle.std.specs.List.{list_all, list_any}
 use Rattle.std.proofs.lemmas.Bool.Decides.{nat_tests}
-use Rattle.std.proofs.lemmas.List.{reverse-append, length-reverse, length-replicate, take-append-le, take-replicate}
+use Rattle.std.proofs.lemmas.List.{reverse-append, length-reverse, take-append-le, take-replicate}
 use Rattle.std.proofs.Math.Seq.{take-append-add}
 use Rattle.std.proofs.lemmas.Grind.{replicate_next}
 use Rattle.of_cells.specs.declared.cells.Cell.{Cell}
@@ -14,7 +15,7 @@ use Rattle.of_stacks.specs.declared.return_item.ReturnItem.TheVariants.{Return, 
 use Rattle.of_stacks.specs.Loops.{open_loops}
 use Rattle.of_stacks.specs.Unwinding.{latest_handler, beneath_handler, latest_source, beneath_source, nought, to_depth}
 use Rattle.of_stacks.specs.ReturnLaws.{is_own, loop_in, LoopsAreOwn, is_handler, is_source, EndsCut, ThrowsCut}
-use Rattle.of_stacks.proofs.Reversed.{reverse_take, reverse_drop}
+use Rattle.of_stacks.proofs.Reversed.{reverse_drop}
 
 own_alone : (own : List ReturnItem) → list_all is_own own ≡ true → open_loops own ≡ filter_map loop_in own
 unfolding open_loops
@@ -86,7 +87,8 @@ filled depth s h =
     let whole : depth ≡ length (reverse s) + (depth - length s) = omega (arith, length-reverse s, h) in
     let some : depth - length s ≤ depth = omega arith in
     reverse-append (replicate (depth - length s) nought) s
-    ∙ ap (λ xs. reverse s ++ xs) (reverse_noughts (depth - length s) ∙ sym (take-replicate (depth - length s) depth nought some))
+    ∙ ap (λ xs. reverse s ++ xs) (reverse_noughts (depth - length s))
+    ∙ ap (λ xs. reverse s ++ xs) (sym (take-replicate (depth - length s) depth nought some))
     ∙ sym (take-append-add (reverse s) (replicate depth nought) (depth - length s))
     ∙ ap (λ n. take n (reverse s ++ replicate depth nought)) (sym whole)
 
@@ -102,8 +104,12 @@ by_depth : (depth : ℕ) (s : List Cell) (b : Bool) → nat_lt (length s) depth 
 by_depth depth s true e = filled depth s (grind (arith, nat_tests, e))
 by_depth depth s false e = cut depth s (grind (arith, nat_tests, e))
 
+to_any_depth : (depth : ℕ) (s : List Cell) →
+    reverse (to_depth depth s) ≡ take depth (reverse s ++ replicate depth nought)
+to_any_depth depth s = by_depth depth s (nat_lt (length s) depth) refl
+
 pub throws_cut : ThrowsCut
-throws_cut = record { handler = cut_above; none = cut_all; cells = λ (depth : ℕ) (s : List Cell). by_depth depth s (nat_lt (length s) depth) refl }
+throws_cut = record { handler = cut_above; none = cut_all; cells = to_any_depth }
 
 ended_above : (above r : List ReturnItem) (s : Reading) → list_any is_source above ≡ false →
     (latest_source (above ++ Source s ∷ r) ≡ Some s) × (beneath_source (above ++ Source s ∷ r) ≡ r)

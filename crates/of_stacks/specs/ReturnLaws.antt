@@ -1,5 +1,6 @@
 -- What the functions on the return stack come to (Forth 2012, 6.1.0140, 6.1.1680, 6.1.1800, 9.6.1.2275).
-use Rattle.std.specs.Prelude.{◌≡◌, ◌↔◌, ◌+◌, ◌-◌, ◌^◌, ◌<◌, ◌≤◌, ℕ, suc, Bool, true, false, ◌==◌, List, [], ◌∷◌, ◌++◌, filter_map, reverse, take, replicate, Option, Some, None}
+use Rattle.std.specs.Prelude.{◌≡◌, ◌↔◌, ◌-◌, ◌^◌, ◌<◌, ◌≤◌, ℕ, Bool, true, false, List, [], ◌∷◌, ◌++◌, filter_map}
+use Rattle.std.specs.Prelude.{reverse, take, replicate, Option, Some, None}
 use Rattle.std.specs.List.{list_all, list_any}
 use Rattle.of_cells.specs.declared.cells.Cell.{Cell}
 use Rattle.of_cells.specs.Numbers.{cell}

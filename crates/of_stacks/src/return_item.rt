@@ -1,4 +1,7 @@
 //! What the return stack holds.
+ghost use Rattle.std.specs.Prelude.{◌≡◌};
+ghost use Rattle.of_stacks.specs.Returns.{is_due};
+
 use of_cells::Cell;
 use of_stream::OffsetSize;
 
@@ -56,10 +59,10 @@ pub enum Input {
     },
     /// An image.
     Image {
-        /// The position of the next token.
-        position: usize,
         /// How many bytes an offset has there.
         size: OffsetSize,
+        /// The position of the next token.
+        position: usize,
     },
 }
 
@@ -125,6 +128,16 @@ pub enum ReturnItem {
     Source(Reading),
     /// What is due when a word has ended.
     Caller(Due),
+}
+
+impl ReturnItem {
+    /// Whether the item is worked off when the word above it has ended: a handler or a caller.
+    #[inline]
+    pub fn is_due(&self) -> bool
+        ensures { result ≡ is_due self.now }
+    {
+        matches!(self, ReturnItem::Handler(_) | ReturnItem::Caller(_))
+    }
 }
 
 impl Default for ReturnItem {

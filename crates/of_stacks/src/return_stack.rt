@@ -6,7 +6,7 @@ ghost use Rattle.of_stacks.specs.Loops.{open_loops, loop_on_top, index_of, goes_
 ghost use Rattle.of_stacks.specs.Unwinding.{latest_handler, beneath_handler, latest_source, beneath_source, unwound};
 
 use crate::data_stack::DataStack;
-use crate::loops::{open_loop, passes_limit};
+use crate::loops::{index_inside, passes_limit};
 use crate::return_item::{Continuation, ExceptionFrame, LoopParameters, Reading, ReturnItem};
 use crate::throws::Throw;
 use arrayvec::ArrayVec;
@@ -113,16 +113,6 @@ impl ReturnStack {
         }
     }
 
-    /// Puts an item in the place of the top one, which must be there.
-    #[inline(always)]
-    fn replace_top(&mut self, item: ReturnItem)
-        requires { 1 ≤ length self.old }
-        ensures { self.new ≡ item ∷ drop 1 self.old }
-    {
-        let last = self.items.len() - 1;
-        self.items[last] = item;
-    }
-
     /// Pushes a cell of the program, as `>r` does (Forth 2012, 6.1.0580).
     ///
     /// Throws -25 where a handler or a caller is the top item, then -5 where 256 items are there.
@@ -131,13 +121,8 @@ impl ReturnStack {
         ensures { Becomes (user_pushed x self.old) self.old self.new result }
     {
         match self.peek() {
-            Some(ReturnItem::Handler(_)) => Err(Throw::RETURN_STACK_IMBALANCE),
-            Some(ReturnItem::Caller(_)) => Err(Throw::RETURN_STACK_IMBALANCE),
-            Some(ReturnItem::Return(_)) => self.try_push(ReturnItem::User(x)),
-            Some(ReturnItem::Loop(_)) => self.try_push(ReturnItem::User(x)),
-            Some(ReturnItem::User(_)) => self.try_push(ReturnItem::User(x)),
-            Some(ReturnItem::Source(_)) => self.try_push(ReturnItem::User(x)),
-            None => self.try_push(ReturnItem::User(x)),
+            Some(item) if item.is_due() => Err(Throw::RETURN_STACK_IMBALANCE),
+            _ => self.try_push(ReturnItem::User(x)),
         }
     }
 
@@ -205,7 +190,7 @@ impl ReturnStack {
     {
         match self.peek() {
             Some(ReturnItem::Loop(found)) => Ok(found.index),
-            _ => self.index_inside(0),
+            _ => index_inside(self.items(), 0),
         }
     }
 
@@ -215,18 +200,7 @@ impl ReturnStack {
     pub fn outer_index(&self) -> Result<Cell, Throw>
         ensures { result ≡ index_of (slice_get (open_loops self.now) 1) }
     {
-        self.index_inside(1)
-    }
-
-    /// The index of the loop of the running word that so many other ones stand in.
-    #[inline]
-    fn index_inside(&self, inner: usize) -> Result<Cell, Throw>
-        ensures { result ≡ index_of (slice_get (open_loops self.now) inner) }
-    {
-        match open_loop(self.items(), inner) {
-            Some(found) => Ok(found.index),
-            None => Err(Throw::LOOP_UNAVAILABLE),
-        }
+        index_inside(self.items(), 1)
     }
 
     /// The loop on top, or -26 where the top item is none.
@@ -268,17 +242,25 @@ impl ReturnStack {
         ensures answer { result ≡ goes_on step self.old }
         ensures items { self.new ≡ turned step self.old }
     {
-        let current = self.top_loop()?;
-        if passes_limit(current.index, current.limit, step) {
-            let _ = self.pop();
-            return Ok(false);
+        let depth = self.items.len();
+        if depth == 0 {
+            return Err(Throw::LOOP_UNAVAILABLE);
         }
-        self.replace_top(ReturnItem::Loop(LoopParameters {
-            index: current.index.add(step),
-            limit: current.limit,
-            exit: current.exit,
-        }));
-        Ok(true)
+        match &mut self.items[depth - 1] {
+            ReturnItem::Loop(current) => {
+                if !passes_limit(current.index, current.limit, step) {
+                    current.index = current.index.add(step);
+                    return Ok(true);
+                }
+            }
+            ReturnItem::Return(_) => return Err(Throw::LOOP_UNAVAILABLE),
+            ReturnItem::User(_) => return Err(Throw::LOOP_UNAVAILABLE),
+            ReturnItem::Handler(_) => return Err(Throw::LOOP_UNAVAILABLE),
+            ReturnItem::Source(_) => return Err(Throw::LOOP_UNAVAILABLE),
+            ReturnItem::Caller(_) => return Err(Throw::LOOP_UNAVAILABLE),
+        }
+        let _ = self.pop();
+        Ok(false)
     }
 
     /// Takes the latest source with all items above it, as the end of an image or text does (IEEE

@@ -15,8 +15,8 @@ fn calls(kind: &str, count: u32) -> Option<u32> {
         "returns" => returns::returns(count).ok(),
         "loop" => returns::steps(count, 1).ok(),
         "+loop" => returns::steps(count, 3).ok(),
-        "i" => returns::indices(count).ok(),
-        "j" => returns::outer_indices(count).ok(),
+        "loop-i" => returns::indices(count).ok(),
+        "loop-j" => returns::outer_indices(count).ok(),
         "throw" => returns::throws(count).ok(),
         _ => None,
     }

@@ -99,13 +99,14 @@ fn index(stack: &ReturnStack) -> Result<Cell, Throw> {
     stack.index()
 }
 
-/// Reads the index of a loop.
+/// Turns a loop without end, and reads its index.
 pub fn indices(count: u32) -> Result<u32, Throw> {
     let mut stack = ReturnStack::new();
-    stack.try_push(loop_to(9))?;
+    stack.try_push(loop_to(0))?;
     let mut sum = 0u32;
-    for i in 0..count {
-        sum = sum.wrapping_add(index(&stack)?.0).wrapping_add(i);
+    for _ in 0..count {
+        turn_by_one(&mut stack)?;
+        sum = sum.wrapping_add(index(&stack)?.0);
     }
     Ok(sum)
 }
@@ -116,14 +117,15 @@ fn outer_index(stack: &ReturnStack) -> Result<Cell, Throw> {
     stack.outer_index()
 }
 
-/// Reads the index of the loop that another one stands in.
+/// Turns a loop without end, and reads the index of the one that it stands in.
 pub fn outer_indices(count: u32) -> Result<u32, Throw> {
     let mut stack = ReturnStack::new();
     stack.try_push(loop_to(9))?;
-    stack.try_push(loop_to(9))?;
+    stack.try_push(loop_to(0))?;
     let mut sum = 0u32;
-    for i in 0..count {
-        sum = sum.wrapping_add(outer_index(&stack)?.0).wrapping_add(i);
+    for _ in 0..count {
+        turn_by_one(&mut stack)?;
+        sum = sum.wrapping_add(outer_index(&stack)?.0);
     }
     Ok(sum)
 }
