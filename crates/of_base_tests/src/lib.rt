@@ -14,4 +14,8 @@ mod fcodes;
 #[cfg(test)]
 mod memory;
 #[cfg(test)]
+mod returns;
+#[cfg(test)]
 mod stacks;
+#[cfg(test)]
+mod tokens;

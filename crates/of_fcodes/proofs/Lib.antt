@@ -2,4 +2,5 @@
 -- WrittenLemmas: `written_words_are_found`.
 pub mod Agreement
 pub mod TableLemmas
+pub mod TokenLemmas
 pub mod WrittenLemmas

@@ -3,3 +3,4 @@ pub mod Lookup
 pub mod Words
 pub mod Numbers
 pub mod Finding
+pub mod Tokens

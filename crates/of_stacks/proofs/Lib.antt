@@ -2,3 +2,5 @@
 -- Order: the laws `first_fault_counts` and `order_is_written`.
 pub mod Order
 pub mod Reversed
+pub mod ReturnLemmas
+pub mod LimitLemmas

@@ -104,3 +104,7 @@ reverse_set_two xs ys n x e f h =
     rw (e, f, place, whole, length-set xs (length xs - 2) x)
     (ap reverse (take-set_at xs (length xs - 2) (length xs - 1) x next within)
     ∙ reverse-append (take (length xs - 2) xs) (x ∷ []) ∙ ap (λ zs. x ∷ zs) (reverse_take xs 2 h))
+
+-- one more at the end of the array is one more on top
+pub reverse_snoc : {X : Type 0} (xs : List X) (x : X) → reverse (xs ++ x ∷ []) ≡ x ∷ reverse xs
+reverse_snoc xs x = reverse-append xs (x ∷ [])

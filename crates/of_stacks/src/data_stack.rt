@@ -1,8 +1,9 @@
-ghost use Rattle.std.specs.Prelude.{◌+◌, IfOk, IfErr, OnOk, reverse, ◌≡◌, ◌<◌, ◌≤◌, List, [], ◌∷◌, length, drop, Ok};
-ghost use Rattle.std.specs.Prelude.{Err, Some, None};
+ghost use Rattle.std.specs.Prelude.{◌+◌, ◌++◌, replicate, IfOk, IfErr, OnOk, reverse, ◌≡◌, ◌<◌, ◌≤◌, List, [], ◌∷◌};
+ghost use Rattle.std.specs.Prelude.{length, drop, Ok, Err, Some, None};
 ghost use Rattle.std.specs.List.{slice_get, remove};
 ghost use Rattle.of_stacks.specs.Throws.{stack_underflow, stack_overflow};
 ghost use Rattle.of_stacks.specs.Stacks.{within, Becomes};
+ghost use Rattle.of_stacks.specs.Unwinding.{nought, to_depth};
 
 use crate::throws::Throw;
 use arrayvec::ArrayVec;
@@ -224,6 +225,31 @@ impl DataStack {
     {
         let depth = self.cells.len();
         self.cells.remove(depth - 1 - count)
+    }
+
+    /// Drops what lies above a depth, or fills the stack up to it with cells of 0.
+    pub fn cut_to(&mut self, depth: u8)
+        ensures cells { self.new ≡ to_depth depth self.old }
+        ensures room { length self.new < 256 }
+    {
+        let depth = usize::from(depth);
+        let now = self.depth();
+        if now < depth {
+            self.fill(depth - now);
+        } else {
+            self.drop_top(now - depth);
+        }
+    }
+
+    /// Pushes `count` cells of 0, for which there must be room.
+    fn fill(&mut self, count: usize)
+        requires { length self.old + count ≤ 256 }
+        ensures { self.new ≡ replicate count nought ++ self.old }
+    {
+        if count > 0 {
+            self.push(Cell::ZERO);
+            self.fill(count - 1);
+        }
     }
 
     /// Drops every cell.

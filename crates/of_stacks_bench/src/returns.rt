@@ -1,0 +1,158 @@
+use of_cells::Cell;
+use of_stacks::{
+    Continuation, DataStack, ExceptionFrame, LoopExit, LoopParameters, ReturnItem, ReturnStack,
+    Throw,
+};
+
+/// A loop up to a limit.
+fn loop_to(limit: u32) -> ReturnItem {
+    ReturnItem::Loop(LoopParameters {
+        index: Cell::ZERO,
+        limit: Cell(limit),
+        exit: LoopExit::Code(0),
+    })
+}
+
+/// `>r`, as a word calls it.
+#[inline(never)]
+fn put(x: Cell, stack: &mut ReturnStack) -> Result<(), Throw> {
+    stack.push_user(x)
+}
+
+/// `r>`, as a word calls it.
+#[inline(never)]
+fn take(stack: &mut ReturnStack) -> Result<Cell, Throw> {
+    stack.take_user()
+}
+
+/// Puts cells on the stack and takes them.
+pub fn cells(count: u32) -> Result<u32, Throw> {
+    let mut stack = ReturnStack::new();
+    let mut sum = 0u32;
+    for i in 0..count {
+        put(Cell(i), &mut stack)?;
+        sum = sum.wrapping_add(take(&mut stack)?.0);
+    }
+    Ok(sum)
+}
+
+/// The call of a definition.
+#[inline(never)]
+fn enter(place: u32, stack: &mut ReturnStack) -> Result<(), Throw> {
+    stack.try_push(ReturnItem::Return(Continuation::Code(place)))
+}
+
+/// `exit`, as a word calls it.
+#[inline(never)]
+fn leave(stack: &mut ReturnStack) -> Result<u32, Throw> {
+    match stack.take_return()? {
+        Continuation::Code(place) => Ok(place),
+        Continuation::Source => Ok(0),
+    }
+}
+
+/// Enters definitions and leaves them.
+pub fn returns(count: u32) -> Result<u32, Throw> {
+    let mut stack = ReturnStack::new();
+    let mut sum = 0u32;
+    for i in 0..count {
+        enter(i, &mut stack)?;
+        sum = sum.wrapping_add(leave(&mut stack)?);
+    }
+    Ok(sum)
+}
+
+/// `loop` or `+loop`, as a word calls it.
+#[inline(never)]
+fn turn(step: Cell, stack: &mut ReturnStack) -> Result<bool, Throw> {
+    stack.turn_loop(step)
+}
+
+/// `loop`, as a word calls it.
+#[inline(never)]
+fn turn_by_one(stack: &mut ReturnStack) -> Result<bool, Throw> {
+    stack.turn_loop(Cell::ONE)
+}
+
+/// Turns a loop without end.
+pub fn steps(count: u32, step: u32) -> Result<u32, Throw> {
+    let mut stack = ReturnStack::new();
+    stack.try_push(loop_to(0))?;
+    let mut ended = 0u32;
+    for _ in 0..count {
+        let goes_on = if step == 1 {
+            turn_by_one(&mut stack)?
+        } else {
+            turn(Cell(step), &mut stack)?
+        };
+        if !goes_on {
+            stack.try_push(loop_to(0))?;
+            ended = ended.wrapping_add(1);
+        }
+    }
+    Ok(ended)
+}
+
+/// `i`, as a word calls it.
+#[inline(never)]
+fn index(stack: &ReturnStack) -> Result<Cell, Throw> {
+    stack.index()
+}
+
+/// Turns a loop without end, and reads its index.
+pub fn indices(count: u32) -> Result<u32, Throw> {
+    let mut stack = ReturnStack::new();
+    stack.try_push(loop_to(0))?;
+    let mut sum = 0u32;
+    for _ in 0..count {
+        turn_by_one(&mut stack)?;
+        sum = sum.wrapping_add(index(&stack)?.0);
+    }
+    Ok(sum)
+}
+
+/// `j`, as a word calls it.
+#[inline(never)]
+fn outer_index(stack: &ReturnStack) -> Result<Cell, Throw> {
+    stack.outer_index()
+}
+
+/// Turns a loop without end, and reads the index of the one that it stands in.
+pub fn outer_indices(count: u32) -> Result<u32, Throw> {
+    let mut stack = ReturnStack::new();
+    stack.try_push(loop_to(9))?;
+    stack.try_push(loop_to(0))?;
+    let mut sum = 0u32;
+    for _ in 0..count {
+        turn_by_one(&mut stack)?;
+        sum = sum.wrapping_add(outer_index(&stack)?.0);
+    }
+    Ok(sum)
+}
+
+/// `catch` of a word that throws.
+#[inline(never)]
+fn catch(thrown: Throw, stack: &mut ReturnStack, cells: &mut DataStack) -> Result<u32, Throw> {
+    stack.try_push(ReturnItem::Handler(ExceptionFrame {
+        depth: 2,
+        my_self: Cell::ZERO,
+        opened: None,
+        resume: Continuation::Code(1),
+    }))?;
+    stack.try_push(ReturnItem::Return(Continuation::Code(1)))?;
+    match stack.unwind(thrown, cells) {
+        Some(frame) => Ok(u32::from(frame.depth)),
+        None => Ok(0),
+    }
+}
+
+/// Throws and catches.
+pub fn throws(count: u32) -> Result<u32, Throw> {
+    let mut stack = ReturnStack::new();
+    let mut cells = DataStack::new();
+    let mut sum = 0u32;
+    for _ in 0..count {
+        sum = sum.wrapping_add(catch(Throw::ABORT, &mut stack, &mut cells)?);
+    }
+    Ok(sum)
+}
