@@ -5,6 +5,7 @@ use of_dict::{
     CAPACITY, Dict, DictFault, Kind, OwnWord, Slot, changes_are_found, names_are_listed_once,
     newest_is_found,
 };
+use std::alloc::{AllocError, Global};
 use std::test::Fail;
 
 /// A word that no line looks at closer.
@@ -117,19 +118,19 @@ fn answer(dict: &mut Dict, line: &str) -> i64 {
     call(dict, name, text, text.parse().unwrap_or(0))
 }
 
-/// Whether the names that are listed are those that a line ends with.
-fn lists(dict: &Dict, line: &str) -> bool {
-    let mut names = line.split_whitespace().skip(3);
-    let mut number = dict.made() as u32;
-    while number > 0 {
-        number -= 1;
-        if let Some(name) = dict.listed(OwnWord(number)) {
-            if names.next().unwrap_or("").as_bytes() != name {
-                return false;
-            }
+/// The names that are listed, newest place first, with a space before each, and how many there are.
+fn listing(alloc: Global, dict: &Dict) -> Result<(Vec<u8>, usize), AllocError> {
+    let mut text = Vec::new(alloc);
+    let mut count = 0usize;
+    for number in 0..dict.made() as u32 {
+        let word = OwnWord(dict.made() as u32 - 1 - number);
+        if let Some(name) = dict.listed(word) {
+            text.push(b' ')?;
+            text.extend_from_slice(name)?;
+            count = count.saturating_add(1);
         }
     }
-    names.next().is_none()
+    Ok((text, count))
 }
 
 #[test]
@@ -139,7 +140,9 @@ fn calls(rt: HostRuntime) -> Result<(), Fail> {
         let given = answer(&mut dict, line);
         let wanted: i64 = line.split_whitespace().nth(2).unwrap_or("").parse()?;
         assert_eq!(rt; given, wanted, "{line}");
-        assert!(rt; lists(&dict, line), "{line}");
+        let (names, count) = listing(rt.alloc(), &dict)?;
+        assert!(rt; line.as_bytes().ends_with(&names), "{line}");
+        assert_eq!(rt; line.split_whitespace().skip(3).count(), count, "{line}");
     }
     Ok(())
 }

@@ -49,11 +49,11 @@ abbrev pub is_named : List ℕ → Option (List ℕ) → Bool
 is_named key None = false
 is_named key (Some name) = pointwise nat_eq (lower name) key
 
--- whether a word has a name, whatever the case of ASCII letters
+-- whether the word of a number has the name that is this one in lower case
 abbrev pub has_key : List (Option Word) → List ℕ → ℕ → Bool
 has_key words key n = is_named key (name_in (word_at words n))
 
--- whether a word has a name and isn't hidden
+-- whether the word of a number has a name, whatever the case of ASCII letters, and isn't hidden
 abbrev pub bears : List (Option Word) → List ℕ → ℕ → Bool
 bears words name n = has_key words (lower name) n && not (is_hidden_in (word_at words n))
 
@@ -70,8 +70,8 @@ found words name = newest_below (bears words name) (length words)
 abbrev pub spelling : List (Option Word) → ℕ → Option (List ℕ) → Option (List ℕ)
 spelling words n None = None
 spelling words n (Some name) =
-    if is_some (newest_below (bears words name) n) then None else option_and_then (λ m. name_in
-    (word_at words m)) (found words name)
+    if is_some (newest_below (bears words name) n) then None
+    else option_and_then (λ m. name_in (word_at words m)) (found words name)
 
 -- what `words` prints in the place of a number: nothing for a word that is hidden or has no name
 abbrev pub listed : List (Option Word) → ℕ → Option (List ℕ)

@@ -1,4 +1,4 @@
-ghost use Rattle.std.specs.Prelude.{◌≡◌, ◌<◌, ◌≤◌, [], length, option_copied, OnSome, IfSome, OnOk};
+ghost use Rattle.std.specs.Prelude.{◌≡◌, ◌<◌, ◌≤◌, [], length, option_copied, IfSome, IfOk};
 ghost use Rattle.std.specs.Prelude.{Option, Some, None, true, false};
 ghost use Rattle.std.specs.Prelude.{nat_eq, if◌then◌else◌, slice_set, IsSome, is_some, ℕ};
 ghost use Rattle.std.specs.Option.{option_map};
@@ -91,7 +91,8 @@ impl Dict {
 
     /// The newest word that still exists.
     pub fn newest(&self) -> Option<OwnWord>
-        ensures { option_map (λ word. word.0) result ≡ newest self.now }
+        ensures newest { option_map (λ word. word.0) result ≡ newest self.now }
+        ensures fits { IfSome result (λ word. word.0 < capacity) }
     {
         let mut number = self.words.len();
         while number > 0 {
@@ -109,7 +110,8 @@ impl Dict {
     /// `Full` comes where 8,192 words were made, then `EmptyName`, then `LongName`; `NoMemory` may
     /// stand in place of any. A refused word leaves nothing behind.
     pub fn add(&mut self, name: Option<&[u8]>, kind: Kind) -> Result<OwnWord, DictFault>
-        ensures { Adds result self.old self.new (option_copied name.entry) kind }
+        ensures added { Adds result self.old self.new (option_copied name.entry) kind }
+        ensures fits { IfOk result (λ word. word.0 < capacity) }
     {
         if self.words.len() >= CAPACITY {
             return Err(DictFault::Full);
@@ -122,7 +124,8 @@ impl Dict {
 
     fn add_nameless(&mut self, kind: Kind) -> Result<OwnWord, DictFault>
         requires { length self.old < capacity }
-        ensures { Adds result self.old self.new None kind }
+        ensures added { Adds result self.old self.new None kind }
+        ensures fits { IfOk result (λ word. word.0 < capacity) }
     {
         let number = self.words.len() as u32;
         self.words.reserve(1)?;
@@ -139,7 +142,8 @@ impl Dict {
 
     fn add_named(&mut self, name: &[u8], kind: Kind) -> Result<OwnWord, DictFault>
         requires { length self.old < capacity }
-        ensures { Adds result self.old self.new (Some name.now) kind }
+        ensures added { Adds result self.old self.new (Some name.now) kind }
+        ensures fits { IfOk result (λ word. word.0 < capacity) }
     {
         if name.is_empty() {
             return Err(DictFault::EmptyName);
@@ -209,7 +213,8 @@ impl Dict {
     /// The newest word of a name that isn't hidden, whatever the case of ASCII letters (Forth
     /// 2012, 3.4.2).
     pub fn find(&self, name: &[u8]) -> Option<OwnWord>
-        ensures { option_map (λ word. word.0) result ≡ found self.now name.now }
+        ensures found { option_map (λ word. word.0) result ≡ found self.now name.now }
+        ensures fits { IfSome result (λ word. word.0 < capacity) }
     {
         self.visible_from(self.newest_named(name))
     }
@@ -228,7 +233,8 @@ impl Dict {
     /// The first word that isn't hidden, from one on to the older ones of its name.
     fn visible_from(&self, newest: Option<u32>) -> Option<OwnWord>
         requires { IsNamed self.now newest }
-        ensures { option_map (λ word. word.0) result ≡ visible_from self.now newest }
+        ensures value { option_map (λ word. word.0) result ≡ visible_from self.now newest }
+        ensures fits { IfSome result (λ word. word.0 < capacity) }
     {
         let mut at = newest;
         while let Some(number) = at {

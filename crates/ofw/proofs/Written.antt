@@ -39,6 +39,7 @@ none_written a b c bs more n e p q =
 pub part_said : {A E : Type 0} (said : Result A E) (due : Option ℕ) (a b : Option (List ℕ)) (text : ℕ → List ℕ)
     → OnOk said (IfSome due (λ n. Appends a b (text n))) → OnErr said (IfSome due (λ n. AppendsPart a b (text n)))
     → IfSome due (λ n. AppendsPart a b (text n))
-part_said (Ok _) (Some n) a b text whole part = (length (text n), subst (Appends a b) (sym (take-length (text n))) whole)
+part_said (Ok _) (Some n) a b text whole part =
+    (length (text n), subst (Appends a b) (sym (take-length (text n))) whole)
 part_said (Ok _) None a b text whole part = whole
 part_said (Err _) due a b text whole part = part

@@ -9,7 +9,7 @@ visible_from-requires c =
     rw c.newest_named.ensures (found_is_named c.args.self.now (lower c.args.name.now) (length c.args.self.now)
     (omega arith))
 
-pub returns : goal.returns
-returns c =
-    c.visible_from.ensures ∙ ap (visible_from c.args.self.now) c.newest_named.ensures
+pub returns-clause-found : goal.returns-clause-found
+returns-clause-found c =
+    c.visible_from.ensures.value ∙ ap (visible_from c.args.self.now) c.newest_named.ensures
     ∙ sym (found-entered c.args.self.now c.args.name.now)

@@ -35,4 +35,4 @@ returns c =
     (arith, within, indexed.links)) c.index.ensures None in
     let borne = borne_before words c.self.inside.older.items _ c.args.word.0 c.args.name.now indexed c.requires in
     c.is_some.ensures ∙ sym (number_is_some c.visible_from.result)
-    ∙ ap is_some (c.visible_from.ensures ∙ ap (visible_from words) link ∙ sym borne)
+    ∙ ap is_some (c.visible_from.ensures.value ∙ ap (visible_from words) link ∙ sym borne)
