@@ -180,11 +180,13 @@ fn faults_of(alloc: Global, faults: &str) -> Result<Vec<Option<Throw>>, Fail> {
 
 /// The fault of a list that counts, two by two.
 fn first_of(faults: &[Option<Throw>]) -> Option<Throw> {
-    faults.iter().fold(None, |first, fault| match (first, *fault) {
-        (Some(first), Some(fault)) => Some(first.first_of(fault)),
-        (first, None) => first,
-        (None, fault) => fault,
-    })
+    faults
+        .iter()
+        .fold(None, |first, fault| match (first, *fault) {
+            (Some(first), Some(fault)) => Some(first.first_of(fault)),
+            (first, None) => first,
+            (None, fault) => fault,
+        })
 }
 
 #[test]

@@ -139,7 +139,7 @@ seen m d c (Counted q b l r) n w =
     let e = n + suc (suc (size (tree b))) in
     let xs = slots (tree b) (suc n) in
     let inner = each-map (IsSeen 0 false) (IsSeen m c) (λ x. x) xs (seen-shut m c)
-        (seen 0 true false b (suc n) w.0) in (
+    (seen 0 true false b (suc n) w.0) in (
       tt,
       each-append (IsSeen m c) (map (λ x. x) xs ++ (Again l ∷ [])) (slots (tree r) e)
           (each-append (IsSeen m c) (map (λ x. x) xs) (Again l ∷ []) inner (tt, tt)) (seen m d c r e w.1),

@@ -41,7 +41,7 @@ placed_within n h =
     let fits : length rows ≤ 256 = omega (arith, length-rows) in
     let found = place_found 577 0 0 rows rows fits refl numbers_rise n h in
     let index : slice_index PLACES n ≡ get_or (places_from 0 0 rows 577) n 256 =
-        index-get_or PLACES n long ∙ ap (λ ps. get_or ps n 256) places_are in
+    index-get_or PLACES n long ∙ ap (λ ps. get_or ps n 256) places_are in
     let whole : 0 + n ≡ n = omega arith in
     ap (slice_get rows) index ∙ found ∙ ap (row_in rows) whole
 

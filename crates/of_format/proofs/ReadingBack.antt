@@ -40,7 +40,7 @@ last_digit : (base n m : ℕ) (xs : List ℕ) → 2 ≤ base → base ≤ 36 →
     → with_digits base (Some 0) (xs ++ digit_char (n % base) ∷ []) ≡ Some n
 last_digit base n m xs low high e q =
     let d : digit_value base (digit_char (n % base)) ≡ Some (n % base) =
-        digit_back base (n % base) (omega arith) high in
+    digit_back base (n % base) (omega arith) high in
     let back : base * (n / base) + n % base ≡ n = div-add-mod n base in
     rw (with_digits-append base (Some 0) xs (digit_char (n % base) ∷ []), e, d, q) (ap Some (omega arith))
 
@@ -68,7 +68,7 @@ digits_back (suc more) base n low high l =
           let twice : 2 ^ suc (suc more) ≡ 2 * 2 ^ suc more = pow-succ' 2 (suc more) in
           let less : n / base < 2 ^ suc more = quotient_small base n (2 ^ suc more) low (omega arith) in
           rw test (last_digit base n (n / base) (digits more base (n / base)) low high
-              (digits_back more base (n / base) low high less) refl)
+          (digits_back more base (n / base) low high less) refl)
     ]
 
 digits_some : (more base n : ℕ) → 0 < length (digits more base n)
@@ -138,7 +138,7 @@ signed_back base x low high l =
           let is : signed x ≡ negsuc (n - 1) = rw test (ap negsuc (omega arith)) in
           let next : n - 1 + 1 ≡ n = omega arith in
           rw (is, next) (negative_is_read base n x (digits 31 base n) (digits_some 31 base n)
-              (digits_back 31 base n low high (omega arith)) (omega arith) (omega arith) (omega arith))
+          (digits_back 31 base n low high (omega arith)) (omega arith) (omega arith) (omega arith))
     ]
 
 pub texts_read_back : ReadsBack

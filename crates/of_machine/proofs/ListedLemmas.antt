@@ -182,7 +182,7 @@ arguments law (Literal x) w end at on m =
     moves m (literal_entry x on m.stack) (pushes on (nat_lt 256 (length (x ∷ m.stack))) (x ∷ m.stack))
 arguments law (Offset by) w end at on m =
     moves m (offset_entry (stream_of w) on (landing end at by) m.stack)
-        (offsets (stream_of w) on (landing end at by) m.stack)
+    (offsets (stream_of w) on (landing end at by) m.stack)
 arguments law (String s) w end at on m = refl
 arguments law (Code c) w end at on m = refl
 arguments law (Named s c) w end at on m = refl

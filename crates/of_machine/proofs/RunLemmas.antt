@@ -61,6 +61,8 @@ pub run_goes_on : (n : ℕ) (f : Feed) (m new : State) → feed_from m ≡ after
 unfolding after next
 run_goes_on n f m new e counted moved =
     let runs : is_some m.running ≡ true = and_left (is_some m.running) (nat_lt m.steps (2 ^ 64 - 1)) moved.0 in
-    let can : can_step (feed_from m).machine ≡ true = moved.0 in
-    (rw (add-one, ← e, can) (ap feed_from moved.1), ap (λ (t : State). t.steps) moved.1 ∙ steps-stepped m runs
-        ∙ ap (λ k. k + 1) counted)
+    let can : can_step (feed_from m).machine ≡ true = moved.0 in (
+      rw (add-one, ← e, can) (ap feed_from moved.1),
+      ap (λ (t : State). t.steps) moved.1 ∙ steps-stepped m runs
+          ∙ ap (λ k. k + 1) counted,
+    )

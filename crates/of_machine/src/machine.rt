@@ -60,14 +60,10 @@ impl Model for Machine {
 /// stack, prints its text and ends the image. A refusal changes nothing.
 #[inline]
 fn take_token(running: &mut Running, parts: &mut Parts) -> Result<bool, AllocError>
-    ensures ok {
-        IfOk result (λ goes. Settles (image_bytes parts.old.memory running.old.begin running.old.size) running.old
-            running.new parts.old parts.new goes)
-    }
-    ensures grows {
-        OnErr result (MayGrowAt (image_bytes parts.old.memory running.old.begin running.old.size) running.old.source
-            parts.old)
-    }
+    ensures ok { IfOk result (λ goes. Settles (image_bytes parts.old.memory running.old.begin running.old.size)
+        running.old running.new parts.old parts.new goes) }
+    ensures grows { OnErr result (MayGrowAt (image_bytes parts.old.memory running.old.begin running.old.size)
+        running.old.source parts.old) }
     ensures parts { OnErr result (parts.new ≡ parts.old) }
     ensures running { OnErr result (running.new ≡ running.old) }
 {
@@ -173,9 +169,8 @@ impl Machine {
     /// be read, NoNode where the path is another than `/slot`, and ImageTooLong where the image
     /// region has no room left. A refusal changes nothing.
     pub fn load(&mut self, image: &[u8], path: &str) -> Result<(), Refusal>
-        ensures ok {
-            OnOk result ((load_refusal self.old image.now path.now ≡ None) × (self.new ≡ loaded self.old image.now))
-        }
+        ensures ok { OnOk result ((load_refusal self.old image.now path.now ≡ None)
+            × (self.new ≡ loaded self.old image.now)) }
         ensures err { IfErr result (λ e. load_refusal self.old image.now path.now ≡ Some e) }
         ensures unchanged { OnErr result (self.new ≡ self.old) }
     {

@@ -55,9 +55,8 @@ pub fn run_printing_word(word: PrintingWord, parts: &mut Parts) -> Result<(), St
 
 /// `.` and `u.` ( x -- ) print the number and a space; -24 where there is no base
 fn print_number(signs: Signs, parts: &mut Parts) -> Result<(), Stop>
-    ensures {
-        Makes true (number_entry signs (base_in parts.old.memory) parts.old.stack parts.old) parts.old parts.new result
-    }
+    ensures { Makes true (number_entry signs (base_in parts.old.memory) parts.old.stack parts.old) parts.old parts.new
+        result }
 {
     let x = parts.stack.peek()?;
     let text = signs.digits(x, base(&parts.memory)?);
@@ -68,9 +67,8 @@ fn print_number(signs: Signs, parts: &mut Parts) -> Result<(), Stop>
 
 /// `.r` and `u.r` ( x width -- ) print the number at the right of a width; -24 where there is no base
 fn print_at_right(signs: Signs, parts: &mut Parts) -> Result<(), Stop>
-    ensures {
-        Makes true (right_entry signs (base_in parts.old.memory) parts.old.stack parts.old) parts.old parts.new result
-    }
+    ensures { Makes true (right_entry signs (base_in parts.old.memory) parts.old.stack parts.old) parts.old parts.new
+        result }
 {
     let (x, width) = parts.stack.top_two()?;
     let text = signs.digits(x, base(&parts.memory)?);
@@ -82,9 +80,8 @@ fn print_at_right(signs: Signs, parts: &mut Parts) -> Result<(), Stop>
 
 /// `.s` ( -- ) prints all cells, the bottom first; -24 where there are some and no base
 fn print_stack(parts: &mut Parts) -> Result<(), Stop>
-    ensures {
-        Makes true (dot_stack_entry (base_in parts.old.memory) parts.old.stack parts.old) parts.old parts.new result
-    }
+    ensures { Makes true (dot_stack_entry (base_in parts.old.memory) parts.old.stack parts.old) parts.old parts.new
+        result }
 {
     if parts.stack.depth() == 0 {
         return Ok(());

@@ -227,11 +227,9 @@ pub fn run_token(
     source: &mut Source,
     parts: &mut Parts,
 ) -> Result<bool, Stop>
-    ensures {
-        GoesOn (source_grows (image_bytes parts.old.memory begin size) source.old)
-            (source_entry (image_bytes parts.old.memory begin size) source.old parts.old) parts.old parts.new
-            source.new result
-    }
+    ensures { GoesOn (source_grows (image_bytes parts.old.memory begin size) source.old)
+        (source_entry (image_bytes parts.old.memory begin size) source.old parts.old) parts.old parts.new
+        source.new result }
 {
     let at = source.position;
     let image = bytes_of(&parts.memory, begin, size);

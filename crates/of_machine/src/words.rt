@@ -12,9 +12,8 @@ use of_stacks::Throw;
 /// Runs a word over the data stack, the data space and the pictured text.
 #[inline]
 fn run_primitive(word: PrimitiveWord, parts: &mut Parts) -> Result<(), Stop>
-    ensures {
-        Makes (grows (Word.Primitive word)) (word_entry (Word.Primitive word) parts.old) parts.old parts.new result
-    }
+    ensures { Makes (grows (Word.Primitive word)) (word_entry (Word.Primitive word) parts.old) parts.old parts.new
+        result }
 {
     prim(
         word,

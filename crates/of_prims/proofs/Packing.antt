@@ -38,7 +38,7 @@ packed parts places stay joins m m1 m2 from n a to r1 r2 sound can may short to_
     let writes : bytes_written m1 a (n ∷ []) ≡ Ok (written m1 a (n ∷ [])) =
     rw (e1, stay.writes m (a + 1) a 1 ys One, parts.byte_writes m a n may) refl in
     let e2 : m2 ≡ written m1 a (n ∷ []) =
-        made (written m1 a (n ∷ [])) m2 m1 r2 (bytes_written m1 a (n ∷ [])) writes second in
+    made (written m1 a (n ∷ [])) m2 m1 r2 (bytes_written m1 a (n ∷ [])) writes second in
     let part : read_fault m (a + 0) (1 + length ys) One ≡ None =
     parts.part_reads m a (n + 1) 0 (1 + length ys) One One reads (omega arith) (omega arith) in
     let whole : read_fault m a (1 + length ys) One ≡ None = rw (add-zero a) at part in

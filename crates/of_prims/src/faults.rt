@@ -32,10 +32,8 @@ pub fn throw_of(fault: MemFault) -> Throw
 
 /// The bytes of a range that can be read, or the throw of a range that can't.
 pub fn slice(memory: &Memory, addr: Cell, len: Cell) -> Result<&[u8], Throw>
-    ensures ok {
-        IfOk result (λ s. (read_fault memory.now addr.0 len.0 Width.One ≡ None)
-            × (s.now ≡ bytes_from memory.now addr.0 len.0))
-    }
+    ensures ok { IfOk result (λ s. (read_fault memory.now addr.0 len.0 Width.One ≡ None)
+        × (s.now ≡ bytes_from memory.now addr.0 len.0)) }
     ensures short { IfOk result (λ s. length s.now ≤ len.0) }
     ensures err { IfErr result (λ t. fault_of (read_fault memory.now addr.0 len.0 Width.One) ≡ Some t) }
 {

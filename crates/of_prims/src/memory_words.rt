@@ -13,10 +13,8 @@ use of_stacks::{DataStack, Throw};
 #[tactic(auto, unfolding(crate::specs::Memory::memory_entry))]
 #[inline(always)]
 pub fn fetch(stack: &mut DataStack, memory: &Memory) -> Result<(), Throw>
-    ensures {
-        Becomes (memory_entry MemoryWord.Fetch stack.old memory.now)
-            (stack.old, memory.now) (stack.new, memory.now) result
-    }
+    ensures { Becomes (memory_entry MemoryWord.Fetch stack.old memory.now)
+        (stack.old, memory.now) (stack.new, memory.now) result }
 {
     let a = stack.peek()?;
     let x = thrown(memory.read32(a))?;
@@ -28,10 +26,8 @@ pub fn fetch(stack: &mut DataStack, memory: &Memory) -> Result<(), Throw>
 #[tactic(auto, unfolding(crate::specs::Memory::memory_entry))]
 #[inline(always)]
 pub fn fetch_byte(stack: &mut DataStack, memory: &Memory) -> Result<(), Throw>
-    ensures {
-        Becomes (memory_entry MemoryWord.FetchByte stack.old memory.now)
-            (stack.old, memory.now) (stack.new, memory.now) result
-    }
+    ensures { Becomes (memory_entry MemoryWord.FetchByte stack.old memory.now)
+        (stack.old, memory.now) (stack.new, memory.now) result }
 {
     let a = stack.peek()?;
     let x = thrown(memory.read8(a))?;
@@ -43,10 +39,8 @@ pub fn fetch_byte(stack: &mut DataStack, memory: &Memory) -> Result<(), Throw>
 #[tactic(auto, unfolding(crate::specs::Memory::memory_entry))]
 #[inline(always)]
 pub fn store(stack: &mut DataStack, memory: &mut Memory) -> Result<(), Throw>
-    ensures {
-        Becomes (memory_entry MemoryWord.Store stack.old memory.old)
-            (stack.old, memory.old) (stack.new, memory.new) result
-    }
+    ensures { Becomes (memory_entry MemoryWord.Store stack.old memory.old)
+        (stack.old, memory.old) (stack.new, memory.new) result }
 {
     let (x, a) = stack.top_two()?;
     thrown(memory.write32(a, x))?;
@@ -58,10 +52,8 @@ pub fn store(stack: &mut DataStack, memory: &mut Memory) -> Result<(), Throw>
 #[tactic(auto, unfolding(crate::specs::Memory::memory_entry))]
 #[inline(always)]
 pub fn store_byte(stack: &mut DataStack, memory: &mut Memory) -> Result<(), Throw>
-    ensures {
-        Becomes (memory_entry MemoryWord.StoreByte stack.old memory.old)
-            (stack.old, memory.old) (stack.new, memory.new) result
-    }
+    ensures { Becomes (memory_entry MemoryWord.StoreByte stack.old memory.old)
+        (stack.old, memory.old) (stack.new, memory.new) result }
 {
     let (x, a) = stack.top_two()?;
     thrown(memory.write8(a, x.low_byte().0 as u8))?;
@@ -73,10 +65,8 @@ pub fn store_byte(stack: &mut DataStack, memory: &mut Memory) -> Result<(), Thro
 #[tactic(auto, unfolding(crate::specs::Memory::memory_entry))]
 #[inline]
 fn fetch_half(stack: &mut DataStack, memory: &Memory) -> Result<(), Throw>
-    ensures {
-        Becomes (memory_entry MemoryWord.FetchWord stack.old memory.now)
-            (stack.old, memory.now) (stack.new, memory.now) result
-    }
+    ensures { Becomes (memory_entry MemoryWord.FetchWord stack.old memory.now)
+        (stack.old, memory.now) (stack.new, memory.now) result }
 {
     let a = stack.peek()?;
     let x = thrown(memory.read16(a))?;
@@ -88,10 +78,8 @@ fn fetch_half(stack: &mut DataStack, memory: &Memory) -> Result<(), Throw>
 #[tactic(auto, unfolding(crate::specs::Memory::memory_entry))]
 #[inline]
 fn fetch_signed_half(stack: &mut DataStack, memory: &Memory) -> Result<(), Throw>
-    ensures {
-        Becomes (memory_entry MemoryWord.FetchSignedWord stack.old memory.now)
-            (stack.old, memory.now) (stack.new, memory.now) result
-    }
+    ensures { Becomes (memory_entry MemoryWord.FetchSignedWord stack.old memory.now)
+        (stack.old, memory.now) (stack.new, memory.now) result }
 {
     let a = stack.peek()?;
     let half = thrown(memory.read16(a))?;
@@ -147,10 +135,8 @@ fn order_of(first: &[u8], second: &[u8]) -> Cell
 #[tactic(auto, unfolding(crate::specs::Memory::memory_entry))]
 #[inline(never)]
 fn add_to_cell(stack: &mut DataStack, memory: &mut Memory) -> Result<(), Throw>
-    ensures {
-        Becomes (memory_entry MemoryWord.PlusStore stack.old memory.old)
-            (stack.old, memory.old) (stack.new, memory.new) result
-    }
+    ensures { Becomes (memory_entry MemoryWord.PlusStore stack.old memory.old)
+        (stack.old, memory.old) (stack.new, memory.new) result }
 {
     parts_are_good();
     let (n, a) = stack.top_two()?;
@@ -164,10 +150,8 @@ fn add_to_cell(stack: &mut DataStack, memory: &mut Memory) -> Result<(), Throw>
 /// ( x a -- ) the low 16 bits go to the address.
 #[tactic(auto, unfolding(crate::specs::Memory::memory_entry))]
 fn store_half(stack: &mut DataStack, memory: &mut Memory) -> Result<(), Throw>
-    ensures {
-        Becomes (memory_entry MemoryWord.StoreWord stack.old memory.old)
-            (stack.old, memory.old) (stack.new, memory.new) result
-    }
+    ensures { Becomes (memory_entry MemoryWord.StoreWord stack.old memory.old)
+        (stack.old, memory.old) (stack.new, memory.new) result }
 {
     let (x, a) = stack.top_two()?;
     thrown(memory.write16(a, x.low_half().0 as u16))?;
@@ -176,17 +160,11 @@ fn store_half(stack: &mut DataStack, memory: &mut Memory) -> Result<(), Throw>
 }
 
 /// ( a -- x y ) the cell at the address on top, and that behind it.
-#[tactic(
-    auto,
-    using(crate::proofs::Counting::some_counts, crate::proofs::Counting::full_counts),
-    unfolding(crate::specs::Memory::memory_entry)
-)]
+#[tactic(auto, using(crate::proofs::Counting::some_counts, crate::proofs::Counting::full_counts), unfolding(crate::specs::Memory::memory_entry))]
 #[inline(never)]
 fn fetch_two(stack: &mut DataStack, memory: &Memory) -> Result<(), Throw>
-    ensures {
-        Becomes (memory_entry MemoryWord.FetchTwo stack.old memory.now)
-            (stack.old, memory.now) (stack.new, memory.now) result
-    }
+    ensures { Becomes (memory_entry MemoryWord.FetchTwo stack.old memory.now)
+        (stack.old, memory.now) (stack.new, memory.now) result }
 {
     parts_are_good();
     let a = stack.peek()?;
@@ -203,10 +181,8 @@ fn fetch_two(stack: &mut DataStack, memory: &Memory) -> Result<(), Throw>
 #[tactic(auto, unfolding(crate::specs::Memory::memory_entry))]
 #[inline(never)]
 fn store_two(stack: &mut DataStack, memory: &mut Memory) -> Result<(), Throw>
-    ensures {
-        Becomes (memory_entry MemoryWord.StoreTwo stack.old memory.old)
-            (stack.old, memory.old) (stack.new, memory.new) result
-    }
+    ensures { Becomes (memory_entry MemoryWord.StoreTwo stack.old memory.old)
+        (stack.old, memory.old) (stack.new, memory.new) result }
 {
     parts_are_good();
     let (x, y, a) = stack.top_three()?;
@@ -221,10 +197,8 @@ fn store_two(stack: &mut DataStack, memory: &mut Memory) -> Result<(), Throw>
 #[tactic(auto, unfolding(crate::specs::Memory::memory_entry))]
 #[inline(never)]
 fn move_bytes(stack: &mut DataStack, memory: &mut Memory) -> Result<(), Throw>
-    ensures {
-        Becomes (memory_entry MemoryWord.Move stack.old memory.old)
-            (stack.old, memory.old) (stack.new, memory.new) result
-    }
+    ensures { Becomes (memory_entry MemoryWord.Move stack.old memory.old)
+        (stack.old, memory.old) (stack.new, memory.new) result }
 {
     let (from, to, n) = stack.top_three()?;
     thrown(memory.copy(from, to, n))?;
@@ -236,10 +210,8 @@ fn move_bytes(stack: &mut DataStack, memory: &mut Memory) -> Result<(), Throw>
 #[tactic(auto, unfolding(crate::specs::Memory::memory_entry))]
 #[inline(never)]
 fn fill_bytes(stack: &mut DataStack, memory: &mut Memory) -> Result<(), Throw>
-    ensures {
-        Becomes (memory_entry MemoryWord.Fill stack.old memory.old)
-            (stack.old, memory.old) (stack.new, memory.new) result
-    }
+    ensures { Becomes (memory_entry MemoryWord.Fill stack.old memory.old)
+        (stack.old, memory.old) (stack.new, memory.new) result }
 {
     let (a, n, x) = stack.top_three()?;
     thrown(memory.fill(a, n, x.low_byte().0 as u8))?;
@@ -251,10 +223,8 @@ fn fill_bytes(stack: &mut DataStack, memory: &mut Memory) -> Result<(), Throw>
 #[tactic(auto, unfolding(crate::specs::Memory::memory_entry))]
 #[inline(never)]
 fn compare_bytes(stack: &mut DataStack, memory: &Memory) -> Result<(), Throw>
-    ensures {
-        Becomes (memory_entry MemoryWord.Compare stack.old memory.now)
-            (stack.old, memory.now) (stack.new, memory.now) result
-    }
+    ensures { Becomes (memory_entry MemoryWord.Compare stack.old memory.now)
+        (stack.old, memory.now) (stack.new, memory.now) result }
 {
     let (a, b, n) = stack.top_three()?;
     let first = slice(memory, a, n)?;
@@ -269,10 +239,8 @@ fn compare_bytes(stack: &mut DataStack, memory: &Memory) -> Result<(), Throw>
 #[tactic(auto, unfolding(crate::specs::Memory::memory_entry))]
 #[inline(never)]
 fn append_cell(stack: &mut DataStack, memory: &mut Memory) -> Result<(), Throw>
-    ensures {
-        Becomes (memory_entry MemoryWord.Comma stack.old memory.old)
-            (stack.old, memory.old) (stack.new, memory.new) result
-    }
+    ensures { Becomes (memory_entry MemoryWord.Comma stack.old memory.old)
+        (stack.old, memory.old) (stack.new, memory.new) result }
 {
     let x = stack.peek()?;
     thrown(memory.append(&x.0.to_be_bytes()))?;
@@ -284,10 +252,8 @@ fn append_cell(stack: &mut DataStack, memory: &mut Memory) -> Result<(), Throw>
 #[tactic(auto, unfolding(crate::specs::Memory::memory_entry))]
 #[inline(never)]
 fn append_half(stack: &mut DataStack, memory: &mut Memory) -> Result<(), Throw>
-    ensures {
-        Becomes (memory_entry MemoryWord.CommaWord stack.old memory.old)
-            (stack.old, memory.old) (stack.new, memory.new) result
-    }
+    ensures { Becomes (memory_entry MemoryWord.CommaWord stack.old memory.old)
+        (stack.old, memory.old) (stack.new, memory.new) result }
 {
     let x = stack.peek()?;
     let half = x.low_half().0 as u16;
@@ -300,10 +266,8 @@ fn append_half(stack: &mut DataStack, memory: &mut Memory) -> Result<(), Throw>
 #[tactic(auto, unfolding(crate::specs::Memory::memory_entry))]
 #[inline(never)]
 fn append_byte(stack: &mut DataStack, memory: &mut Memory) -> Result<(), Throw>
-    ensures {
-        Becomes (memory_entry MemoryWord.CommaByte stack.old memory.old)
-            (stack.old, memory.old) (stack.new, memory.new) result
-    }
+    ensures { Becomes (memory_entry MemoryWord.CommaByte stack.old memory.old)
+        (stack.old, memory.old) (stack.new, memory.new) result }
 {
     let x = stack.peek()?;
     let byte = x.low_byte().0 as u8;
@@ -316,10 +280,8 @@ fn append_byte(stack: &mut DataStack, memory: &mut Memory) -> Result<(), Throw>
 #[tactic(auto, unfolding(crate::specs::Memory::memory_entry))]
 #[inline(never)]
 fn give_back(stack: &mut DataStack, memory: &mut Memory) -> Result<(), Throw>
-    ensures {
-        Becomes (memory_entry MemoryWord.FreeMem stack.old memory.old)
-            (stack.old, memory.old) (stack.new, memory.new) result
-    }
+    ensures { Becomes (memory_entry MemoryWord.FreeMem stack.old memory.old)
+        (stack.old, memory.old) (stack.new, memory.new) result }
 {
     let (a, n) = stack.top_two()?;
     thrown(memory.heap_give(a, n))?;

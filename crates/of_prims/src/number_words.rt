@@ -28,10 +28,8 @@ fn hold_char(
     memory: &mut Memory,
     pictured: &mut Pictured,
 ) -> Result<(), Throw>
-    ensures {
-        Becomes (numbers_entry NumbersWord.Hold stack.old memory.old pictured.old)
-            (data_of stack.old memory.old pictured.old) (data_of stack.new memory.new pictured.new) result
-    }
+    ensures { Becomes (numbers_entry NumbersWord.Hold stack.old memory.old pictured.old)
+        (data_of stack.old memory.old pictured.old) (data_of stack.new memory.new pictured.new) result }
 {
     let char = stack.peek()?;
     pictured.hold(memory, char.low_byte().0 as u8)?;
@@ -47,10 +45,8 @@ fn hold_minus(
     pictured: &mut Pictured,
 ) -> Result<(), Throw>
     requires { 1 ≤ length stack.old }
-    ensures {
-        Becomes (holding (drop 1 stack.old) (held memory.old pictured.old (45 ∷ [])))
-            (data_of stack.old memory.old pictured.old) (data_of stack.new memory.new pictured.new) result
-    }
+    ensures { Becomes (holding (drop 1 stack.old) (held memory.old pictured.old (45 ∷ [])))
+        (data_of stack.old memory.old pictured.old) (data_of stack.new memory.new pictured.new) result }
 {
     pictured.hold(memory, b'-')?;
     stack.drop_top(1);
@@ -65,10 +61,8 @@ fn hold_sign(
     memory: &mut Memory,
     pictured: &mut Pictured,
 ) -> Result<(), Throw>
-    ensures {
-        Becomes (numbers_entry NumbersWord.Sign stack.old memory.old pictured.old)
-            (data_of stack.old memory.old pictured.old) (data_of stack.new memory.new pictured.new) result
-    }
+    ensures { Becomes (numbers_entry NumbersWord.Sign stack.old memory.old pictured.old)
+        (data_of stack.old memory.old pictured.old) (data_of stack.new memory.new pictured.new) result }
 {
     let n = stack.peek()?;
     if n.is_less(Cell::ZERO) {
@@ -94,10 +88,8 @@ fn hold_digit(
     memory: &mut Memory,
     pictured: &mut Pictured,
 ) -> Result<(), Throw>
-    ensures {
-        Becomes (numbers_entry NumbersWord.NextDigit stack.old memory.old pictured.old)
-            (data_of stack.old memory.old pictured.old) (data_of stack.new memory.new pictured.new) result
-    }
+    ensures { Becomes (numbers_entry NumbersWord.NextDigit stack.old memory.old pictured.old)
+        (data_of stack.old memory.old pictured.old) (data_of stack.new memory.new pictured.new) result }
 {
     let (low, high) = stack.top_two()?;
     let base = u64::from(base(memory)?);
@@ -117,10 +109,8 @@ fn hold_digits(
     memory: &mut Memory,
     pictured: &mut Pictured,
 ) -> Result<(), Throw>
-    ensures {
-        Becomes (numbers_entry NumbersWord.AllDigits stack.old memory.old pictured.old)
-            (data_of stack.old memory.old pictured.old) (data_of stack.new memory.new pictured.new) result
-    }
+    ensures { Becomes (numbers_entry NumbersWord.AllDigits stack.old memory.old pictured.old)
+        (data_of stack.old memory.old pictured.old) (data_of stack.new memory.new pictured.new) result }
 {
     let (low, high) = stack.top_two()?;
     let text = double_text(Double { low, high }, base(memory)?);
@@ -138,10 +128,8 @@ fn hold_unsigned_digit(
     memory: &mut Memory,
     pictured: &mut Pictured,
 ) -> Result<(), Throw>
-    ensures {
-        Becomes (numbers_entry NumbersWord.UnsignedDigit stack.old memory.old pictured.old)
-            (data_of stack.old memory.old pictured.old) (data_of stack.new memory.new pictured.new) result
-    }
+    ensures { Becomes (numbers_entry NumbersWord.UnsignedDigit stack.old memory.old pictured.old)
+        (data_of stack.old memory.old pictured.old) (data_of stack.new memory.new pictured.new) result }
 {
     let u = stack.peek()?;
     let base = base(memory)?;
@@ -158,10 +146,8 @@ fn hold_unsigned_digits(
     memory: &mut Memory,
     pictured: &mut Pictured,
 ) -> Result<(), Throw>
-    ensures {
-        Becomes (numbers_entry NumbersWord.UnsignedDigits stack.old memory.old pictured.old)
-            (data_of stack.old memory.old pictured.old) (data_of stack.new memory.new pictured.new) result
-    }
+    ensures { Becomes (numbers_entry NumbersWord.UnsignedDigits stack.old memory.old pictured.old)
+        (data_of stack.old memory.old pictured.old) (data_of stack.new memory.new pictured.new) result }
 {
     let u = stack.peek()?;
     let text = unsigned_text(u, base(memory)?);
@@ -174,10 +160,8 @@ fn hold_unsigned_digits(
 #[tactic(auto, unfolding(crate::specs::Numbers::numbers_entry))]
 #[inline(never)]
 fn end_text(stack: &mut DataStack, memory: &Memory, pictured: &Pictured) -> Result<(), Throw>
-    ensures {
-        Becomes (numbers_entry NumbersWord.End stack.old memory.now pictured.now)
-            (data_of stack.old memory.now pictured.now) (data_of stack.new memory.now pictured.now) result
-    }
+    ensures { Becomes (numbers_entry NumbersWord.End stack.old memory.now pictured.now)
+        (data_of stack.old memory.now pictured.now) (data_of stack.new memory.now pictured.now) result }
 {
     let _ = stack.top_two()?;
     let (address, length) = pictured.text();
@@ -194,10 +178,8 @@ fn end_unsigned_text(
     memory: &Memory,
     pictured: &Pictured,
 ) -> Result<(), Throw>
-    ensures {
-        Becomes (numbers_entry NumbersWord.UnsignedEnd stack.old memory.now pictured.now)
-            (data_of stack.old memory.now pictured.now) (data_of stack.new memory.now pictured.now) result
-    }
+    ensures { Becomes (numbers_entry NumbersWord.UnsignedEnd stack.old memory.now pictured.now)
+        (data_of stack.old memory.now pictured.now) (data_of stack.new memory.now pictured.now) result }
 {
     let _ = stack.peek()?;
     stack.room_for(1)?;
@@ -211,10 +193,8 @@ fn end_unsigned_text(
 #[tactic(auto, unfolding(crate::specs::Numbers::numbers_entry))]
 #[inline(never)]
 fn parse_number(stack: &mut DataStack, memory: &Memory, pictured: &Pictured) -> Result<(), Throw>
-    ensures {
-        Becomes (numbers_entry NumbersWord.ParseNumber stack.old memory.now pictured.now)
-            (data_of stack.old memory.now pictured.now) (data_of stack.new memory.now pictured.now) result
-    }
+    ensures { Becomes (numbers_entry NumbersWord.ParseNumber stack.old memory.now pictured.now)
+        (data_of stack.old memory.now pictured.now) (data_of stack.new memory.now pictured.now) result }
 {
     let (a, n) = stack.top_two()?;
     let text = slice(memory, a, n)?;
@@ -232,10 +212,8 @@ fn parse_number(stack: &mut DataStack, memory: &Memory, pictured: &Pictured) -> 
 #[tactic(auto, unfolding(crate::specs::Numbers::numbers_entry))]
 #[inline(never)]
 fn parse_digit(stack: &mut DataStack, memory: &Memory, pictured: &Pictured) -> Result<(), Throw>
-    ensures {
-        Becomes (numbers_entry NumbersWord.Digit stack.old memory.now pictured.now)
-            (data_of stack.old memory.now pictured.now) (data_of stack.new memory.now pictured.now) result
-    }
+    ensures { Becomes (numbers_entry NumbersWord.Digit stack.old memory.now pictured.now)
+        (data_of stack.old memory.now pictured.now) (data_of stack.new memory.now pictured.now) result }
 {
     let (char, base) = stack.top_two()?;
     let Some(value) = digit(char.0, base.0) else {
@@ -255,10 +233,8 @@ fn push_number(
     memory: &Memory,
     pictured: &Pictured,
 ) -> Result<(), Throw>
-    ensures {
-        Becomes (beside memory.now pictured.now (within (n ∷ stack.old)))
-            (data_of stack.old memory.now pictured.now) (data_of stack.new memory.now pictured.now) result
-    }
+    ensures { Becomes (beside memory.now pictured.now (within (n ∷ stack.old)))
+        (data_of stack.old memory.now pictured.now) (data_of stack.new memory.now pictured.now) result }
 {
     stack.try_push(n)
 }
@@ -276,10 +252,8 @@ pub fn run_number_word(
     memory: &mut Memory,
     pictured: &mut Pictured,
 ) -> Result<(), Throw>
-    ensures {
-        Becomes (numbers_entry word stack.old memory.old pictured.old)
-            (data_of stack.old memory.old pictured.old) (data_of stack.new memory.new pictured.new) result
-    }
+    ensures { Becomes (numbers_entry word stack.old memory.old pictured.old)
+        (data_of stack.old memory.old pictured.old) (data_of stack.new memory.new pictured.new) result }
 {
     match word {
         NumbersWord::Begin => pictured.start(),

@@ -24,10 +24,8 @@ pub fn prim(
     memory: &mut Memory,
     pictured: &mut Pictured,
 ) -> Result<(), Throw>
-    ensures {
-        Becomes (prim_entry word (data_of stack.old memory.old pictured.old))
-            (data_of stack.old memory.old pictured.old) (data_of stack.new memory.new pictured.new) result
-    }
+    ensures { Becomes (prim_entry word (data_of stack.old memory.old pictured.old))
+        (data_of stack.old memory.old pictured.old) (data_of stack.new memory.new pictured.new) result }
 {
     match word {
         PrimitiveWord::Arithmetic(word) => calculate(word, stack)?,

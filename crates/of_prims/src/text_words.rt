@@ -98,9 +98,8 @@ fn pack_bytes(memory: &mut Memory, from: Cell, n: Cell, a: Cell)
 #[tactic(auto, unfolding(crate::specs::Text::text_entry))]
 #[inline(never)]
 fn pack(stack: &mut DataStack, memory: &mut Memory) -> Result<(), Throw>
-    ensures {
-        Becomes (text_entry TextWord.Pack stack.old memory.old) (stack.old, memory.old) (stack.new, memory.new) result
-    }
+    ensures { Becomes (text_entry TextWord.Pack stack.old memory.old) (stack.old, memory.old) (stack.new, memory.new)
+        result }
 {
     ranges_are_placed();
     let (from, n, a) = stack.top_three()?;
@@ -119,9 +118,8 @@ fn pack(stack: &mut DataStack, memory: &mut Memory) -> Result<(), Throw>
 #[tactic(auto, unfolding(crate::specs::Text::text_entry))]
 #[inline(never)]
 fn count(stack: &mut DataStack, memory: &Memory) -> Result<(), Throw>
-    ensures {
-        Becomes (text_entry TextWord.Count stack.old memory.now) (stack.old, memory.now) (stack.new, memory.now) result
-    }
+    ensures { Becomes (text_entry TextWord.Count stack.old memory.now) (stack.old, memory.now) (stack.new, memory.now)
+        result }
 {
     let a = stack.peek()?;
     check_read(memory, a, Cell::ONE, Width::One)?;
@@ -136,10 +134,8 @@ fn count(stack: &mut DataStack, memory: &Memory) -> Result<(), Throw>
 #[tactic(auto, unfolding(crate::specs::Text::text_entry))]
 #[inline(never)]
 fn part_text(stack: &mut DataStack, memory: &Memory) -> Result<(), Throw>
-    ensures {
-        Becomes (text_entry TextWord.LeftParseString stack.old memory.now)
-            (stack.old, memory.now) (stack.new, memory.now) result
-    }
+    ensures { Becomes (text_entry TextWord.LeftParseString stack.old memory.now)
+        (stack.old, memory.now) (stack.new, memory.now) result }
 {
     let (a, n, char) = stack.top_three()?;
     let text = slice(memory, a, n)?;
@@ -158,10 +154,8 @@ fn part_text(stack: &mut DataStack, memory: &Memory) -> Result<(), Throw>
 #[tactic(auto, unfolding(crate::specs::Text::text_entry))]
 #[inline(never)]
 fn parse_two(stack: &mut DataStack, memory: &Memory) -> Result<(), Throw>
-    ensures {
-        Becomes (text_entry TextWord.ParseTwoInts stack.old memory.now)
-            (stack.old, memory.now) (stack.new, memory.now) result
-    }
+    ensures { Becomes (text_entry TextWord.ParseTwoInts stack.old memory.now)
+        (stack.old, memory.now) (stack.new, memory.now) result }
 {
     let (a, n) = stack.top_two()?;
     let text = slice(memory, a, n)?;

@@ -25,7 +25,7 @@ one_of u v faults false t e there =
 
 found_at : (u : Throw) (faults : List (Option Throw)) (later : Option Throw) (t : Throw) →
     counted (Some u) later ≡ Some t → ((v : Throw) → later ≡ Some v → Contains faults (Some v))
-        → Contains (Some u ∷ faults) (Some t)
+    → Contains (Some u ∷ faults) (Some t)
 found_at u faults None t e there = (zero, omega arith, e)
 found_at u faults (Some v) t e there = one_of u v faults (nat_le (rank u.0) (rank v.0)) t e (there v refl)
 
@@ -87,7 +87,7 @@ first (Some v ∷ faults) t u e (zero, lt, same) =
 first (fault ∷ faults) t u e (suc k, lt, same) =
     let there : Contains faults (Some u) = (k, omega (arith, lt), same) in
     first_in_rest fault faults t u (counting faults) refl e there
-        (λ (v : Throw) (f : counting faults ≡ Some v). first faults v u f there)
+    (λ (v : Throw) (f : counting faults ≡ Some v). first faults v u f there)
 
 pub first_counts : FirstCounts
 first_counts = record { found = found; first = first; none = none }

@@ -12,24 +12,24 @@ pub reverse_take : {X : Type 0} (xs : List X) (n : ℕ) → n ≤ length xs
     → reverse (take (length xs - n) xs) ≡ drop n (reverse xs)
 reverse_take xs n h =
     let upper : length (reverse (drop (length xs - n) xs)) ≡ n =
-        length-reverse (drop (length xs - n) xs) ∙ length-drop (length xs - n) xs ∙ omega arith in
+    length-reverse (drop (length xs - n) xs) ∙ length-drop (length xs - n) xs ∙ omega arith in
     let whole : reverse (drop (length xs - n) xs) ++ reverse (take (length xs - n) xs) ≡ reverse xs =
     sym (reverse-append (take (length xs - n) xs) (drop (length xs - n) xs))
-        ∙ ap reverse (take-append-drop (length xs - n) xs) in
+    ∙ ap reverse (take-append-drop (length xs - n) xs) in
     sym (rw (upper, whole) at
-        (drop-append_seam (reverse (drop (length xs - n) xs)) (reverse (take (length xs - n) xs))))
+    (drop-append_seam (reverse (drop (length xs - n) xs)) (reverse (take (length xs - n) xs))))
 
 -- what is dropped from the array is what is taken from the stack
 pub reverse_drop : {X : Type 0} (xs : List X) (n : ℕ) → n ≤ length xs
     → reverse (drop (length xs - n) xs) ≡ take n (reverse xs)
 reverse_drop xs n h =
     let upper : length (reverse (drop (length xs - n) xs)) ≡ n =
-        length-reverse (drop (length xs - n) xs) ∙ length-drop (length xs - n) xs ∙ omega arith in
+    length-reverse (drop (length xs - n) xs) ∙ length-drop (length xs - n) xs ∙ omega arith in
     let whole : reverse (drop (length xs - n) xs) ++ reverse (take (length xs - n) xs) ≡ reverse xs =
     sym (reverse-append (take (length xs - n) xs) (drop (length xs - n) xs))
-        ∙ ap reverse (take-append-drop (length xs - n) xs) in
+    ∙ ap reverse (take-append-drop (length xs - n) xs) in
     sym (rw (upper, whole) at
-        (take-append_seam (reverse (drop (length xs - n) xs)) (reverse (take (length xs - n) xs))))
+    (take-append_seam (reverse (drop (length xs - n) xs)) (reverse (take (length xs - n) xs))))
 
 -- a cell taken out of the array is taken out of the stack
 pub reverse_remove : {X : Type 0} (xs : List X) (n : ℕ) → n < length xs
@@ -54,17 +54,17 @@ four_of (a ∷ b ∷ c ∷ e ∷ s) d h = refl
 -- the four cells at the end of the array are the top ones
 pub reverse_four : {X : Type 0} (xs : List X) (d : X) → 4 ≤ length xs
     → reverse xs ≡ get_or xs (length xs - 1) d ∷ get_or xs (length xs - 2) d ∷ get_or xs (length xs - 3) d
-        ∷ get_or xs (length xs - 4) d ∷ drop 4 (reverse xs)
+    ∷ get_or xs (length xs - 4) d ∷ drop 4 (reverse xs)
 reverse_four xs d h =
     let long : 4 ≤ length (reverse xs) = omega (arith, length-reverse xs) in
     let first : get_or (reverse xs) 0 d ≡ get_or xs (length xs - 1) d =
-        get_or-reverse xs 0 d (omega arith) ∙ ap (λ k. get_or xs k d) (omega arith) in
+    get_or-reverse xs 0 d (omega arith) ∙ ap (λ k. get_or xs k d) (omega arith) in
     let second : get_or (reverse xs) 1 d ≡ get_or xs (length xs - 2) d =
-        get_or-reverse xs 1 d (omega arith) ∙ ap (λ k. get_or xs k d) (omega arith) in
+    get_or-reverse xs 1 d (omega arith) ∙ ap (λ k. get_or xs k d) (omega arith) in
     let third : get_or (reverse xs) 2 d ≡ get_or xs (length xs - 3) d =
-        get_or-reverse xs 2 d (omega arith) ∙ ap (λ k. get_or xs k d) (omega arith) in
+    get_or-reverse xs 2 d (omega arith) ∙ ap (λ k. get_or xs k d) (omega arith) in
     let fourth : get_or (reverse xs) 3 d ≡ get_or xs (length xs - 4) d =
-        get_or-reverse xs 3 d (omega arith) ∙ ap (λ k. get_or xs k d) (omega arith) in
+    get_or-reverse xs 3 d (omega arith) ∙ ap (λ k. get_or xs k d) (omega arith) in
     rw (first, second, third, fourth) at (four_of (reverse xs) d long)
 
 -- a write at the end of the array is a write of the top
@@ -75,7 +75,7 @@ reverse_set xs x h =
     let within : length xs - 1 < length xs = omega arith in
     let whole : set xs (length xs - 1) x ≡ take (length xs - 1) xs ++ x ∷ [] =
     sym (take-length (set xs (length xs - 1) x)) ∙ ap (λ n. take n (set xs (length xs - 1) x))
-        (length-set xs (length xs - 1) x)
+    (length-set xs (length xs - 1) x)
     ∙ take-set_at xs (length xs - 1) (length xs) x last within in
     ap reverse whole ∙ reverse-append (take (length xs - 1) xs) (x ∷ []) ∙ ap (λ ys. x ∷ ys) (reverse_take xs 1 h)
 
@@ -88,12 +88,12 @@ pub reverse_refill : {X : Type 0} (xs ys : List X) (n : ℕ) (x : X) → ys ≡ 
     → reverse (refill (length xs) xs (set ys (n - 1) x)) ≡ x ∷ drop 1 (reverse xs)
 reverse_refill xs ys n x e f h =
     rw (e, f) (ap reverse (refill_same xs (set xs (length xs - 1) x) (length-set xs (length xs - 1) x))
-        ∙ reverse_set xs x h)
+    ∙ reverse_set xs x h)
 
 -- a write under the last element, which then goes
 pub reverse_set_two : {X : Type 0} (xs ys : List X) (n : ℕ) (x : X) → ys ≡ xs → n ≡ length xs → 2 ≤ length xs
     → reverse (take (length (refill (length xs) xs (set ys (n - 1 - 1) x)) - 1)
-        (refill (length xs) xs (set ys (n - 1 - 1) x)))
+    (refill (length xs) xs (set ys (n - 1 - 1) x)))
     ≡ x ∷ drop 2 (reverse xs)
 reverse_set_two xs ys n x e f h =
     let place : length xs - 1 - 1 ≡ length xs - 2 = omega arith in

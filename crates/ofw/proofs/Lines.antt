@@ -51,7 +51,7 @@ word_has_no_fault s b rest h e =
     ap (λ (t : Bool). cond t [] (flag_word_fault s.rules again (long_of word) word h)) (no_dashes b rest e) in
     let second = ap (λ (t : Option (Text × Option Text)). flag_word_fault s.rules again t word h) (no_long b rest e) in
     first ∙ second ∙ ap (λ (t : Option Text). option_map_or (λ flags. bundle_fault s.rules again flags h) t [])
-        (no_short b rest e)
+    (no_short b rest e)
 
 -- ---- the two subcommands
 
@@ -64,8 +64,13 @@ detok_shape = built_leaf (inherited ofw_app.top detok_app.top)
 -- what is held of a run behind its image and `--limit`
 with_image : Text → Held
 with_image image = record {
-  rows = record { id = codes "image"; values = image ∷ []; count = None; source = Some CommandLine;
-      reading = AsWritten } ∷ [];
+  rows = record {
+    id = codes "image";
+    values = image ∷ [];
+    count = None;
+    source = Some CommandLine;
+    reading = AsWritten;
+  } ∷ [];
   pending = Some (codes "limit", []);
   skip = 0;
 }
@@ -96,9 +101,11 @@ runs program b rest e =
 
 lists : (program : Text) (b : ℕ) (rest : Text) → (b == 45) ≡ false → AsksToList program (b ∷ rest)
 unfolding clap_on_literals detok_shape
-lists program b rest e =
-    (rw (image_met detok_shape b rest e) refl, rw (image_met detok_shape b rest e, image_passes detok_shape b rest e)
-        refl)
+lists program b rest e = (
+  rw (image_met detok_shape b rest e) refl,
+  rw (image_met detok_shape b rest e, image_passes detok_shape b rest e)
+      refl,
+)
 
 -- a number in the range of limits is one of 64 bits
 limit_read : (limit : Text) → is_unsigned_in 0 1000000000 limit ≡ true
@@ -106,7 +113,7 @@ limit_read : (limit : Text) → is_unsigned_in 0 1000000000 limit ≡ true
 limit_read limit e =
     let number = accepts-Accepts false (parser.Unsigned 0 1000000000) limit e in
     let wide = Accepts-accepts false (parser.Unsigned 0 18446744073709551615) limit
-        (number.0, number.1, number.2, omega arith) in
+    (number.0, number.1, number.2, omega arith) in
     rw wide refl
 
 limits : (program : Text) (b : ℕ) (rest : Text) (d : ℕ) (digits : Text) → (b == 45) ≡ false → (d == 45) ≡ false
@@ -114,8 +121,13 @@ limits : (program : Text) (b : ℕ) (rest : Text) (d : ℕ) (digits : Text) → 
 unfolding clap_on_literals run_shape with_image
 limits program b rest d digits e f number = (
   rw (image_met run_shape b rest e, limit_met (b ∷ rest) d digits f, limit_read (d ∷ digits) number) refl,
-  rw (image_met run_shape b rest e, limit_met (b ∷ rest) d digits f, image_passes run_shape b rest e,
-      limit_passes (b ∷ rest) d digits f, number) refl,
+  rw (
+    image_met run_shape b rest e,
+    limit_met (b ∷ rest) d digits f,
+    image_passes run_shape b rest e,
+    limit_passes (b ∷ rest) d digits f,
+    number,
+  ) refl,
 )
 
 hyphenless : (b : ℕ) → not (b == 45) ≡ true → (b == 45) ≡ false

@@ -25,7 +25,7 @@ pub more_written : (a b c : Option (List ℕ)) (bytes : List ℕ) (gone n : ℕ)
     → Appends b c (take n (take (length bytes - gone) (drop gone bytes))) → Appends a c (take (gone + n) bytes)
 more_written a b c bytes gone n p q =
     let some : Appends b c (take n (drop gone bytes)) =
-        subst (λ xs. Appends b c (take n xs)) (left-handed bytes gone) q in
+    subst (λ xs. Appends b c (take n xs)) (left-handed bytes gone) q in
     subst (Appends a c) (take-sum gone n bytes) (Appends-trans a b c _ _ p some)
 
 -- nothing came after the first bytes

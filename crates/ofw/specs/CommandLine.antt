@@ -102,7 +102,7 @@ AsksToRun program image = Asks (program ∷ codes "run" ∷ image ∷ []) (a_run
 abbrev pub AsksForLimit : Text → Text → Text → Type 0
 AsksForLimit program image limit =
     Asks (program ∷ codes "run" ∷ image ∷ codes "--limit" ∷ limit ∷ [])
-        (a_run image (digits_value 10 (without_leading_plus limit)))
+    (a_run image (digits_value 10 (without_leading_plus limit)))
 
 -- a listing of an image
 abbrev pub AsksToList : Text → Text → Type 0
@@ -112,4 +112,4 @@ AsksToList program image = Asks (program ∷ codes "detok" ∷ image ∷ []) (a_
 abbrev pub LinesAsk : Type 0
 LinesAsk = (program image : Text) → is_plain image ≡ true → AsksToRun program image × AsksToList program image
     × ((limit : Text) → is_plain limit ≡ true → is_unsigned_in 0 1000000000 limit ≡ true
-        → AsksForLimit program image limit)
+    → AsksForLimit program image limit)

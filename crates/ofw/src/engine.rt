@@ -31,9 +31,8 @@ fn print_run<R: Read, W: Write>(
     limit: u64,
     out: &mut W,
 ) -> Result<End, Fault>
-    ensures {
-        IfSome (R.remaining image.old) (λ file. Prints file limit (W.contents out.old) (W.contents out.new) result)
-    }
+    ensures { IfSome (R.remaining image.old) (λ file. Prints file limit (W.contents out.old) (W.contents out.new)
+        result) }
 {
     let text = read_whole(alloc, image)?;
     match run_text(alloc, &text, limit) {
@@ -56,9 +55,8 @@ pub fn run<R: Read, W: Write, E: Write>(
     out: &mut W,
     errors: &mut E,
 ) -> Status
-    ensures {
-        IfSome (R.remaining image.old) (λ file. EndsWith file limit (W.contents out.old) (W.contents out.new) result)
-    }
+    ensures { IfSome (R.remaining image.old) (λ file. EndsWith file limit (W.contents out.old) (W.contents out.new)
+        result) }
 {
     match print_run(alloc, image, limit, out) {
         Ok(End::Done) => Status::Done,
@@ -116,10 +114,8 @@ pub fn answer<R: Read, W: Write, E: Write>(
     out: &mut W,
     errors: &mut E,
 ) -> Status
-    ensures {
-        IfSome (R.remaining image.old) (λ file. Answers (asked request.entry) file (W.contents out.old)
-            (W.contents out.new) result)
-    }
+    ensures { IfSome (R.remaining image.old) (λ file. Answers (asked request.entry) file (W.contents out.old)
+        (W.contents out.new) result) }
 {
     match request {
         Request::Run { limit, .. } => run(alloc, image, limit, out, errors),

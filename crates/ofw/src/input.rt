@@ -20,9 +20,8 @@ const CHUNK: usize = 64;
 pub fn read_whole<R: Read>(alloc: Global, file: &mut R) -> Result<Vec<u8>, Fault>
     ensures ok { IfOk result (λ text. IfSome (R.remaining file.old) (λ bytes. text.items ≡ bytes)) }
     ensures err { IfErr result (λ e. (e ≡ Fault.Unread) ⊎ (e ≡ Fault.Endless) ⊎ (e ≡ Fault.NoMemory)) }
-    ensures endless {
-        IfErr result (λ e. e ≡ Fault.Endless → IfSome (R.remaining file.old) (λ bytes. 16777216 ≤ length bytes))
-    }
+    ensures endless { IfErr result (λ e. e ≡ Fault.Endless
+        → IfSome (R.remaining file.old) (λ bytes. 16777216 ≤ length bytes)) }
 {
     let mut text = Vec::new(alloc);
     let mut chunk = [0u8; CHUNK];

@@ -39,14 +39,10 @@ fn bad_start_text(byte: u8) -> [u8; 23]
 ///
 /// Unwritten where a write fails: what went out is then the first part of the line.
 fn say<E: Write>(fault: Fault, errors: &mut E) -> Result<(), Fault>
-    ensures ok {
-        OnOk result (IfSome (bad_start_of fault) (λ byte.
-            Appends (E.contents errors.old) (E.contents errors.new) (bad_start_text byte)))
-    }
-    ensures err {
-        OnErr result (IfSome (bad_start_of fault) (λ byte.
-            AppendsPart (E.contents errors.old) (E.contents errors.new) (bad_start_text byte)))
-    }
+    ensures ok { OnOk result (IfSome (bad_start_of fault) (λ byte.
+        Appends (E.contents errors.old) (E.contents errors.new) (bad_start_text byte))) }
+    ensures err { OnErr result (IfSome (bad_start_of fault) (λ byte.
+        AppendsPart (E.contents errors.old) (E.contents errors.new) (bad_start_text byte))) }
 {
     match fault.bad_start() {
         Some(byte) => write_whole(errors, &bad_start_text(byte)),
@@ -60,10 +56,8 @@ fn say<E: Write>(fault: Fault, errors: &mut E) -> Result<(), Fault>
 /// newline, or the first part of it where a write fails.
 pub fn report<E: Write>(fault: Fault, errors: &mut E) -> Status
     ensures status { result ≡ status_of fault }
-    ensures said {
-        IfSome (bad_start_of fault) (λ byte.
-            AppendsPart (E.contents errors.old) (E.contents errors.new) (bad_start_text byte))
-    }
+    ensures said { IfSome (bad_start_of fault) (λ byte.
+        AppendsPart (E.contents errors.old) (E.contents errors.new) (bad_start_text byte)) }
 {
     let _ = say(fault, errors);
     fault.status()

@@ -6,5 +6,5 @@ pub loop-preserved : goal.loop-preserved
 loop-preserved c =
     let moved = rw c.in-Ok-Done.field-0-is at c.in-Ok-Done.ensures.ok in
     let went_on = run_goes_on c.loop.counter (beginning c.args.image.now) c.loop.machine c.step.new.self
-        c.loop.invariant.run c.loop.invariant.counted moved in
+    c.loop.invariant.run c.loop.invariant.counted moved in
     record { run = went_on.0; counted = went_on.1 }

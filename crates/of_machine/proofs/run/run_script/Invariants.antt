@@ -6,5 +6,6 @@ use Rattle.of_machine.proofs.run.run_script.Given as goal
 -- the machine is that of the run after as many turns, each a step
 abbrev pub invariant-loop : goal.invariant-loop
 invariant-loop l = record {
-    run : feed_from l.machine ≡ after l.counter (beginning l.image);
-    counted : l.machine.steps ≡ l.counter }
+  run : feed_from l.machine ≡ after l.counter (beginning l.image);
+  counted : l.machine.steps ≡ l.counter;
+}

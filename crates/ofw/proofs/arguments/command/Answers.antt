@@ -10,7 +10,7 @@ returns c =
     let run = c.in_ok-run_command.ensures in
     let detok = c.in_ok-detok_command.ensures in
     let with_run = c.in_ok-subcommand.ensures.shape run.1
-        ∙ ap₂ with_subcommand new_is (ap (λ (a : App). a.top) run.0) in
+    ∙ ap₂ with_subcommand new_is (ap (λ (a : App). a.top) run.0) in
     IfOk-weaker c.subcommand-2.result _ _ (λ r h.
     (h.shape detok.1 ∙ ap₂ with_subcommand with_run (ap (λ (a : App). a.top) detok.0), search rules))
-        c.subcommand-2.ensures
+    c.subcommand-2.ensures

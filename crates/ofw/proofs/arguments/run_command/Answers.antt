@@ -10,4 +10,4 @@ returns c =
     let limit = c.limit_argument.ensures in
     let with_image = c.in_ok-arg.ensures.shape image.1 ∙ ap₂ with_rule new_is image.0 in
     IfOk-weaker c.arg-2.result _ _ (λ r h. (h.shape limit.1 ∙ ap₂ with_rule with_image limit.0, search rules))
-        c.arg-2.ensures
+    c.arg-2.ensures

@@ -16,6 +16,6 @@ returns c = go (one_text (found_of c.args.matches.now) (codes "limit")) refl
         rw (← one_text-rows (found_of c.args.matches.now) (codes "limit"), e, c.unwrap_or.ensures, read) refl
     go (Some text) e =
         let read = number_read (λ bs r. ParsesUnsigned 64 10 bs r × ExplainsUnsignedError 10 bs r
-            × HasUnsignedDigitsIfOk bs r)
+        × HasUnsignedDigitsIfOk bs r)
         text c.get_one.result (λ r g. g.0) (c.get_one.ensures.value text e) in
         rw (← one_text-rows (found_of c.args.matches.now) (codes "limit"), e, c.unwrap_or.ensures, read) refl

@@ -5,4 +5,4 @@ use Rattle.ofw.proofs.engine.print_listing.Goals as goal
 pub returns : goal.returns
 returns g c =
     listing_given_up (g.R.Read.remaining c.args.image.now) _ _ _ _ c.in-Err.fault (search rules)
-        c.deref.ensures.value c.in_ok-text.ensures.ok c.in-Err.ensures.err
+    c.deref.ensures.value c.in_ok-text.ensures.ok c.in-Err.ensures.err

@@ -6,4 +6,4 @@ use Rattle.ofw.proofs.input.read_whole.Given as goal
 abbrev pub invariant-loop : goal.invariant-loop
 invariant-loop g l =
     Consumes (g.R.Read.remaining l.initial.file) (g.R.Read.remaining l.file) l.text.items
-        × (l.counter ≤ length l.text.items)
+    × (l.counter ≤ length l.text.items)

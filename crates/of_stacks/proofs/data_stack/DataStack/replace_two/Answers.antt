@@ -9,4 +9,4 @@ returns-clause-cells c =
     omega (arith, ap length c.self.view_is, length-reverse c.self.inside.cells.items) in
     rw (c.pop.ensures.rest, ← c.self.view_is)
     (reverse_set_two c.self.inside.cells.items c.deref_mut.result.now c.len-last.result c.args.x
-        c.deref_mut.ensures.value c.len-last.ensures.value there)
+    c.deref_mut.ensures.value c.len-last.ensures.value there)
