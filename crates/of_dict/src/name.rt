@@ -39,8 +39,8 @@ pub(crate) fn key_of(name: &[u8]) -> Key
 }
 
 impl Name {
-    /// These bytes.
-    pub(crate) fn spelt(text: &[u8]) -> Name
+    /// A name of these bytes, of which there are 31 at most.
+    pub fn spelt(text: &[u8]) -> Name
         requires { length text.now ≤ 31 }
         ensures { result ≡ text.now }
     {

@@ -51,6 +51,15 @@ impl TokenTable {
         })
     }
 
+    /// How many FCodes there are: 0x000 to 0xFFF.
+    #[inline]
+    pub fn len(&self) -> usize
+        ensures value { result ≡ length self.now }
+        ensures fixed { result ≡ 4096 }
+    {
+        self.entries.len()
+    }
+
     /// The entry of an FCode, if it is assigned: `get-token`.
     #[inline]
     pub fn get(&self, code: FCode) -> Option<TokenEntry>

@@ -1,22 +1,19 @@
 -- What the steps of a machine throw has a listed number.
-use Rattle.std.proofs.Common.{◌≡◌, ℕ, Bool, true, false, List, [], ◌∷◌, length, nat_eq, nat_lt, Option, Some, None}
+use Rattle.std.proofs.Common.{ℕ, Bool, true, false, List, [], ◌∷◌, length, nat_eq, nat_lt, Option, Some, None}
 use Rattle.std.proofs.Common.{Result, Ok, Err, if◌then◌else◌, refl}
 use Rattle.of_cells.specs.declared.cells.Cell.{Cell}
 use Rattle.of_stacks.specs.declared.throws.Throw.{Throw}
 use Rattle.of_stacks.specs.Throws.{ThrowsListed, is_listed, listed_numbers, stack_overflow, invalid_argument}
 use Rattle.of_stacks.specs.Order.{refused_if}
-use Rattle.of_stacks.specs.Stacks.{within}
 use Rattle.of_fcodes.specs.declared.words.Word.{Word}
-use Rattle.of_fcodes.specs.declared.words.Word.TheVariants.{Stream, Primitive, Printing, Heap, Keys, Returns}
-use Rattle.of_fcodes.specs.declared.words.Word.TheVariants.{Dictionary, Throws, Properties, Tree, Devices, Console}
-use Rattle.of_fcodes.specs.declared.words.Word.TheVariants.{Parsing, Compiling}
+use Rattle.of_fcodes.specs.declared.words.Word.TheVariants.{Stream, Primitive, Printing, Heap}
 use Rattle.of_fcodes.specs.declared.words.HeapWord.TheVariants.{AllocMem}
 use Rattle.of_fcodes.specs.declared.words.PrintingWord.{PrintingWord}
 use Rattle.of_fcodes.specs.declared.words.PrintingWord.TheVariants as printing
 use Rattle.of_fcodes.specs.declared.words.StreamWord.{StreamWord}
 use Rattle.of_fcodes.specs.declared.words.StreamWord.TheVariants as stream
 use Rattle.of_fcodes.specs.Lookup.{word_numbered}
-use Rattle.of_memory.specs.Access.{number_at, read_bytes}
+use Rattle.of_memory.specs.Access.{read_bytes}
 use Rattle.of_memory.specs.BlockCalls.{heap_taken}
 use Rattle.of_memory.specs.DataSpace.{DataSpace}
 use Rattle.of_memory.specs.declared.fault.MemFault.{MemFault}
@@ -34,11 +31,11 @@ use Rattle.of_machine.specs.declared.printing.Signs.TheVariants.{Signed, Unsigne
 use Rattle.of_machine.specs.declared.tokens.Source.{Source}
 use Rattle.of_machine.specs.Images.{image_bytes}
 use Rattle.of_machine.specs.Words.{number_entry, right_entry, dot_stack_entry, emit_entry, type_read, type_entry}
-use Rattle.of_machine.specs.Words.{block_taken, alloc_entry, printing_entry, heap_entry, with_data, data_in, word_entry}
-use Rattle.of_machine.specs.Tokens.{Move, After, going_to, branching, branch_entry, stream_entry, pushed_on}
+use Rattle.of_machine.specs.Words.{block_taken, alloc_entry, printing_entry, with_data, data_in, word_entry}
+use Rattle.of_machine.specs.Tokens.{Move, going_to, branching, branch_entry, stream_entry, pushed_on}
 use Rattle.of_machine.specs.Tokens.{literal_entry, stream_of, offset_entry, after_move, after_word, code_entry}
 use Rattle.of_machine.specs.Tokens.{argument_entry, behind, token_entry, source_entry}
-use Rattle.of_machine.specs.States.{State, running_listed, StepsThrowListed}
+use Rattle.of_machine.specs.States.{running_listed, StepsThrowListed}
 
 base_if : (b : Bool) (n : ℕ) → ThrowsListed (refused_if b invalid_argument n)
 unfolding is_listed listed_numbers

@@ -1,13 +1,14 @@
 // The words that take a block of the heap: they may find no memory.
 
 ghost use Rattle.std.specs.Prelude.{◌≡◌, true};
-ghost use Rattle.of_machine.specs.Words.{alloc_entry, heap_entry, Makes};
+ghost use Rattle.of_machine.specs.Words.{alloc_entry, heap_entry};
+ghost use Rattle.of_stacks.specs.Stacks.{Makes};
 
 use crate::parts::Parts;
-use crate::stop::Stop;
 use of_fcodes::HeapWord;
 use of_memory::MemFault;
 use of_prims::throw_of;
+use of_stacks::Stop;
 
 /// Runs a word that takes a block of the heap; a stop changes nothing.
 #[inline(never)]

@@ -9,7 +9,6 @@ mod machine;
 mod parts;
 mod printing;
 mod run;
-mod stop;
 mod tokens;
 mod words;
 

@@ -7,12 +7,11 @@ ghost use Rattle.of_machine.specs.States.{load_refusal, Settles, Steps, Refuses}
 use crate::answers::{Progress, Refusal};
 use crate::console::Console;
 use crate::parts::Parts;
-use crate::stop::Stop;
 use crate::tokens::{Source, run_token};
 use of_cells::Cell;
 use of_format::Pictured;
 use of_memory::Memory;
-use of_stacks::DataStack;
+use of_stacks::{DataStack, Stop};
 use of_stream::{HEADER_LENGTH, OffsetSize, Stream, open};
 use std::alloc::{AllocError, Global};
 use std::marker::Model;

@@ -3,14 +3,15 @@
 ghost use Rattle.std.specs.Prelude.{◌≡◌, ◌≤◌, length, true};
 ghost use Rattle.of_format.specs.Pictured.{base_in};
 ghost use Rattle.of_machine.specs.Words.{digits_of, number_entry, right_entry, dot_stack_entry, emit_entry, type_entry};
-ghost use Rattle.of_machine.specs.Words.{newline_entry, printing_entry, Makes};
+ghost use Rattle.of_machine.specs.Words.{newline_entry, printing_entry};
+ghost use Rattle.of_stacks.specs.Stacks.{Makes};
 
 use crate::parts::Parts;
-use crate::stop::Stop;
 use of_cells::Cell;
 use of_fcodes::PrintingWord;
 use of_format::{NumberText, base, signed_text, unsigned_text};
 use of_prims::throw_of;
+use of_stacks::Stop;
 
 /// Whether a cell is printed as a signed or an unsigned number.
 #[derive(Clone, Copy, Debug, PartialEq, Eq)]

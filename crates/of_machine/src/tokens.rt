@@ -5,12 +5,11 @@ ghost use Rattle.of_machine.specs.Tokens.{GoesOn};
 ghost use Rattle.of_machine.specs.Images.{image_bytes};
 
 use crate::parts::Parts;
-use crate::stop::Stop;
 use crate::words::run_word;
 use of_cells::Cell;
 use of_fcodes::{StreamWord, Word, word_of};
 use of_memory::Memory;
-use of_stacks::{DataStack, Throw};
+use of_stacks::{DataStack, Stop, Throw};
 use of_stream::{Argument, OffsetSize, Stream};
 
 /// From where a running image is read on.

@@ -1,13 +1,13 @@
 ghost use Rattle.std.specs.Prelude.{◌≡◌};
-ghost use Rattle.of_machine.specs.Words.{grows, word_entry, Makes};
+ghost use Rattle.of_machine.specs.Words.{grows, word_entry};
+ghost use Rattle.of_stacks.specs.Stacks.{Makes};
 
 use crate::heap::run_heap_word;
 use crate::parts::Parts;
 use crate::printing::run_printing_word;
-use crate::stop::Stop;
 use of_fcodes::{PrimitiveWord, Word};
 use of_prims::prim;
-use of_stacks::Throw;
+use of_stacks::{Stop, Throw};
 
 /// Runs a word over the data stack, the data space and the pictured text.
 #[inline]

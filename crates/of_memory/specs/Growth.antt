@@ -2,6 +2,7 @@
 use Rattle.std.specs.Prelude.{ℕ, ◌+◌, ◌-◌, ◌*◌, ◌/◌, ◌^◌, Bool, ◌&&◌, nat_lt, nat_le, List, [], ◌∷◌, ◌++◌, length}
 use Rattle.std.specs.Prelude.{replicate, Result, Ok, Err, if◌then◌else◌}
 use Rattle.byteorder.specs.Endian.{big_bytes}
+use Rattle.of_cells.specs.declared.cells.Cell.{Cell}
 use Rattle.of_cells.specs.Numbers.{flag}
 use Rattle.of_memory.specs.DataSpace.{DataSpace, written, free_after}
 use Rattle.of_memory.specs.Access.{read_bytes, read_spread, with_read}
@@ -35,6 +36,19 @@ append_copied m a n tail = with_read (read_bytes m a n) (λ xs. appended m (xs +
 -- up to a multiple of 4
 abbrev pub aligned : ℕ → ℕ
 aligned a = (a + 3) / 4 * 4
+
+-- where n zero bytes at the next multiple of 4 stand, if they have room
+abbrev pub zeros_address : DataSpace → ℕ → Result Cell MemFault
+zeros_address m n = if nat_le (aligned m.here + n) data_limit then Ok (record { 0 = aligned m.here }) else Err Full
+
+-- the data space with them
+abbrev pub with_zeros : DataSpace → ℕ → DataSpace
+with_zeros m n = record (written m (aligned m.here) (replicate n 0)) { here = aligned m.here + n }
+
+-- what allotting n zero bytes at the next multiple of 4 answers and leaves
+abbrev pub zeros_allotted : DataSpace → ℕ → Result (ℕ × DataSpace) MemFault
+zeros_allotted m n =
+    if nat_le (aligned m.here + n) data_limit then Ok (aligned m.here, with_zeros m n) else Err Full
 
 -- what storing a property's value at an address answers and leaves
 abbrev pub property_put_at : DataSpace → List ℕ → ℕ → Result (ℕ × DataSpace) MemFault

@@ -1,5 +1,7 @@
 ghost use Rattle.std.specs.Prelude.{◌≡◌, ◌≤◌};
 ghost use Rattle.of_memory.specs.Regions.{region_of, size_of, is_heap, is_writable, may_write, place_of, longest, span};
+ghost use Rattle.of_memory.specs.Regions.{property_limit};
+ghost use Rattle.of_memory.specs.Growth.{aligned};
 
 /// How far apart the regions begin.
 pub(crate) const SPAN: u32 = 0x10_0000;
@@ -150,4 +152,12 @@ pub(crate) fn place(addr: u32) -> usize
     ensures { result ≡ place_of addr }
 {
     (addr / SPAN - 1) as usize * LONGEST as usize + (addr % SPAN) as usize
+}
+
+/// The address, up to a multiple of 4.
+pub(crate) fn aligned(addr: u32) -> u32
+    requires { addr ≤ property_limit }
+    ensures { result ≡ aligned addr }
+{
+    (addr + 3) / 4 * 4
 }

@@ -6,6 +6,7 @@ mod laws;
 mod loops;
 mod return_item;
 mod return_stack;
+mod stop;
 mod texts;
 mod throws;
 
@@ -17,5 +18,6 @@ pub use return_item::{
     Continuation, Due, ExceptionFrame, Input, LoopExit, LoopParameters, Reading, ReturnItem,
 };
 pub use return_stack::ReturnStack;
+pub use stop::Stop;
 pub use texts::text_of;
 pub use throws::Throw;

@@ -2,11 +2,11 @@ ghost use Rattle.std.specs.Prelude.{◌≡◌, ◌≤◌};
 ghost use Rattle.of_memory.specs.Outcomes.{Answers, Becomes, TakesNoMemory};
 ghost use Rattle.of_memory.specs.DataSpace.{IsSound};
 ghost use Rattle.of_memory.specs.Regions.{data_limit};
-ghost use Rattle.of_memory.specs.Growth.{allotted, append_copied, appended, moved};
+ghost use Rattle.of_memory.specs.Growth.{allotted, append_copied, appended, moved, zeros_address, zeros_allotted};
 
 use super::Memory;
 use crate::fault::MemFault;
-use crate::regions::{DATA_LIMIT, DATA_START, place};
+use crate::regions::{DATA_LIMIT, DATA_START, aligned, place};
 use of_cells::Cell;
 
 /// Where an address comes by a signed cell, at least 0.
@@ -44,6 +44,33 @@ impl Memory {
         }
         self.here = here;
         Ok(())
+    }
+
+    /// Where `allot_zeros` would store as many bytes.
+    ///
+    /// Full, if they would leave the data region; no bytes never do.
+    pub fn check_zeros(&self, len: Cell) -> Result<Cell, MemFault>
+        ensures value { result ≡ zeros_address self.now len.0 }
+        ensures sound { IsSound self.now }
+    {
+        let at = aligned(self.here);
+        if len.0 > DATA_LIMIT - at {
+            return Err(MemFault::Full);
+        }
+        Ok(Cell(at))
+    }
+
+    /// Moves `here` up to a multiple of 4, stores `len` zero bytes there, allots them and answers their address.
+    ///
+    /// Full, if they would leave the data region; no bytes never do.
+    pub fn allot_zeros(&mut self, len: Cell) -> Result<Cell, MemFault>
+        ensures value { Answers result self.old self.new (zeros_allotted self.old len.0) }
+        ensures memory { TakesNoMemory result }
+    {
+        let at = self.check_zeros(len)?;
+        self.here = at.0 + len.0;
+        self.set_all(place(at.0), len.0 as usize, 0);
+        Ok(at)
     }
 
     /// Stores bytes at `here`, at any alignment, allots as many and answers their address.

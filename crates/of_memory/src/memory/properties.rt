@@ -1,20 +1,11 @@
 ghost use Rattle.std.specs.Prelude.{◌≡◌, ◌≤◌};
 ghost use Rattle.of_memory.specs.Outcomes.{Answers, AnswersTwo, TakesNoMemory};
-ghost use Rattle.of_memory.specs.Regions.{property_limit};
-ghost use Rattle.of_memory.specs.Growth.{aligned, property_put, property_copied, named_put, named_copied, with_state};
+ghost use Rattle.of_memory.specs.Growth.{property_put, property_copied, named_put, named_copied, with_state};
 
 use super::Memory;
 use crate::fault::MemFault;
-use crate::regions::{PROPERTY_LIMIT, PROPERTY_START, place};
+use crate::regions::{PROPERTY_LIMIT, PROPERTY_START, aligned, place};
 use of_cells::Cell;
-
-/// The address, up to a multiple of 4.
-fn aligned(addr: u32) -> u32
-    requires { addr ≤ property_limit }
-    ensures { result ≡ aligned addr }
-{
-    (addr + 3) / 4 * 4
-}
 
 impl Memory {
     /// Copies a property's name or value to the next multiple of 4 in the property region, and

@@ -1,7 +1,7 @@
-use of_stacks::Throw;
+use crate::throws::Throw;
 use std::alloc::AllocError;
 
-/// Why a token did not run to its end. Nothing has changed.
+/// Why a word did not run to its end. Nothing has changed.
 #[derive(Clone, Copy, Debug, PartialEq, Eq)]
 pub enum Stop {
     /// It throws.
@@ -12,7 +12,7 @@ pub enum Stop {
 
 impl From<Throw> for Stop {
     ghost use Rattle.std.specs.Prelude.{◌≡◌};
-    ghost use Rattle.of_machine.specs.declared.stop.Stop.TheVariants.{Thrown};
+    ghost use Rattle.of_stacks.specs.declared.stop.Stop.TheVariants.{Thrown};
 
     ghost from_gives = { λ t e. e ≡ Thrown t };
 
@@ -23,7 +23,7 @@ impl From<Throw> for Stop {
 
 impl From<AllocError> for Stop {
     ghost use Rattle.std.specs.Prelude.{◌≡◌};
-    ghost use Rattle.of_machine.specs.declared.stop.Stop.TheVariants.{NoMemory};
+    ghost use Rattle.of_stacks.specs.declared.stop.Stop.TheVariants.{NoMemory};
 
     ghost from_gives = { λ _ e. e ≡ NoMemory };
 

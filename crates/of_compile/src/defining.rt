@@ -1,0 +1,226 @@
+//! The words that define, and the open definition's word.
+ghost use Rattle.std.specs.Prelude.{◌≡◌, ◌≤◌, ◌⊎◌, true, length, IfOk, IfErr, IsSome, None, Some};
+ghost use Rattle.of_stacks.specs.Stacks.{Makes};
+ghost use Rattle.of_stacks.specs.Throws.{stack_underflow};
+ghost use Rattle.of_memory.specs.Growth.{aligned};
+ghost use Rattle.of_compile.specs.Defining.{abandoned, closed, defining_entry, made_by, making, opens};
+ghost use Rattle.of_compile.specs.Products.{added, made_of};
+
+use crate::words::Words;
+use of_cells::Cell;
+use of_code::Place;
+use of_dict::{DictFault, Kind, Name};
+use of_fcodes::TokenEntry;
+use of_memory::Memory;
+use of_stacks::{DataStack, Stop, Throw};
+
+/// A word that defines another one (IEEE 1275-1994, 5.3.3.1 and annex A).
+#[derive(Clone, Copy, Debug, PartialEq, Eq)]
+pub enum DefiningWord {
+    /// `b(:)` ( -- ) opens a definition.
+    Colon,
+    /// `b(value)` ( x -- )
+    Value,
+    /// `b(constant)` ( x -- )
+    Constant,
+    /// `b(variable)` ( -- ) allots one cell of 0.
+    Variable,
+    /// `b(create)` ( -- )
+    Create,
+    /// `b(defer)` ( -- )
+    Defer,
+    /// `b(buffer:)` ( size -- ) allots so many bytes of 0.
+    Buffer,
+    /// `b(field)` ( offset size -- offset+size )
+    Field,
+}
+
+/// What a defining word makes.
+#[derive(Clone, Copy)]
+struct Product {
+    /// What the word does when it is executed.
+    kind: Kind,
+    /// How many bytes of 0 are its own.
+    bytes: Cell,
+    /// How many cells are taken from the stack.
+    taken: usize,
+    /// What is left on the stack in their place.
+    left: Option<Cell>,
+}
+
+/// The next address that is a multiple of 4, where a word's data begin.
+fn next_address(memory: &Memory) -> Cell
+    ensures { result.0 ≡ aligned memory.now.here }
+{
+    Cell((memory.here().0 + 3) / 4 * 4)
+}
+
+impl Product {
+    /// A word without data that takes so many cells from the stack.
+    fn of(kind: Kind, taken: usize) -> Product
+        ensures { result ≡ record { kind = kind; bytes = record { 0 = 0 }; taken = taken; left = None } }
+    {
+        Product {
+            kind,
+            bytes: Cell(0),
+            taken,
+            left: None,
+        }
+    }
+
+    /// Takes the word's cells from the stack, and leaves what it leaves.
+    fn settle(self, stack: &mut DataStack)
+        requires taken { self.taken ≤ length stack.old }
+        requires one { self.left ≡ None ⊎ 1 ≤ self.taken }
+        ensures { stack.new ≡ (made_of self stack.old).stack }
+    {
+        stack.drop_top(self.taken);
+        if let Some(x) = self.left {
+            stack.push(x);
+        }
+    }
+}
+
+impl DefiningWord {
+    /// Whether the word opens a definition.
+    fn opens(self) -> bool
+        ensures { result ≡ opens self }
+    {
+        self == DefiningWord::Colon
+    }
+
+    /// What the word makes of the cells on the stack; -4 where they are too few.
+    fn product(self, start: Place, here: Cell, stack: &DataStack) -> Result<Product, Throw>
+        ensures ok { IfOk result (λ p. made_by self start.cell here.0 stack.now ≡ Some (made_of p stack.now)) }
+        ensures cells { IfOk result (λ p. p.taken ≤ length stack.now) }
+        ensures room { IfOk result (λ p. (p.left ≡ None) ⊎ (1 ≤ p.taken)) }
+        ensures err { IfErr result (λ t. (made_by self start.cell here.0 stack.now ≡ None) × (t ≡ stack_underflow)) }
+    {
+        let product = match self {
+            DefiningWord::Colon => Product::of(Kind::Colon { start: start.cell }, 0),
+            DefiningWord::Value => Product::of(
+                Kind::Value {
+                    value: stack.peek()?,
+                },
+                1,
+            ),
+            DefiningWord::Constant => Product::of(
+                Kind::Constant {
+                    value: stack.peek()?,
+                },
+                1,
+            ),
+            DefiningWord::Variable => Product {
+                kind: Kind::Variable { address: here },
+                bytes: Cell(4),
+                taken: 0,
+                left: None,
+            },
+            DefiningWord::Create => Product::of(Kind::Create { address: here }, 0),
+            DefiningWord::Defer => Product::of(Kind::Defer { xt: Cell(0) }, 0),
+            DefiningWord::Buffer => Product {
+                kind: Kind::Buffer { address: here },
+                bytes: stack.peek()?,
+                taken: 1,
+                left: None,
+            },
+            DefiningWord::Field => {
+                let (offset, size) = stack.top_two()?;
+                Product {
+                    kind: Kind::Field { offset },
+                    bytes: Cell(0),
+                    taken: 2,
+                    left: Some(offset.add(size)),
+                }
+            }
+        };
+        Ok(product)
+    }
+}
+
+impl Words {
+    /// Defines a word, which gets the pending number and name (IEEE 1275-1994, 5.3.3.1). `start` is where the next
+    /// definition's code begins. `here` is moved up to a multiple of 4 first.
+    ///
+    /// -29 while a definition is open or without a pending number, -4 where the word takes more cells than there are,
+    /// -8 where 8,192 words were made or the data region has no room. A stop changes nothing.
+    #[tactic(auto, using(crate::proofs::FaultLemmas::entry_nested, crate::proofs::FaultLemmas::entry_short))]
+    pub fn define(
+        &mut self,
+        word: DefiningWord,
+        start: Place,
+        stack: &mut DataStack,
+        memory: &mut Memory,
+    ) -> Result<(), Stop>
+        ensures { let old = making self.old stack.old memory.old in
+            Makes true (defining_entry word start.cell old) old (making self.new stack.new memory.new) result }
+    {
+        if self.defining.is_some() || self.pending.is_none() {
+            return Err(Stop::Thrown(Throw::COMPILER_NESTING));
+        }
+        let product = match word.product(start, next_address(memory), stack) {
+            Ok(product) => product,
+            Err(fault) => return Err(Stop::Thrown(fault)),
+        };
+        if memory.check_zeros(product.bytes).is_err() {
+            return Err(Stop::Thrown(Throw::DICTIONARY_OVERFLOW));
+        }
+        self.add(word, product.kind)?;
+        product.settle(stack);
+        let _ = memory.allot_zeros(product.bytes);
+        Ok(())
+    }
+
+    /// Adds a word of the pending number and name.
+    #[tactic(auto, using(crate::proofs::WordsLemmas::newest_pushed, crate::proofs::WordsLemmas::changed_pushed))]
+    fn add(&mut self, word: DefiningWord, kind: Kind) -> Result<(), Stop>
+        requires closed { self.old.defining ≡ None }
+        requires pending { IsSome self.old.pending }
+        ensures { Makes true (added word kind self.old) self.old self.new result }
+    {
+        let Some(pending) = &self.pending else {
+            return Err(Stop::Thrown(Throw::COMPILER_NESTING));
+        };
+        let name = pending.name.as_ref().map(Name::as_bytes);
+        let number = match self.dictionary.add(name, kind) {
+            Ok(number) => number,
+            Err(DictFault::NoMemory) => return Err(Stop::NoMemory),
+            Err(_) => return Err(Stop::Thrown(Throw::DICTIONARY_OVERFLOW)),
+        };
+        self.table.set(
+            pending.code,
+            TokenEntry {
+                xt: number.xt().0,
+                immediate: false,
+            },
+        );
+        self.pending = None;
+        if word.opens() {
+            self.dictionary.hide(number);
+            self.defining = Some(number);
+        }
+        Ok(())
+    }
+
+    /// The open definition is finished: its word is found by its name again, and none is open.
+    pub fn close(&mut self)
+        ensures { self.new ≡ closed self.old }
+    {
+        if let Some(word) = self.defining {
+            self.dictionary.reveal(word);
+            self.defining = None;
+        }
+    }
+
+    /// The open definition is given up: its word is no more, and the FCodes that name it are unassigned.
+    pub fn abandon(&mut self)
+        ensures { self.new ≡ abandoned self.old }
+    {
+        // The open word is the newest one.
+        if let (Some(_), Some(word)) = (self.defining, self.dictionary.newest()) {
+            self.dictionary.remove();
+            self.table.clear(word.xt().0);
+            self.defining = None;
+        }
+    }
+}
