@@ -1,1 +1,4 @@
 pub mod Elements
+pub mod Coding
+pub mod Layout
+pub mod Law

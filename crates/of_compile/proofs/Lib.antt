@@ -1,0 +1,10 @@
+mod Cells
+mod Lengths
+mod WithinLemmas
+mod Scanning
+mod Among
+mod Standing
+mod Steps
+mod LaidReading
+mod Keeping
+mod LawLemmas
