@@ -44,6 +44,13 @@ impl<C: CodeStore> Coding<C> {
         }
     }
 
+    /// The store, for what reads code.
+    pub fn code(&self) -> &C
+        ensures { C.code result.now ≡ self.now.coding.code }
+    {
+        &self.code
+    }
+
     /// Makes room for this many calls that append or finish, at most 256. A refused growth changes nothing else.
     pub fn reserve(&mut self, calls: usize) -> Result<(), AllocError>
         requires { calls ≤ MOST_CALLS }

@@ -11,4 +11,3 @@ mod waiting;
 pub use coding::Coding;
 pub use element::{Element, PlainItem};
 pub use laws::compiles_reading;
-pub use waiting::Waiting;
