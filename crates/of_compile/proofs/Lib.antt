@@ -8,3 +8,6 @@ mod Steps
 mod LaidReading
 mod Keeping
 mod LawLemmas
+mod Fetching
+mod BoardLemmas
+mod Pins

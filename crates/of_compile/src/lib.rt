@@ -10,4 +10,4 @@ mod waiting;
 
 pub use coding::Coding;
 pub use element::{Element, PlainItem};
-pub use laws::compiles_reading;
+pub use laws::{board_is_flat, compiles_reading};
