@@ -13,11 +13,11 @@ use Rattle.of_compile.specs.declared.defining.DefiningWord.{DefiningWord}
 use Rattle.of_compile.specs.Defining.{Making, defining_entry, has_no_bytes, made_by}
 
 -- no fault, or one that stands behind t in the order or beside it
-abbrev IsLate : Throw → Option Throw → Type 0
+abbrev pub IsLate : Throw → Option Throw → Type 0
 IsLate t None = Unit {0}
 IsLate t (Some u) = nat_le (rank t.0) (rank u.0) ≡ true
 
-counted_first : (t : Throw) (later : Option Throw) → IsLate t later → counted (Some t) later ≡ Some t
+pub counted_first : (t : Throw) (later : Option Throw) → IsLate t later → counted (Some t) later ≡ Some t
 counted_first t None l = refl
 counted_first t (Some u) l = rw l refl
 
@@ -25,12 +25,12 @@ one_late : (t u v : Throw) (b : Bool) → IsLate t (Some u) → IsLate t (Some v
 one_late t u v true lu lv = lu
 one_late t u v false lu lv = lv
 
-late_counted : (t : Throw) (a b : Option Throw) → IsLate t a → IsLate t b → IsLate t (counted a b)
+pub late_counted : (t : Throw) (a b : Option Throw) → IsLate t a → IsLate t b → IsLate t (counted a b)
 late_counted t None b la lb = lb
 late_counted t (Some u) None la lb = la
 late_counted t (Some u) (Some v) la lb = one_late t u v (nat_le (rank u.0) (rank v.0)) la lb
 
-late_if : (t u : Throw) (b : Bool) → nat_le (rank t.0) (rank u.0) ≡ true → IsLate t (fault_if b u)
+pub late_if : (t u : Throw) (b : Bool) → nat_le (rank t.0) (rank u.0) ≡ true → IsLate t (fault_if b u)
 late_if t u true h = h
 late_if t u false h = tt
 

@@ -1,2 +1,16 @@
-pub mod FaultLemmas
-pub mod WordsLemmas
+mod Cells
+mod Lengths
+mod WithinLemmas
+mod Scanning
+mod Among
+mod Standing
+mod Steps
+mod LaidReading
+mod Keeping
+mod LawLemmas
+mod Fetching
+mod BoardLemmas
+mod Pins
+mod FaultLemmas
+mod WordsLemmas
+mod DefinitionLemmas

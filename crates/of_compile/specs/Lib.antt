@@ -1,6 +1,12 @@
 pub mod Elements
+pub mod Coding
+pub mod Layout
+pub mod Law
+pub mod Board
+pub mod BoardLaw
 pub mod Tokens
 pub mod Words
 pub mod Defining
 pub mod Products
 pub mod DictionaryWords
+pub mod Definitions

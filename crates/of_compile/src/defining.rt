@@ -2,13 +2,14 @@
 ghost use Rattle.std.specs.Prelude.{◌≡◌, ◌≤◌, ◌⊎◌, true, length, IfOk, IfErr, IsSome, None, Some};
 ghost use Rattle.of_stacks.specs.Stacks.{Makes};
 ghost use Rattle.of_stacks.specs.Throws.{stack_underflow};
+ghost use Rattle.of_code.specs.Code.{end_of};
 ghost use Rattle.of_memory.specs.Growth.{aligned};
 ghost use Rattle.of_compile.specs.Defining.{abandoned, closed, defining_entry, made_by, making, opens};
 ghost use Rattle.of_compile.specs.Products.{added, made_of};
 
 use crate::words::Words;
 use of_cells::Cell;
-use of_code::Place;
+use of_code::{CodeStore, Place};
 use of_dict::{DictFault, Kind, Name};
 use of_fcodes::TokenEntry;
 use of_memory::Memory;
@@ -139,26 +140,26 @@ impl DefiningWord {
 }
 
 impl Words {
-    /// Defines a word, which gets the pending number and name (IEEE 1275-1994, 5.3.3.1). `start` is where the next
-    /// definition's code begins. `here` is moved up to a multiple of 4 first.
+    /// Defines a word, which gets the pending number and name (IEEE 1275-1994, 5.3.3.1). A
+    /// definition's code begins at the end of the code. `here` is moved up to a multiple of 4 first.
     ///
     /// -29 while a definition is open or without a pending number, -4 where the word takes more cells than there are,
     /// -8 where 8,192 words were made or the data region has no room. A stop changes nothing.
     #[tactic(auto, using(crate::proofs::FaultLemmas::entry_nested, crate::proofs::FaultLemmas::entry_short))]
-    pub fn define(
+    pub fn define<C: CodeStore>(
         &mut self,
         word: DefiningWord,
-        start: Place,
+        code: &C,
         stack: &mut DataStack,
         memory: &mut Memory,
     ) -> Result<(), Stop>
         ensures { let old = making self.old stack.old memory.old in
-            Makes true (defining_entry word start.cell old) old (making self.new stack.new memory.new) result }
+            Makes true (defining_entry word (end_of (C.code code.now)).cell old) old (making self.new stack.new memory.new) result }
     {
         if self.defining.is_some() || self.pending.is_none() {
             return Err(Stop::Thrown(Throw::COMPILER_NESTING));
         }
-        let product = match word.product(start, next_address(memory), stack) {
+        let product = match word.product(code.end(), next_address(memory), stack) {
             Ok(product) => product,
             Err(fault) => return Err(Stop::Thrown(fault)),
         };
@@ -203,7 +204,7 @@ impl Words {
     }
 
     /// The open definition is finished: its word is found by its name again, and none is open.
-    pub fn close(&mut self)
+    pub(crate) fn close(&mut self)
         ensures { self.new ≡ closed self.old }
     {
         if let Some(word) = self.defining {
@@ -213,11 +214,10 @@ impl Words {
     }
 
     /// The open definition is given up: its word is no more, and the FCodes that name it are unassigned.
-    pub fn abandon(&mut self)
+    pub(crate) fn abandon(&mut self)
         ensures { self.new ≡ abandoned self.old }
     {
-        // The open word is the newest one.
-        if let (Some(_), Some(word)) = (self.defining, self.dictionary.newest()) {
+        if let Some(word) = self.open_word() {
             self.dictionary.remove();
             self.table.clear(word.xt().0);
             self.defining = None;

@@ -67,8 +67,8 @@ pub enum Element {
     /// `endcase` (Forth 2012, 6.2.1342).
     EndCase,
 
-    /// An item of a `do` or `case` family whose offset has the wrong sign. It belongs to no structure, is never run, and
-    /// takes the cells of this item.
+    /// An item of a `do` or `case` family whose offset has the wrong sign. It belongs to no structure and is never run;
+    /// it takes the cells of this item.
     Misfit(PlainItem),
 }
 

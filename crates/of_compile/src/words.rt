@@ -1,8 +1,9 @@
 //! The words that images define: the dictionary, what each FCode names, and what a token maker left.
-ghost use Rattle.std.specs.Prelude.{◌≡◌, [], IfOk, None};
+ghost use Rattle.std.specs.Prelude.{◌≡◌, ◌<◌, [], IfOk, IfSome, None};
 ghost use Rattle.std.specs.Option.{option_copied, option_map};
 ghost use Rattle.of_stacks.specs.Stacks.{Becomes};
 ghost use Rattle.of_fcodes.specs.Tokens.{first_table};
+ghost use Rattle.of_dict.specs.Words.{capacity};
 ghost use Rattle.of_compile.specs.Words.{is_debugging, is_own_code, name_fault, name_given, numbered};
 
 use of_cells::Cell;
@@ -142,6 +143,15 @@ impl Words {
         ensures { option_map (λ o. o.0) result ≡ self.now.defining }
     {
         self.defining
+    }
+
+    /// The word whose definition is open: the newest one.
+    pub(crate) fn open_word(&self) -> Option<OwnWord>
+        ensures word { option_map (λ o. o.0) result ≡ self.now.defining }
+        ensures fits { IfSome result (λ o. o.0 < capacity) }
+    {
+        self.defining?;
+        self.dictionary.newest()
     }
 
     /// `new-token`, `named-token` and `external-token`: the next word that is defined gets the FCode, and the name that

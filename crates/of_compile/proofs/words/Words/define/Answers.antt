@@ -1,5 +1,6 @@
 use Rattle.std.proofs.Common.{◌≡◌, ◌||◌, true, false, None, Err, is_some, is_none, rules, refl, sym, ap, ◌∙◌}
 use Rattle.of_stacks.specs.Throws.{stack_underflow}
+use Rattle.of_code.specs.Code.{end_of}
 use Rattle.of_memory.specs.Growth.{aligned}
 use Rattle.of_compile.specs.Defining.{made_by, making}
 use Rattle.of_compile.proofs.FaultLemmas.{entry_nested, entry_short}
@@ -9,20 +10,20 @@ use Rattle.of_compile.proofs.words.Words.define.Goals as goal
 
 -- src/defining.rt:149:13
 pub returns-then-is_some : goal.returns-then-is_some
-returns-then-is_some c =
-    let g = making c.args.self.now c.args.stack.now c.args.memory.now in
-    let e : (is_some g.words.defining || is_none g.words.pending) ≡ true = elim c.then-is_some.branch [
+returns-then-is_some g c =
+    let old = making c.args.self.now c.args.stack.now c.args.memory.now in
+    let e : (is_some old.words.defining || is_none old.words.pending) ≡ true = elim c.then-is_some.branch [
       | then-is_some-via-then-is_some w ↦ search rules
       | then-is_some-via-else-is_some+then-is_none w ↦ search rules
     ] in
-    (entry_nested c.args.word c.args.start.cell g e, refl {a = g})
+    (entry_nested c.args.word (end_of (g.C.CodeStore.code c.args.code.now)).cell old e, refl {a = old})
 
 -- src/defining.rt:151:23
 pub returns-in-Err : goal.returns-in-Err
-returns-in-Err c =
-    let g = making c.args.self.now c.args.stack.now c.args.memory.now in
-    let e : is_some g.words.defining ≡ false = search rules in
-    let p : is_none g.words.pending ≡ false = search rules in
-    let none : made_by c.args.word c.args.start.cell (aligned g.memory.here) g.stack ≡ None = search rules in
+returns-in-Err g c =
+    let old = making c.args.self.now c.args.stack.now c.args.memory.now in
+    let e : is_some old.words.defining ≡ false = search rules in
+    let p : is_none old.words.pending ≡ false = search rules in
+    let none : made_by c.args.word (end_of (g.C.CodeStore.code c.args.code.now)).cell (aligned old.memory.here) old.stack ≡ None = search rules in
     let t : c.in-Err.fault ≡ stack_underflow = search rules in
-    (entry_short c.args.word c.args.start.cell g e p none ∙ ap (λ u. Err u) (sym t), refl {a = g})
+    (entry_short c.args.word (end_of (g.C.CodeStore.code c.args.code.now)).cell old e p none ∙ ap (λ u. Err u) (sym t), refl {a = old})
