@@ -9,11 +9,7 @@ count=${1:-40000}
 program=$top/crates/of_dict_bench/out/of_dict_bench
 [ -x "$program" ] || (cd "$top/crates/of_dict_bench" && rt run) >/dev/null 2>&1
 
-# KIND COUNT: the instructions of a run
-instructions() {
-    valgrind --tool=callgrind --callgrind-out-file=/dev/null "$program" "$1" "$2" 2>&1 >/dev/null |
-        sed -n 's/.*Collected : //p'
-}
+source "$top/bench/callgrind.sh"
 
 # KIND: the instructions of one call
 cost() { echo $((($(instructions "$1" "$count") - $(instructions "$1" 0)) / count)); }

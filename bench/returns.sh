@@ -10,11 +10,7 @@ count=${1:-100000}
 program=$top/crates/of_stacks_bench/out/of_stacks_bench
 [ -x "$program" ] || (cd "$top/crates/of_stacks_bench" && rt run) >/dev/null 2>&1
 
-# KIND COUNT: the instructions of so many calls
-instructions() {
-    valgrind --tool=callgrind --callgrind-out-file=/dev/null "$program" "$1" "$2" 2>&1 >/dev/null |
-        sed -n 's/.*Collected : \([0-9]*\).*/\1/p'
-}
+source "$top/bench/callgrind.sh"
 
 for kind in cells returns loop +loop loop-i loop-j throw; do
     less=$(instructions "$kind" "$count")

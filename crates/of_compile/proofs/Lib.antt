@@ -13,4 +13,4 @@ mod BoardLemmas
 mod Pins
 mod FaultLemmas
 mod WordsLemmas
-mod DefinitionLemmas
+mod Endings

@@ -1,7 +1,8 @@
 -- What each defining word makes of dictionary, token table, data stack and data region, or what it throws
 -- (IEEE 1275-1994, 5.3.3.1 and annex A, `b(:)` to `b(field)`; Forth 2012, 6.1.0450, 6.1.0950, 6.1.1000, 6.1.2410,
 -- 6.2.0825, 6.2.1173, 6.2.2405).
-use Rattle.std.specs.Prelude.{ℕ, ◌+◌, Bool, true, false, nat_le, nat_lt, List, [], ◌∷◌, ◌++◌, length, Option, Some, None}
+use Rattle.std.specs.Prelude.{ℕ, ◌+◌, Bool, true, false, nat_le, nat_lt, List, [], ◌∷◌, ◌++◌, length, Option, Some}
+use Rattle.std.specs.Prelude.{None}
 use Rattle.std.specs.Prelude.{Result, is_none, is_some}
 use Rattle.of_cells.specs.declared.cells.Cell.{Cell}
 use Rattle.of_cells.specs.Arithmetic.{plus}

@@ -1,6 +1,7 @@
 -- What the words on words and numbers make of words and data stack, the top first, or throw (IEEE 1275-1994, annex A,
 -- `get-token` to `behavior`; Forth 2012, 6.1.1710, 6.1.0550, 6.2.2295).
-use Rattle.std.specs.Prelude.{ℕ, Bool, true, false, nat_eq, not, List, [], ◌∷◌, length, Option, Some, None, Result, Ok, Err}
+use Rattle.std.specs.Prelude.{ℕ, Bool, true, false, nat_eq, not, List, [], ◌∷◌, length, Option, Some, None, Result}
+use Rattle.std.specs.Prelude.{Ok, Err}
 use Rattle.of_cells.specs.declared.cells.Cell.{Cell}
 use Rattle.of_cells.specs.Numbers.{flag}
 use Rattle.of_stacks.specs.declared.throws.Throw.{Throw}

@@ -1,6 +1,7 @@
 -- The words that images define: dictionary and token table, and what a token maker left for the next word that is
 -- defined (IEEE 1275-1994, 5.2.2.2, 5.3.3.1 and annex A, `new-token`, `named-token`, `external-token`).
-use Rattle.std.specs.Prelude.{ℕ, ◌≡◌, ◌≤◌, ◌<◌, ◌+◌, ◌-◌, ◌/◌, ◌%◌, Bool, true, nat_eq, nat_le, nat_lt, ◌&&◌, ◌||◌, not}
+use Rattle.std.specs.Prelude.{ℕ, ◌≡◌, ◌≤◌, ◌<◌, ◌+◌, ◌-◌, ◌/◌, ◌%◌, Bool, true, nat_eq, nat_le, nat_lt, ◌&&◌}
+use Rattle.std.specs.Prelude.{◌||◌, not}
 use Rattle.std.specs.Prelude.{List, [], ◌∷◌, length, Option, Some, None, Result, option_and_then, is_some}
 use Rattle.std.specs.Prelude.{if◌then◌else◌}
 use Rattle.of_stacks.specs.declared.throws.Throw.{Throw}

@@ -145,7 +145,6 @@ impl Words {
     ///
     /// -29 while a definition is open or without a pending number, -4 where the word takes more cells than there are,
     /// -8 where 8,192 words were made or the data region has no room. A stop changes nothing.
-    #[tactic(auto, using(crate::proofs::FaultLemmas::entry_nested, crate::proofs::FaultLemmas::entry_short))]
     pub fn define<C: CodeStore>(
         &mut self,
         word: DefiningWord,

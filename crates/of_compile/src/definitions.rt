@@ -16,7 +16,7 @@ use of_stacks::{DataStack, Throw};
 ///
 /// -29 where none is open, -22 exactly where its control isn't matched, -8 where the return would pass the last code
 /// cell. A throw changes nothing.
-#[tactic(auto, using(crate::proofs::DefinitionLemmas::closing_throws, crate::proofs::DefinitionLemmas::closing_ends))]
+#[tactic(auto, using(crate::proofs::Endings::closing_ends))]
 pub fn end_definition<C: CodeStore>(words: &mut Words, coding: &mut Coding<C>) -> Result<(), Throw>
     requires { 1 ≤ coding.old.spare }
     ensures outcome { Becomes (closing_entry words.old coding.old.coding) (words.old, coding.old.coding)
@@ -51,7 +51,7 @@ pub fn abandon_definition<C: CodeStore>(words: &mut Words, coding: &mut Coding<C
 ///
 /// -14 where none is open, -4 without a cell, -263 where it is no word, -8 where the item would pass the last code
 /// cell. A throw changes nothing.
-#[tactic(auto, using(crate::proofs::DefinitionLemmas::compile_closed, crate::proofs::DefinitionLemmas::compile_unknown, crate::proofs::DefinitionLemmas::compile_throws, crate::proofs::DefinitionLemmas::compile_ends))]
+#[tactic(auto, using(crate::proofs::Endings::compile_closed, crate::proofs::Endings::compile_unknown))]
 pub fn compile_call<C: CodeStore>(
     words: &Words,
     coding: &mut Coding<C>,

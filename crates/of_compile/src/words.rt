@@ -159,7 +159,7 @@ impl Words {
     ///
     /// -29 while a definition is open, -16 for a name without bytes, -19 for one of more than 31, -24 for an FCode that
     /// isn't 0x800 to 0xFFF. A refusal changes nothing.
-    #[tactic(auto, using(crate::proofs::FaultLemmas::number_nested, crate::proofs::FaultLemmas::number_named))]
+    #[tactic(auto, using(crate::proofs::FaultLemmas::number_nested))]
     pub fn announce(&mut self, maker: TokenMaker, code: FCode, memory: &Memory) -> Result<(), Throw>
         ensures { Becomes (numbered code (name_given memory.now maker.entry) self.old) self.old self.new result }
     {

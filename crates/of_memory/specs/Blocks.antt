@@ -1,5 +1,6 @@
 -- Live blocks: a list in the order of their addresses.
-use Rattle.std.specs.Prelude.{ℕ, ◌+◌, ◌*◌, ◌-◌, ◌/◌, ◌%◌, ◌≤◌, ◌<◌, ◌≡◌, zero, suc, Bool, true, ◌&&◌, ◌||◌, nat_lt}
+use Rattle.std.specs.Prelude.{ℕ, ◌+◌, ◌*◌, ◌-◌, ◌/◌, ◌%◌, ◌≤◌, ◌<◌, ◌≡◌, zero, suc, Bool, true, ◌&&◌, ◌||◌}
+use Rattle.std.specs.Prelude.{nat_lt}
 use Rattle.std.specs.Prelude.{nat_le, ◌==◌, List, [], ◌∷◌, Option, Some, None, if◌then◌else◌, max}
 use Rattle.std.specs.List.{list_any, list_all}
 use Rattle.of_memory.specs.declared.blocks.Block.{Block}

@@ -1,5 +1,6 @@
 -- A step passes the limit where it crosses the boundary before it.
-use Rattle.std.proofs.Common.{◌≡◌, ◌↔◌, ℕ, ◌+◌, ◌-◌, ◌^◌, ◌%◌, ◌≤◌, ◌<◌, ℤ, pos, negsuc, ◌+ℤ◌, Bool, true, false}
+use Rattle.std.proofs.Common.{◌≡◌, ◌↔◌, ℕ, ◌+◌, ◌-◌, ◌^◌, ◌%◌, ◌≤◌, ◌<◌, ℤ, pos, negsuc, ◌+ℤ◌, Bool, true}
+use Rattle.std.proofs.Common.{false}
 use Rattle.std.proofs.Common.{◌||◌, nat_lt, sym, ap, ◌∙◌, arith}
 use Rattle.std.specs.Prelude.{int_lt, int_le}
 use Rattle.std.specs.Int.{w32}

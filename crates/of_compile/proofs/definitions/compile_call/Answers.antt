@@ -3,7 +3,7 @@ use Rattle.of_control.specs.Element.{Plain}
 use Rattle.of_compile.specs.Coding.{compiling}
 use Rattle.of_compile.specs.Tokens.{called}
 use Rattle.of_compile.specs.Words.{is_word}
-use Rattle.of_compile.proofs.DefinitionLemmas.{compile_ends, compile_throws}
+use Rattle.of_compile.proofs.Endings.{compile_ends, compile_throws}
 use Rattle.of_compile.proofs.definitions.compile_call.Goals as goal
 
 -- src/definitions.rt:66:9

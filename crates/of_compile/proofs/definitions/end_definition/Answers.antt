@@ -1,7 +1,7 @@
 use Rattle.std.proofs.Common.{◌≡◌, Some, Err, rules, ap}
 use Rattle.of_dict.specs.Words.{xt_of}
 use Rattle.of_compile.specs.Coding.{finishing}
-use Rattle.of_compile.proofs.DefinitionLemmas.{closing_throws}
+use Rattle.of_compile.proofs.Endings.{closing_throws}
 use Rattle.of_compile.proofs.definitions.end_definition.Goals as goal
 
 -- src/definitions.rt:33:26

@@ -60,8 +60,8 @@ handle_overflow : nat_le (rank bad_handle.0) (rank dictionary_overflow.0) ≡ tr
 unfolding rank later_rank
 handle_overflow = refl
 
-closed_counts : (a b : Bool) → counting (Some compile_only ∷ fault_if a bad_handle ∷ fault_if b dictionary_overflow ∷ [])
-    ≡ Some compile_only
+closed_counts : (a b : Bool)
+    → counting (Some compile_only ∷ fault_if a bad_handle ∷ fault_if b dictionary_overflow ∷ []) ≡ Some compile_only
 closed_counts a b =
     counted_first compile_only (counted (fault_if a bad_handle) (counted (fault_if b dictionary_overflow) None))
     (late_counted compile_only (fault_if a bad_handle) (counted (fault_if b dictionary_overflow) None)
