@@ -6,6 +6,8 @@ mod cells;
 #[cfg(test)]
 mod code;
 #[cfg(test)]
+mod compiling;
+#[cfg(test)]
 mod control;
 #[cfg(test)]
 mod dict;
