@@ -1,8 +1,6 @@
 //! Definitions compiled element by element, with the cells that they come to. Positions and targets are those of the
 //! bytes of the images from which the elements come; cells are counted by hand from the lengths of the items.
 ghost use Rattle.std.specs.Prelude.{◌≤◌};
-ghost use Rattle.of_control.specs.Element.{Plain};
-ghost use Rattle.of_compile.specs.Elements.{CanBeStored, element_of, own_item};
 
 use of_cells::Cell;
 use of_code::{CodeStore, Item, ListCode, Place};
@@ -236,9 +234,7 @@ start 2 none
 ";
 
 /// A plain item of a name.
-fn plain(name: &str) -> PlainItem
-    ensures { CanBeStored (own_item (Plain result)) }
-{
+fn plain(name: &str) -> PlainItem {
     match name {
         "literal" => PlainItem::Literal(Cell(7)),
         "string" => PlainItem::String {
@@ -252,9 +248,7 @@ fn plain(name: &str) -> PlainItem
 }
 
 /// An element of a name with a target or position.
-fn element(name: &str, x: Option<usize>) -> Element
-    ensures { CanBeStored (own_item (element_of result)) }
-{
+fn element(name: &str, x: Option<usize>) -> Element {
     match name {
         "?branch" => Element::Branch(true, x),
         "branch" => Element::Branch(false, x),
@@ -361,13 +355,24 @@ fn is_shown(code: &ListCode, line: &Line) -> Result<bool, Fail> {
     }
 }
 
-/// Compiles an element or ends the definition, as a line says.
-fn answered(coding: &mut Coding<ListCode>, line: &Line) -> Result<Result<(), Throw>, Fail> {
+/// Compiles an element for which there is memory, and answers whether it was as wanted.
+fn is_compiled(
+    coding: &mut Coding<ListCode>,
+    element: Element,
+    wanted: Result<(), Throw>,
+) -> Result<bool, Fail> {
     coding.reserve(1)?;
-    if line.name == "semicolon" {
-        return Ok(coding.semicolon(Cell(line.x.unwrap_or(0))));
-    }
-    Ok(coding.compile(element(line.name, line.x.map(|x| x as usize))))
+    Ok(element.is_storable() && coding.compile(element) == wanted)
+}
+
+/// The same of the end of the definition.
+fn is_ended(
+    coding: &mut Coding<ListCode>,
+    xt: Cell,
+    wanted: Result<(), Throw>,
+) -> Result<bool, Fail> {
+    coding.reserve(1)?;
+    Ok(coding.semicolon(xt) == wanted)
 }
 
 /// Whether a line is so.
@@ -378,7 +383,11 @@ fn is_so(coding: &mut Coding<ListCode>, line: &Line) -> Result<bool, Fail> {
             coding.abandon();
             Ok(true)
         }
-        _ => Ok(answered(coding, line)? == wanted(line.answer)),
+        "semicolon" => is_ended(coding, Cell(line.x.unwrap_or(0)), wanted(line.answer)),
+        _ => {
+            let element = element(line.name, line.x.map(|x| x as usize));
+            is_compiled(coding, element, wanted(line.answer))
+        }
     }
 }
 
@@ -418,14 +427,6 @@ fn structures(rt: HostRuntime) -> Result<(), Fail> {
     run(&rt, rt.alloc(), MISFITS)
 }
 
-/// Compiles an element for which there are memory and room.
-fn compile(coding: &mut Coding<ListCode>, element: Element) -> Result<bool, Fail>
-    requires { CanBeStored (own_item (element_of element)) }
-{
-    coding.reserve(1)?;
-    Ok(coding.compile(element) == Ok(()))
-}
-
 /// Opens `count` branches from position 12 on, 3 bytes each, and then resolves them, a byte each; branch `i`, from 1,
 /// goes to the byte behind its resolve.
 fn branches(rt: &impl Abort, alloc: Global, count: usize) -> Result<Coding<ListCode>, Fail>
@@ -436,13 +437,13 @@ fn branches(rt: &impl Abort, alloc: Global, count: usize) -> Result<Coding<ListC
     for i in 1..=count {
         let target = first + count + 1 - i;
         assert!(rt;
-            compile(&mut coding, Element::Branch(true, Some(target)))?,
+            is_compiled(&mut coding, Element::Branch(true, Some(target)), Ok(()))?,
             "{i}"
         );
     }
     for j in 0..count {
         assert!(rt;
-            compile(&mut coding, Element::Resolve(Some(first + j)))?,
+            is_compiled(&mut coding, Element::Resolve(Some(first + j)), Ok(()))?,
             "{j}"
         );
     }
@@ -467,9 +468,19 @@ fn thirty_two_branches(rt: HostRuntime) -> Result<(), Fail> {
 fn last_cell(rt: HostRuntime) -> Result<(), Fail> {
     let mut coding = Coding::new(ListCode::new(rt.alloc()));
     for n in 0..65_535 / 3u32 {
-        assert!(rt; compile(&mut coding, element("string", None))?, "{n}");
+        assert!(rt;
+            is_compiled(&mut coding, element("string", None), Ok(()))?,
+            "{n}"
+        );
     }
     run_on(&rt, &mut coding, LAST_CELL)
+}
+
+/// A call of a written word can't be stored.
+#[test]
+fn is_storable(rt: HostRuntime) {
+    assert!(rt; !Element::Plain(PlainItem::Call(OPERATION)).is_storable());
+    assert!(rt; !Element::Misfit(PlainItem::Operation(OWN_WORD)).is_storable());
 }
 
 /// The laws hold.
