@@ -8,8 +8,6 @@ mod code;
 #[cfg(test)]
 mod control;
 #[cfg(test)]
-mod defining;
-#[cfg(test)]
 mod dict;
 #[cfg(test)]
 mod fcodes;

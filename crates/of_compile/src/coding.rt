@@ -45,6 +45,7 @@ impl<C: CodeStore> Coding<C> {
     }
 
     /// The store, for what reads code.
+    #[inline(always)]
     pub fn code(&self) -> &C
         ensures { C.code result.now ≡ self.now.coding.code }
     {

@@ -17,18 +17,6 @@ use of_code::{CodeStore, Item, Place};
 use of_control::{Control, places_stay_within};
 use of_stacks::Throw;
 
-fn append_plain<C: CodeStore>(item: PlainItem, code: &mut C, control: &mut Control<32>)
-    requires storable { IsStorable (plain_item item) }
-    requires room { length (C.code code.old).cells + cells_of (plain_item item) ≤ capacity }
-    requires memory { 1 ≤ C.spare code.old }
-    ensures coding { compiled (Plain item) (coding_of (C.code code.old) control.old)
-        ≡ coding_of (C.code code.new) control.new }
-    ensures spare { C.spare code.old ≤ C.spare code.new + 1 }
-{
-    let _ = control.is_closed();
-    put(item.item(), code);
-}
-
 fn append_misfit<C: CodeStore>(item: PlainItem, code: &mut C, control: &mut Control<32>)
     requires storable { IsStorable (plain_item item) }
     requires room { length (C.code code.old).cells + cells_of (plain_item item) ≤ capacity }
@@ -120,15 +108,6 @@ fn append_back<C: CodeStore>(
         Some(cell) => put(branch_item(on_zero, place_of(cell)), code),
         None => put(branch_item(on_zero, NOWHERE), code),
     }
-}
-
-fn roll<C: CodeStore>(n: usize, code: &mut C, control: &mut Control<32>)
-    ensures coding { compiled (Roll n) (coding_of (C.code code.old) control.old)
-        ≡ coding_of (C.code code.new) control.new }
-    ensures spare { C.spare code.old ≤ C.spare code.new + 1 }
-{
-    let _ = code.end();
-    control.roll(n);
 }
 
 fn append_do<C: CodeStore>(asks: bool, code: &mut C, control: &mut Control<32>)
@@ -265,12 +244,12 @@ fn compile_fitting<C: CodeStore>(element: Element, code: &mut C, control: &mut C
     ensures spare { C.spare code.old ≤ C.spare code.new + 1 }
 {
     match element {
-        Element::Plain(item) => append_plain(item, code, control),
+        Element::Plain(item) => put(item.item(), code),
         Element::Branch(on_zero, target) => append_branch(on_zero, target, code, control),
         Element::Resolve(position) => resolve(position, code, control),
         Element::Mark(position) => mark(position, code, control),
         Element::Back(on_zero, target) => append_back(on_zero, target, code, control),
-        Element::Roll(n) => roll(n, code, control),
+        Element::Roll(n) => control.roll(n),
         Element::Do(asks) => append_do(asks, code, control),
         Element::Loop(adds) => append_loop(adds, code, control),
         Element::Leave => append_leave(code, control),

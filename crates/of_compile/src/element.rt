@@ -1,6 +1,7 @@
 //! What an open definition is a list of.
-ghost use Rattle.std.specs.Prelude.{◌≡◌};
-ghost use Rattle.of_compile.specs.Elements.{branch_item, do_item, element_of, loop_item, own_item, plain_item};
+ghost use Rattle.std.specs.Prelude.{◌≡◌, ◌↔◌, IsTrue};
+ghost use Rattle.of_compile.specs.Elements.{CanBeStored, branch_item, do_item, element_of, loop_item, own_item};
+ghost use Rattle.of_compile.specs.Elements.{plain_item};
 
 use of_cells::Cell;
 use of_code::{Item, Place};
@@ -124,6 +125,16 @@ pub(crate) fn loop_item(adds: bool, to: Place) -> Item
 }
 
 impl Element {
+    /// Whether every store can hold the element's item: an operation names a written word, and a call another one.
+    pub fn is_storable(self) -> bool
+        ensures { IsTrue result ↔ CanBeStored (own_item (element_of self)) }
+    {
+        match self.own_item() {
+            Some(item) => item.is_storable(),
+            None => true,
+        }
+    }
+
     /// The item that the element appends, its target not known yet.
     pub(crate) fn own_item(self) -> Option<Item>
         ensures { result ≡ own_item (element_of self) }
