@@ -10,3 +10,5 @@ pub mod Calls
 pub mod Compiling
 pub mod Tight
 pub mod Law
+pub mod Running
+pub mod RunningLaw

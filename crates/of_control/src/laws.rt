@@ -7,6 +7,7 @@
 ghost use Rattle.of_control.specs.Law.{CallsFollowMatching, ClosedIsRead, CompiledIsFlat, ItemsAreCounted};
 ghost use Rattle.of_control.specs.Law.{ItemsAreFlat, JumpsStayInside, MatchingIsDecided, OneReading};
 ghost use Rattle.of_control.specs.Law.{PlacesStayWithin};
+ghost use Rattle.of_control.specs.RunningLaw.{RunsByPlaces, RunsByPoints};
 
 /// A definition has at most one matching. The calls that its elements make answer exactly the places of the partners,
 /// and `None` from the first element on with which there is no matching, or one with more than `N` openers open at
@@ -60,4 +61,15 @@ pub fn compiled_is_flat<A, const N: usize>()
 /// fits nowhere.
 pub fn items_are_counted<A, const N: usize>()
     ensures { ItemsAreCounted A N }
+{}
+
+/// Item `k` of a body is the one that its structure has there, with the numbers of the points where execution may
+/// continue as targets, and after it comes item `k + 1`.
+pub fn runs_by_places<A>()
+    ensures { RunsByPlaces A }
+{}
+
+/// In each run of a body by its structure alone, what is taken at a point is the item of that point's number.
+pub fn runs_by_points<A>()
+    ensures { RunsByPoints A }
 {}
