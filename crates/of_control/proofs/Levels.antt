@@ -3,7 +3,7 @@ use Rattle.std.proofs.Common.{◌≡◌, ℕ, zero, suc, ◌+◌, Bool, true, fa
 use Rattle.std.proofs.Common.{◌∙◌, subst, ⊎_elim, arith, not, eq-eqb}
 use Rattle.std.specs.Prelude.{slice_get, filter, ◌==◌}
 use Rattle.of_control.specs.declared.opener.Kind.{Kind}
-use Rattle.of_control.specs.declared.opener.Kind.TheVariants.{CaseSys, Dest, DoSys, OfSys, Orig}
+use Rattle.of_control.specs.declared.opener.Kind.TheVariants.{DoSys}
 use Rattle.of_control.specs.Openers.{is_orig}
 use Rattle.of_control.specs.Items.{one_if}
 use Rattle.of_control.specs.Matching.{IsAmong, Opening, is_partner, origs_if, structure_or, top_origs, top_structure}
@@ -22,19 +22,14 @@ begins_start zero b c n = one_if (b == c) + n
 begins_start (suc k) b c n = n
 
 abbrev pub begins : {A : Type 0} → ℕ → ℕ → List (Piece A) → ℕ
-begins k b [] = 0
 begins k b (Part p ∷ d) = begins k b d
 begins k b (BlockStart c ∷ d) = begins_start k b c (begins k b d)
-begins zero b (OpenMark c ∷ d) = 0
 begins (suc k) b (OpenMark c ∷ d) = begins k b d
-begins zero b (OpenDo q c ∷ d) = 0
 begins (suc k) b (OpenDo q c ∷ d) = begins k b d
-begins zero b (OpenCase c ∷ d) = 0
 begins (suc k) b (OpenCase c ∷ d) = begins k b d
-begins zero b (OpenChoice c ∷ d) = 0
 begins (suc k) b (OpenChoice c ∷ d) = begins k b d
-begins zero b (OpenOf o c ∷ d) = 0
 begins (suc k) b (OpenOf o c ∷ d) = begins k b d
+begins _ b _ = 0
 
 -- the same on the stack
 abbrev pub waits_step : Bool → ℕ → ℕ → ℕ → (ℕ → ℕ) → ℕ
@@ -181,11 +176,8 @@ some_block b bs h =
     absurd (omega (arith, e, one))
 
 pub do_there_step : (k : Kind) (n : ℕ) (fs : List Frame) → (do_in fs ≡ None → ⊥) → do_in (frame_of k n ++ fs) ≡ None → ⊥
-do_there_step (Orig t) n fs h e = h e
-do_there_step (Dest p) n fs h e = h e
 do_there_step DoSys n fs h e = cc
-do_there_step CaseSys n fs h e = h e
-do_there_step OfSys n fs h e = h e
+do_there_step _ n fs h e = h e
 
 pub do_there : (os : List Opening) (x : Opening) → IsAmong os x → x.kind ≡ DoSys → do_in (stack_frames os) ≡ None → ⊥
 do_there [] x a k e = absurd a

@@ -217,11 +217,8 @@ past_end :
     {A : Type 0} → (w b : Body A) (k : ℕ) (fs : List (Enclosing A)) → body_size b ≤ k →
     step_in w b k fs ≡ step Returns (at End fs)
 past_end w End k fs l = refl
-past_end w (Operation a r) zero fs l = absurd (omega (arith, l))
 past_end w (Operation a r) (suc k) fs l = past_end w r k fs (omega (arith, l))
-past_end w (LeaveLoop r) zero fs l = absurd (omega (arith, l))
 past_end w (LeaveLoop r) (suc k) fs l = past_end w r k fs (omega (arith, l))
-past_end w (Jump z j r) zero fs l = absurd (omega (arith, l))
 past_end w (Jump z j r) (suc k) fs l = past_end w r k fs (omega (arith, l))
 past_end w (Block b r) k fs l =
     in_right k (body_size b) (step_in w b k (InBlock r ∷ fs)) (step_in w r (k - body_size b) fs) (omega (arith, l))
@@ -229,7 +226,6 @@ past_end w (Block b r) k fs l =
 past_end w (Cycle b r) k fs l =
     in_right k (body_size b) (step_in w b k (InCycle b r ∷ fs)) (step_in w r (k - body_size b) fs) (omega (arith, l))
     ∙ past_end w r (k - body_size b) fs (omega (arith, l))
-past_end w (Counted q b d r) zero fs l = absurd (omega (arith, l))
 past_end w (Counted q b d r) (suc k) fs l =
     in_rest k (body_size b) (step_in w b k (InCounted b d r ∷ fs))
     (step (Repeats d (at b (InCounted b d r ∷ fs))) (at r fs)) (step_in w r (k - suc (body_size b)) fs)
@@ -239,11 +235,11 @@ past_end w (Choice b r) k fs l =
     in_rest k (body_size b) (step_in w b k (InChoice r ∷ fs)) (step DropsSelector (at r fs))
     (step_in w r (k - suc (body_size b)) fs) (omega (arith, l))
     ∙ past_end w r (k - suc (body_size b)) fs (omega (arith, l))
-past_end w (Arm b r) zero fs l = absurd (omega (arith, l))
 past_end w (Arm b r) (suc k) fs l =
     in_rest k (body_size b) (step_in w b k (InArm r ∷ fs)) (step (EndsArm (choice_point w fs)) (at r fs))
     (step_in w r (k - suc (body_size b)) fs) (omega (arith, l))
     ∙ past_end w r (k - suc (body_size b)) fs (omega (arith, l))
+past_end w _ zero fs l = absurd (omega (arith, l))
 
 whole_occurs : {A : Type 0} → (w : Body A) → Occurs w w 0 []
 whole_occurs w = record {
@@ -269,18 +265,11 @@ jump_is :
     {A : Type 0} → (w : Body A) (k : ℕ) (fs : List (Enclosing A)) → IsNumbered w (at w []) → Context w fs →
     IsNumbered w (jump_point w k fs)
 unfolding Context
-jump_is w zero [] h c = h
-jump_is w (suc k) [] h c = h
 jump_is w zero (InBlock r ∷ fs) h c = c.0
 jump_is w (suc k) (InBlock r ∷ fs) h c = jump_is w k fs h c.1
 jump_is w zero (InCycle b r ∷ fs) h c = c.0
 jump_is w (suc k) (InCycle b r ∷ fs) h c = jump_is w k fs h c.1
-jump_is w zero (InCounted b l r ∷ fs) h c = h
-jump_is w (suc k) (InCounted b l r ∷ fs) h c = h
-jump_is w zero (InChoice r ∷ fs) h c = h
-jump_is w (suc k) (InChoice r ∷ fs) h c = h
-jump_is w zero (InArm r ∷ fs) h c = h
-jump_is w (suc k) (InArm r ∷ fs) h c = h
+jump_is w _ _ h c = h
 
 leave_is :
     {A : Type 0} → (w : Body A) (fs : List (Enclosing A)) → IsNumbered w (at w []) → Context w fs →

@@ -22,8 +22,7 @@ Rise low (Goes x ∷ ws) high = (low ≤ x) × Rise (suc x) ws high
 pub rise-more : (a b high : ℕ) (ws : List NamedWay) → b ≤ a → Rise a ws high → Rise b ws high
 rise-more a b high [] l h = omega (arith, l, h)
 rise-more a b high (Stays ∷ ws) l h = rise-more a b high ws l h
-rise-more a b high (Ends x ∷ ws) l h = let g = h.0 in (omega (arith, l, g), h.1)
-rise-more a b high (Goes x ∷ ws) l h = let g = h.0 in (omega (arith, l, g), h.1)
+rise-more a b high _ l h = let g = h.0 in (omega (arith, l, g), h.1)
 
 pub rise-append :
     (low mid high : ℕ) (xs ys : List NamedWay) → Rise low xs mid → Rise mid ys high → Rise low (xs ++ ys) high
@@ -71,9 +70,8 @@ NameBelow b (Goes x) = x < b
 
 -- the Blocks that end with the body have no earlier jumps than b
 abbrev pub EndsAbove : ℕ → NamedWay → Type 0
-EndsAbove b Stays = Unit {0}
 EndsAbove b (Ends x) = b ≤ x
-EndsAbove b (Goes x) = Unit {0}
+EndsAbove b _ = Unit {0}
 
 -- b's jump is in the first part
 pub record HeldIn {A : Type 0} (b : ℕ) (p : NamedBody A) : Type 0 where
@@ -239,14 +237,7 @@ tight-joined (NamedArm o c p r) s h k = (h.0, tight-joined r s h.1 k)
 
 first-joined : {A : Type 0} → (p s : NamedBody A) → 0 < named_first p → named_first (joined p s) ≡ named_first p
 first-joined NamedEnd s h = absurd (omega (arith, h))
-first-joined (NamedOperation a r) s h = refl
-first-joined (NamedLeave d r) s h = refl
-first-joined (NamedJump z b r) s h = refl
-first-joined (NamedBlock b p r) s h = refl
-first-joined (NamedCycle c p r) s h = refl
-first-joined (NamedCounted q d p l r) s h = refl
-first-joined (NamedChoice c p r) s h = refl
-first-joined (NamedArm o c p r) s h = refl
+first-joined _ s h = refl
 
 pub held-joined : {A : Type 0} → (b : ℕ) (p s : NamedBody A) → HeldIn b p → HeldIn b (joined p s)
 held-joined b p s f =

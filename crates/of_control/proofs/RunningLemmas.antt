@@ -14,12 +14,9 @@ use Rattle.of_control.specs.RunningLaw.{RunsByPlaces}
 
 -- where jumps go, by number
 abbrev labels : {A : Type 0} → Body A → List (Enclosing A) → List ℕ
-labels w [] = []
 labels w (InBlock r ∷ fs) = number w (at r fs) ∷ labels w fs
 labels w (InCycle b r ∷ fs) = number w (at b (InCycle b r ∷ fs)) ∷ labels w fs
-labels w (InCounted b l r ∷ fs) = []
-labels w (InChoice r ∷ fs) = []
-labels w (InArm r ∷ fs) = []
+labels w _ = []
 
 whole_first : {A : Type 0} → (w : Body A) → 0 ≡ number w (at w [])
 whole_first w = omega arith
@@ -27,18 +24,11 @@ whole_first w = omega arith
 label_is :
     {A : Type 0} → (w : Body A) (k : ℕ) (fs : List (Enclosing A)) →
     slice_index (labels w fs) k ≡ number w (jump_point w k fs)
-label_is w zero [] = whole_first w
-label_is w (suc k) [] = whole_first w
 label_is w zero (InBlock r ∷ fs) = refl
 label_is w (suc k) (InBlock r ∷ fs) = label_is w k fs
 label_is w zero (InCycle b r ∷ fs) = refl
 label_is w (suc k) (InCycle b r ∷ fs) = label_is w k fs
-label_is w zero (InCounted b l r ∷ fs) = whole_first w
-label_is w (suc k) (InCounted b l r ∷ fs) = whole_first w
-label_is w zero (InChoice r ∷ fs) = whole_first w
-label_is w (suc k) (InChoice r ∷ fs) = whole_first w
-label_is w zero (InArm r ∷ fs) = whole_first w
-label_is w (suc k) (InArm r ∷ fs) = whole_first w
+label_is w _ _ = whole_first w
 
 -- a part of the whole that begins at number n, with these parts round it
 abbrev items_here : {A : Type 0} → Body A → Body A → ℕ → List (Enclosing A) → List (Item A)

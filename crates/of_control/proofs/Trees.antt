@@ -22,15 +22,8 @@ use Rattle.of_control.proofs.BodyTrees.{IsSeen, back, body, first-tree, seen, si
 
 abbrev way_of : {A : Type 0} → ℕ → Slot A → Way
 way_of e (Out (Some z) k) = Beyond k
-way_of e (Out None k) = Inside
 way_of e (To (Some z) u) = if u == e then AtEnd else Inside
-way_of e (To None u) = Inside
-way_of e (Does a) = Inside
-way_of e Leaves = Inside
-way_of e (Enters q u) = Inside
-way_of e (Again l) = Inside
-way_of e (Tests u) = Inside
-way_of e Drops = Inside
+way_of e _ = Inside
 
 -- what is split as a list of ways is split as a list of items
 record Found {A : Type 0} (e : ℕ) (xs : List (Slot A)) (ws : List Way) (w : Way) (vs : List Way) : Type 0 where
@@ -77,49 +70,25 @@ if_beyond false e = cc
 
 out_is : {A : Type 0} → (e : ℕ) (x : Slot A) → way_of e x ≡ Beyond 0 → (z : Bool) × (x ≡ Out (Some z) 0)
 out_is e (Out (Some z) k) h = let g : k ≡ 0 = cc in (z, ap (Out (Some z)) g)
-out_is e (Out None k) h = let bad : ⊥ = cc in absurd bad
 out_is e (To (Some z) u) h = absurd (if_beyond (u == e) h)
-out_is e (To None u) h = let bad : ⊥ = cc in absurd bad
-out_is e (Does a) h = let bad : ⊥ = cc in absurd bad
-out_is e Leaves h = let bad : ⊥ = cc in absurd bad
-out_is e (Enters q u) h = let bad : ⊥ = cc in absurd bad
-out_is e (Again l) h = let bad : ⊥ = cc in absurd bad
-out_is e (Tests u) h = let bad : ⊥ = cc in absurd bad
-out_is e Drops h = let bad : ⊥ = cc in absurd bad
+out_is e _ h = let bad : ⊥ = cc in absurd bad
 
 inner_is : {A : Type 0} → (m e : ℕ) (x : Slot A) → IsSeen m false x → IsOther (way_of e x) → IsInner x
 inner_is m e (Out (Some z) zero) s h = absurd h
-inner_is m e (Out (Some z) (suc k)) s h = tt
 inner_is m e (Out None zero) s h = let bad : ⊥ = cc in absurd bad
-inner_is m e (Out None (suc k)) s h = tt
-inner_is m e (To j u) s h = tt
-inner_is m e (Does a) s h = tt
-inner_is m e Leaves s h = tt
-inner_is m e (Enters q u) s h = tt
-inner_is m e (Again l) s h = tt
-inner_is m e (Tests u) s h = tt
-inner_is m e Drops s h = tt
+inner_is m e _ s h = tt
 
 not_end : (b : Bool) → IsShorter (if b then AtEnd else Inside) → b ≡ false
 not_end true h = absurd h
 not_end false h = refl
 
 hits_not : {A : Type 0} → (e : ℕ) (x : Slot A) → IsShorter (way_of e x) → hits e x ≡ false
-hits_not e (Out j k) h = refl
 hits_not e (To (Some z) u) h = not_end (u == e) h
-hits_not e (To None u) h = refl
-hits_not e (Does a) h = refl
-hits_not e Leaves h = refl
-hits_not e (Enters q u) h = refl
-hits_not e (Again l) h = refl
-hits_not e (Tests u) h = refl
-hits_not e Drops h = refl
+hits_not e _ h = refl
 
 shorter_other : (w : Way) → IsShorter w → IsOther w
 shorter_other (Beyond zero) h = h
-shorter_other (Beyond (suc k)) h = tt
-shorter_other Inside h = tt
-shorter_other AtEnd h = tt
+shorter_other _ h = tt
 
 each-split : {A : Type 0} → (P : Slot A → Type 0) (xs ys : List (Slot A)) → Each P (xs ++ ys) → Each P xs × Each P ys
 each-split P [] ys h = (tt, h)
@@ -230,12 +199,7 @@ block_way m s e l (Out None zero) h = let bad : ⊥ = cc in absurd bad
 block_way m s e l (Out None (suc k)) h = absurd h.0
 block_way m s e l (To (Some z) u) h = seen_out u s e h.1 l
 block_way m s e l (To None u) h = refl
-block_way m s e l (Does a) h = refl
-block_way m s e l Leaves h = refl
-block_way m s e l (Enters q u) h = refl
-block_way m s e l (Again k) h = refl
-block_way m s e l (Tests u) h = refl
-block_way m s e l Drops h = refl
+block_way m s e l _ h = refl
 
 if_false : (b : Bool) → b ≡ false → Inside ≡ if b then AtEnd else Inside
 if_false b e = sym (ap (λ c. if c then AtEnd else Inside) e)
@@ -244,7 +208,6 @@ cycle_way :
     {A : Type 0} → (m n s e : ℕ) → n < s → s ≤ e → (x : Slot A) →
     IsSeen m false x × (Aims (λ u. u ≤ s) x × (hits s x ≡ false)) → outward false (way_of s x) ≡ way_of e (close n x)
 cycle_way m n s e l k (Out (Some z) zero) h = if_false (n == e) (ne_eqb n e (λ g. omega (arith, g, l, k)))
-cycle_way m n s e l k (Out (Some z) (suc j)) h = refl
 cycle_way m n s e l k (Out None zero) h = let bad : ⊥ = cc in absurd bad
 cycle_way m n s e l k (Out None (suc j)) h = absurd h.0
 cycle_way m n s e l k (To (Some z) u) h =
@@ -253,26 +216,13 @@ cycle_way m n s e l k (To (Some z) u) h =
     ap (λ c. outward false (if c then AtEnd else Inside)) off
     ∙ if_false (u == e) (ne_eqb u e (λ g. let same_end : u ≡ s = omega (arith, g, le, k) in let on =
     eq-eqb u s same_end in let bad : ⊥ = cc in bad))
-cycle_way m n s e l k (To None u) h = refl
-cycle_way m n s e l k (Does a) h = refl
-cycle_way m n s e l k Leaves h = refl
-cycle_way m n s e l k (Enters q u) h = refl
-cycle_way m n s e l k (Again j) h = refl
-cycle_way m n s e l k (Tests u) h = refl
-cycle_way m n s e l k Drops h = refl
+cycle_way m n s e l k _ h = refl
 
 shut_way :
     {A : Type 0} → (s e : ℕ) → s < e → (x : Slot A) → IsSeen 0 false x × Aims (λ u. u ≤ s) x → Inside ≡ way_of e x
 shut_way s e l (Out (Some z) k) h = let a = h.0 in absurd (omega (arith, a))
-shut_way s e l (Out None k) h = refl
 shut_way s e l (To (Some z) u) h = let a = h.1 in if_false (u == e) (ne_eqb u e (λ g. omega (arith, g, a, l)))
-shut_way s e l (To None u) h = refl
-shut_way s e l (Does a) h = refl
-shut_way s e l Leaves h = refl
-shut_way s e l (Enters q u) h = refl
-shut_way s e l (Again k) h = refl
-shut_way s e l (Tests u) h = refl
-shut_way s e l Drops h = refl
+shut_way s e l _ h = refl
 
 arms_way :
     {A : Type 0} → (s e t : ℕ) → s < e → (x : Slot A) → IsSeen 0 true x × Aims (λ u. u ≤ s) x →
@@ -282,12 +232,7 @@ arms_way s e t l (Out None zero) h = refl
 arms_way s e t l (Out None (suc k)) h = refl
 arms_way s e t l (To (Some z) u) h = let a = h.1 in if_false (u == e) (ne_eqb u e (λ g. omega (arith, g, a, l)))
 arms_way s e t l (To None u) h = refl
-arms_way s e t l (Does a) h = refl
-arms_way s e t l Leaves h = refl
-arms_way s e t l (Enters q u) h = refl
-arms_way s e t l (Again k) h = refl
-arms_way s e t l (Tests u) h = refl
-arms_way s e t l Drops h = refl
+arms_way s e t l _ h = refl
 
 -- no item of a tree goes past its end
 before_end : {A : Type 0} → (t : Tree A) (n : ℕ) → Each (Aims (λ u. u ≤ n + size t)) (slots t n)
@@ -408,26 +353,13 @@ ways_are m d c (Arm b r) n e w h =
 
 seen_is_shut : {A : Type 0} → (x : Slot A) → IsSeen 0 true x → IsShut x
 seen_is_shut (Out (Some z) k) h = absurd (omega (arith, h))
-seen_is_shut (Out None zero) h = tt
 seen_is_shut (Out None (suc k)) h = absurd h
-seen_is_shut (Does a) h = tt
-seen_is_shut Leaves h = tt
-seen_is_shut (To j u) h = tt
-seen_is_shut (Enters q u) h = tt
-seen_is_shut (Again l) h = tt
-seen_is_shut (Tests u) h = tt
-seen_is_shut Drops h = tt
+seen_is_shut _ h = tt
 
 begins : {A : Type 0} → (b : Body A) → BeginsWithArm b → Unique.BeginsWithArm (tree b)
 begins End h = tt
 begins (Arm b r) h = tt
-begins (Operation a r) h = absurd h
-begins (LeaveLoop r) h = absurd h
-begins (Jump z k r) h = absurd h
-begins (Block b r) h = absurd h
-begins (Cycle b r) h = absurd h
-begins (Counted q b l r) h = absurd h
-begins (Choice b r) h = absurd h
+begins _ h = absurd h
 
 tight : {A : Type 0} → (m : ℕ) (d c : Bool) (b : Body A) (n : ℕ) → IsTight m d c b → Tight n (tree b)
 tight m d c End n w = tt
@@ -488,16 +420,9 @@ placed-close :
     {A : Type 0} → (m : ℕ) (ls : List ℕ) (ps t s : ℕ) → t ≡ s → (x : Slot A) → IsSeen m false x →
     placed (t ∷ ls) ps x ≡ placed ls ps (close s x)
 placed-close m ls ps t s e (Out (Some z) zero) h = ap (To (Some z)) e
-placed-close m ls ps t s e (Out (Some z) (suc k)) h = refl
 placed-close m ls ps t s e (Out None zero) h = let bad : ⊥ = cc in absurd bad
 placed-close m ls ps t s e (Out None (suc k)) h = absurd h
-placed-close m ls ps t s e (Does a) h = refl
-placed-close m ls ps t s e Leaves h = refl
-placed-close m ls ps t s e (To j u) h = refl
-placed-close m ls ps t s e (Enters q u) h = refl
-placed-close m ls ps t s e (Again l) h = refl
-placed-close m ls ps t s e (Tests u) h = refl
-placed-close m ls ps t s e Drops h = refl
+placed-close m ls ps t s e _ h = refl
 
 placed-arms :
     {A : Type 0} → (ls : List ℕ) (ps t s : ℕ) → t ≡ s → (x : Slot A) → IsSeen 0 true x →
@@ -505,26 +430,14 @@ placed-arms :
 placed-arms ls ps t s e (Out (Some z) k) h = absurd (omega (arith, h))
 placed-arms ls ps t s e (Out None zero) h = ap (To None) e
 placed-arms ls ps t s e (Out None (suc k)) h = absurd h
-placed-arms ls ps t s e (Does a) h = refl
-placed-arms ls ps t s e Leaves h = refl
-placed-arms ls ps t s e (To j u) h = refl
-placed-arms ls ps t s e (Enters q u) h = refl
-placed-arms ls ps t s e (Again l) h = refl
-placed-arms ls ps t s e (Tests u) h = refl
-placed-arms ls ps t s e Drops h = refl
+placed-arms ls ps t s e _ h = refl
 
 placed-shut :
     {A : Type 0} → (ls ks : List ℕ) (ps qs : ℕ) (x : Slot A) → IsSeen 0 false x → placed ks qs x ≡ placed ls ps x
 placed-shut ls ks ps qs (Out (Some z) k) h = absurd (omega (arith, h))
 placed-shut ls ks ps qs (Out None zero) h = let bad : ⊥ = cc in absurd bad
 placed-shut ls ks ps qs (Out None (suc k)) h = absurd h
-placed-shut ls ks ps qs (Does a) h = refl
-placed-shut ls ks ps qs Leaves h = refl
-placed-shut ls ks ps qs (To j u) h = refl
-placed-shut ls ks ps qs (Enters q u) h = refl
-placed-shut ls ks ps qs (Again l) h = refl
-placed-shut ls ks ps qs (Tests u) h = refl
-placed-shut ls ks ps qs Drops h = refl
+placed-shut ls ks ps qs _ h = refl
 
 map_once :
     {A : Type 0} → (f g k : Slot A → Slot A) (xs : List (Slot A)) → Each (λ x. f x ≡ g (k x)) xs →
@@ -630,13 +543,7 @@ placed-none : {A : Type 0} → (x : Slot A) → IsSeen 0 false x → placed [] 0
 placed-none (Out (Some z) k) h = absurd (omega (arith, h))
 placed-none (Out None zero) h = let bad : ⊥ = cc in absurd bad
 placed-none (Out None (suc k)) h = absurd h
-placed-none (Does a) h = refl
-placed-none Leaves h = refl
-placed-none (To j u) h = refl
-placed-none (Enters q u) h = refl
-placed-none (Again l) h = refl
-placed-none (Tests u) h = refl
-placed-none Drops h = refl
+placed-none _ h = refl
 
 all_same : {A : Type 0} → (f : Slot A → Slot A) (xs : List (Slot A)) → Each (λ x. f x ≡ x) xs → map f xs ≡ xs
 all_same f [] h = refl

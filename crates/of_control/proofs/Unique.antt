@@ -15,39 +15,18 @@ use Rattle.of_control.specs.Tight.{Each}
 -- no way out of the part
 abbrev pub IsInner : {A : Type 0} → Slot A → Type 0
 IsInner (Out j zero) = ⊥
-IsInner (Out j (suc k)) = Unit {0}
-IsInner (Does a) = Unit {0}
-IsInner Leaves = Unit {0}
-IsInner (To j u) = Unit {0}
-IsInner (Enters q u) = Unit {0}
-IsInner (Again l) = Unit {0}
-IsInner (Tests u) = Unit {0}
-IsInner Drops = Unit {0}
+IsInner _ = Unit {0}
 
 -- no way out of any but, for arms, the choice
 abbrev pub IsShut : {A : Type 0} → Slot A → Type 0
-IsShut (Out None zero) = Unit {0}
 IsShut (Out None (suc k)) = ⊥
 IsShut (Out (Some z) k) = ⊥
-IsShut (Does a) = Unit {0}
-IsShut Leaves = Unit {0}
-IsShut (To j u) = Unit {0}
-IsShut (Enters q u) = Unit {0}
-IsShut (Again l) = Unit {0}
-IsShut (Tests u) = Unit {0}
-IsShut Drops = Unit {0}
+IsShut _ = Unit {0}
 
 -- whether this is a jump, and no `endof`, to e
 abbrev pub hits : {A : Type 0} → ℕ → Slot A → Bool
 hits e (To (Some z) u) = u == e
-hits e (To None u) = false
-hits e (Does a) = false
-hits e Leaves = false
-hits e (Out j k) = false
-hits e (Enters q u) = false
-hits e (Again l) = false
-hits e (Tests u) = false
-hits e Drops = false
+hits e _ = false
 
 abbrev pub first : {A : Type 0} → Tree A → ℕ
 first Leaf = 0
@@ -77,28 +56,20 @@ IsLeaf Leaf = Unit {0}
 IsLeaf (Node h i r) = ⊥
 
 abbrev pub IsArm : {A : Type 0} → Head A → Type 0
-IsArm (AnOperation a) = ⊥
-IsArm ALeave = ⊥
-IsArm (AJump z k) = ⊥
-IsArm ABlock = ⊥
-IsArm ACycle = ⊥
-IsArm (ACounted q l) = ⊥
-IsArm AChoice = ⊥
 IsArm AnArm = Unit {0}
+IsArm _ = ⊥
 
 abbrev pub BeginsWithArm : {A : Type 0} → Tree A → Type 0
 BeginsWithArm Leaf = Unit {0}
 BeginsWithArm (Node h i r) = IsArm h
 
 abbrev pub Fits : {A : Type 0} → Head A → ℕ → Tree A → Type 0
-Fits (AnOperation a) n i = IsLeaf i
-Fits ALeave n i = IsLeaf i
-Fits (AJump z k) n i = IsLeaf i
 Fits ABlock n i = IsLeft n i
 Fits ACycle n i = IsRepeated n i
 Fits (ACounted q l) n i = Unit {0}
 Fits AChoice n i = Each IsShut (slots i n) × BeginsWithArm i
 Fits AnArm n i = Unit {0}
+Fits _ n i = IsLeaf i
 
 abbrev pub Tight : {A : Type 0} → ℕ → Tree A → Type 0
 Tight n Leaf = Unit {0}
@@ -218,14 +189,12 @@ entered _ = false
 
 abbrev by_last : {A : Type 0} → Bool → Slot A → Head A
 by_last q (Does a) = AnOperation a
-by_last q Leaves = ALeave
 by_last q (Out (Some z) k) = AJump z k
 by_last q (Out None k) = AnArm
 by_last q (To j u) = ACycle
-by_last q (Enters p u) = ALeave
 by_last q (Again l) = ACounted q l
-by_last q (Tests u) = ALeave
 by_last q Drops = AChoice
+by_last q _ = ALeave
 
 abbrev head_of : {A : Type 0} → ℕ → List (Slot A) → Head A
 head_of e xs = if has_hit e xs then ABlock else by_last (entered xs) (last_of Leaves xs)
@@ -249,14 +218,7 @@ no_hit e (x ∷ xs) h = ap (λ b. b || has_hit e xs) h.0 ∙ no_hit e xs h.1
 
 misses : {A : Type 0} → (e : ℕ) (x : Slot A) → Aims (λ u. u < e) x → hits e x ≡ false
 misses e (To (Some z) u) h = ne_eqb u e (λ g. omega (arith, g, h))
-misses e (To None u) h = refl
-misses e (Does a) h = refl
-misses e Leaves h = refl
-misses e (Out j k) h = refl
-misses e (Enters q u) h = refl
-misses e (Again l) h = refl
-misses e (Tests u) h = refl
-misses e Drops h = refl
+misses e _ h = refl
 
 misses_arms : {A : Type 0} → (e : ℕ) (x : Slot A) → IsShut x × Aims (λ u. u < e) x → hits e (close e x) ≡ false
 misses_arms e (Out None zero) h = refl
@@ -319,12 +281,7 @@ misses_close e n l (Out (Some z) zero) h = ne_eqb n e (λ g. omega (arith, g, l)
 misses_close e n l (Out None zero) h = refl
 misses_close e n l (Out j (suc k)) h = refl
 misses_close e n l (To j u) h = h
-misses_close e n l (Does a) h = refl
-misses_close e n l Leaves h = refl
-misses_close e n l (Enters q u) h = refl
-misses_close e n l (Again m) h = refl
-misses_close e n l (Tests u) h = refl
-misses_close e n l Drops h = refl
+misses_close e n l _ h = refl
 
 cycle_head :
     {A : Type 0} → (n : ℕ) (i : Tree A) → IsRepeated n i →
@@ -438,38 +395,19 @@ undone f g (x ∷ xs) h = ap (λ y. y ∷ map g (map f xs)) h.0 ∙ ap (λ ys. x
 
 unclosed-close : {A : Type 0} → (t : ℕ) (x : Slot A) → IsInner x → unclosed (close t x) ≡ x
 unclosed-close t (Out j zero) h = absurd h
-unclosed-close t (Out j (suc k)) h = refl
-unclosed-close t (Does a) h = refl
-unclosed-close t Leaves h = refl
-unclosed-close t (To j u) h = refl
-unclosed-close t (Enters q u) h = refl
-unclosed-close t (Again l) h = refl
-unclosed-close t (Tests u) h = refl
-unclosed-close t Drops h = refl
+unclosed-close t _ h = refl
 
 hits-close : {A : Type 0} → (e : ℕ) (x : Slot A) → IsInner x → hits e (close e x) ≡ hits e x
 hits-close e (Out j zero) h = absurd h
-hits-close e (Out j (suc k)) h = refl
-hits-close e (Does a) h = refl
-hits-close e Leaves h = refl
-hits-close e (To j u) h = refl
-hits-close e (Enters q u) h = refl
-hits-close e (Again l) h = refl
-hits-close e (Tests u) h = refl
-hits-close e Drops h = refl
+hits-close e _ h = refl
 
 choice-close : {A : Type 0} → (e : ℕ) (x : Slot A) → IsShut x × Aims (λ u. u < e) x → in_choice e (close e x) ≡ x
 choice-close e (Out None zero) h = ap (λ b. if b then Out None 0 else To None e) (eq-eqb e e refl)
 choice-close e (Out None (suc k)) h = absurd h.0
 choice-close e (Out (Some z) k) h = absurd h.0
-choice-close e (Does a) h = refl
-choice-close e Leaves h = refl
 choice-close e (To j u) h =
     ap (λ b. if b then Out j 0 else To j u) (ne_eqb u e (λ g. let l = h.1 in omega (arith, g, l)))
-choice-close e (Enters q u) h = refl
-choice-close e (Again l) h = refl
-choice-close e (Tests u) h = refl
-choice-close e Drops h = refl
+choice-close e _ h = refl
 
 unclosed_all : {A : Type 0} → (t : ℕ) (xs : List (Slot A)) → Each IsInner xs → map unclosed (map (close t) xs) ≡ xs
 unclosed_all t xs h =
@@ -535,14 +473,12 @@ choice_inside n i s =
 
 -- the items inside, from those of the part
 abbrev inside_of : {A : Type 0} → Head A → ℕ → List (Slot A) → List (Slot A)
-inside_of (AnOperation a) e xs = []
-inside_of ALeave e xs = []
-inside_of (AJump z k) e xs = []
 inside_of ABlock e xs = reopened e xs
 inside_of ACycle e xs = last_out xs
 inside_of (ACounted q l) e xs = xs
 inside_of AChoice e xs = map (in_choice e) xs
 inside_of AnArm e xs = xs
+inside_of _ e xs = []
 
 leaf_inside : {A : Type 0} → (i : Tree A) (n : ℕ) → IsLeaf i → [] ≡ slots i n
 leaf_inside Leaf n f = refl
@@ -552,27 +488,24 @@ inside_is :
     {A : Type 0} → (h : Head A) (n : ℕ) (i : Tree A) → Fits h n i →
     inside_of h (n + width h (size i)) (map (bound h n (n + width h (size i))) (slots i (starts h n))) ≡ slots i
     (starts h n)
-inside_is (AnOperation a) n i f = leaf_inside i (suc n) f
-inside_is ALeave n i f = leaf_inside i (suc n) f
-inside_is (AJump z k) n i f = leaf_inside i (suc n) f
 inside_is ABlock n i f = left_inside n i f
 inside_is ACycle n i f = repeated_inside n i f
 inside_is (ACounted q l) n i f = map-id (slots i (suc n))
 inside_is AChoice n i f = choice_inside n i f.0
 inside_is AnArm n i f = map-id (slots i (suc n))
+inside_is _ n i f = leaf_inside i (suc n) f
 
 -- ---- trees with equal slots
 
 pub split_equal :
     {A : Type 0} → (xs ys us vs : List (Slot A)) → length xs ≡ length us → xs ++ ys ≡ us ++ vs → (xs ≡ us) × (ys ≡ vs)
 split_equal [] ys [] vs l e = (refl, e)
-split_equal [] ys (u ∷ us) vs l e = absurd (omega (arith, l))
-split_equal (x ∷ xs) ys [] vs l e = absurd (omega (arith, l))
 split_equal (x ∷ xs) ys (u ∷ us) vs l e =
     let tails : xs ++ ys ≡ us ++ vs = cc in
     let heads : x ≡ u = cc in
     let r = split_equal xs ys us vs (omega (arith, l)) tails in
     (ap (λ w. w ∷ xs) heads ∙ ap (λ w. u ∷ w) r.0, r.1)
+split_equal _ ys _ vs l e = absurd (omega (arith, l))
 
 split_last : {A : Type 0} → (xs us ws : List (Slot A)) → xs ++ ws ≡ us ++ ws → xs ≡ us
 split_last xs us ws e = append_cancel_right xs us ws e
@@ -585,14 +518,9 @@ wide_left n i xs ys x e =
 
 -- each part has an item
 pub wide : {A : Type 0} → (h : Head A) (n : ℕ) (i : Tree A) → Fits h n i → 1 ≤ width h (size i)
-wide (AnOperation a) n i f = omega arith
-wide ALeave n i f = omega arith
-wide (AJump z k) n i f = omega arith
 wide ABlock n i f = wide_left n i f.earlier f.later (Out (Some f.by) 0) f.split
 wide ACycle n i f = wide_left n i f.earlier [] (Out (Some f.by) 0) f.split
-wide (ACounted q l) n i f = omega arith
-wide AChoice n i f = omega arith
-wide AnArm n i f = omega arith
+wide _ n i f = omega arith
 
 inner_size : {A : Type 0} → (h : Head A) (a b : ℕ) → width h a ≡ width h b → a ≡ b
 inner_size h a b e = omega (arith, e, width-is h a, width-is h b)
