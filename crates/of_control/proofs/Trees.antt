@@ -52,8 +52,9 @@ found e (x ∷ xs) (u ∷ ws) w vs h =
       earlier = x ∷ r.earlier;
       here = r.here;
       later = r.later;
-      split = ap (λ l. x ∷ l) r.split;
-      ways_before = ap (λ y. y ∷ map (way_of e) r.earlier) a ∙ ap (λ l. u ∷ l) r.ways_before;
+      split = ap (λ l. x ∷ l) {y = r.earlier ++ (r.here ∷ r.later)} r.split;
+      ways_before =
+          ap (λ y. y ∷ map (way_of e) r.earlier) a ∙ ap (λ l. u ∷ l) {x = map (way_of e) r.earlier} r.ways_before;
       way_here = r.way_here;
       ways_after = r.ways_after;
     }
@@ -303,7 +304,8 @@ ways_are m d c (Cycle b r) n e w h =
     let sn = seen (suc m) d false b n w.1 in
     let rep = is_repeated (suc m) n b sn inner w.0 in
     let wd = wide_left n (tree b) rep.earlier [] (Out (Some rep.by) 0) rep.split in
-    let miss = subst (Each (λ x. hits s x ≡ false)) (sym rep.split)
+    let all = rep.earlier ++ (Out (Some rep.by) 0 ∷ []) in
+    let miss = subst (Each (λ x. hits s x ≡ false)) {x = all} (sym {b = all} rep.split)
     (each-append (λ x. hits s x ≡ false) rep.earlier (Out (Some rep.by) 0 ∷ []) rep.inside (refl, tt)) in
     let ends = each-both (IsSeen (suc m) false) (λ x. Aims (λ u. u ≤ s) x × (hits s x ≡ false)) xs sn
     (each-both (Aims (λ u. u ≤ s)) (λ x. hits s x ≡ false) xs (before_end (tree b) n) miss) in
