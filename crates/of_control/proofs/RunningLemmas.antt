@@ -3,8 +3,7 @@ use Rattle.std.proofs.Common.{◌≡◌, ℕ, ◌+◌, ◌-◌, ◌<◌, ◌≤�
 use Rattle.std.proofs.Common.{Some, refl, sym, ap, subst, ◌∙◌, arith, length-append}
 use Rattle.std.specs.Prelude.{◌==◌, nat_lt, if◌then◌else◌, slice_get, slice_index}
 use Rattle.std.proofs.lemmas.Bool.{ltb-true, ltb-false}
-use Rattle.of_control.specs.Items.{Item, JumpTo, EnterLoop, RepeatLoop, TestArm, EndArm}
-use Rattle.of_control.specs.Items.{DropSelector}
+use Rattle.of_control.specs.Items.{Item, JumpTo, EnterLoop, RepeatLoop, TestArm, EndArm, DropSelector}
 use Rattle.of_control.specs.Body.{Body, End, Operation, LeaveLoop, Jump, Block, Cycle, Counted, Choice, Arm, body_size}
 use Rattle.of_control.specs.Body.{items_at, items_of}
 use Rattle.of_control.specs.Running.{Enclosing, InBlock, InCycle, InCounted, InChoice, InArm, Point, Step, Taken}
