@@ -23,7 +23,7 @@ impl fmt::Display for Tally {
     fn fmt<W: fmt::Write>(&self, f: &mut fmt::Formatter<W>) -> fmt::Result {
         write!(
             f,
-            "{} lists: {} have a matching, {} a closed one; {} and {} with one open at most; {} have one body; {} differ",
+            "{} lists: {} have a matching, {} a closed one; {} and {} with one open at most; {} with a body; {} differ",
             self.lists,
             self.matched,
             self.closed,
