@@ -3,7 +3,6 @@ use Rattle.std.proofs.Common.{◌≡◌, ℕ, suc, ◌+◌, Bool, true, false, L
 use Rattle.std.proofs.Common.{refl, sym, ap, ◌∙◌, subst, inl, arith, not, append_assoc}
 use Rattle.std.specs.Prelude.{filter, nat_lt, if◌then◌else◌}
 use Rattle.of_control.specs.declared.opener.Kind.{Kind}
-use Rattle.of_control.specs.declared.opener.Kind.TheVariants.{Dest}
 use Rattle.of_control.specs.Openers.{is_case_sys, is_orig}
 use Rattle.of_control.specs.Element.{Back, Branch, Case, Do, Element, EndCase, EndOf, Leave, Loop, Mark, Misfit, Of}
 use Rattle.of_control.specs.Element.{Plain, Resolve, Roll}
@@ -80,9 +79,7 @@ leave_next T es m d (Some x) e inv is =
 
 -- ---- a cycle
 pub mark_frame : (t : Option ℕ) (k : Kind) (n : ℕ) → IsDestFor t k → frame_of k n ≡ OnMark n ∷ []
-mark_frame None (Dest p) n h = refl
-mark_frame (Some t) (Dest (Some p)) n h = refl
-mark_frame _ _ n h = absurd h
+mark_frame t k n h = grind (arith)
 
 pub mark_top : (a b : ℕ) (fs gs : List Frame) → OnMark a ∷ fs ≡ OnMark b ∷ gs → (a ≡ b) × (fs ≡ gs)
 mark_top a b fs gs e = (cc, cc)

@@ -53,12 +53,7 @@ size-tree (Choice b r) = omega (arith, size-tree b, size-tree r)
 size-tree (Arm b r) = omega (arith, size-tree b, size-tree r)
 
 pub first-tree : {A : Type 0} → (b : Body A) → first (tree b) ≡ first_size b
-first-tree (Block b r) = size-tree b
-first-tree (Cycle b r) = size-tree b
-first-tree (Counted q b l r) = omega (arith, size-tree b)
-first-tree (Choice b r) = omega (arith, size-tree b)
-first-tree (Arm b r) = omega (arith, size-tree b)
-first-tree _ = refl
+first-tree b = grind (arith, size-tree)
 
 -- ---- which ways out there are
 

@@ -90,12 +90,7 @@ NamedTight (NamedArm o c p r) = NamedTight p × NamedTight r
 -- ---- without names
 
 first-nameless : {A : Type 0} → (ls : List ℕ) (p : NamedBody A) → first_size (nameless ls p) ≡ named_first p
-first-nameless ls (NamedBlock b p r) = body_size-nameless (b ∷ ls) p
-first-nameless ls (NamedCycle c p r) = body_size-nameless (c ∷ ls) p
-first-nameless ls (NamedCounted q d p l r) = omega (arith, body_size-nameless [] p)
-first-nameless ls (NamedChoice c p r) = omega (arith, body_size-nameless [] p)
-first-nameless ls (NamedArm o c p r) = omega (arith, body_size-nameless [] p)
-first-nameless ls _ = refl
+first-nameless ls p = grind (arith, body_size-nameless)
 
 abbrev way_in : List ℕ → NamedWay → Way
 way_in ls Stays = Inside
@@ -104,21 +99,17 @@ way_in ls (Goes x) = Beyond (label_index x ls)
 
 ends_out :
     (ls : List ℕ) (x : ℕ) (last : Bool) → (if last then AtEnd else Inside) ≡ way_in ls (if last then Ends x else Stays)
-ends_out ls x true = refl
-ends_out ls x false = refl
+ends_out ls x last = grind (arith)
 
 goes_out :
     (ls : List ℕ) (b x : ℕ) (last t : Bool) →
     outward last (Beyond (if t then 0 else suc (label_index x ls))) ≡ way_in ls
     (if t then (if last then Ends b else Stays) else Goes x)
-goes_out ls b x last true = ends_out ls b last
-goes_out ls b x last false = refl
+goes_out ls b x last t = grind (arith, ends_out)
 
 left_out :
     (b : ℕ) (ls : List ℕ) (last : Bool) (w : NamedWay) → outward last (way_in (b ∷ ls) w) ≡ way_in ls (left b last w)
-left_out b ls last Stays = refl
-left_out b ls last (Ends x) = ends_out ls x last
-left_out b ls last (Goes x) = goes_out ls b x last (x == b)
+left_out b ls last w = grind (arith, ends_out, goes_out)
 
 map_out :
     (f : Way → Way) (g h : NamedWay → Way) (k : NamedWay → NamedWay) → ((w : NamedWay) → f (g w) ≡ h (k w)) →
@@ -129,9 +120,7 @@ map_out f g h k e (w ∷ ws) = ap (λ y. y ∷ map f (map g ws)) (e w) ∙ ap (�
 part_ways :
     (f : Way → Way) (g h : NamedWay → Way) (k : NamedWay → NamedWay) (us vs : List Way) (ws zs : List NamedWay) →
     ((w : NamedWay) → f (g w) ≡ h (k w)) → us ≡ map g ws → vs ≡ map h zs → map f us ++ vs ≡ map h (map k ws ++ zs)
-part_ways f g h k us vs ws zs e p q =
-    ap (λ l. map f l ++ vs) p ∙ ap (λ l. l ++ vs) (map_out f g h k e ws) ∙ ap (λ l. map h (map k ws) ++ l) q
-    ∙ sym (map-append h (map k ws) zs)
+part_ways f g h k us vs ws zs e p q = grind (arith, map_out, map-append)
 
 pub ways-nameless :
     {A : Type 0} → (ls : List ℕ) (p : NamedBody A) → ways (nameless ls p) ≡ map (way_in ls) (named_ways p)

@@ -66,21 +66,13 @@ goes-joined_last c p s f =
 length-map_then :
     {A : Type 0} → (f g : NamedWay → NamedWay) (p r : NamedBody A) → length (named_ways p) ≡ named_size p →
     length (named_ways r) ≡ named_size r → length (map f (named_ways p) ++ named_ways r) ≡ named_size p + named_size r
-length-map_then f g p r e h =
-    omega (arith, length-append (map f (named_ways p)) (named_ways r), length-map (named_ways p) f, e, h)
+length-map_then f g p r e h = grind (arith, length-append, named_ways, length-map)
 
 length-shut :
     {A : Type 0} → (p r : NamedBody A) → length (named_ways p) ≡ named_size p →
     length (named_ways r) ≡ named_size r →
     length (map kept_in (named_ways p) ++ (Stays ∷ named_ways r)) ≡ named_size p + suc (named_size r)
-length-shut p r e h =
-    omega (
-      arith,
-      length-append (map kept_in (named_ways p)) (Stays ∷ named_ways r),
-      length-map (named_ways p) kept_in,
-      e,
-      h,
-    )
+length-shut p r e h = grind (arith, length-append, kept_in, named_ways, length-map)
 
 pub length-ways : {A : Type 0} → (p : NamedBody A) → length (named_ways p) ≡ named_size p
 length-ways NamedEnd = refl
@@ -98,12 +90,7 @@ length-ways (NamedArm o c p r) = ap suc (length-shut p r (length-ways p) (length
 goes_left :
     (b c : ℕ) (t : Bool) (ws es ls : List NamedWay) → (c ≡ b → ⊥) → ws ≡ es ++ (Goes c ∷ ls) →
     map (left b t) ws ++ [] ≡ map (left b t) es ++ (Goes c ∷ map (left b t) ls)
-goes_left b c t ws es ls ne e =
-    append-nil (map (left b t) ws)
-    ∙ ap (map (left b t)) e
-    ∙ map-append (left b t) es (Goes c ∷ ls)
-    ∙ ap (λ u. map (left b t) es ++ ((if u then (if t then Ends b else Stays) else Goes c) ∷ map (left b t) ls))
-    (ne_eqb c b ne)
+goes_left b c t ws es ls ne e = grind (arith, append-nil, left, map-append, ne_eqb)
 
 soon_of :
     {A : Type 0} → (f : NamedWay → NamedWay) (c : ℕ) (p : NamedBody A) (g : GoesIn c p) →

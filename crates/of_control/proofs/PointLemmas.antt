@@ -28,12 +28,10 @@ in_right k n s {t = t} l = ap (λ b. if b then s else t) (le-ltb k n l)
 
 in_end :
     {X : Type 0} (k n : ℕ) (s : X) {t : X} (u : X) → k ≡ n → (if nat_lt k n then s else if k == n then t else u) ≡ t
-in_end k n s {t = t} u e =
-    in_right k n s (omega (arith, e)) ∙ ap (λ b. if b then t else u) (eq-eqb k n e)
+in_end k n s u e = grind (arith, in_right, eq-eqb)
 
 in_rest : {X : Type 0} (k n : ℕ) (s t : X) {u : X} → n < k → (if nat_lt k n then s else if k == n then t else u) ≡ u
-in_rest k n s t {u = u} l =
-    in_right k n s (omega (arith, l)) ∙ ap (λ b. if b then t else u) (ne_eqb k n (λ e. omega (arith, l, e)))
+in_rest k n s t l = grind (arith, in_right, ne_eqb)
 
 past_end :
     {A : Type 0} → (w b : Body A) (k : ℕ) (fs : List (Enclosing A)) → body_size b ≤ k → step_in w b k fs ≡ step Returns

@@ -108,28 +108,20 @@ slots (Node h i r) n = part h n (size i) (slots i (starts h n)) ++ slots r (n + 
 -- ---- lengths
 
 pub starts-is : {A : Type 0} → (h : Head A) (n : ℕ) → starts h n ≡ n + opens h
-starts-is (AnOperation a) n = omega arith
-starts-is _ n = omega arith
+starts-is h n = grind (arith)
 
 pub width-is : {A : Type 0} → (h : Head A) (m : ℕ) → width h m ≡ opens h + (m + closes h)
-width-is (AnOperation a) m = omega arith
-width-is _ m = omega arith
+width-is h m = grind (arith)
 
 pub length-before : {A : Type 0} → (h : Head A) (e : ℕ) → length (before h e) ≡ opens h
-length-before (AnOperation a) e = refl
-length-before _ e = refl
+length-before h e = grind (arith)
 
 pub length-behind : {A : Type 0} → (h : Head A) → length (behind h) ≡ closes h
-length-behind (AnOperation a) = refl
-length-behind _ = refl
+length-behind h = grind (arith)
 
 pub length-part :
     {A : Type 0} → (h : Head A) (n m : ℕ) (xs : List (Slot A)) → length (part h n m xs) ≡ width h (length xs)
-length-part h n m xs =
-    let e = n + width h m in
-    let a = length-append (before h e) (map (bound h n e) xs ++ behind h) in
-    let b = length-append (map (bound h n e) xs) (behind h) in
-    omega (arith, a, b, length-before h e, length-behind h, length-map xs (bound h n e), width-is h (length xs))
+length-part h n m xs = grind (arith, length-append, length-before, length-behind, length-map, width-is)
 
 pub length-slots : {A : Type 0} → (t : Tree A) (n : ℕ) → length (slots t n) ≡ size t
 length-slots Leaf n = refl

@@ -1,6 +1,6 @@
 -- Tight bodies are tight trees, so tight bodies with equal items are equal.
 use Rattle.std.proofs.Common.{◌≡◌, ℕ, zero, suc, ◌+◌, ◌<◌, ◌≤◌, Bool, true, false, List, [], ◌∷◌, ◌++◌, length, Some}
-use Rattle.std.proofs.Common.{None, refl, sym, ap, ◌∙◌, subst, arith, ⊎_elim}
+use Rattle.std.proofs.Common.{None, refl, sym, ap, ◌∙◌, subst, arith}
 use Rattle.std.specs.Prelude.{◌==◌, if◌then◌else◌, map, slice_index}
 use Rattle.std.proofs.lemmas.Bool.{ne_eqb, eq-eqb, cases_eq}
 use Rattle.std.proofs.lemmas.List.{append-nil, append_assoc, map-append, length-map}
@@ -66,8 +66,7 @@ each-unmap P f [] h = tt
 each-unmap P f (x ∷ xs) h = (h.0, each-unmap P f xs h.1)
 
 if_beyond : (b : Bool) → (if b then AtEnd else Inside) ≡ Beyond 0 → ⊥
-if_beyond true e = cc
-if_beyond false e = cc
+if_beyond b e = grind (arith)
 
 out_is : {A : Type 0} → (e : ℕ) (x : Slot A) → way_of e x ≡ Beyond 0 → (z : Bool) × (x ≡ Out (Some z) 0)
 out_is e (Out (Some z) k) h = let g : k ≡ 0 = cc in (z, ap (Out (Some z)) g)
@@ -80,12 +79,10 @@ inner_is m e (Out None zero) s h = let bad : ⊥ = cc in absurd bad
 inner_is m e _ s h = tt
 
 not_end : (b : Bool) → IsShorter (if b then AtEnd else Inside) → b ≡ false
-not_end true h = absurd h
-not_end false h = refl
+not_end b h = grind (arith)
 
 hits_not : {A : Type 0} → (e : ℕ) (x : Slot A) → IsShorter (way_of e x) → hits e x ≡ false
-hits_not e (To (Some z) u) h = not_end (u == e) h
-hits_not e _ h = refl
+hits_not e x h = grind (arith, not_end)
 
 shorter_other : (w : Way) → IsShorter w → IsOther w
 shorter_other (Beyond zero) h = h
@@ -177,30 +174,17 @@ map_twice f g h k (x ∷ xs) e = ap (λ y. y ∷ map f (map g xs)) e.0 ∙ ap (�
 
 if_other :
     (b c : Bool) → (if b then (if c then AtEnd else Inside) else Inside) ≡ outward c (if b then AtEnd else Inside)
-if_other true c = refl
-if_other false c = refl
+if_other b c = grind (arith)
 
 -- a jump to u, seen from the Block that ends at s, and from the body round it that ends at e
 seen_out :
     (u s e : ℕ) → u ≤ s → s ≤ e → outward (s == e) (if u == s then AtEnd else Inside) ≡ if u == e then AtEnd else Inside
-seen_out u s e a b =
-    ⊎_elim
-    (λ g. ap (λ c. outward (s == e) (if c then AtEnd else Inside)) (eq-eqb u s g)
-    ∙ ap (λ v. if v == e then AtEnd else Inside) (sym g))
-    (λ ne. ap (λ c. outward (s == e) (if c then AtEnd else Inside)) (ne_eqb u s ne)
-    ∙ sym (ap (λ c. if c then AtEnd else Inside) (ne_eqb u e (λ g. ne (omega (arith, g, a, b))))))
-    (cases_eq u s)
+seen_out u s e a b = grind (arith, eq-eqb, ne_eqb, cases_eq)
 
 block_way :
     {A : Type 0} → (m s e : ℕ) → s ≤ e → (x : Slot A) → IsSeen m false x × Aims (λ u. u ≤ s) x →
     outward (s == e) (way_of s x) ≡ way_of e (close s x)
-block_way m s e l (Out (Some z) zero) h = refl
-block_way m s e l (Out (Some z) (suc k)) h = refl
-block_way m s e l (Out None zero) h = let bad : ⊥ = cc in absurd bad
-block_way m s e l (Out None (suc k)) h = absurd h.0
-block_way m s e l (To (Some z) u) h = seen_out u s e h.1 l
-block_way m s e l (To None u) h = refl
-block_way m s e l _ h = refl
+block_way m s e l h4 h = grind (arith, seen_out)
 
 if_false : (b : Bool) → b ≡ false → Inside ≡ if b then AtEnd else Inside
 if_false b e = sym (ap (λ c. if c then AtEnd else Inside) e)
@@ -208,32 +192,16 @@ if_false b e = sym (ap (λ c. if c then AtEnd else Inside) e)
 cycle_way :
     {A : Type 0} → (m n s e : ℕ) → n < s → s ≤ e → (x : Slot A) →
     IsSeen m false x × (Aims (λ u. u ≤ s) x × (hits s x ≡ false)) → outward false (way_of s x) ≡ way_of e (close n x)
-cycle_way m n s e l k (Out (Some z) zero) h = if_false (n == e) (ne_eqb n e (λ g. omega (arith, g, l, k)))
-cycle_way m n s e l k (Out None zero) h = let bad : ⊥ = cc in absurd bad
-cycle_way m n s e l k (Out None (suc j)) h = absurd h.0
-cycle_way m n s e l k (To (Some z) u) h =
-    let le = h.1.0 in
-    let off : (u == s) ≡ false = h.1.1 in
-    ap (λ c. outward false (if c then AtEnd else Inside)) off
-    ∙ if_false (u == e) (ne_eqb u e (λ g. let same_end : u ≡ s = omega (arith, g, le, k) in let on =
-    eq-eqb u s same_end in let bad : ⊥ = cc in bad))
-cycle_way m n s e l k _ h = refl
+cycle_way m n s e l k h6 h = grind (arith, if_false, ne_eqb, eq-eqb)
 
 shut_way :
     {A : Type 0} → (s e : ℕ) → s < e → (x : Slot A) → IsSeen 0 false x × Aims (λ u. u ≤ s) x → Inside ≡ way_of e x
-shut_way s e l (Out (Some z) k) h = let a = h.0 in absurd (omega (arith, a))
-shut_way s e l (To (Some z) u) h = let a = h.1 in if_false (u == e) (ne_eqb u e (λ g. omega (arith, g, a, l)))
-shut_way s e l _ h = refl
+shut_way s e l h3 h = grind (arith, if_false, ne_eqb)
 
 arms_way :
     {A : Type 0} → (s e t : ℕ) → s < e → (x : Slot A) → IsSeen 0 true x × Aims (λ u. u ≤ s) x →
     Inside ≡ way_of e (close t x)
-arms_way s e t l (Out (Some z) k) h = let a = h.0 in absurd (omega (arith, a))
-arms_way s e t l (Out None zero) h = refl
-arms_way s e t l (Out None (suc k)) h = refl
-arms_way s e t l (To (Some z) u) h = let a = h.1 in if_false (u == e) (ne_eqb u e (λ g. omega (arith, g, a, l)))
-arms_way s e t l (To None u) h = refl
-arms_way s e t l _ h = refl
+arms_way s e t l h4 h = grind (arith, if_false, ne_eqb)
 
 -- no item of a tree goes past its end
 before_end : {A : Type 0} → (t : Tree A) (n : ℕ) → Each (Aims (λ u. u ≤ n + size t)) (slots t n)
@@ -242,29 +210,18 @@ before_end t n =
     (aims-more (Within n (n + size t)) (λ u. u ≤ n + size t) (λ u k. k.1)) (within t n)
 
 last_part : (r s e : ℕ) → s + r ≡ e → (r == 0) ≡ (s == e)
-last_part r s e h =
-    ⊎_elim
-    (λ g. eq-eqb r 0 g ∙ sym (eq-eqb s e (omega (arith, g, h))))
-    (λ ne. ne_eqb r 0 ne ∙ sym (ne_eqb s e (λ g. ne (omega (arith, g, h)))))
-    (cases_eq r 0)
+last_part r s e h = grind (arith, eq-eqb, ne_eqb, cases_eq)
 
 joined_ways :
     {A : Type 0} → (e : ℕ) (xs ys zs : List (Slot A)) (ws vs : List Way) → ws ≡ map (way_of e) xs →
     vs ≡ map (way_of e) zs → map (way_of e) ys ≡ map (way_of e) xs → ws ++ vs ≡ map (way_of e) (ys ++ zs)
-joined_ways e xs ys zs ws vs p q r =
-    ap (λ l. l ++ vs) (p ∙ sym r) ∙ ap (λ l. map (way_of e) ys ++ l) q ∙ sym (map-append (way_of e) ys zs)
+joined_ways e xs ys zs ws vs p q r = grind (arith, map-append)
 
 shut_ways :
     {A : Type 0} → (e : ℕ) (ws : List Way) (xs : List (Slot A)) (k : Slot A → Slot A) (y : Slot A) (zs : List (Slot A))
     (vs : List Way) (g : Slot A → Way) → ws ≡ map g xs → Each (λ x. Inside ≡ way_of e (k x)) xs → way_of e y ≡ Inside →
     vs ≡ map (way_of e) zs → map shut ws ++ (Inside ∷ vs) ≡ map (way_of e) ((map k xs ++ (y ∷ [])) ++ zs)
-shut_ways e ws xs k y zs vs g p h yi q =
-    ap (λ l. map shut l ++ (Inside ∷ vs)) p
-    ∙ ap (λ l. l ++ (Inside ∷ vs)) (map_twice shut g (way_of e) k xs h)
-    ∙ ap (λ w. map (way_of e) (map k xs) ++ (w ∷ vs)) (sym yi)
-    ∙ ap (λ l. map (way_of e) (map k xs) ++ (way_of e y ∷ l)) q
-    ∙ sym (map-append (way_of e) (map k xs) (y ∷ zs))
-    ∙ sym (ap (map (way_of e)) (append_assoc (map k xs) (y ∷ []) zs))
+shut_ways e ws xs k y zs vs g p h yi q = grind (arith, map_twice, map-append, append_assoc)
 
 inner_ends :
     {A : Type 0} → (m : ℕ) (c : Bool) (t : Tree A) (n : ℕ) → Each (IsSeen m c) (slots t n) →
@@ -421,25 +378,16 @@ placed ls ps Drops = Drops
 placed-close :
     {A : Type 0} → (m : ℕ) (ls : List ℕ) (ps t s : ℕ) → t ≡ s → (x : Slot A) → IsSeen m false x →
     placed (t ∷ ls) ps x ≡ placed ls ps (close s x)
-placed-close m ls ps t s e (Out (Some z) zero) h = ap (To (Some z)) e
-placed-close m ls ps t s e (Out None zero) h = let bad : ⊥ = cc in absurd bad
-placed-close m ls ps t s e (Out None (suc k)) h = absurd h
-placed-close m ls ps t s e _ h = refl
+placed-close m ls ps t s e h6 h = grind (arith)
 
 placed-arms :
     {A : Type 0} → (ls : List ℕ) (ps t s : ℕ) → t ≡ s → (x : Slot A) → IsSeen 0 true x →
     placed [] t x ≡ placed ls ps (close s x)
-placed-arms ls ps t s e (Out (Some z) k) h = absurd (omega (arith, h))
-placed-arms ls ps t s e (Out None zero) h = ap (To None) e
-placed-arms ls ps t s e (Out None (suc k)) h = absurd h
-placed-arms ls ps t s e _ h = refl
+placed-arms ls ps t s e h5 h = grind (arith)
 
 placed-shut :
     {A : Type 0} → (ls ks : List ℕ) (ps qs : ℕ) (x : Slot A) → IsSeen 0 false x → placed ks qs x ≡ placed ls ps x
-placed-shut ls ks ps qs (Out (Some z) k) h = absurd (omega (arith, h))
-placed-shut ls ks ps qs (Out None zero) h = let bad : ⊥ = cc in absurd bad
-placed-shut ls ks ps qs (Out None (suc k)) h = absurd h
-placed-shut ls ks ps qs _ h = refl
+placed-shut ls ks ps qs x h = grind (arith)
 
 map_once :
     {A : Type 0} → (f g k : Slot A → Slot A) (xs : List (Slot A)) → Each (λ x. f x ≡ g (k x)) xs →
@@ -450,8 +398,7 @@ map_once f g k (x ∷ xs) h = ap (λ y. y ∷ map f xs) h.0 ∙ ap (λ l. g (k x
 joined_items :
     {A : Type 0} → (g : Slot A → Slot A) (us vs : List (Item A)) (ys zs : List (Slot A)) → map slot_of us ≡ map g ys →
     map slot_of vs ≡ map g zs → map slot_of (us ++ vs) ≡ map g (ys ++ zs)
-joined_items g us vs ys zs p q =
-    map-append slot_of us vs ∙ ap (λ l. l ++ map slot_of vs) p ∙ ap (λ l. map g ys ++ l) q ∙ sym (map-append g ys zs)
+joined_items g us vs ys zs p q = grind (arith, map-append)
 
 items_are :
     {A : Type 0} → (m : ℕ) (d c : Bool) (b : Body A) (n : ℕ) (ls : List ℕ) (lv ps : ℕ) → IsTight m d c b →
@@ -542,20 +489,14 @@ items_are m d c (Arm b r) n ls lv ps w =
     (append_assoc (map (λ x. x) xs) (Out None 0 ∷ []) (slots (tree r) s))))
 
 placed-none : {A : Type 0} → (x : Slot A) → IsSeen 0 false x → placed [] 0 x ≡ x
-placed-none (Out (Some z) k) h = absurd (omega (arith, h))
-placed-none (Out None zero) h = let bad : ⊥ = cc in absurd bad
-placed-none (Out None (suc k)) h = absurd h
-placed-none _ h = refl
+placed-none x h = grind (arith)
 
 all_same : {A : Type 0} → (f : Slot A → Slot A) (xs : List (Slot A)) → Each (λ x. f x ≡ x) xs → map f xs ≡ xs
 all_same f [] h = refl
 all_same f (x ∷ xs) h = ap (λ y. y ∷ map f xs) h.0 ∙ ap (λ l. x ∷ l) (all_same f xs h.1)
 
 whole : {A : Type 0} → (b : Body A) → IsTight 0 false false b → map slot_of (items_of b) ≡ slots (tree b) 0
-whole b w =
-    items_are 0 false false b 0 [] 0 0 w
-    ∙ all_same (placed [] 0) (slots (tree b) 0)
-    (each-more (IsSeen 0 false) (λ x. placed [] 0 x ≡ x) (slots (tree b) 0) placed-none (seen 0 false false b 0 w))
+whole b w = grind (arith, items_are, all_same, slots, tree, each-more, placed-none, seen)
 
 -- tight bodies with the same items are the same
 pub one_body :

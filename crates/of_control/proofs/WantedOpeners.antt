@@ -4,7 +4,6 @@ use Rattle.std.proofs.Common.{refl, sym, ap, ◌∙◌, subst, arith, ◌||◌}
 use Rattle.std.specs.Prelude.{slice_get, map, nat_lt, if◌then◌else◌}
 use Rattle.std.proofs.lemmas.Bool.{ltb-true, ltb-false}
 use Rattle.of_control.specs.declared.opener.Kind.{Kind}
-use Rattle.of_control.specs.declared.opener.Kind.TheVariants.{Orig}
 use Rattle.of_control.specs.Openers.{is_orig, is_orig_for, is_dest_for, is_do_sys, one_later, or_else, top_index}
 use Rattle.of_control.specs.Openers.{aimed_index, orig_index, dest_index, orig_count, on_case, any_do_sys}
 use Rattle.of_control.specs.Element.{Element}
@@ -72,8 +71,7 @@ finds_origs_if x os true = refl
 finds_origs_if x os false = tt
 
 orig_for_is_orig : (t : ℕ) (k : Kind) → is_orig_for t k ≡ true → is_orig k ≡ true
-orig_for_is_orig t (Orig s) e = refl
-orig_for_is_orig t _ e = cc
+orig_for_is_orig t k e = grind (arith)
 
 finds_aimed_step :
     (t : ℕ) (x : Opening) (os : List Opening) (i : Option ℕ) (b c : Bool) → is_orig_for t x.kind ≡ b →
@@ -113,9 +111,7 @@ finds_orig place es (Some p) os =
 -- ---- a backward branch
 
 dest_for_no_orig : (t : Option ℕ) (k : Kind) → is_dest_for t k ≡ true → is_orig k ≡ false
-dest_for_no_orig None (Orig s) e = cc
-dest_for_no_orig (Some t) (Orig s) e = cc
-dest_for_no_orig t _ e = refl
+dest_for_no_orig t k e = grind (arith)
 
 finds_dest_step :
     (t : Option ℕ) (x : Opening) (os : List Opening) (i : Option ℕ) (b c : Bool) → is_dest_for t x.kind ≡ b →
@@ -141,9 +137,7 @@ finds_dest place es t (x ∷ os) =
 no_orig_step :
     (x : Opening) (os : List Opening) (c : Bool) (k n : ℕ) → (if c then suc k else 0) ≤ n →
     ((j : ℕ) → k ≤ j → slice_get (top_origs os) j ≡ None) → slice_get (origs_if c x (top_origs os)) n ≡ None
-no_orig_step x os true k zero le h = absurd (omega (arith, le))
-no_orig_step x os true k (suc n) le h = h n (omega (arith, le))
-no_orig_step x os false k n le h = refl
+no_orig_step x os c k n le h = grind (arith)
 
 -- past the forward branches on top there is none
 no_orig :
@@ -157,9 +151,7 @@ some_orig_step :
     (x : Opening) (os : List Opening) (c : Bool) (k n : ℕ) → n < (if c then suc k else 0) →
     ((j : ℕ) → j < k → slice_get (top_origs os) j ≡ slice_get os j) →
     slice_get (origs_if c x (top_origs os)) n ≡ slice_get (x ∷ os) n
-some_orig_step x os true k zero lt h = refl
-some_orig_step x os true k (suc n) lt h = h n (omega (arith, lt))
-some_orig_step x os false k n lt h = absurd (omega (arith, lt))
+some_orig_step x os c k n lt h = grind (arith)
 
 -- the forward branches on top are the latest
 some_orig :
