@@ -3,7 +3,6 @@ use Rattle.std.proofs.Common.{◌≡◌, ℕ, suc, ◌+◌, Bool, true, false, L
 use Rattle.std.proofs.Common.{refl, sym, ap, ◌∙◌, subst, inl, arith, not, append_assoc}
 use Rattle.std.specs.Prelude.{filter, nat_lt, if◌then◌else◌}
 use Rattle.of_control.specs.declared.opener.Kind.{Kind}
-use Rattle.of_control.specs.declared.opener.Kind.TheVariants.{CaseSys, Dest, DoSys, OfSys, Orig}
 use Rattle.of_control.specs.Openers.{is_case_sys, is_orig}
 use Rattle.of_control.specs.Element.{Back, Branch, Case, Do, Element, EndCase, EndOf, Leave, Loop, Mark, Misfit, Of}
 use Rattle.of_control.specs.Element.{Plain, Resolve, Roll}
@@ -80,17 +79,7 @@ leave_next T es m d (Some x) e inv is =
 
 -- ---- a cycle
 pub mark_frame : (t : Option ℕ) (k : Kind) (n : ℕ) → IsDestFor t k → frame_of k n ≡ OnMark n ∷ []
-mark_frame None (Dest p) n h = refl
-mark_frame (Some t) (Dest (Some p)) n h = refl
-mark_frame (Some t) (Dest None) n h = absurd h
-mark_frame None (Orig q) n h = absurd h
-mark_frame (Some t) (Orig q) n h = absurd h
-mark_frame None DoSys n h = absurd h
-mark_frame (Some t) DoSys n h = absurd h
-mark_frame None CaseSys n h = absurd h
-mark_frame (Some t) CaseSys n h = absurd h
-mark_frame None OfSys n h = absurd h
-mark_frame (Some t) OfSys n h = absurd h
+mark_frame t k n h = grind (arith)
 
 pub mark_top : (a b : ℕ) (fs gs : List Frame) → OnMark a ∷ fs ≡ OnMark b ∷ gs → (a ≡ b) × (fs ≡ gs)
 mark_top a b fs gs e = (cc, cc)
@@ -163,12 +152,7 @@ cycle_next T z t es x m d bs p (OpenMark c) before inv is k =
     (omega (arith, piece_count-hoisted bs before, k.counted, named_size-joined p (NamedJump z c NamedEnd)))
     (close_cycle_good T z bs p c before d k)
     (frames-hoisted bs before ∙ top.1)
-cycle_next T z t es x m d bs p (Part q) before inv is k = tt
-cycle_next T z t es x m d bs p (BlockStart b) before inv is k = tt
-cycle_next T z t es x m d bs p (OpenDo q a) before inv is k = tt
-cycle_next T z t es x m d bs p (OpenCase c) before inv is k = tt
-cycle_next T z t es x m d bs p (OpenChoice c) before inv is k = tt
-cycle_next T z t es x m d bs p (OpenOf o c) before inv is k = tt
+cycle_next T z t es x m d bs p _ before inv is k = tt
 
 -- ---- a loop
 counted_next :
@@ -195,19 +179,7 @@ counted_next T l es x m d [] p (OpenDo q a) before inv is to k =
     (omega (arith, k.counted))
     (k.good.0, (to', k.good.1, k.fine, tt), (sc, tt))
     top.1
-counted_next T l es x m d (b ∷ bs) p (OpenDo q a) before inv is to k = tt
-counted_next T l es x m d [] p (Part q) before inv is to k = tt
-counted_next T l es x m d [] p (BlockStart b) before inv is to k = tt
-counted_next T l es x m d [] p (OpenMark c) before inv is to k = tt
-counted_next T l es x m d [] p (OpenCase c) before inv is to k = tt
-counted_next T l es x m d [] p (OpenChoice c) before inv is to k = tt
-counted_next T l es x m d [] p (OpenOf o c) before inv is to k = tt
-counted_next T l es x m d (b ∷ bs) p (Part q) before inv is to k = tt
-counted_next T l es x m d (b ∷ bs) p (BlockStart c) before inv is to k = tt
-counted_next T l es x m d (b ∷ bs) p (OpenMark c) before inv is to k = tt
-counted_next T l es x m d (b ∷ bs) p (OpenCase c) before inv is to k = tt
-counted_next T l es x m d (b ∷ bs) p (OpenChoice c) before inv is to k = tt
-counted_next T l es x m d (b ∷ bs) p (OpenOf o c) before inv is to k = tt
+counted_next T l es x m d _ p _ before inv is to k = tt
 
 -- ---- of
 of_next :
@@ -231,12 +203,7 @@ of_next T es m d [] p (OpenChoice c) before inv is k =
     (omega (arith, k.counted))
     ((k.good, k.fine, sc), refl)
     (ap (λ w. OnOf n ∷ w) (sym k.framed ∙ kept T es m d inv))
-of_next T es m d [] p (Part q) before inv is k = tt
-of_next T es m d [] p (BlockStart b) before inv is k = tt
-of_next T es m d [] p (OpenMark c) before inv is k = tt
-of_next T es m d [] p (OpenDo q a) before inv is k = tt
-of_next T es m d [] p (OpenOf o c) before inv is k = tt
-of_next T es m d (b ∷ bs) p from before inv is k = tt
+of_next T es m d _ p _ before inv is k = tt
 
 -- ---- endof
 endof_next :
@@ -264,13 +231,7 @@ endof_next T es x m d [] p (OpenOf o c) before inv is to k =
     (omega (arith, k.counted))
     (k.good.0, (to', k.fine, tt), (subst (λ l. IsIn l c) (sym k.good.1) (inl refl), sc, tt))
     top.1
-endof_next T es x m d [] p (Part q) before inv is to k = tt
-endof_next T es x m d [] p (BlockStart b) before inv is to k = tt
-endof_next T es x m d [] p (OpenMark c) before inv is to k = tt
-endof_next T es x m d [] p (OpenDo q a) before inv is to k = tt
-endof_next T es x m d [] p (OpenCase c) before inv is to k = tt
-endof_next T es x m d [] p (OpenChoice c) before inv is to k = tt
-endof_next T es x m d (b ∷ bs) p from before inv is to k = tt
+endof_next T es x m d _ p _ before inv is to k = tt
 
 -- ---- endcase
 endcase_next :
@@ -307,12 +268,7 @@ endcase_next T es x m d [] p (OpenChoice c) before inv is to k =
     (omega (arith, k.counted))
     (k.good, (to', k.fine, tt), (sc, tt))
     top.1
-endcase_next T es x m d [] p (Part q) before inv is to k = tt
-endcase_next T es x m d [] p (BlockStart b) before inv is to k = tt
-endcase_next T es x m d [] p (OpenMark c) before inv is to k = tt
-endcase_next T es x m d [] p (OpenDo q a) before inv is to k = tt
-endcase_next T es x m d [] p (OpenOf o c) before inv is to k = tt
-endcase_next T es x m d (b ∷ bs) p from before inv is to k = tt
+endcase_next T es x m d _ p _ before inv is to k = tt
 
 -- ---- any element
 abbrev Step : {A : Type 0} → Targets → Element A → List (Element A) → Option Opening → Partners → Draft A → Type 0
@@ -361,20 +317,10 @@ put_next T EndOf es (Some x) m d inv is to =
 put_next T EndCase es (Some x) m d inv is to =
     with_gathered T EndCase es (Some x) m d close_case (to_structure d) (to_structure-keeps T d inv.good)
     (λ bs p from before k. endcase_next T es x m d bs p from before inv is to k)
-put_next T (Plain k) es (Some x) m d inv is to = absurd is.1
-put_next T (Branch z t) es (Some x) m d inv is to = absurd is.1
-put_next T (Mark p) es (Some x) m d inv is to = absurd is.1
-put_next T (Do q) es (Some x) m d inv is to = absurd is.1
-put_next T Case es (Some x) m d inv is to = absurd is.1
-put_next T Leave es (Some x) m d inv is to = absurd is.1
-put_next T Of es (Some x) m d inv is to = absurd is.1
-put_next T (Back z t) es None m d inv is to = absurd is.1
-put_next T (Loop l) es None m d inv is to = absurd is.1
-put_next T EndOf es None m d inv is to = absurd is.1
-put_next T EndCase es None m d inv is to = absurd is.1
 put_next T (Resolve p) es o m d inv is to = tt
 put_next T (Roll n) es o m d inv is to = tt
 put_next T (Misfit k) es o m d inv is to = tt
+put_next T _ es _ m d inv is to = absurd is.1
 
 -- ---- the whole list
 pub record AgreeingRead {A : Type 0} (T : Targets) (es : List (Element A)) (m : Partners)
@@ -472,14 +418,12 @@ read_next-keeps T (Resolve p) es (Some x) m r h is to =
           (add_due-ends T (item_count es) x.at r.due to h.due);
       pieces = resolve_next T p es x m r.pieces h.pieces is;
     }
-read_next-keeps T (Resolve p) es None m r h is to = absurd is.1
 read_next-keeps T (Roll n) es (Some x) m r h is to =
     record {
       due = ends_at T (item_count es) (item_count es + 0) r.due (omega arith) h.due;
       pieces =
           roll_next T n es x m r.pieces h.pieces is;
     }
-read_next-keeps T (Roll n) es None m r h is to = absurd is.1
 read_next-keeps T (Plain k) es o m r h is to = usual_next T (Plain k) es o m r h is to
 read_next-keeps T (Branch z t) es o m r h is to = usual_next T (Branch z t) es o m r h is to
 read_next-keeps T (Mark p) es o m r h is to = usual_next T (Mark p) es o m r h is to
@@ -492,16 +436,16 @@ read_next-keeps T Of es o m r h is to = usual_next T Of es o m r h is to
 read_next-keeps T EndOf es o m r h is to = usual_next T EndOf es o m r h is to
 read_next-keeps T EndCase es o m r h is to = usual_next T EndCase es o m r h is to
 read_next-keeps T (Misfit k) es o m r h is to = usual_next T (Misfit k) es o m r h is to
+read_next-keeps T _ es None m r h is to = absurd is.1
 
 pub read_so_far-keeps :
     {A : Type 0} → (T : Targets) (es : List (Element A)) (m : Partners) → IsMatching es m → AreTargets T es m →
     AgreeingRead T es m (read_so_far es m)
 read_so_far-keeps T [] [] is to =
     record { due = tt; pieces = record { listed = refl; counted = refl; good = tt; framed = refl } }
-read_so_far-keeps T [] (o ∷ m) is to = absurd is
-read_so_far-keeps T (e ∷ es) [] is to = absurd is
 read_so_far-keeps T (e ∷ es) (o ∷ m) is to =
     read_next-keeps T e es o m (read_so_far es m) (read_so_far-keeps T es m is.0 to.0) is to.1
+read_so_far-keeps T _ _ is to = absurd is
 
 -- ---- the end
 pub record Whole {A : Type 0} (T : Targets) (d : List (Piece A)) (q : NamedBody A) : Type 0 where
@@ -540,12 +484,7 @@ all_parts-whole : {A : Type 0} → (T : Targets) (d : List (Piece A)) → Good T
 all_parts-whole T [] g =
     record { listed = refl; counted = refl; fine = tt; no_labels = refl; no_do = refl; no_cases = refl; scoped = tt }
 all_parts-whole T (Part p ∷ d) g = whole_part T p d (all_parts d) g.1 g.2 (all_parts-whole T d g.0)
-all_parts-whole T (BlockStart b ∷ d) g = tt
-all_parts-whole T (OpenMark c ∷ d) g = tt
-all_parts-whole T (OpenDo q x ∷ d) g = tt
-all_parts-whole T (OpenCase c ∷ d) g = tt
-all_parts-whole T (OpenChoice c ∷ d) g = tt
-all_parts-whole T (OpenOf o c ∷ d) g = tt
+all_parts-whole T _ g = tt
 
 abbrev pub Agrees : {A : Type 0} → Targets → List (Element A) → Partners → Option (Body A) → Type 0
 Agrees T es m None = Unit {0}

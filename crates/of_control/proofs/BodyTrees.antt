@@ -4,9 +4,8 @@ use Rattle.std.proofs.Common.{arith}
 use Rattle.std.specs.Prelude.{IsTrue, map}
 use Rattle.of_control.specs.Body.{Arm, Block, Body, Choice, Counted, Cycle, End, Jump, LeaveLoop, Operation, body_size}
 use Rattle.of_control.specs.Tight.{Each, IsTight, first_size}
-use Rattle.of_control.proofs.Slots.{Slot, Does, Leaves, Out, To, Enters, Again, Tests, Drops, AnOperation, ALeave}
-use Rattle.of_control.proofs.Slots.{AJump, ABlock, ACycle, ACounted, AChoice, AnArm, Tree, Leaf, Node, size, close}
-use Rattle.of_control.proofs.Slots.{slots, each-append, each-map}
+use Rattle.of_control.proofs.Slots.{Slot, Out, Again, Drops, AnOperation, ALeave, AJump, ABlock, ACycle, ACounted}
+use Rattle.of_control.proofs.Slots.{AChoice, AnArm, Tree, Leaf, Node, size, close, slots, each-append, each-map}
 use Rattle.of_control.proofs.Unique.{first}
 
 abbrev pub tree : {A : Type 0} → Body A → Tree A
@@ -54,15 +53,7 @@ size-tree (Choice b r) = omega (arith, size-tree b, size-tree r)
 size-tree (Arm b r) = omega (arith, size-tree b, size-tree r)
 
 pub first-tree : {A : Type 0} → (b : Body A) → first (tree b) ≡ first_size b
-first-tree End = refl
-first-tree (Operation a r) = refl
-first-tree (LeaveLoop r) = refl
-first-tree (Jump z k r) = refl
-first-tree (Block b r) = size-tree b
-first-tree (Cycle b r) = size-tree b
-first-tree (Counted q b l r) = omega (arith, size-tree b)
-first-tree (Choice b r) = omega (arith, size-tree b)
-first-tree (Arm b r) = omega (arith, size-tree b)
+first-tree b = grind (arith, size-tree)
 
 -- ---- which ways out there are
 
@@ -70,50 +61,23 @@ abbrev pub IsSeen : {A : Type 0} → ℕ → Bool → Slot A → Type 0
 IsSeen m c (Out (Some z) k) = k < m
 IsSeen m c (Out None zero) = IsTrue c
 IsSeen m c (Out None (suc k)) = ⊥
-IsSeen m c (Does a) = Unit {0}
-IsSeen m c Leaves = Unit {0}
-IsSeen m c (To j u) = Unit {0}
-IsSeen m c (Enters q u) = Unit {0}
-IsSeen m c (Again l) = Unit {0}
-IsSeen m c (Tests u) = Unit {0}
-IsSeen m c Drops = Unit {0}
+IsSeen m c _ = Unit {0}
 
 pub seen-close : {A : Type 0} → (m t : ℕ) (c : Bool) (x : Slot A) → IsSeen (suc m) false x → IsSeen m c (close t x)
-seen-close m t c (Out (Some z) zero) h = tt
 seen-close m t c (Out (Some z) (suc k)) h = omega (arith, h)
-seen-close m t c (Out None zero) h = tt
 seen-close m t c (Out None (suc k)) h = absurd h
-seen-close m t c (Does a) h = tt
-seen-close m t c Leaves h = tt
-seen-close m t c (To j u) h = tt
-seen-close m t c (Enters q u) h = tt
-seen-close m t c (Again l) h = tt
-seen-close m t c (Tests u) h = tt
-seen-close m t c Drops h = tt
+seen-close m t c _ h = tt
 
 pub seen-arms : {A : Type 0} → (m t : ℕ) (c : Bool) (x : Slot A) → IsSeen 0 true x → IsSeen m c (close t x)
 seen-arms m t c (Out (Some z) k) h = absurd (omega (arith, h))
-seen-arms m t c (Out None zero) h = tt
 seen-arms m t c (Out None (suc k)) h = absurd h
-seen-arms m t c (Does a) h = tt
-seen-arms m t c Leaves h = tt
-seen-arms m t c (To j u) h = tt
-seen-arms m t c (Enters q u) h = tt
-seen-arms m t c (Again l) h = tt
-seen-arms m t c (Tests u) h = tt
-seen-arms m t c Drops h = tt
+seen-arms m t c _ h = tt
 
 pub seen-shut : {A : Type 0} → (m : ℕ) (c : Bool) (x : Slot A) → IsSeen 0 false x → IsSeen m c x
 seen-shut m c (Out (Some z) k) h = absurd (omega (arith, h))
 seen-shut m c (Out None zero) h = let bad : ⊥ = cc in absurd bad
 seen-shut m c (Out None (suc k)) h = absurd h
-seen-shut m c (Does a) h = tt
-seen-shut m c Leaves h = tt
-seen-shut m c (To j u) h = tt
-seen-shut m c (Enters q u) h = tt
-seen-shut m c (Again l) h = tt
-seen-shut m c (Tests u) h = tt
-seen-shut m c Drops h = tt
+seen-shut m c _ h = tt
 
 pub seen :
     {A : Type 0} → (m : ℕ) (d c : Bool) (b : Body A) (n : ℕ) → IsTight m d c b → Each (IsSeen m c) (slots (tree b) n)

@@ -1,23 +1,20 @@
 -- Each element compiles as many items as it leaves, and its plain items, also after a misfit.
-use Rattle.std.proofs.Common.{sym, ◌≡◌, ℕ, zero, suc, ◌+◌, List, [], ◌∷◌, ◌++◌, length, Option, Some, None, refl, ap}
-use Rattle.std.proofs.Common.{◌∙◌, arith, length-append}
+use Rattle.std.proofs.Common.{sym, ◌≡◌, ℕ, zero, suc, ◌+◌, List, [], ◌∷◌, ◌++◌, length, Option, refl, ap, ◌∙◌, arith}
+use Rattle.std.proofs.Common.{length-append}
 use Rattle.std.specs.Prelude.{map, take, drop}
 use Rattle.std.proofs.lemmas.List.{append-nil, length-map, length_push, take-append-drop}
-use Rattle.of_control.specs.Element.{Back, Branch, Case, Do, Element, EndCase, EndOf, Leave, Loop, Mark, Misfit, Of}
-use Rattle.of_control.specs.Element.{Plain, Resolve, Roll}
+use Rattle.of_control.specs.Element.{Element}
 use Rattle.of_control.specs.Items.{DropSelector, EndArm, EnterLoop, ExitLoop, Item, JumpTo, Perform, RepeatLoop}
-use Rattle.of_control.specs.Items.{TestArm, is_item, item_count, one_if}
+use Rattle.of_control.specs.Items.{TestArm, is_item, item_count, one_if, performed, performed_by, plain_items}
 use Rattle.of_control.specs.Calls.{after_calls, call_answer}
 use Rattle.of_control.specs.Law.{ItemsAreCounted}
-use Rattle.of_control.specs.Items.{performed, performed_by, plain_items}
 use Rattle.of_control.specs.Compiling.{compiled, compiled_next, from_item, with_endof, with_leave, with_target_at}
 use Rattle.of_control.specs.Compiling.{with_target}
 
 length-with_target_at : {A : Type 0} → (n t : ℕ) (is : List (Item A)) → length (with_target_at n t is) ≡ length is
-length-with_target_at zero t [] = refl
-length-with_target_at (suc n) t [] = refl
 length-with_target_at zero t (i ∷ is) = refl
 length-with_target_at (suc n) t (i ∷ is) = ap suc (length-with_target_at n t is)
+length-with_target_at _ t [] = refl
 
 length-from_item :
     {A : Type 0} → (n : ℕ) (f : Item A → Item A) (is : List (Item A)) → length (from_item n f is) ≡ length is
@@ -35,46 +32,7 @@ length-from_item n f is =
 counted_next :
     {A : Type 0} → (e : Element A) (o : Option ℕ) (is : List (Item A)) →
     length (compiled_next e o is) ≡ length is + one_if (is_item e)
-counted_next (Plain k) o is = length_push is (Perform k)
-counted_next (Branch z t) o is = length_push is (JumpTo z 0)
-counted_next (Resolve p) (Some n) is = omega (arith, length-with_target_at n (length is) is)
-counted_next (Resolve p) None is = omega arith
-counted_next (Mark p) o is = omega arith
-counted_next (Back z t) (Some n) is = length_push is (JumpTo z n)
-counted_next (Back z t) None is = length_push is (JumpTo z 0)
-counted_next (Roll n) o is = omega arith
-counted_next (Do q) o is = length_push is (EnterLoop q 0)
-counted_next (Loop l) (Some n) is =
-    let v = suc (length is) in
-    let w = with_target_at n v is in
-    omega (
-      arith,
-      length_push (from_item n (with_leave v) w) (RepeatLoop l (suc n)),
-      length-from_item n
-          (with_leave v) w,
-      length-with_target_at n v is,
-    )
-counted_next (Loop l) None is = length_push is (RepeatLoop l 0)
-counted_next Leave o is = length_push is (ExitLoop 0)
-counted_next Case o is = omega arith
-counted_next Of o is = length_push is (TestArm 0)
-counted_next EndOf (Some n) is =
-    omega (
-      arith,
-      length_push (with_target_at n (suc (length is)) is) (EndArm 0),
-      length-with_target_at n
-          (suc (length is)) is,
-    )
-counted_next EndOf None is = length_push is (EndArm 0)
-counted_next EndCase (Some n) is =
-    omega (
-      arith,
-      length_push (from_item n (with_endof (suc (length is))) is) DropSelector,
-      length-from_item n
-          (with_endof (suc (length is))) is,
-    )
-counted_next EndCase None is = length_push is DropSelector
-counted_next (Misfit k) o is = length_push is (Perform k)
+counted_next e o is = grind (arith, length_push, length-with_target_at, length-from_item)
 
 counted : {A : Type 0} → (limit : ℕ) (es : List (Element A)) → length (compiled limit es) ≡ item_count es
 counted limit [] = refl
@@ -98,8 +56,7 @@ plain-append (DropSelector ∷ xs) ys = plain-append xs ys
 plain_after :
     {A : Type 0} → (i : Item A) (xs ys : List (Item A)) → plain_items xs ≡ plain_items ys →
     plain_items (i ∷ xs) ≡ plain_items (i ∷ ys)
-plain_after i xs ys e =
-    plain-append (i ∷ []) xs ∙ ap (λ l. plain_items (i ∷ []) ++ l) e ∙ sym (plain-append (i ∷ []) ys)
+plain_after i xs ys e = grind (arith, plain-append)
 
 -- a change that keeps a plain item and makes no other one
 abbrev IsKeeping : {A : Type 0} → (Item A → Item A) → Type 0
@@ -107,42 +64,23 @@ IsKeeping {A = A} f = (i : Item A) (is : List (Item A)) → plain_items (f i ∷
 
 target_keeps : {A : Type 0} → (t : ℕ) → IsKeeping {A = A} (with_target t)
 target_keeps t (Perform k) is = refl
-target_keeps t (JumpTo z s) is = refl
-target_keeps t (EnterLoop q s) is = refl
-target_keeps t (RepeatLoop l s) is = refl
-target_keeps t (ExitLoop s) is = refl
-target_keeps t (TestArm s) is = refl
-target_keeps t (EndArm s) is = refl
-target_keeps t DropSelector is = refl
+target_keeps t _ is = refl
 
 leave_keeps : {A : Type 0} → (t : ℕ) → IsKeeping {A = A} (with_leave t)
-leave_keeps t (Perform k) is = refl
-leave_keeps t (JumpTo z s) is = refl
-leave_keeps t (EnterLoop q s) is = refl
-leave_keeps t (RepeatLoop l s) is = refl
 leave_keeps t (ExitLoop zero) is = refl
 leave_keeps t (ExitLoop (suc s)) is = refl
-leave_keeps t (TestArm s) is = refl
-leave_keeps t (EndArm s) is = refl
-leave_keeps t DropSelector is = refl
+leave_keeps t _ is = refl
 
 endof_keeps : {A : Type 0} → (t : ℕ) → IsKeeping {A = A} (with_endof t)
-endof_keeps t (Perform k) is = refl
-endof_keeps t (JumpTo z s) is = refl
-endof_keeps t (EnterLoop q s) is = refl
-endof_keeps t (RepeatLoop l s) is = refl
-endof_keeps t (ExitLoop s) is = refl
-endof_keeps t (TestArm s) is = refl
 endof_keeps t (EndArm zero) is = refl
 endof_keeps t (EndArm (suc s)) is = refl
-endof_keeps t DropSelector is = refl
+endof_keeps t _ is = refl
 
 plain-with_target_at :
     {A : Type 0} → (n t : ℕ) (is : List (Item A)) → plain_items (with_target_at n t is) ≡ plain_items is
-plain-with_target_at zero t [] = refl
-plain-with_target_at (suc n) t [] = refl
 plain-with_target_at zero t (i ∷ is) = target_keeps t i is
 plain-with_target_at (suc n) t (i ∷ is) = plain_after i (with_target_at n t is) is (plain-with_target_at n t is)
+plain-with_target_at _ t [] = refl
 
 plain-map :
     {A : Type 0} → (f : Item A → Item A) → IsKeeping f → (is : List (Item A)) → plain_items (map f is) ≡ plain_items is
@@ -170,35 +108,8 @@ plain_same xs is e = e ∙ sym (append-nil (plain_items is))
 plain_next :
     {A : Type 0} → (e : Element A) (o : Option ℕ) (is : List (Item A)) →
     plain_items (compiled_next e o is) ≡ plain_items is ++ performed_by e
-plain_next (Plain k) o is = plain-append is (Perform k ∷ [])
-plain_next (Misfit k) o is = plain-append is (Perform k ∷ [])
-plain_next (Branch z t) o is = plain-append is (JumpTo z 0 ∷ [])
-plain_next (Resolve p) (Some n) is =
-    plain_same (with_target_at n (length is) is) is (plain-with_target_at n (length is) is)
-plain_next (Resolve p) None is = plain_same is is refl
-plain_next (Mark p) o is = plain_same is is refl
-plain_next (Roll n) o is = plain_same is is refl
-plain_next Case o is = plain_same is is refl
-plain_next (Back z t) (Some n) is = plain-append is (JumpTo z n ∷ [])
-plain_next (Back z t) None is = plain-append is (JumpTo z 0 ∷ [])
-plain_next (Do q) o is = plain-append is (EnterLoop q 0 ∷ [])
-plain_next (Loop l) (Some n) is =
-    let v = suc (length is) in
-    let w = with_target_at n v is in
-    plain_then (from_item n (with_leave v) w) (RepeatLoop l (suc n) ∷ []) is
-    (plain-from_item n (with_leave v) (leave_keeps v) w ∙ plain-with_target_at n v is)
-plain_next (Loop l) None is = plain-append is (RepeatLoop l 0 ∷ [])
-plain_next Leave o is = plain-append is (ExitLoop 0 ∷ [])
-plain_next Of o is = plain-append is (TestArm 0 ∷ [])
-plain_next EndOf (Some n) is =
-    let v = suc (length is) in
-    plain_then (with_target_at n v is) (EndArm 0 ∷ []) is (plain-with_target_at n v is)
-plain_next EndOf None is = plain-append is (EndArm 0 ∷ [])
-plain_next EndCase (Some n) is =
-    let v = suc (length is) in
-    plain_then (from_item n (with_endof v) is) (DropSelector ∷ []) is
-    (plain-from_item n (with_endof v) (endof_keeps v) is)
-plain_next EndCase None is = plain-append is (DropSelector ∷ [])
+plain_next e o is =
+    grind (arith, plain-append, plain_same, plain-with_target_at, plain_then, plain-from_item, leave_keeps, endof_keeps)
 
 plain : {A : Type 0} → (limit : ℕ) (es : List (Element A)) → plain_items (compiled limit es) ≡ performed es
 plain limit [] = refl

@@ -1,6 +1,5 @@
 -- The laws.
-use Rattle.std.proofs.Common.{◌≡◌, false, ℕ, List, [], ◌∷◌, Some, None, refl, sym, ap, ◌∙◌, subst, IsTrue, ◌⊎◌, inl}
-use Rattle.std.proofs.Common.{inr}
+use Rattle.std.proofs.Common.{◌≡◌, false, ℕ, List, [], Some, None, refl, sym, ap, ◌∙◌, subst, IsTrue, ◌⊎◌, inl, inr}
 use Rattle.std.specs.Prelude.{map}
 use Rattle.of_control.specs.Openers.{is_all_closed}
 use Rattle.of_control.specs.Element.{Element}
@@ -45,10 +44,9 @@ matching_is_decided A limit es = decided_by limit es (aged_stack limit es) refl 
 matched_from :
     {A : Type 0} → (limit : ℕ) (place : List (Element A) → ℕ) (es : List (Element A)) (c : AgedStack) →
     Sound limit es c → IsTrue (is_all_closed (kept_of place es c)) → (m : Partners) × IsMatched limit es m
-matched_from limit place es None h t = let bad : ⊥ = cc in absurd bad
 matched_from limit place es (Some (m, [])) h t =
     (m, record { bounded = record { matching = h.0; few = h.1 }; closed = sym h.2 })
-matched_from limit place es (Some (m, x ∷ os)) h t = let bad : ⊥ = cc in absurd bad
+matched_from limit place es _ h t = let bad : ⊥ = cc in absurd bad
 
 closed_matched :
     {A : Type 0} → (limit : ℕ) (place : List (Element A) → ℕ) (es : List (Element A)) →

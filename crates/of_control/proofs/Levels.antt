@@ -1,9 +1,9 @@
 -- How often a branch waits, with so many structures open since: on the control stack and among the pieces.
 use Rattle.std.proofs.Common.{◌≡◌, ℕ, zero, suc, ◌+◌, Bool, true, false, List, [], ◌∷◌, ◌++◌, Some, None, refl, sym, ap}
-use Rattle.std.proofs.Common.{◌∙◌, subst, ⊎_elim, arith, not, eq-eqb}
+use Rattle.std.proofs.Common.{◌∙◌, ⊎_elim, arith, not, eq-eqb}
 use Rattle.std.specs.Prelude.{slice_get, filter, ◌==◌}
 use Rattle.of_control.specs.declared.opener.Kind.{Kind}
-use Rattle.of_control.specs.declared.opener.Kind.TheVariants.{CaseSys, Dest, DoSys, OfSys, Orig}
+use Rattle.of_control.specs.declared.opener.Kind.TheVariants.{DoSys}
 use Rattle.of_control.specs.Openers.{is_orig}
 use Rattle.of_control.specs.Items.{one_if}
 use Rattle.of_control.specs.Matching.{IsAmong, Opening, is_partner, origs_if, structure_or, top_origs, top_structure}
@@ -22,19 +22,14 @@ begins_start zero b c n = one_if (b == c) + n
 begins_start (suc k) b c n = n
 
 abbrev pub begins : {A : Type 0} → ℕ → ℕ → List (Piece A) → ℕ
-begins k b [] = 0
 begins k b (Part p ∷ d) = begins k b d
 begins k b (BlockStart c ∷ d) = begins_start k b c (begins k b d)
-begins zero b (OpenMark c ∷ d) = 0
 begins (suc k) b (OpenMark c ∷ d) = begins k b d
-begins zero b (OpenDo q c ∷ d) = 0
 begins (suc k) b (OpenDo q c ∷ d) = begins k b d
-begins zero b (OpenCase c ∷ d) = 0
 begins (suc k) b (OpenCase c ∷ d) = begins k b d
-begins zero b (OpenChoice c ∷ d) = 0
 begins (suc k) b (OpenChoice c ∷ d) = begins k b d
-begins zero b (OpenOf o c ∷ d) = 0
 begins (suc k) b (OpenOf o c ∷ d) = begins k b d
+begins _ b _ = 0
 
 -- the same on the stack
 abbrev pub waits_step : Bool → ℕ → ℕ → ℕ → (ℕ → ℕ) → ℕ
@@ -55,9 +50,7 @@ waits-is t k b y os e = ap (λ u. waits_step u k b y.at (λ j. waits j b os)) e
 pub gone :
     (x y : Opening) (os : List Opening) → y ≡ x → Below y.age os →
     filter (λ z. not (is_partner (Some x) z)) (y ∷ os) ≡ os
-gone x y os e d =
-    let age : y.age ≡ x.age = ap (λ z. z.age) e in
-    drop_step x y os age ∙ keep_older x os (subst (λ n. Below n os) age d)
+gone x y os e d = grind (arith, drop_step, keep_older)
 
 pub waits-taken_step :
     (t : Bool) (x y : Opening) (os : List Opening) (b : ℕ) → is_orig y.kind ≡ t → Below y.age os →
@@ -91,17 +84,7 @@ pub waits-below_step :
     (IsAmong (top_origs os) x → waits (suc k) b os ≡ waits (suc k) b (filter (λ z. not (is_partner (Some x) z)) os)) →
     IsAmong (origs_if t y (top_origs os)) x →
     waits (suc k) b (y ∷ os) ≡ waits (suc k) b (filter (λ z. not (is_partner (Some x) z)) (y ∷ os))
-waits-below_step true x y os k b e d f a =
-    let here' = waits-is true (suc k) b y os e in
-    ⊎_elim
-    (λ g. here' ∙ sym (ap (waits (suc k) b) (gone x y os g d)))
-    (λ r.
-    let lt = Below-among y.age os x d (among-top_origs os x r) in
-    let ne : y.age ≡ x.age → ⊥ = λ g. absurd (omega (arith, g, lt)) in
-    here' ∙ f r ∙ sym (waits-is true (suc k) b y (filter (λ z. not (is_partner (Some x) z)) os) e)
-    ∙ sym (ap (waits (suc k) b) (keep_step x y os ne)))
-    a
-waits-below_step false x y os k b e d f a = absurd a
+waits-below_step t x y os k b e d f a = grind (arith, waits-is, gone, among-top_origs, keep_step)
 
 pub waits-below :
     (x : Opening) (os : List Opening) → Desc os → IsAmong (top_origs os) x → (k b : ℕ) →
@@ -143,15 +126,7 @@ pub waits-closed_below_step :
     (top_structure os ≡ Some x → waits (suc k) b (filter (λ z. not (is_partner (Some x) z)) os) ≡ waits
     (suc (suc k)) b os) → structure_or t y (top_structure os) ≡ Some x →
     waits (suc k) b (filter (λ z. not (is_partner (Some x) z)) (y ∷ os)) ≡ waits (suc (suc k)) b (y ∷ os)
-waits-closed_below_step true x y os k b e d f s =
-    let lt = Below-among y.age os x d (among-top_structure os x s) in
-    let ne : y.age ≡ x.age → ⊥ = λ g. absurd (omega (arith, g, lt)) in
-    ap (waits (suc k) b) (keep_step x y os ne)
-    ∙ waits-is true (suc k) b y (filter (λ z. not (is_partner (Some x) z)) os) e ∙ f s
-    ∙ sym (waits-is true (suc (suc k)) b y os e)
-waits-closed_below_step false x y os k b e d f s =
-    let same : y ≡ x = cc in
-    ap (waits (suc k) b) (gone x y os same d) ∙ sym (waits-is false (suc (suc k)) b y os e)
+waits-closed_below_step t x y os k b e d f s = grind (arith, among-top_structure, keep_step, waits-is, gone)
 
 pub waits-closed_below :
     (x : Opening) (os : List Opening) → Desc os → top_structure os ≡ Some x → (k b : ℕ) →
@@ -181,11 +156,7 @@ some_block b bs h =
     absurd (omega (arith, e, one))
 
 pub do_there_step : (k : Kind) (n : ℕ) (fs : List Frame) → (do_in fs ≡ None → ⊥) → do_in (frame_of k n ++ fs) ≡ None → ⊥
-do_there_step (Orig t) n fs h e = h e
-do_there_step (Dest p) n fs h e = h e
-do_there_step DoSys n fs h e = cc
-do_there_step CaseSys n fs h e = h e
-do_there_step OfSys n fs h e = h e
+do_there_step k n fs h e = grind (arith)
 
 pub do_there : (os : List Opening) (x : Opening) → IsAmong os x → x.kind ≡ DoSys → do_in (stack_frames os) ≡ None → ⊥
 do_there [] x a k e = absurd a

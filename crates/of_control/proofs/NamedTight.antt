@@ -40,19 +40,16 @@ named_ways (NamedArm o c p r) = Stays ∷ (map kept_in (named_ways p) ++ (Stays 
 
 abbrev pub named_first : {A : Type 0} → NamedBody A → ℕ
 named_first NamedEnd = 0
-named_first (NamedOperation a r) = 1
-named_first (NamedLeave d r) = 1
-named_first (NamedJump z b r) = 1
 named_first (NamedBlock b p r) = named_size p
 named_first (NamedCycle c p r) = named_size p
 named_first (NamedCounted q d p l r) = suc (suc (named_size p))
 named_first (NamedChoice c p r) = suc (named_size p)
 named_first (NamedArm o c p r) = suc (suc (named_size p))
+named_first _ = 1
 
 abbrev pub NotTo : ℕ → NamedWay → Type 0
-NotTo b Stays = Unit {0}
-NotTo b (Ends x) = Unit {0}
 NotTo b (Goes x) = x ≡ b → ⊥
+NotTo b _ = Unit {0}
 
 abbrev pub Shorter : ℕ → NamedWay → Type 0
 Shorter b Stays = Unit {0}
@@ -77,13 +74,7 @@ pub record NamedIsCycle {A : Type 0} (c : ℕ) (p : NamedBody A) : Type 0 where
 abbrev pub NamedBegins : {A : Type 0} → NamedBody A → Type 0
 NamedBegins NamedEnd = Unit {0}
 NamedBegins (NamedArm o c p r) = Unit {0}
-NamedBegins (NamedOperation a r) = ⊥
-NamedBegins (NamedLeave d r) = ⊥
-NamedBegins (NamedJump z b r) = ⊥
-NamedBegins (NamedBlock b p r) = ⊥
-NamedBegins (NamedCycle c p r) = ⊥
-NamedBegins (NamedCounted q d p l r) = ⊥
-NamedBegins (NamedChoice c p r) = ⊥
+NamedBegins _ = ⊥
 
 abbrev pub NamedTight : {A : Type 0} → NamedBody A → Type 0
 NamedTight NamedEnd = Unit {0}
@@ -99,15 +90,7 @@ NamedTight (NamedArm o c p r) = NamedTight p × NamedTight r
 -- ---- without names
 
 first-nameless : {A : Type 0} → (ls : List ℕ) (p : NamedBody A) → first_size (nameless ls p) ≡ named_first p
-first-nameless ls NamedEnd = refl
-first-nameless ls (NamedOperation a r) = refl
-first-nameless ls (NamedLeave d r) = refl
-first-nameless ls (NamedJump z b r) = refl
-first-nameless ls (NamedBlock b p r) = body_size-nameless (b ∷ ls) p
-first-nameless ls (NamedCycle c p r) = body_size-nameless (c ∷ ls) p
-first-nameless ls (NamedCounted q d p l r) = omega (arith, body_size-nameless [] p)
-first-nameless ls (NamedChoice c p r) = omega (arith, body_size-nameless [] p)
-first-nameless ls (NamedArm o c p r) = omega (arith, body_size-nameless [] p)
+first-nameless ls p = grind (arith, body_size-nameless)
 
 abbrev way_in : List ℕ → NamedWay → Way
 way_in ls Stays = Inside
@@ -116,21 +99,17 @@ way_in ls (Goes x) = Beyond (label_index x ls)
 
 ends_out :
     (ls : List ℕ) (x : ℕ) (last : Bool) → (if last then AtEnd else Inside) ≡ way_in ls (if last then Ends x else Stays)
-ends_out ls x true = refl
-ends_out ls x false = refl
+ends_out ls x last = grind (arith)
 
 goes_out :
     (ls : List ℕ) (b x : ℕ) (last t : Bool) →
     outward last (Beyond (if t then 0 else suc (label_index x ls))) ≡ way_in ls
     (if t then (if last then Ends b else Stays) else Goes x)
-goes_out ls b x last true = ends_out ls b last
-goes_out ls b x last false = refl
+goes_out ls b x last t = grind (arith, ends_out)
 
 left_out :
     (b : ℕ) (ls : List ℕ) (last : Bool) (w : NamedWay) → outward last (way_in (b ∷ ls) w) ≡ way_in ls (left b last w)
-left_out b ls last Stays = refl
-left_out b ls last (Ends x) = ends_out ls x last
-left_out b ls last (Goes x) = goes_out ls b x last (x == b)
+left_out b ls last w = grind (arith, ends_out, goes_out)
 
 map_out :
     (f : Way → Way) (g h : NamedWay → Way) (k : NamedWay → NamedWay) → ((w : NamedWay) → f (g w) ≡ h (k w)) →
@@ -141,9 +120,7 @@ map_out f g h k e (w ∷ ws) = ap (λ y. y ∷ map f (map g ws)) (e w) ∙ ap (�
 part_ways :
     (f : Way → Way) (g h : NamedWay → Way) (k : NamedWay → NamedWay) (us vs : List Way) (ws zs : List NamedWay) →
     ((w : NamedWay) → f (g w) ≡ h (k w)) → us ≡ map g ws → vs ≡ map h zs → map f us ++ vs ≡ map h (map k ws ++ zs)
-part_ways f g h k us vs ws zs e p q =
-    ap (λ l. map f l ++ vs) p ∙ ap (λ l. l ++ vs) (map_out f g h k e ws) ∙ ap (λ l. map h (map k ws) ++ l) q
-    ∙ sym (map-append h (map k ws) zs)
+part_ways f g h k us vs ws zs e p q = grind (arith, map_out, map-append)
 
 pub ways-nameless :
     {A : Type 0} → (ls : List ℕ) (p : NamedBody A) → ways (nameless ls p) ≡ map (way_in ls) (named_ways p)
@@ -185,10 +162,9 @@ shorter_in b ls (Goes x) h =
     subst (λ t. IsShorter (Beyond (if t then 0 else suc (label_index x ls)))) (sym (ne_eqb x b h)) tt
 
 other_in : (b : ℕ) (ls : List ℕ) (w : NamedWay) → NotTo b w → IsOther (way_in (b ∷ ls) w)
-other_in b ls Stays h = tt
-other_in b ls (Ends x) h = tt
 other_in b ls (Goes x) h =
     subst (λ t. IsOther (Beyond (if t then 0 else suc (label_index x ls)))) (sym (ne_eqb x b h)) tt
+other_in b ls _ h = tt
 
 abbrev jump_in :
     {A : Type 0} → (b : ℕ) (ls : List ℕ) (p : NamedBody A) → NamedJumpOnce b p → HasOneJump (nameless (b ∷ ls) p)
@@ -216,13 +192,7 @@ cycle_in c ls p h = record { jump = jump_in c ls p h.jump; last = ap (map (way_i
 begins_in : {A : Type 0} → (p : NamedBody A) → NamedBegins p → BeginsWithArm (nameless [] p)
 begins_in NamedEnd h = tt
 begins_in (NamedArm o c p r) h = tt
-begins_in (NamedOperation a r) h = absurd h
-begins_in (NamedLeave d r) h = absurd h
-begins_in (NamedJump z b r) h = absurd h
-begins_in (NamedBlock b p r) h = absurd h
-begins_in (NamedCycle c p r) h = absurd h
-begins_in (NamedCounted q d p l r) h = absurd h
-begins_in (NamedChoice c p r) h = absurd h
+begins_in _ h = absurd h
 
 pub tight-nameless :
     {A : Type 0} → (n : ℕ) (d c : Bool) (ls : List ℕ) (p : NamedBody A) → NamedTight p →

@@ -23,37 +23,17 @@ pub record GoesIn {A : Type 0} (c : ℕ) (p : NamedBody A) : Type 0 where
 
 -- the body begins with an Arm
 abbrev pub IsArm : {A : Type 0} → NamedBody A → Type 0
-IsArm NamedEnd = ⊥
 IsArm (NamedArm o c p r) = Unit {0}
-IsArm (NamedOperation a r) = ⊥
-IsArm (NamedLeave d r) = ⊥
-IsArm (NamedJump z b r) = ⊥
-IsArm (NamedBlock b p r) = ⊥
-IsArm (NamedCycle c p r) = ⊥
-IsArm (NamedCounted q d p l r) = ⊥
-IsArm (NamedChoice c p r) = ⊥
+IsArm _ = ⊥
 
 arm-joined : {A : Type 0} → (p s : NamedBody A) → IsArm p → IsArm (joined p s)
 arm-joined (NamedArm o c p r) s h = tt
-arm-joined NamedEnd s h = absurd h
-arm-joined (NamedOperation a r) s h = absurd h
-arm-joined (NamedLeave d r) s h = absurd h
-arm-joined (NamedJump z b r) s h = absurd h
-arm-joined (NamedBlock b p r) s h = absurd h
-arm-joined (NamedCycle c p r) s h = absurd h
-arm-joined (NamedCounted q d p l r) s h = absurd h
-arm-joined (NamedChoice c p r) s h = absurd h
+arm-joined _ s h = absurd h
 
 pub arm_begins : {A : Type 0} → (p : NamedBody A) → IsArm p → NamedBegins p
 arm_begins (NamedArm o c p r) h = tt
 arm_begins NamedEnd h = tt
-arm_begins (NamedOperation a r) h = absurd h
-arm_begins (NamedLeave d r) h = absurd h
-arm_begins (NamedJump z b r) h = absurd h
-arm_begins (NamedBlock b p r) h = absurd h
-arm_begins (NamedCycle c p r) h = absurd h
-arm_begins (NamedCounted q d p l r) h = absurd h
-arm_begins (NamedChoice c p r) h = absurd h
+arm_begins _ h = absurd h
 
 pub goes_held : {A : Type 0} → (c : ℕ) (p : NamedBody A) → HeldIn c p → GoesIn c p
 goes_held c p h = record { earlier = h.earlier; later = h.later; split = h.split }
@@ -86,21 +66,13 @@ goes-joined_last c p s f =
 length-map_then :
     {A : Type 0} → (f g : NamedWay → NamedWay) (p r : NamedBody A) → length (named_ways p) ≡ named_size p →
     length (named_ways r) ≡ named_size r → length (map f (named_ways p) ++ named_ways r) ≡ named_size p + named_size r
-length-map_then f g p r e h =
-    omega (arith, length-append (map f (named_ways p)) (named_ways r), length-map (named_ways p) f, e, h)
+length-map_then f g p r e h = grind (arith, length-append, named_ways, length-map)
 
 length-shut :
     {A : Type 0} → (p r : NamedBody A) → length (named_ways p) ≡ named_size p →
     length (named_ways r) ≡ named_size r →
     length (map kept_in (named_ways p) ++ (Stays ∷ named_ways r)) ≡ named_size p + suc (named_size r)
-length-shut p r e h =
-    omega (
-      arith,
-      length-append (map kept_in (named_ways p)) (Stays ∷ named_ways r),
-      length-map (named_ways p) kept_in,
-      e,
-      h,
-    )
+length-shut p r e h = grind (arith, length-append, kept_in, named_ways, length-map)
 
 pub length-ways : {A : Type 0} → (p : NamedBody A) → length (named_ways p) ≡ named_size p
 length-ways NamedEnd = refl
@@ -118,12 +90,7 @@ length-ways (NamedArm o c p r) = ap suc (length-shut p r (length-ways p) (length
 goes_left :
     (b c : ℕ) (t : Bool) (ws es ls : List NamedWay) → (c ≡ b → ⊥) → ws ≡ es ++ (Goes c ∷ ls) →
     map (left b t) ws ++ [] ≡ map (left b t) es ++ (Goes c ∷ map (left b t) ls)
-goes_left b c t ws es ls ne e =
-    append-nil (map (left b t) ws)
-    ∙ ap (map (left b t)) e
-    ∙ map-append (left b t) es (Goes c ∷ ls)
-    ∙ ap (λ u. map (left b t) es ++ ((if u then (if t then Ends b else Stays) else Goes c) ∷ map (left b t) ls))
-    (ne_eqb c b ne)
+goes_left b c t ws es ls ne e = grind (arith, append-nil, left, map-append, ne_eqb)
 
 soon_of :
     {A : Type 0} → (f : NamedWay → NamedWay) (c : ℕ) (p : NamedBody A) (g : GoesIn c p) →
@@ -345,17 +312,12 @@ back_if high top b c false H B d h k = back_if_start high c top H B (to_branch b
 pub back_branch :
     {A : Type 0} → (b high top : ℕ) (H : ℕ → Type 0) (B : Type 0) (d : List (Piece A)) → Ordered high top H B d →
     BackIf high top H B (to_branch b d)
-back_branch b high top H B [] h = tt
 back_branch b high top H B (Part q ∷ d) h =
     back_if_part high h.1.0 top H B q (to_branch b d) h.0 h.1.1
     (back_branch b h.1.0 top (λ e. HeldIn e q) (IsArm q) d h.1.2)
 back_branch b high top H B (BlockStart c ∷ d) h =
     back_if high top b c (b == c) H B d h (back_branch b high c H ⊥ d h.2)
-back_branch b high top H B (OpenMark c ∷ d) h = tt
-back_branch b high top H B (OpenDo q c ∷ d) h = tt
-back_branch b high top H B (OpenCase c ∷ d) h = tt
-back_branch b high top H B (OpenChoice c ∷ d) h = tt
-back_branch b high top H B (OpenOf o c ∷ d) h = tt
+back_branch b high top H B _ h = tt
 
 -- it is gathered back to the branch
 abbrev pub IsFrom : {A : Type 0} → ℕ → Option (Gathered A) → Type 0
@@ -377,14 +339,9 @@ from_if b c d true e h = ap BlockStart (sym (eqb-true b c e))
 from_if b c d false e h = from_start b c (to_branch b d) h
 
 pub from_branch : {A : Type 0} → (b : ℕ) (d : List (Piece A)) → IsFrom b (to_branch b d)
-from_branch b [] = tt
 from_branch b (Part q ∷ d) = from_part b q (to_branch b d) (from_branch b d)
 from_branch b (BlockStart c ∷ d) = from_if b c d (b == c) refl (from_branch b d)
-from_branch b (OpenMark c ∷ d) = tt
-from_branch b (OpenDo q c ∷ d) = tt
-from_branch b (OpenCase c ∷ d) = tt
-from_branch b (OpenChoice c ∷ d) = tt
-from_branch b (OpenOf o c ∷ d) = tt
+from_branch b _ = tt
 
 pub ordered-hoisted :
     {A : Type 0} → (high top low : ℕ) (P K : ℕ → Type 0) (C : Type 0) (bs : List ℕ) (d : List (Piece A)) →

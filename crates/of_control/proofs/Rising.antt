@@ -1,6 +1,6 @@
 -- Where the numbers of the jumps rise with the items, a Block that holds its jump in its first part is tight.
 use Rattle.std.proofs.Common.{◌≡◌, ℕ, suc, ◌+◌, ◌<◌, ◌≤◌, Bool, true, false, List, [], ◌∷◌, ◌++◌, length, refl, sym, ap}
-use Rattle.std.proofs.Common.{◌∙◌, subst, arith, ⊎_elim}
+use Rattle.std.proofs.Common.{◌∙◌, subst, arith}
 use Rattle.std.specs.Prelude.{◌==◌, ◌&&◌, if◌then◌else◌, map}
 use Rattle.std.proofs.lemmas.Bool.{cases_eq, eq-eqb, eqb-true, ne_eqb}
 use Rattle.std.proofs.lemmas.List.{append_assoc, length-map, map-append}
@@ -22,8 +22,7 @@ Rise low (Goes x ∷ ws) high = (low ≤ x) × Rise (suc x) ws high
 pub rise-more : (a b high : ℕ) (ws : List NamedWay) → b ≤ a → Rise a ws high → Rise b ws high
 rise-more a b high [] l h = omega (arith, l, h)
 rise-more a b high (Stays ∷ ws) l h = rise-more a b high ws l h
-rise-more a b high (Ends x ∷ ws) l h = let g = h.0 in (omega (arith, l, g), h.1)
-rise-more a b high (Goes x ∷ ws) l h = let g = h.0 in (omega (arith, l, g), h.1)
+rise-more a b high _ l h = let g = h.0 in (omega (arith, l, g), h.1)
 
 pub rise-append :
     (low mid high : ℕ) (xs ys : List NamedWay) → Rise low xs mid → Rise mid ys high → Rise low (xs ++ ys) high
@@ -71,9 +70,8 @@ NameBelow b (Goes x) = x < b
 
 -- the Blocks that end with the body have no earlier jumps than b
 abbrev pub EndsAbove : ℕ → NamedWay → Type 0
-EndsAbove b Stays = Unit {0}
 EndsAbove b (Ends x) = b ≤ x
-EndsAbove b (Goes x) = Unit {0}
+EndsAbove b _ = Unit {0}
 
 -- b's jump is in the first part
 pub record HeldIn {A : Type 0} (b : ℕ) (p : NamedBody A) : Type 0 where
@@ -142,26 +140,18 @@ none_before : (n m : ℕ) → n ≡ 0 → n + m ≡ m
 none_before n m e = omega (arith, e)
 
 both_last : (n m : ℕ) → (n + m == 0) ≡ ((n == 0) && (m == 0))
-both_last n m =
-    ⊎_elim
-    (λ e. ap (λ k. k == 0) (none_before n m e) ∙ sym (ap (λ t. t && (m == 0)) (eq-eqb n 0 e)))
-    (λ ne. ne_eqb (n + m) 0 (λ g. ne (omega (arith, g))) ∙ sym (ap (λ t. t && (m == 0)) (ne_eqb n 0 ne)))
-    (cases_eq n 0)
+both_last n m = grind (arith, none_before, eq-eqb, ne_eqb, cases_eq)
 
 settled_ends : (x : ℕ) (l k : Bool) → (if l && k then Ends x else Stays) ≡ settled k (if l then Ends x else Stays)
-settled_ends x true k = refl
-settled_ends x false k = refl
+settled_ends x l k = grind (arith)
 
 settled_goes :
     (b x : ℕ) (l k t : Bool) → (if t then (if l && k then Ends b else Stays) else Goes x) ≡ settled k
     (if t then (if l then Ends b else Stays) else Goes x)
-settled_goes b x l k true = settled_ends b l k
-settled_goes b x l k false = refl
+settled_goes b x l k t = grind (arith, settled_ends)
 
 left_settled : (b : ℕ) (l k : Bool) (w : NamedWay) → left b (l && k) w ≡ settled k (left b l w)
-left_settled b l k Stays = refl
-left_settled b l k (Ends x) = settled_ends x l k
-left_settled b l k (Goes x) = settled_goes b x l k (x == b)
+left_settled b l k w = grind (arith, settled_ends, settled_goes)
 
 map_settled :
     (f g : NamedWay → NamedWay) (k : Bool) → ((w : NamedWay) → f w ≡ settled k (g w)) → (ws : List NamedWay) →
@@ -238,15 +228,7 @@ tight-joined (NamedChoice c p r) s h k = (h.0, h.1, tight-joined r s h.2 k)
 tight-joined (NamedArm o c p r) s h k = (h.0, tight-joined r s h.1 k)
 
 first-joined : {A : Type 0} → (p s : NamedBody A) → 0 < named_first p → named_first (joined p s) ≡ named_first p
-first-joined NamedEnd s h = absurd (omega (arith, h))
-first-joined (NamedOperation a r) s h = refl
-first-joined (NamedLeave d r) s h = refl
-first-joined (NamedJump z b r) s h = refl
-first-joined (NamedBlock b p r) s h = refl
-first-joined (NamedCycle c p r) s h = refl
-first-joined (NamedCounted q d p l r) s h = refl
-first-joined (NamedChoice c p r) s h = refl
-first-joined (NamedArm o c p r) s h = refl
+first-joined p s h = grind (arith)
 
 pub held-joined : {A : Type 0} → (b : ℕ) (p s : NamedBody A) → HeldIn b p → HeldIn b (joined p s)
 held-joined b p s f =

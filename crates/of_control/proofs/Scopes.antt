@@ -15,8 +15,7 @@ any [] = false
 any (c ∷ cs) = true
 
 within_step : (b c n i : ℕ) (t : Bool) → (b == c) ≡ t → ((b ≡ c → ⊥) → i < n) → (if t then 0 else suc i) < suc n
-within_step b c n i true e h = omega arith
-within_step b c n i false e h = let l = h (eqb-false b c e) in omega (arith, l)
+within_step b c n i t e h = grind (arith, eqb-false)
 
 index_within : (b : ℕ) (ls : List ℕ) → IsIn ls b → label_index b ls < length ls
 index_within b [] h = absurd h

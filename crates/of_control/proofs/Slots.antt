@@ -34,46 +34,31 @@ pub data Tree (A : Type 0) : Type 0 where
 
 -- how many items stand before the inside of a part
 abbrev pub opens : {A : Type 0} → Head A → ℕ
-opens (AnOperation a) = 1
-opens ALeave = 1
-opens (AJump z k) = 1
 opens ABlock = 0
 opens ACycle = 0
-opens (ACounted q l) = 1
 opens AChoice = 0
-opens AnArm = 1
+opens _ = 1
 
 -- and how many after it
 abbrev pub closes : {A : Type 0} → Head A → ℕ
-closes (AnOperation a) = 0
-closes ALeave = 0
-closes (AJump z k) = 0
-closes ABlock = 0
-closes ACycle = 0
 closes (ACounted q l) = 1
 closes AChoice = 1
 closes AnArm = 1
+closes _ = 0
 
 -- where the inside of a part begins
 abbrev pub starts : {A : Type 0} → Head A → ℕ → ℕ
-starts (AnOperation a) n = suc n
-starts ALeave n = suc n
-starts (AJump z k) n = suc n
 starts ABlock n = n
 starts ACycle n = n
-starts (ACounted q l) n = suc n
 starts AChoice n = n
-starts AnArm n = suc n
+starts _ n = suc n
 
 abbrev pub width : {A : Type 0} → Head A → ℕ → ℕ
-width (AnOperation a) m = suc m
-width ALeave m = suc m
-width (AJump z k) m = suc m
 width ABlock m = m
 width ACycle m = m
 width (ACounted q l) m = suc (suc m)
-width AChoice m = suc m
 width AnArm m = suc (suc m)
+width _ m = suc m
 
 abbrev pub size : {A : Type 0} → Tree A → ℕ
 size Leaf = 0
@@ -84,21 +69,15 @@ abbrev pub before : {A : Type 0} → Head A → ℕ → List (Slot A)
 before (AnOperation a) e = Does a ∷ []
 before ALeave e = Leaves ∷ []
 before (AJump z k) e = Out (Some z) k ∷ []
-before ABlock e = []
-before ACycle e = []
 before (ACounted q l) e = Enters q e ∷ []
-before AChoice e = []
 before AnArm e = Tests e ∷ []
+before _ e = []
 
 abbrev pub behind : {A : Type 0} → Head A → List (Slot A)
-behind (AnOperation a) = []
-behind ALeave = []
-behind (AJump z k) = []
-behind ABlock = []
-behind ACycle = []
 behind (ACounted q l) = Again l ∷ []
 behind AChoice = Drops ∷ []
 behind AnArm = Out None 0 ∷ []
+behind _ = []
 
 -- the way out of the innermost part goes to t
 abbrev pub close : {A : Type 0} → ℕ → Slot A → Slot A
@@ -113,14 +92,10 @@ close t (Tests u) = Tests u
 close t Drops = Drops
 
 abbrev pub bound : {A : Type 0} → Head A → ℕ → ℕ → Slot A → Slot A
-bound (AnOperation a) n e x = x
-bound ALeave n e x = x
-bound (AJump z k) n e x = x
 bound ABlock n e x = close e x
 bound ACycle n e x = close n x
-bound (ACounted q l) n e x = x
 bound AChoice n e x = close e x
-bound AnArm n e x = x
+bound _ n e x = x
 
 abbrev pub part : {A : Type 0} → Head A → ℕ → ℕ → List (Slot A) → List (Slot A)
 part h n m xs = before h (n + width h m) ++ (map (bound h n (n + width h m)) xs ++ behind h)
@@ -133,52 +108,20 @@ slots (Node h i r) n = part h n (size i) (slots i (starts h n)) ++ slots r (n + 
 -- ---- lengths
 
 pub starts-is : {A : Type 0} → (h : Head A) (n : ℕ) → starts h n ≡ n + opens h
-starts-is (AnOperation a) n = omega arith
-starts-is ALeave n = omega arith
-starts-is (AJump z k) n = omega arith
-starts-is ABlock n = omega arith
-starts-is ACycle n = omega arith
-starts-is (ACounted q l) n = omega arith
-starts-is AChoice n = omega arith
-starts-is AnArm n = omega arith
+starts-is h n = grind (arith)
 
 pub width-is : {A : Type 0} → (h : Head A) (m : ℕ) → width h m ≡ opens h + (m + closes h)
-width-is (AnOperation a) m = omega arith
-width-is ALeave m = omega arith
-width-is (AJump z k) m = omega arith
-width-is ABlock m = omega arith
-width-is ACycle m = omega arith
-width-is (ACounted q l) m = omega arith
-width-is AChoice m = omega arith
-width-is AnArm m = omega arith
+width-is h m = grind (arith)
 
 pub length-before : {A : Type 0} → (h : Head A) (e : ℕ) → length (before h e) ≡ opens h
-length-before (AnOperation a) e = refl
-length-before ALeave e = refl
-length-before (AJump z k) e = refl
-length-before ABlock e = refl
-length-before ACycle e = refl
-length-before (ACounted q l) e = refl
-length-before AChoice e = refl
-length-before AnArm e = refl
+length-before h e = grind (arith)
 
 pub length-behind : {A : Type 0} → (h : Head A) → length (behind h) ≡ closes h
-length-behind (AnOperation a) = refl
-length-behind ALeave = refl
-length-behind (AJump z k) = refl
-length-behind ABlock = refl
-length-behind ACycle = refl
-length-behind (ACounted q l) = refl
-length-behind AChoice = refl
-length-behind AnArm = refl
+length-behind h = grind (arith)
 
 pub length-part :
     {A : Type 0} → (h : Head A) (n m : ℕ) (xs : List (Slot A)) → length (part h n m xs) ≡ width h (length xs)
-length-part h n m xs =
-    let e = n + width h m in
-    let a = length-append (before h e) (map (bound h n e) xs ++ behind h) in
-    let b = length-append (map (bound h n e) xs) (behind h) in
-    omega (arith, a, b, length-before h e, length-behind h, length-map xs (bound h n e), width-is h (length xs))
+length-part h n m xs = grind (arith, length-append, length-before, length-behind, length-map, width-is)
 
 pub length-slots : {A : Type 0} → (t : Tree A) (n : ℕ) → length (slots t n) ≡ size t
 length-slots Leaf n = refl
@@ -192,14 +135,10 @@ length-slots (Node h i r) n =
 
 -- where an item may go, but for `leave` and loops' ends, is in P
 abbrev pub Aims : {A : Type 0} → (ℕ → Type 0) → Slot A → Type 0
-Aims P (Does a) = Unit {0}
-Aims P Leaves = Unit {0}
-Aims P (Out j k) = Unit {0}
 Aims P (To j u) = P u
 Aims P (Enters q u) = P u
-Aims P (Again l) = Unit {0}
 Aims P (Tests u) = P u
-Aims P Drops = Unit {0}
+Aims P _ = Unit {0}
 
 pub each-append :
     {A : Type 0} → (P : Slot A → Type 0) (xs ys : List (Slot A)) → Each P xs → Each P ys → Each P (xs ++ ys)
@@ -227,67 +166,45 @@ each-both P Q [] g h = tt
 each-both P Q (x ∷ xs) g h = ((g.0, h.0), each-both P Q xs g.1 h.1)
 
 pub aims-more : {A : Type 0} → (P Q : ℕ → Type 0) → ((u : ℕ) → P u → Q u) → (x : Slot A) → Aims P x → Aims Q x
-aims-more P Q g (Does a) h = tt
-aims-more P Q g Leaves h = tt
-aims-more P Q g (Out j k) h = tt
 aims-more P Q g (To j u) h = g u h
 aims-more P Q g (Enters q u) h = g u h
-aims-more P Q g (Again l) h = tt
 aims-more P Q g (Tests u) h = g u h
-aims-more P Q g Drops h = tt
+aims-more P Q g _ h = tt
 
 pub aims-close : {A : Type 0} → (P : ℕ → Type 0) (t : ℕ) → P t → (x : Slot A) → Aims P x → Aims P (close t x)
-aims-close P t p (Does a) h = tt
-aims-close P t p Leaves h = tt
 aims-close P t p (Out j zero) h = p
-aims-close P t p (Out j (suc k)) h = tt
 aims-close P t p (To j u) h = h
 aims-close P t p (Enters q u) h = h
-aims-close P t p (Again l) h = tt
 aims-close P t p (Tests u) h = h
-aims-close P t p Drops h = tt
+aims-close P t p _ h = tt
 
 pub aims-unclose : {A : Type 0} → (P : ℕ → Type 0) (t : ℕ) (x : Slot A) → Aims P (close t x) → Aims P x
-aims-unclose P t (Does a) h = tt
-aims-unclose P t Leaves h = tt
-aims-unclose P t (Out j k) h = tt
 aims-unclose P t (To j u) h = h
 aims-unclose P t (Enters q u) h = h
-aims-unclose P t (Again l) h = tt
 aims-unclose P t (Tests u) h = h
-aims-unclose P t Drops h = tt
+aims-unclose P t _ h = tt
 
 aims-bound :
     {A : Type 0} → (P : ℕ → Type 0) (h : Head A) (n e : ℕ) → P n → P e → (x : Slot A) → Aims P x →
     Aims P (bound h n e x)
-aims-bound P (AnOperation a) n e p q x g = g
-aims-bound P ALeave n e p q x g = g
-aims-bound P (AJump z k) n e p q x g = g
 aims-bound P ABlock n e p q x g = aims-close P e q x g
 aims-bound P ACycle n e p q x g = aims-close P n p x g
-aims-bound P (ACounted r l) n e p q x g = g
 aims-bound P AChoice n e p q x g = aims-close P e q x g
-aims-bound P AnArm n e p q x g = g
+aims-bound P _ n e p q x g = g
 
 aims-before : {A : Type 0} → (P : ℕ → Type 0) (h : Head A) (e : ℕ) → P e → Each (Aims P) (before h e)
-aims-before P (AnOperation a) e p = (tt, tt)
-aims-before P ALeave e p = (tt, tt)
-aims-before P (AJump z k) e p = (tt, tt)
 aims-before P ABlock e p = tt
 aims-before P ACycle e p = tt
 aims-before P (ACounted q l) e p = (p, tt)
 aims-before P AChoice e p = tt
 aims-before P AnArm e p = (p, tt)
+aims-before P _ e p = (tt, tt)
 
 aims-behind : {A : Type 0} → (P : ℕ → Type 0) (h : Head A) → Each (Aims P) (behind h)
-aims-behind P (AnOperation a) = tt
-aims-behind P ALeave = tt
-aims-behind P (AJump z k) = tt
-aims-behind P ABlock = tt
-aims-behind P ACycle = tt
 aims-behind P (ACounted q l) = (tt, tt)
 aims-behind P AChoice = (tt, tt)
 aims-behind P AnArm = (tt, tt)
+aims-behind P _ = tt
 
 abbrev pub Within : ℕ → ℕ → ℕ → Type 0
 Within a b u = (a ≤ u) × (u ≤ b)

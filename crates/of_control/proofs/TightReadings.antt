@@ -31,14 +31,8 @@ use Rattle.of_control.proofs.Ordered.{ordered-more, ordered_any, rise-high}
 
 -- the last part isn't empty, and the Blocks that end with it have no numbers below b
 abbrev EndsFrom : {A : Type 0} → ℕ → List (Piece A) → Type 0
-EndsFrom b [] = Unit {0}
 EndsFrom b (Part p ∷ d) = (0 < named_size p) × Each (EndsAbove b) (named_ways p)
-EndsFrom b (BlockStart c ∷ d) = Unit {0}
-EndsFrom b (OpenMark c ∷ d) = Unit {0}
-EndsFrom b (OpenDo q c ∷ d) = Unit {0}
-EndsFrom b (OpenCase c ∷ d) = Unit {0}
-EndsFrom b (OpenChoice c ∷ d) = Unit {0}
-EndsFrom b (OpenOf o c ∷ d) = Unit {0}
+EndsFrom b _ = Unit {0}
 
 ends-append :
     (b : ℕ) (xs ys : List NamedWay) → Each (EndsAbove b) xs → Each (EndsAbove b) ys → Each (EndsAbove b) (xs ++ ys)
@@ -82,14 +76,8 @@ ends_less b t (Ends x ∷ ws) l h = let g = h.0 in (omega (arith, g, l), ends_le
 ends_less b t (Goes x ∷ ws) l h = (tt, ends_less b t ws l h.1)
 
 ends_lower : {A : Type 0} → (b t : ℕ) (d : List (Piece A)) → b ≤ t → EndsFrom t d → EndsFrom b d
-ends_lower b t [] l h = tt
 ends_lower b t (Part p ∷ d) l h = (h.0, ends_less b t (named_ways p) l h.1)
-ends_lower b t (BlockStart c ∷ d) l h = tt
-ends_lower b t (OpenMark c ∷ d) l h = tt
-ends_lower b t (OpenDo q c ∷ d) l h = tt
-ends_lower b t (OpenCase c ∷ d) l h = tt
-ends_lower b t (OpenChoice c ∷ d) l h = tt
-ends_lower b t (OpenOf o c ∷ d) l h = tt
+ends_lower b t _ l h = tt
 
 ends-joined :
     {A : Type 0} → (b : ℕ) (p q : NamedBody A) → 0 < named_size q → Each (EndsAbove b) (named_ways q) →
@@ -147,15 +135,10 @@ close_part n b q (Some g) k f l h =
 close_one :
     {A : Type 0} → (n b : ℕ) (d : List (Piece A)) → Ordered n n none ⊥ d → EndsFrom b d →
     ClosedTo n b (close_block b (to_branch b d))
-close_one n b [] o h = tt
 close_one n b (Part q ∷ d) o h =
     close_part n b q (to_branch b d) (back_branch b n n none ⊥ (Part q ∷ d) o) (from_branch b d) h.0 h.1
 close_one n b (BlockStart c ∷ d) o h = absurd o.0
-close_one n b (OpenMark c ∷ d) o h = tt
-close_one n b (OpenDo q c ∷ d) o h = tt
-close_one n b (OpenCase c ∷ d) o h = tt
-close_one n b (OpenChoice c ∷ d) o h = tt
-close_one n b (OpenOf o c ∷ d) k h = tt
+close_one n b _ _ h = tt
 
 -- the branches that are due fall from t
 abbrev FallFrom : ℕ → List ℕ → Type 0
@@ -322,12 +305,7 @@ of_made n [] p (OpenChoice c) before k =
     let arm : IsArm p = ⊎_elim (λ f. absurd f.0) (λ f. f) w.0 in
     let rest = ordered_any k.mid k.mid k.low (suc n) none ⊥ before (omega arith) (omega (arith, below)) w.1 in
     ((k.tight, (k.mid, rise-high k.mid n (suc n) (named_ways p) (omega arith) k.rise, (arm, rest))), λ t. tt)
-of_made n [] p (Part q) before k = tt
-of_made n [] p (BlockStart b) before k = tt
-of_made n [] p (OpenMark c) before k = tt
-of_made n [] p (OpenDo q a) before k = tt
-of_made n [] p (OpenOf o c) before k = tt
-of_made n (b ∷ bs) p from before k = tt
+of_made n _ p _ before k = tt
 
 endof_made : {A : Type 0} → (n : ℕ) → Made {A = A} n close_of
 endof_made {A = A} n [] p (OpenOf o c) before k =
@@ -410,9 +388,7 @@ put_rested n (Loop l) d h =
 put_rested n Of d h = with_back n (open_of n) (to_structure d) (back_structure n n none ⊥ d h) (of_made n)
 put_rested n EndOf d h = with_back n close_of (to_structure d) (back_structure n n none ⊥ d h) (endof_made n)
 put_rested n EndCase d h = with_back n close_case (to_structure d) (back_structure n n none ⊥ d h) (endcase_made n)
-put_rested n (Resolve p) d h = tt
-put_rested n (Roll k) d h = tt
-put_rested n (Misfit k) d h = tt
+put_rested n _ d h = tt
 
 -- ---- the whole list
 
@@ -482,10 +458,8 @@ next_rested n EndCase o r h = usual n EndCase r h
 next_rested n (Misfit k) o r h = usual n (Misfit k) r h
 
 read_rested : {A : Type 0} → (es : List (Element A)) (m : Partners) → ReadRested (length es) (read_so_far es m)
-read_rested [] [] = record { greatest = 0; due = tt; pieces = (tt, λ t. tt) }
-read_rested [] (o ∷ m) = record { greatest = 0; due = tt; pieces = (tt, λ t. tt) }
-read_rested (e ∷ es) [] = record { greatest = 0; due = tt; pieces = (tt, λ t. tt) }
 read_rested (e ∷ es) (o ∷ m) = next_rested (length es) e o (read_so_far es m) (read_rested es m)
+read_rested _ _ = record { greatest = 0; due = tt; pieces = (tt, λ t. tt) }
 
 -- ---- the end
 
@@ -501,15 +475,9 @@ last_tight p (Some q) h k = tight-joined q p k h
 parts_tight :
     {A : Type 0} → (high top : ℕ) (H : ℕ → Type 0) (B : Type 0) (d : List (Piece A)) → Ordered high top H B d →
     AllTight (all_parts d)
-parts_tight high top H B [] h = tt
 parts_tight high top H B (Part p ∷ d) h =
     last_tight p (all_parts d) h.0 (parts_tight h.1.0 top (λ b. HeldIn b p) (IsArm p) d h.1.2)
-parts_tight high top H B (BlockStart b ∷ d) h = tt
-parts_tight high top H B (OpenMark c ∷ d) h = tt
-parts_tight high top H B (OpenDo q x ∷ d) h = tt
-parts_tight high top H B (OpenCase c ∷ d) h = tt
-parts_tight high top H B (OpenChoice c ∷ d) h = tt
-parts_tight high top H B (OpenOf o c ∷ d) h = tt
+parts_tight high top H B _ h = tt
 
 draft_tight : {A : Type 0} → (n : ℕ) (o : Draft A) → OrderedDraft n o → AllTight (finished o)
 draft_tight n None h = tt

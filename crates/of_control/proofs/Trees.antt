@@ -1,6 +1,6 @@
 -- Tight bodies are tight trees, so tight bodies with equal items are equal.
 use Rattle.std.proofs.Common.{◌≡◌, ℕ, zero, suc, ◌+◌, ◌<◌, ◌≤◌, Bool, true, false, List, [], ◌∷◌, ◌++◌, length, Some}
-use Rattle.std.proofs.Common.{None, refl, sym, ap, ◌∙◌, subst, arith, ⊎_elim}
+use Rattle.std.proofs.Common.{None, refl, sym, ap, ◌∙◌, subst, arith}
 use Rattle.std.specs.Prelude.{◌==◌, if◌then◌else◌, map, slice_index}
 use Rattle.std.proofs.lemmas.Bool.{ne_eqb, eq-eqb, cases_eq}
 use Rattle.std.proofs.lemmas.List.{append-nil, append_assoc, map-append, length-map}
@@ -22,15 +22,8 @@ use Rattle.of_control.proofs.BodyTrees.{IsSeen, back, body, first-tree, seen, si
 
 abbrev way_of : {A : Type 0} → ℕ → Slot A → Way
 way_of e (Out (Some z) k) = Beyond k
-way_of e (Out None k) = Inside
 way_of e (To (Some z) u) = if u == e then AtEnd else Inside
-way_of e (To None u) = Inside
-way_of e (Does a) = Inside
-way_of e Leaves = Inside
-way_of e (Enters q u) = Inside
-way_of e (Again l) = Inside
-way_of e (Tests u) = Inside
-way_of e Drops = Inside
+way_of e _ = Inside
 
 -- what is split as a list of ways is split as a list of items
 record Found {A : Type 0} (e : ℕ) (xs : List (Slot A)) (ws : List Way) (w : Way) (vs : List Way) : Type 0 where
@@ -59,8 +52,9 @@ found e (x ∷ xs) (u ∷ ws) w vs h =
       earlier = x ∷ r.earlier;
       here = r.here;
       later = r.later;
-      split = ap (λ l. x ∷ l) r.split;
-      ways_before = ap (λ y. y ∷ map (way_of e) r.earlier) a ∙ ap (λ l. u ∷ l) r.ways_before;
+      split = ap (λ l. x ∷ l) {y = r.earlier ++ (r.here ∷ r.later)} r.split;
+      ways_before =
+          ap (λ y. y ∷ map (way_of e) r.earlier) a ∙ ap (λ l. u ∷ l) {x = map (way_of e) r.earlier} r.ways_before;
       way_here = r.way_here;
       ways_after = r.ways_after;
     }
@@ -72,54 +66,27 @@ each-unmap P f [] h = tt
 each-unmap P f (x ∷ xs) h = (h.0, each-unmap P f xs h.1)
 
 if_beyond : (b : Bool) → (if b then AtEnd else Inside) ≡ Beyond 0 → ⊥
-if_beyond true e = cc
-if_beyond false e = cc
+if_beyond b e = grind (arith)
 
 out_is : {A : Type 0} → (e : ℕ) (x : Slot A) → way_of e x ≡ Beyond 0 → (z : Bool) × (x ≡ Out (Some z) 0)
 out_is e (Out (Some z) k) h = let g : k ≡ 0 = cc in (z, ap (Out (Some z)) g)
-out_is e (Out None k) h = let bad : ⊥ = cc in absurd bad
 out_is e (To (Some z) u) h = absurd (if_beyond (u == e) h)
-out_is e (To None u) h = let bad : ⊥ = cc in absurd bad
-out_is e (Does a) h = let bad : ⊥ = cc in absurd bad
-out_is e Leaves h = let bad : ⊥ = cc in absurd bad
-out_is e (Enters q u) h = let bad : ⊥ = cc in absurd bad
-out_is e (Again l) h = let bad : ⊥ = cc in absurd bad
-out_is e (Tests u) h = let bad : ⊥ = cc in absurd bad
-out_is e Drops h = let bad : ⊥ = cc in absurd bad
+out_is e _ h = let bad : ⊥ = cc in absurd bad
 
 inner_is : {A : Type 0} → (m e : ℕ) (x : Slot A) → IsSeen m false x → IsOther (way_of e x) → IsInner x
 inner_is m e (Out (Some z) zero) s h = absurd h
-inner_is m e (Out (Some z) (suc k)) s h = tt
 inner_is m e (Out None zero) s h = let bad : ⊥ = cc in absurd bad
-inner_is m e (Out None (suc k)) s h = tt
-inner_is m e (To j u) s h = tt
-inner_is m e (Does a) s h = tt
-inner_is m e Leaves s h = tt
-inner_is m e (Enters q u) s h = tt
-inner_is m e (Again l) s h = tt
-inner_is m e (Tests u) s h = tt
-inner_is m e Drops s h = tt
+inner_is m e _ s h = tt
 
 not_end : (b : Bool) → IsShorter (if b then AtEnd else Inside) → b ≡ false
-not_end true h = absurd h
-not_end false h = refl
+not_end b h = grind (arith)
 
 hits_not : {A : Type 0} → (e : ℕ) (x : Slot A) → IsShorter (way_of e x) → hits e x ≡ false
-hits_not e (Out j k) h = refl
-hits_not e (To (Some z) u) h = not_end (u == e) h
-hits_not e (To None u) h = refl
-hits_not e (Does a) h = refl
-hits_not e Leaves h = refl
-hits_not e (Enters q u) h = refl
-hits_not e (Again l) h = refl
-hits_not e (Tests u) h = refl
-hits_not e Drops h = refl
+hits_not e x h = grind (arith, not_end)
 
 shorter_other : (w : Way) → IsShorter w → IsOther w
 shorter_other (Beyond zero) h = h
-shorter_other (Beyond (suc k)) h = tt
-shorter_other Inside h = tt
-shorter_other AtEnd h = tt
+shorter_other _ h = tt
 
 each-split : {A : Type 0} → (P : Slot A → Type 0) (xs ys : List (Slot A)) → Each P (xs ++ ys) → Each P xs × Each P ys
 each-split P [] ys h = (tt, h)
@@ -207,35 +174,17 @@ map_twice f g h k (x ∷ xs) e = ap (λ y. y ∷ map f (map g xs)) e.0 ∙ ap (�
 
 if_other :
     (b c : Bool) → (if b then (if c then AtEnd else Inside) else Inside) ≡ outward c (if b then AtEnd else Inside)
-if_other true c = refl
-if_other false c = refl
+if_other b c = grind (arith)
 
 -- a jump to u, seen from the Block that ends at s, and from the body round it that ends at e
 seen_out :
     (u s e : ℕ) → u ≤ s → s ≤ e → outward (s == e) (if u == s then AtEnd else Inside) ≡ if u == e then AtEnd else Inside
-seen_out u s e a b =
-    ⊎_elim
-    (λ g. ap (λ c. outward (s == e) (if c then AtEnd else Inside)) (eq-eqb u s g)
-    ∙ ap (λ v. if v == e then AtEnd else Inside) (sym g))
-    (λ ne. ap (λ c. outward (s == e) (if c then AtEnd else Inside)) (ne_eqb u s ne)
-    ∙ sym (ap (λ c. if c then AtEnd else Inside) (ne_eqb u e (λ g. ne (omega (arith, g, a, b))))))
-    (cases_eq u s)
+seen_out u s e a b = grind (arith, eq-eqb, ne_eqb, cases_eq)
 
 block_way :
     {A : Type 0} → (m s e : ℕ) → s ≤ e → (x : Slot A) → IsSeen m false x × Aims (λ u. u ≤ s) x →
     outward (s == e) (way_of s x) ≡ way_of e (close s x)
-block_way m s e l (Out (Some z) zero) h = refl
-block_way m s e l (Out (Some z) (suc k)) h = refl
-block_way m s e l (Out None zero) h = let bad : ⊥ = cc in absurd bad
-block_way m s e l (Out None (suc k)) h = absurd h.0
-block_way m s e l (To (Some z) u) h = seen_out u s e h.1 l
-block_way m s e l (To None u) h = refl
-block_way m s e l (Does a) h = refl
-block_way m s e l Leaves h = refl
-block_way m s e l (Enters q u) h = refl
-block_way m s e l (Again k) h = refl
-block_way m s e l (Tests u) h = refl
-block_way m s e l Drops h = refl
+block_way m s e l h4 h = grind (arith, seen_out)
 
 if_false : (b : Bool) → b ≡ false → Inside ≡ if b then AtEnd else Inside
 if_false b e = sym (ap (λ c. if c then AtEnd else Inside) e)
@@ -243,51 +192,16 @@ if_false b e = sym (ap (λ c. if c then AtEnd else Inside) e)
 cycle_way :
     {A : Type 0} → (m n s e : ℕ) → n < s → s ≤ e → (x : Slot A) →
     IsSeen m false x × (Aims (λ u. u ≤ s) x × (hits s x ≡ false)) → outward false (way_of s x) ≡ way_of e (close n x)
-cycle_way m n s e l k (Out (Some z) zero) h = if_false (n == e) (ne_eqb n e (λ g. omega (arith, g, l, k)))
-cycle_way m n s e l k (Out (Some z) (suc j)) h = refl
-cycle_way m n s e l k (Out None zero) h = let bad : ⊥ = cc in absurd bad
-cycle_way m n s e l k (Out None (suc j)) h = absurd h.0
-cycle_way m n s e l k (To (Some z) u) h =
-    let le = h.1.0 in
-    let off : (u == s) ≡ false = h.1.1 in
-    ap (λ c. outward false (if c then AtEnd else Inside)) off
-    ∙ if_false (u == e) (ne_eqb u e (λ g. let same_end : u ≡ s = omega (arith, g, le, k) in let on =
-    eq-eqb u s same_end in let bad : ⊥ = cc in bad))
-cycle_way m n s e l k (To None u) h = refl
-cycle_way m n s e l k (Does a) h = refl
-cycle_way m n s e l k Leaves h = refl
-cycle_way m n s e l k (Enters q u) h = refl
-cycle_way m n s e l k (Again j) h = refl
-cycle_way m n s e l k (Tests u) h = refl
-cycle_way m n s e l k Drops h = refl
+cycle_way m n s e l k h6 h = grind (arith, if_false, ne_eqb, eq-eqb)
 
 shut_way :
     {A : Type 0} → (s e : ℕ) → s < e → (x : Slot A) → IsSeen 0 false x × Aims (λ u. u ≤ s) x → Inside ≡ way_of e x
-shut_way s e l (Out (Some z) k) h = let a = h.0 in absurd (omega (arith, a))
-shut_way s e l (Out None k) h = refl
-shut_way s e l (To (Some z) u) h = let a = h.1 in if_false (u == e) (ne_eqb u e (λ g. omega (arith, g, a, l)))
-shut_way s e l (To None u) h = refl
-shut_way s e l (Does a) h = refl
-shut_way s e l Leaves h = refl
-shut_way s e l (Enters q u) h = refl
-shut_way s e l (Again k) h = refl
-shut_way s e l (Tests u) h = refl
-shut_way s e l Drops h = refl
+shut_way s e l h3 h = grind (arith, if_false, ne_eqb)
 
 arms_way :
     {A : Type 0} → (s e t : ℕ) → s < e → (x : Slot A) → IsSeen 0 true x × Aims (λ u. u ≤ s) x →
     Inside ≡ way_of e (close t x)
-arms_way s e t l (Out (Some z) k) h = let a = h.0 in absurd (omega (arith, a))
-arms_way s e t l (Out None zero) h = refl
-arms_way s e t l (Out None (suc k)) h = refl
-arms_way s e t l (To (Some z) u) h = let a = h.1 in if_false (u == e) (ne_eqb u e (λ g. omega (arith, g, a, l)))
-arms_way s e t l (To None u) h = refl
-arms_way s e t l (Does a) h = refl
-arms_way s e t l Leaves h = refl
-arms_way s e t l (Enters q u) h = refl
-arms_way s e t l (Again k) h = refl
-arms_way s e t l (Tests u) h = refl
-arms_way s e t l Drops h = refl
+arms_way s e t l h4 h = grind (arith, if_false, ne_eqb)
 
 -- no item of a tree goes past its end
 before_end : {A : Type 0} → (t : Tree A) (n : ℕ) → Each (Aims (λ u. u ≤ n + size t)) (slots t n)
@@ -296,29 +210,18 @@ before_end t n =
     (aims-more (Within n (n + size t)) (λ u. u ≤ n + size t) (λ u k. k.1)) (within t n)
 
 last_part : (r s e : ℕ) → s + r ≡ e → (r == 0) ≡ (s == e)
-last_part r s e h =
-    ⊎_elim
-    (λ g. eq-eqb r 0 g ∙ sym (eq-eqb s e (omega (arith, g, h))))
-    (λ ne. ne_eqb r 0 ne ∙ sym (ne_eqb s e (λ g. ne (omega (arith, g, h)))))
-    (cases_eq r 0)
+last_part r s e h = grind (arith, eq-eqb, ne_eqb, cases_eq)
 
 joined_ways :
     {A : Type 0} → (e : ℕ) (xs ys zs : List (Slot A)) (ws vs : List Way) → ws ≡ map (way_of e) xs →
     vs ≡ map (way_of e) zs → map (way_of e) ys ≡ map (way_of e) xs → ws ++ vs ≡ map (way_of e) (ys ++ zs)
-joined_ways e xs ys zs ws vs p q r =
-    ap (λ l. l ++ vs) (p ∙ sym r) ∙ ap (λ l. map (way_of e) ys ++ l) q ∙ sym (map-append (way_of e) ys zs)
+joined_ways e xs ys zs ws vs p q r = grind (arith, map-append)
 
 shut_ways :
     {A : Type 0} → (e : ℕ) (ws : List Way) (xs : List (Slot A)) (k : Slot A → Slot A) (y : Slot A) (zs : List (Slot A))
     (vs : List Way) (g : Slot A → Way) → ws ≡ map g xs → Each (λ x. Inside ≡ way_of e (k x)) xs → way_of e y ≡ Inside →
     vs ≡ map (way_of e) zs → map shut ws ++ (Inside ∷ vs) ≡ map (way_of e) ((map k xs ++ (y ∷ [])) ++ zs)
-shut_ways e ws xs k y zs vs g p h yi q =
-    ap (λ l. map shut l ++ (Inside ∷ vs)) p
-    ∙ ap (λ l. l ++ (Inside ∷ vs)) (map_twice shut g (way_of e) k xs h)
-    ∙ ap (λ w. map (way_of e) (map k xs) ++ (w ∷ vs)) (sym yi)
-    ∙ ap (λ l. map (way_of e) (map k xs) ++ (way_of e y ∷ l)) q
-    ∙ sym (map-append (way_of e) (map k xs) (y ∷ zs))
-    ∙ sym (ap (map (way_of e)) (append_assoc (map k xs) (y ∷ []) zs))
+shut_ways e ws xs k y zs vs g p h yi q = grind (arith, map_twice, map-append, append_assoc)
 
 inner_ends :
     {A : Type 0} → (m : ℕ) (c : Bool) (t : Tree A) (n : ℕ) → Each (IsSeen m c) (slots t n) →
@@ -358,7 +261,8 @@ ways_are m d c (Cycle b r) n e w h =
     let sn = seen (suc m) d false b n w.1 in
     let rep = is_repeated (suc m) n b sn inner w.0 in
     let wd = wide_left n (tree b) rep.earlier [] (Out (Some rep.by) 0) rep.split in
-    let miss = subst (Each (λ x. hits s x ≡ false)) (sym rep.split)
+    let all = rep.earlier ++ (Out (Some rep.by) 0 ∷ []) in
+    let miss = subst (Each (λ x. hits s x ≡ false)) {x = all} (sym {b = all} rep.split)
     (each-append (λ x. hits s x ≡ false) rep.earlier (Out (Some rep.by) 0 ∷ []) rep.inside (refl, tt)) in
     let ends = each-both (IsSeen (suc m) false) (λ x. Aims (λ u. u ≤ s) x × (hits s x ≡ false)) xs sn
     (each-both (Aims (λ u. u ≤ s)) (λ x. hits s x ≡ false) xs (before_end (tree b) n) miss) in
@@ -408,26 +312,13 @@ ways_are m d c (Arm b r) n e w h =
 
 seen_is_shut : {A : Type 0} → (x : Slot A) → IsSeen 0 true x → IsShut x
 seen_is_shut (Out (Some z) k) h = absurd (omega (arith, h))
-seen_is_shut (Out None zero) h = tt
 seen_is_shut (Out None (suc k)) h = absurd h
-seen_is_shut (Does a) h = tt
-seen_is_shut Leaves h = tt
-seen_is_shut (To j u) h = tt
-seen_is_shut (Enters q u) h = tt
-seen_is_shut (Again l) h = tt
-seen_is_shut (Tests u) h = tt
-seen_is_shut Drops h = tt
+seen_is_shut _ h = tt
 
 begins : {A : Type 0} → (b : Body A) → BeginsWithArm b → Unique.BeginsWithArm (tree b)
 begins End h = tt
 begins (Arm b r) h = tt
-begins (Operation a r) h = absurd h
-begins (LeaveLoop r) h = absurd h
-begins (Jump z k r) h = absurd h
-begins (Block b r) h = absurd h
-begins (Cycle b r) h = absurd h
-begins (Counted q b l r) h = absurd h
-begins (Choice b r) h = absurd h
+begins _ h = absurd h
 
 tight : {A : Type 0} → (m : ℕ) (d c : Bool) (b : Body A) (n : ℕ) → IsTight m d c b → Tight n (tree b)
 tight m d c End n w = tt
@@ -487,44 +378,16 @@ placed ls ps Drops = Drops
 placed-close :
     {A : Type 0} → (m : ℕ) (ls : List ℕ) (ps t s : ℕ) → t ≡ s → (x : Slot A) → IsSeen m false x →
     placed (t ∷ ls) ps x ≡ placed ls ps (close s x)
-placed-close m ls ps t s e (Out (Some z) zero) h = ap (To (Some z)) e
-placed-close m ls ps t s e (Out (Some z) (suc k)) h = refl
-placed-close m ls ps t s e (Out None zero) h = let bad : ⊥ = cc in absurd bad
-placed-close m ls ps t s e (Out None (suc k)) h = absurd h
-placed-close m ls ps t s e (Does a) h = refl
-placed-close m ls ps t s e Leaves h = refl
-placed-close m ls ps t s e (To j u) h = refl
-placed-close m ls ps t s e (Enters q u) h = refl
-placed-close m ls ps t s e (Again l) h = refl
-placed-close m ls ps t s e (Tests u) h = refl
-placed-close m ls ps t s e Drops h = refl
+placed-close m ls ps t s e h6 h = grind (arith)
 
 placed-arms :
     {A : Type 0} → (ls : List ℕ) (ps t s : ℕ) → t ≡ s → (x : Slot A) → IsSeen 0 true x →
     placed [] t x ≡ placed ls ps (close s x)
-placed-arms ls ps t s e (Out (Some z) k) h = absurd (omega (arith, h))
-placed-arms ls ps t s e (Out None zero) h = ap (To None) e
-placed-arms ls ps t s e (Out None (suc k)) h = absurd h
-placed-arms ls ps t s e (Does a) h = refl
-placed-arms ls ps t s e Leaves h = refl
-placed-arms ls ps t s e (To j u) h = refl
-placed-arms ls ps t s e (Enters q u) h = refl
-placed-arms ls ps t s e (Again l) h = refl
-placed-arms ls ps t s e (Tests u) h = refl
-placed-arms ls ps t s e Drops h = refl
+placed-arms ls ps t s e h5 h = grind (arith)
 
 placed-shut :
     {A : Type 0} → (ls ks : List ℕ) (ps qs : ℕ) (x : Slot A) → IsSeen 0 false x → placed ks qs x ≡ placed ls ps x
-placed-shut ls ks ps qs (Out (Some z) k) h = absurd (omega (arith, h))
-placed-shut ls ks ps qs (Out None zero) h = let bad : ⊥ = cc in absurd bad
-placed-shut ls ks ps qs (Out None (suc k)) h = absurd h
-placed-shut ls ks ps qs (Does a) h = refl
-placed-shut ls ks ps qs Leaves h = refl
-placed-shut ls ks ps qs (To j u) h = refl
-placed-shut ls ks ps qs (Enters q u) h = refl
-placed-shut ls ks ps qs (Again l) h = refl
-placed-shut ls ks ps qs (Tests u) h = refl
-placed-shut ls ks ps qs Drops h = refl
+placed-shut ls ks ps qs x h = grind (arith)
 
 map_once :
     {A : Type 0} → (f g k : Slot A → Slot A) (xs : List (Slot A)) → Each (λ x. f x ≡ g (k x)) xs →
@@ -535,8 +398,7 @@ map_once f g k (x ∷ xs) h = ap (λ y. y ∷ map f xs) h.0 ∙ ap (λ l. g (k x
 joined_items :
     {A : Type 0} → (g : Slot A → Slot A) (us vs : List (Item A)) (ys zs : List (Slot A)) → map slot_of us ≡ map g ys →
     map slot_of vs ≡ map g zs → map slot_of (us ++ vs) ≡ map g (ys ++ zs)
-joined_items g us vs ys zs p q =
-    map-append slot_of us vs ∙ ap (λ l. l ++ map slot_of vs) p ∙ ap (λ l. map g ys ++ l) q ∙ sym (map-append g ys zs)
+joined_items g us vs ys zs p q = grind (arith, map-append)
 
 items_are :
     {A : Type 0} → (m : ℕ) (d c : Bool) (b : Body A) (n : ℕ) (ls : List ℕ) (lv ps : ℕ) → IsTight m d c b →
@@ -627,26 +489,14 @@ items_are m d c (Arm b r) n ls lv ps w =
     (append_assoc (map (λ x. x) xs) (Out None 0 ∷ []) (slots (tree r) s))))
 
 placed-none : {A : Type 0} → (x : Slot A) → IsSeen 0 false x → placed [] 0 x ≡ x
-placed-none (Out (Some z) k) h = absurd (omega (arith, h))
-placed-none (Out None zero) h = let bad : ⊥ = cc in absurd bad
-placed-none (Out None (suc k)) h = absurd h
-placed-none (Does a) h = refl
-placed-none Leaves h = refl
-placed-none (To j u) h = refl
-placed-none (Enters q u) h = refl
-placed-none (Again l) h = refl
-placed-none (Tests u) h = refl
-placed-none Drops h = refl
+placed-none x h = grind (arith)
 
 all_same : {A : Type 0} → (f : Slot A → Slot A) (xs : List (Slot A)) → Each (λ x. f x ≡ x) xs → map f xs ≡ xs
 all_same f [] h = refl
 all_same f (x ∷ xs) h = ap (λ y. y ∷ map f xs) h.0 ∙ ap (λ l. x ∷ l) (all_same f xs h.1)
 
 whole : {A : Type 0} → (b : Body A) → IsTight 0 false false b → map slot_of (items_of b) ≡ slots (tree b) 0
-whole b w =
-    items_are 0 false false b 0 [] 0 0 w
-    ∙ all_same (placed [] 0) (slots (tree b) 0)
-    (each-more (IsSeen 0 false) (λ x. placed [] 0 x ≡ x) (slots (tree b) 0) placed-none (seen 0 false false b 0 w))
+whole b w = grind (arith, items_are, all_same, slots, tree, each-more, placed-none, seen)
 
 -- tight bodies with the same items are the same
 pub one_body :

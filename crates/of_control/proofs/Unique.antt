@@ -15,39 +15,18 @@ use Rattle.of_control.specs.Tight.{Each}
 -- no way out of the part
 abbrev pub IsInner : {A : Type 0} → Slot A → Type 0
 IsInner (Out j zero) = ⊥
-IsInner (Out j (suc k)) = Unit {0}
-IsInner (Does a) = Unit {0}
-IsInner Leaves = Unit {0}
-IsInner (To j u) = Unit {0}
-IsInner (Enters q u) = Unit {0}
-IsInner (Again l) = Unit {0}
-IsInner (Tests u) = Unit {0}
-IsInner Drops = Unit {0}
+IsInner _ = Unit {0}
 
 -- no way out of any but, for arms, the choice
 abbrev pub IsShut : {A : Type 0} → Slot A → Type 0
-IsShut (Out None zero) = Unit {0}
 IsShut (Out None (suc k)) = ⊥
 IsShut (Out (Some z) k) = ⊥
-IsShut (Does a) = Unit {0}
-IsShut Leaves = Unit {0}
-IsShut (To j u) = Unit {0}
-IsShut (Enters q u) = Unit {0}
-IsShut (Again l) = Unit {0}
-IsShut (Tests u) = Unit {0}
-IsShut Drops = Unit {0}
+IsShut _ = Unit {0}
 
 -- whether this is a jump, and no `endof`, to e
 abbrev pub hits : {A : Type 0} → ℕ → Slot A → Bool
 hits e (To (Some z) u) = u == e
-hits e (To None u) = false
-hits e (Does a) = false
-hits e Leaves = false
-hits e (Out j k) = false
-hits e (Enters q u) = false
-hits e (Again l) = false
-hits e (Tests u) = false
-hits e Drops = false
+hits e _ = false
 
 abbrev pub first : {A : Type 0} → Tree A → ℕ
 first Leaf = 0
@@ -77,28 +56,20 @@ IsLeaf Leaf = Unit {0}
 IsLeaf (Node h i r) = ⊥
 
 abbrev pub IsArm : {A : Type 0} → Head A → Type 0
-IsArm (AnOperation a) = ⊥
-IsArm ALeave = ⊥
-IsArm (AJump z k) = ⊥
-IsArm ABlock = ⊥
-IsArm ACycle = ⊥
-IsArm (ACounted q l) = ⊥
-IsArm AChoice = ⊥
 IsArm AnArm = Unit {0}
+IsArm _ = ⊥
 
 abbrev pub BeginsWithArm : {A : Type 0} → Tree A → Type 0
 BeginsWithArm Leaf = Unit {0}
 BeginsWithArm (Node h i r) = IsArm h
 
 abbrev pub Fits : {A : Type 0} → Head A → ℕ → Tree A → Type 0
-Fits (AnOperation a) n i = IsLeaf i
-Fits ALeave n i = IsLeaf i
-Fits (AJump z k) n i = IsLeaf i
 Fits ABlock n i = IsLeft n i
 Fits ACycle n i = IsRepeated n i
 Fits (ACounted q l) n i = Unit {0}
 Fits AChoice n i = Each IsShut (slots i n) × BeginsWithArm i
 Fits AnArm n i = Unit {0}
+Fits _ n i = IsLeaf i
 
 abbrev pub Tight : {A : Type 0} → ℕ → Tree A → Type 0
 Tight n Leaf = Unit {0}
@@ -112,21 +83,12 @@ cut_at :
 cut_at p c xs ys x h = (cut-right p c (p + length xs) xs (x ∷ ys) refl h).0
 
 pub leaf_size : {A : Type 0} → (i : Tree A) → IsLeaf i → size i ≡ 0
-leaf_size Leaf h = refl
-leaf_size (Node g j r) h = absurd h
+leaf_size i h = grind (arith)
 
 left_covers :
     {A : Type 0} → (n c : ℕ) (i : Tree A) → IsLeft n i → n + first i ≤ c →
     CutIn n c (map (close (n + size i)) (slots i n)) → n + size i ≤ c
-left_covers n c i f l h =
-    let e = n + size i in
-    let xs = map (close e) f.earlier in
-    let k = subst (λ ys. CutIn n c ys) (ap (map (close e)) f.split
-    ∙ map-append (close e) f.earlier (Out (Some f.by) 0 ∷ f.later)) h in
-    let w = cut_at n c xs (map (close e) f.later) (To (Some f.by) e) k in
-    let lx = length-map f.earlier (close e) in
-    let s = f.soon in
-    w.0 (omega (arith, lx, l, s))
+left_covers n c i f l h = grind (arith, size, close, map-append, cut_at, length-map)
 
 repeated_covers :
     {A : Type 0} → (n c : ℕ) (i : Tree A) → IsRepeated n i → n < c → CutIn n c (map (close n) (slots i n)) →
@@ -144,29 +106,8 @@ repeated_covers n c i f l h =
 arm_covers :
     {A : Type 0} → (n c : ℕ) (i : Tree A) → BeginsWithArm i → n < c → CutIn n c (part AChoice n (size i) (slots i n)) →
     n + width {A = A} AChoice (size i) ≤ c
-arm_covers n c Leaf b l h = omega (arith, l)
-arm_covers n c (Node (AnOperation a) j r) b l h = absurd b
-arm_covers n c (Node ALeave j r) b l h = absurd b
-arm_covers n c (Node (AJump z k) j r) b l h = absurd b
-arm_covers n c (Node ABlock j r) b l h = absurd b
-arm_covers n c (Node ACycle j r) b l h = absurd b
-arm_covers n c (Node (ACounted q m) j r) b l h = absurd b
-arm_covers n c (Node AChoice j r) b l h = absurd b
-arm_covers {A = A} n c (Node AnArm j r) b l h =
-    let e = n + suc (size (Node AnArm j r)) in
-    let a = n + width {A = A} AnArm (size j) in
-    let inner = map (bound AnArm n a) (slots j (suc n)) in
-    let arm : List (Slot A) = Tests a ∷ (inner ++ (Out None 0 ∷ [])) in
-    let one = cut-left n c (map (close e) (arm ++ slots r a)) (Drops ∷ []) h in
-    let two = cut-left n c (map (close e) arm) (map (close e) (slots r a))
-    (subst (λ ys. CutIn n c ys) (map-append (close e) arm (slots r a)) one) in
-    let fits : a ≤ c = two.0.0 l in
-    let three = subst (λ ys. CutIn (suc n) c ys) (map-append (close e) inner (Out None 0 ∷ [])) two.1 in
-    let last = cut_at (suc n) c (map (close e) inner) [] (To None e) three in
-    let lx = length-map inner (close e) in
-    let ly = length-map (slots j (suc n)) (bound AnArm n a) in
-    let lz = length-slots j (suc n) in
-    last.0 (omega (arith, lx, ly, lz, fits))
+arm_covers n c i b l h =
+    grind (arith, size, width, bound, slots, cut-left, close, map-append, cut_at, length-map, length-slots)
 
 pub covers : {A : Type 0} → (t : Tree A) (n c : ℕ) → Tight n t → n < c → CutIn n c (slots t n) → n + first t ≤ c
 covers Leaf n c w l h = omega (arith, l)
@@ -218,14 +159,12 @@ entered _ = false
 
 abbrev by_last : {A : Type 0} → Bool → Slot A → Head A
 by_last q (Does a) = AnOperation a
-by_last q Leaves = ALeave
 by_last q (Out (Some z) k) = AJump z k
 by_last q (Out None k) = AnArm
 by_last q (To j u) = ACycle
-by_last q (Enters p u) = ALeave
 by_last q (Again l) = ACounted q l
-by_last q (Tests u) = ALeave
 by_last q Drops = AChoice
+by_last q _ = ALeave
 
 abbrev head_of : {A : Type 0} → ℕ → List (Slot A) → Head A
 head_of e xs = if has_hit e xs then ABlock else by_last (entered xs) (last_of Leaves xs)
@@ -235,8 +174,7 @@ last_is d x [] = refl
 last_is d x (y ∷ xs) = last_is y x xs
 
 or_true : (b : Bool) → (b || true) ≡ true
-or_true true = refl
-or_true false = refl
+or_true b = grind (arith)
 
 hit_there :
     {A : Type 0} → (e : ℕ) (xs ys : List (Slot A)) (x : Slot A) → hits e x ≡ true → has_hit e (xs ++ (x ∷ ys)) ≡ true
@@ -248,27 +186,10 @@ no_hit e [] h = refl
 no_hit e (x ∷ xs) h = ap (λ b. b || has_hit e xs) h.0 ∙ no_hit e xs h.1
 
 misses : {A : Type 0} → (e : ℕ) (x : Slot A) → Aims (λ u. u < e) x → hits e x ≡ false
-misses e (To (Some z) u) h = ne_eqb u e (λ g. omega (arith, g, h))
-misses e (To None u) h = refl
-misses e (Does a) h = refl
-misses e Leaves h = refl
-misses e (Out j k) h = refl
-misses e (Enters q u) h = refl
-misses e (Again l) h = refl
-misses e (Tests u) h = refl
-misses e Drops h = refl
+misses e x h = grind (arith, ne_eqb)
 
 misses_arms : {A : Type 0} → (e : ℕ) (x : Slot A) → IsShut x × Aims (λ u. u < e) x → hits e (close e x) ≡ false
-misses_arms e (Out None zero) h = refl
-misses_arms e (Out None (suc k)) h = absurd h.0
-misses_arms e (Out (Some z) k) h = absurd h.0
-misses_arms {A = A} e (To j u) h = misses {A = A} e (To j u) h.1
-misses_arms e (Does a) h = refl
-misses_arms e Leaves h = refl
-misses_arms e (Enters q u) h = refl
-misses_arms e (Again l) h = refl
-misses_arms e (Tests u) h = refl
-misses_arms e Drops h = refl
+misses_arms e x h = grind (arith, misses)
 
 -- all of these go before e
 pub strict :
@@ -285,46 +206,25 @@ missing e xs h = each-more (Aims (λ u. u < e)) (λ x. hits e x ≡ false) xs (m
 by_head :
     {A : Type 0} → (e : ℕ) (xs : List (Slot A)) (x : Slot A) (h : Head A) → has_hit e xs ≡ false →
     last_of Leaves xs ≡ x → by_last (entered xs) x ≡ h → head_of e xs ≡ h
-by_head e xs x h p q r =
-    ap (λ b. if b then ABlock else by_last (entered xs) (last_of Leaves xs)) p ∙ ap (by_last (entered xs)) q ∙ r
+by_head e xs x h p q r = grind (arith)
 
 leaf_head :
     {A : Type 0} → (n : ℕ) (i : Tree A) (h : Head A) → IsLeaf i → head_of (n + width h 0) (part h n 0 []) ≡ h →
     head_of (n + width h (size i)) (part h n (size i) (slots i (starts h n))) ≡ h
-leaf_head n Leaf h f e = e
-leaf_head n (Node g j r) h f e = absurd f
+leaf_head n i h f e = grind (arith)
 
 block_head :
     {A : Type 0} → (n : ℕ) (i : Tree A) → IsLeft n i →
     head_of (n + size i) (part ABlock n (size i) (slots i n)) ≡ ABlock
-block_head n i f =
-    let e = n + size i in
-    let xs = map (close e) f.earlier in
-    let ys = map (close e) f.later in
-    let eq = append-nil (map (close e) (slots i n)) ∙ ap (map (close e)) f.split
-    ∙ map-append (close e) f.earlier (Out (Some f.by) 0 ∷ f.later) in
-    let hit = ap (has_hit e) eq ∙ hit_there e xs ys (To (Some f.by) e) (eq-eqb e e refl) in
-    ap (λ b. if b then ABlock else by_last (entered (part ABlock n (size i) (slots i n)))
-    (last_of Leaves (part ABlock n (size i) (slots i n)))) hit
+block_head n i f = grind (arith, size, close, append-nil, slots, map-append, hit_there, eq-eqb, part)
 
 cycle_parts :
     {A : Type 0} → (n : ℕ) (i : Tree A) → (f : IsRepeated n i) →
     part ACycle n (size i) (slots i n) ≡ map (close n) f.earlier ++ (To (Some f.by) n ∷ [])
-cycle_parts n i f =
-    append-nil (map (close n) (slots i n)) ∙ ap (map (close n)) f.split
-    ∙ map-append (close n) f.earlier (Out (Some f.by) 0 ∷ [])
+cycle_parts n i f = grind (arith, append-nil, close, slots, map-append)
 
 misses_close : {A : Type 0} → (e n : ℕ) → n < e → (x : Slot A) → hits e x ≡ false → hits e (close n x) ≡ false
-misses_close e n l (Out (Some z) zero) h = ne_eqb n e (λ g. omega (arith, g, l))
-misses_close e n l (Out None zero) h = refl
-misses_close e n l (Out j (suc k)) h = refl
-misses_close e n l (To j u) h = h
-misses_close e n l (Does a) h = refl
-misses_close e n l Leaves h = refl
-misses_close e n l (Enters q u) h = refl
-misses_close e n l (Again m) h = refl
-misses_close e n l (Tests u) h = refl
-misses_close e n l Drops h = refl
+misses_close e n l h3 h = grind (arith, ne_eqb)
 
 cycle_head :
     {A : Type 0} → (n : ℕ) (i : Tree A) → IsRepeated n i →
@@ -437,43 +337,16 @@ undone f g [] h = refl
 undone f g (x ∷ xs) h = ap (λ y. y ∷ map g (map f xs)) h.0 ∙ ap (λ ys. x ∷ ys) (undone f g xs h.1)
 
 unclosed-close : {A : Type 0} → (t : ℕ) (x : Slot A) → IsInner x → unclosed (close t x) ≡ x
-unclosed-close t (Out j zero) h = absurd h
-unclosed-close t (Out j (suc k)) h = refl
-unclosed-close t (Does a) h = refl
-unclosed-close t Leaves h = refl
-unclosed-close t (To j u) h = refl
-unclosed-close t (Enters q u) h = refl
-unclosed-close t (Again l) h = refl
-unclosed-close t (Tests u) h = refl
-unclosed-close t Drops h = refl
+unclosed-close t x h = grind (arith)
 
 hits-close : {A : Type 0} → (e : ℕ) (x : Slot A) → IsInner x → hits e (close e x) ≡ hits e x
-hits-close e (Out j zero) h = absurd h
-hits-close e (Out j (suc k)) h = refl
-hits-close e (Does a) h = refl
-hits-close e Leaves h = refl
-hits-close e (To j u) h = refl
-hits-close e (Enters q u) h = refl
-hits-close e (Again l) h = refl
-hits-close e (Tests u) h = refl
-hits-close e Drops h = refl
+hits-close e x h = grind (arith)
 
 choice-close : {A : Type 0} → (e : ℕ) (x : Slot A) → IsShut x × Aims (λ u. u < e) x → in_choice e (close e x) ≡ x
-choice-close e (Out None zero) h = ap (λ b. if b then Out None 0 else To None e) (eq-eqb e e refl)
-choice-close e (Out None (suc k)) h = absurd h.0
-choice-close e (Out (Some z) k) h = absurd h.0
-choice-close e (Does a) h = refl
-choice-close e Leaves h = refl
-choice-close e (To j u) h =
-    ap (λ b. if b then Out j 0 else To j u) (ne_eqb u e (λ g. let l = h.1 in omega (arith, g, l)))
-choice-close e (Enters q u) h = refl
-choice-close e (Again l) h = refl
-choice-close e (Tests u) h = refl
-choice-close e Drops h = refl
+choice-close e x h = grind (arith, eq-eqb, ne_eqb)
 
 unclosed_all : {A : Type 0} → (t : ℕ) (xs : List (Slot A)) → Each IsInner xs → map unclosed (map (close t) xs) ≡ xs
-unclosed_all t xs h =
-    undone (close t) unclosed xs (each-more IsInner (λ x. unclosed (close t x) ≡ x) xs (unclosed-close t) h)
+unclosed_all t xs h = grind (arith, undone, close, each-more, unclosed-close)
 
 reopened_here :
     {A : Type 0} → (e : ℕ) (z : Bool) (ys : List (Slot A)) → Each IsInner ys →
@@ -535,44 +408,38 @@ choice_inside n i s =
 
 -- the items inside, from those of the part
 abbrev inside_of : {A : Type 0} → Head A → ℕ → List (Slot A) → List (Slot A)
-inside_of (AnOperation a) e xs = []
-inside_of ALeave e xs = []
-inside_of (AJump z k) e xs = []
 inside_of ABlock e xs = reopened e xs
 inside_of ACycle e xs = last_out xs
 inside_of (ACounted q l) e xs = xs
 inside_of AChoice e xs = map (in_choice e) xs
 inside_of AnArm e xs = xs
+inside_of _ e xs = []
 
 leaf_inside : {A : Type 0} → (i : Tree A) (n : ℕ) → IsLeaf i → [] ≡ slots i n
-leaf_inside Leaf n f = refl
-leaf_inside (Node h j r) n f = absurd f
+leaf_inside i n f = grind (arith)
 
 inside_is :
     {A : Type 0} → (h : Head A) (n : ℕ) (i : Tree A) → Fits h n i →
     inside_of h (n + width h (size i)) (map (bound h n (n + width h (size i))) (slots i (starts h n))) ≡ slots i
     (starts h n)
-inside_is (AnOperation a) n i f = leaf_inside i (suc n) f
-inside_is ALeave n i f = leaf_inside i (suc n) f
-inside_is (AJump z k) n i f = leaf_inside i (suc n) f
 inside_is ABlock n i f = left_inside n i f
 inside_is ACycle n i f = repeated_inside n i f
 inside_is (ACounted q l) n i f = map-id (slots i (suc n))
 inside_is AChoice n i f = choice_inside n i f.0
 inside_is AnArm n i f = map-id (slots i (suc n))
+inside_is _ n i f = leaf_inside i (suc n) f
 
 -- ---- trees with equal slots
 
 pub split_equal :
     {A : Type 0} → (xs ys us vs : List (Slot A)) → length xs ≡ length us → xs ++ ys ≡ us ++ vs → (xs ≡ us) × (ys ≡ vs)
 split_equal [] ys [] vs l e = (refl, e)
-split_equal [] ys (u ∷ us) vs l e = absurd (omega (arith, l))
-split_equal (x ∷ xs) ys [] vs l e = absurd (omega (arith, l))
 split_equal (x ∷ xs) ys (u ∷ us) vs l e =
     let tails : xs ++ ys ≡ us ++ vs = cc in
     let heads : x ≡ u = cc in
     let r = split_equal xs ys us vs (omega (arith, l)) tails in
     (ap (λ w. w ∷ xs) heads ∙ ap (λ w. u ∷ w) r.0, r.1)
+split_equal _ ys _ vs l e = absurd (omega (arith, l))
 
 split_last : {A : Type 0} → (xs us ws : List (Slot A)) → xs ++ ws ≡ us ++ ws → xs ≡ us
 split_last xs us ws e = append_cancel_right xs us ws e
@@ -585,14 +452,7 @@ wide_left n i xs ys x e =
 
 -- each part has an item
 pub wide : {A : Type 0} → (h : Head A) (n : ℕ) (i : Tree A) → Fits h n i → 1 ≤ width h (size i)
-wide (AnOperation a) n i f = omega arith
-wide ALeave n i f = omega arith
-wide (AJump z k) n i f = omega arith
-wide ABlock n i f = wide_left n i f.earlier f.later (Out (Some f.by) 0) f.split
-wide ACycle n i f = wide_left n i f.earlier [] (Out (Some f.by) 0) f.split
-wide (ACounted q l) n i f = omega arith
-wide AChoice n i f = omega arith
-wide AnArm n i f = omega arith
+wide h n i f = grind (arith, wide_left)
 
 inner_size : {A : Type 0} → (h : Head A) (a b : ℕ) → width h a ≡ width h b → a ≡ b
 inner_size h a b e = omega (arith, e, width-is h a, width-is h b)

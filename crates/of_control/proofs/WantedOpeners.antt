@@ -4,59 +4,50 @@ use Rattle.std.proofs.Common.{refl, sym, ap, ◌∙◌, subst, arith, ◌||◌}
 use Rattle.std.specs.Prelude.{slice_get, map, nat_lt, if◌then◌else◌}
 use Rattle.std.proofs.lemmas.Bool.{ltb-true, ltb-false}
 use Rattle.of_control.specs.declared.opener.Kind.{Kind}
-use Rattle.of_control.specs.declared.opener.Kind.TheVariants.{Orig, Dest, DoSys, CaseSys, OfSys}
 use Rattle.of_control.specs.Openers.{is_orig, is_orig_for, is_dest_for, is_do_sys, one_later, or_else, top_index}
 use Rattle.of_control.specs.Openers.{aimed_index, orig_index, dest_index, orig_count, on_case, any_do_sys}
 use Rattle.of_control.specs.Element.{Element}
 use Rattle.of_control.specs.Matching.{Opening, origs_if, top_origs, structure_or, top_structure}
 use Rattle.of_control.specs.Calls.{placed}
-use Rattle.of_control.specs.AgedStack.{Answer, Broken, Nothing, Closed, first_or, first_orig_for, or_opening, resolved}
-use Rattle.of_control.specs.AgedStack.{found, closed_if, if_kind, any_loop, is_on_case}
+use Rattle.of_control.specs.AgedStack.{Answer, Broken, Closed, first_or, first_orig_for, or_opening, resolved, found}
+use Rattle.of_control.specs.AgedStack.{closed_if, if_kind, any_loop, is_on_case}
 
 -- the i-th latest is what is closed, if anything is
 abbrev pub Finds : List Opening → Answer → Option ℕ → Type 0
 Finds os Broken None = Unit {0}
-Finds os Broken (Some i) = ⊥
-Finds os Nothing i = ⊥
-Finds os (Closed x) None = ⊥
 Finds os (Closed x) (Some i) = slice_get os i ≡ Some x
+Finds os _ _ = ⊥
 
 -- the same of an opener that may be there
 abbrev pub FindsIf : List Opening → Option Opening → Option ℕ → Type 0
 FindsIf os None None = Unit {0}
-FindsIf os None (Some i) = ⊥
-FindsIf os (Some x) None = ⊥
 FindsIf os (Some x) (Some i) = slice_get os i ≡ Some x
+FindsIf os _ _ = ⊥
 
 finds_found : (os : List Opening) (o : Option Opening) (i : Option ℕ) → FindsIf os o i → Finds os (found o) i
 finds_found os None None h = tt
-finds_found os None (Some i) h = absurd h
-finds_found os (Some x) None h = absurd h
 finds_found os (Some x) (Some i) h = h
+finds_found os _ _ h = absurd h
 
 finds_if_later :
     (y : Opening) (os : List Opening) (o : Option Opening) (i : Option ℕ) → FindsIf os o i →
     FindsIf (y ∷ os) o (one_later i)
 finds_if_later y os None None h = tt
-finds_if_later y os None (Some i) h = absurd h
-finds_if_later y os (Some x) None h = absurd h
 finds_if_later y os (Some x) (Some i) h = h
+finds_if_later y os _ _ h = absurd h
 
 finds_later :
     (y : Opening) (os : List Opening) (a : Answer) (i : Option ℕ) → Finds os a i → Finds (y ∷ os) a (one_later i)
 finds_later y os Broken None h = tt
-finds_later y os Broken (Some i) h = absurd h
-finds_later y os Nothing i h = absurd h
-finds_later y os (Closed x) None h = absurd h
 finds_later y os (Closed x) (Some i) h = h
+finds_later y os _ _ h = absurd h
 
 finds_either :
     (os : List Opening) (o p : Option Opening) (i j : Option ℕ) → FindsIf os o i → FindsIf os p j →
     FindsIf os (or_opening o p) (or_else i j)
 finds_either os None p None j h k = k
-finds_either os None p (Some i) j h k = absurd h
-finds_either os (Some x) p None j h k = absurd h
 finds_either os (Some x) p (Some i) j h k = h
+finds_either os _ p _ j h k = absurd h
 
 -- ---- the latest
 
@@ -80,11 +71,7 @@ finds_origs_if x os true = refl
 finds_origs_if x os false = tt
 
 orig_for_is_orig : (t : ℕ) (k : Kind) → is_orig_for t k ≡ true → is_orig k ≡ true
-orig_for_is_orig t (Orig s) e = refl
-orig_for_is_orig t (Dest p) e = cc
-orig_for_is_orig t DoSys e = cc
-orig_for_is_orig t CaseSys e = cc
-orig_for_is_orig t OfSys e = cc
+orig_for_is_orig t k e = grind (arith)
 
 finds_aimed_step :
     (t : ℕ) (x : Opening) (os : List Opening) (i : Option ℕ) (b c : Bool) → is_orig_for t x.kind ≡ b →
@@ -124,12 +111,7 @@ finds_orig place es (Some p) os =
 -- ---- a backward branch
 
 dest_for_no_orig : (t : Option ℕ) (k : Kind) → is_dest_for t k ≡ true → is_orig k ≡ false
-dest_for_no_orig t (Dest p) e = refl
-dest_for_no_orig t DoSys e = refl
-dest_for_no_orig t CaseSys e = refl
-dest_for_no_orig t OfSys e = refl
-dest_for_no_orig None (Orig s) e = cc
-dest_for_no_orig (Some t) (Orig s) e = cc
+dest_for_no_orig t k e = grind (arith)
 
 finds_dest_step :
     (t : Option ℕ) (x : Opening) (os : List Opening) (i : Option ℕ) (b c : Bool) → is_dest_for t x.kind ≡ b →
@@ -155,9 +137,7 @@ finds_dest place es t (x ∷ os) =
 no_orig_step :
     (x : Opening) (os : List Opening) (c : Bool) (k n : ℕ) → (if c then suc k else 0) ≤ n →
     ((j : ℕ) → k ≤ j → slice_get (top_origs os) j ≡ None) → slice_get (origs_if c x (top_origs os)) n ≡ None
-no_orig_step x os true k zero le h = absurd (omega (arith, le))
-no_orig_step x os true k (suc n) le h = h n (omega (arith, le))
-no_orig_step x os false k n le h = refl
+no_orig_step x os c k n le h = grind (arith)
 
 -- past the forward branches on top there is none
 no_orig :
@@ -171,9 +151,7 @@ some_orig_step :
     (x : Opening) (os : List Opening) (c : Bool) (k n : ℕ) → n < (if c then suc k else 0) →
     ((j : ℕ) → j < k → slice_get (top_origs os) j ≡ slice_get os j) →
     slice_get (origs_if c x (top_origs os)) n ≡ slice_get (x ∷ os) n
-some_orig_step x os true k zero lt h = refl
-some_orig_step x os true k (suc n) lt h = h n (omega (arith, lt))
-some_orig_step x os false k n lt h = absurd (omega (arith, lt))
+some_orig_step x os c k n lt h = grind (arith)
 
 -- the forward branches on top are the latest
 some_orig :

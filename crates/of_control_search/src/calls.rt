@@ -1,5 +1,6 @@
-//! The calls of `Control` that the elements make.
+//! The calls of `Control` that the elements make, and what is compiled from their answers.
 use crate::element::{Element, LENGTH};
+use crate::item::{Action, Items, action_of};
 use of_control::Control;
 
 /// What the calls for a list answered, and whether all was closed after them.
@@ -19,6 +20,43 @@ pub fn called<const N: usize>(control: &mut Control<N>, list: &[Element]) -> Ans
     Answered {
         answers,
         is_closed: control.is_closed(),
+    }
+}
+
+/// Compiles a list, its places being the numbers of items: each element appends its item, and a closer sets the
+/// targets of what it closes.
+pub fn compiled<const N: usize>(control: &mut Control<N>, list: &[Element]) -> Items {
+    control.reset();
+    let mut items = Items::default();
+    for element in list {
+        let answer = call(control, items.len(), *element);
+        compile(&mut items, *element, answer);
+    }
+    items
+}
+
+fn compile(items: &mut Items, element: Element, answer: Option<usize>) {
+    let next = items.len();
+    let past = next.saturating_add(1);
+    if let Some(from) = answer {
+        match element {
+            Element::Resolve(_) => items.aim(from, next),
+            Element::EndOf => items.aim(from, past),
+            Element::EndCase => items.aim_all(Action::EndArm, from, past),
+            Element::Loop => {
+                items.aim(from, past);
+                items.aim_all(Action::ExitLoop, from, past);
+            }
+            _ => {}
+        }
+    }
+    let target = match (element, answer) {
+        (Element::Back(_), _) => answer,
+        (Element::Loop, Some(from)) => Some(from.saturating_add(1)),
+        _ => None,
+    };
+    if let Some(action) = action_of(element) {
+        items.push(action, target);
     }
 }
 
@@ -47,6 +85,7 @@ fn note<const N: usize>(control: &mut Control<N>, at: usize, element: Element) {
         Element::Leave => control.leave(),
         Element::Case => control.open_case(at),
         Element::Of => control.of(at),
-        _ => control.misfit(),
+        Element::Misfit => control.misfit(),
+        _ => {}
     }
 }

@@ -1,11 +1,12 @@
-//! The elements of a definition, here without plain items.
+//! The elements of a definition.
 
 /// The length of the longest lists.
 pub const LENGTH: usize = 5;
 
 /// An element, with the target or position that an image gives it; text gives none.
-#[derive(Clone, Copy, Debug, PartialEq, Eq)]
+#[derive(Clone, Copy, PartialEq, Eq)]
 pub enum Element {
+    Plain,
     Branch(Option<usize>),
     Resolve(Option<usize>),
     Mark(Option<usize>),
@@ -18,10 +19,12 @@ pub enum Element {
     Of,
     EndOf,
     EndCase,
+    Misfit,
 }
 
-/// What the lists are made of.
-pub const ELEMENTS: [Element; 20] = [
+/// What the lists are made of. The last target of a branch back lies before all marks that have a position.
+pub const ELEMENTS: [Element; 23] = [
+    Element::Plain,
     Element::Branch(None),
     Element::Branch(Some(1)),
     Element::Branch(Some(2)),
@@ -33,6 +36,7 @@ pub const ELEMENTS: [Element; 20] = [
     Element::Back(None),
     Element::Back(Some(1)),
     Element::Back(Some(2)),
+    Element::Back(Some(0)),
     Element::Roll(0),
     Element::Roll(1),
     Element::Do,
@@ -42,6 +46,7 @@ pub const ELEMENTS: [Element; 20] = [
     Element::Of,
     Element::EndOf,
     Element::EndCase,
+    Element::Misfit,
 ];
 
 impl Element {

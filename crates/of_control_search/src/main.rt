@@ -1,8 +1,11 @@
-//! Tries all short lists of elements: a plain search for matchings, and the calls of `Control`.
+//! Tries all short lists of elements, each as far as its beginning has a matching: a plain search for matchings and for
+//! tight bodies, against the calls of `Control` and what is compiled from their answers.
 #![tactic(auto)]
 
+mod body;
 mod calls;
 mod element;
+mod item;
 mod matching;
 mod tally;
 
@@ -12,24 +15,22 @@ use tally::Tally;
 
 fn main(rt: HostRuntime) -> io::Result<()> {
     let mut tally = Tally::default();
-    let mut lists: u64 = 1;
-    for length in 0..=LENGTH {
-        for number in 0..lists {
-            tally.take(&list(number), length);
-        }
-        lists = lists.saturating_mul(ELEMENTS.len() as u64);
-    }
+    walk(&mut tally, [Element::Plain; LENGTH], LENGTH);
     println!(rt; "{tally}")
 }
 
-/// The elements that are the digits of this number, the lowest first.
-fn list(number: u64) -> [Element; LENGTH] {
-    let base = ELEMENTS.len() as u64;
-    let mut elements = [Element::Do; LENGTH];
-    let mut rest = number;
-    for element in elements.iter_mut() {
-        *element = ELEMENTS[(rest % base) as usize];
-        rest /= base;
+/// Tries a list that has room for `left` elements more, and, if it has a matching, each list that it is the beginning
+/// of.
+fn walk(tally: &mut Tally, elements: [Element; LENGTH], left: usize) {
+    let length = LENGTH.saturating_sub(left);
+    let list = elements.get(..length).unwrap_or(&elements[..]);
+    if tally.take(list) && left > 0 {
+        for element in ELEMENTS {
+            let mut longer = elements;
+            if let Some(place) = longer.get_mut(length) {
+                *place = element;
+            }
+            walk(tally, longer, left - 1);
+        }
     }
-    elements
 }

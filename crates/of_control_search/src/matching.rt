@@ -11,9 +11,9 @@ pub const KEPT: usize = 8;
 /// An open opener, by the number of its element; its age is where it was last appended or rolled.
 #[derive(Clone, Copy)]
 pub struct Open {
-    number: usize,
-    age: usize,
-    element: Element,
+    pub number: usize,
+    pub age: usize,
+    pub element: Element,
 }
 
 impl Default for Open {
@@ -102,6 +102,7 @@ fn may_stand(element: Element, open: &[Open]) -> bool {
             .iter()
             .any(|x| x.element == Element::Case && is_latest(x, open)),
         Element::Leave => open.iter().any(|x| x.element == Element::Do),
+        Element::Misfit => false,
         _ => true,
     }
 }

@@ -1,12 +1,13 @@
 //! What was found, counted.
-use crate::calls::{Answered, called};
+use crate::body::bodies;
+use crate::calls::{Answered, called, compiled};
 use crate::element::{Element, LENGTH};
 use crate::matching::{Partners, matchings, open_at};
 use of_control::Control;
 use std::fmt;
 
 /// How many lists were tried, how many have a matching, how many of these leave nothing open, the same where never
-/// more than one is open, and for how many the calls answered otherwise.
+/// more than one is open, how many have one tight body, and for how many the calls answered otherwise.
 #[derive(Clone, Copy, Default)]
 pub struct Tally {
     lists: u64,
@@ -14,6 +15,7 @@ pub struct Tally {
     closed: u64,
     matched_by_one: u64,
     closed_by_one: u64,
+    bodies: u64,
     differing: u64,
 }
 
@@ -21,28 +23,31 @@ impl fmt::Display for Tally {
     fn fmt<W: fmt::Write>(&self, f: &mut fmt::Formatter<W>) -> fmt::Result {
         write!(
             f,
-            "{} lists: {} have a matching, {} a closed one; {} and {} with one open at most; {} differ",
+            "{} lists: {} have a matching, {} a closed one; {} and {} with one open at most; {} with a body; {} differ",
             self.lists,
             self.matched,
             self.closed,
             self.matched_by_one,
             self.closed_by_one,
+            self.bodies,
             self.differing
         )
     }
 }
 
 impl Tally {
-    /// Tries the first `length` elements.
-    pub fn take(&mut self, elements: &[Element; LENGTH], length: usize) {
-        let list = elements.get(..length).unwrap_or(&elements[..]);
+    /// Tries a list, and answers whether it has a matching.
+    pub fn take(&mut self, list: &[Element]) -> bool {
         let found = matchings(list);
         let matching = found.as_slice().first();
         let bounded = matching.filter(|partners| is_bounded(list, partners, 1));
         let is_closed = matching.is_some_and(|partners| leaves_nothing(list, partners));
         let mut wide: Control<32> = Control::new();
         let mut narrow: Control<1> = Control::new();
+        let items = compiled(&mut wide, list);
+        let has_body = is_closed && bodies(&items) == 1;
         let agrees = found.len() < 2
+            && has_body == is_closed
             && is_answered(list, matching, &called(&mut wide, list))
             && is_answered(list, bounded, &called(&mut narrow, list));
         count(&mut self.lists, true);
@@ -50,7 +55,9 @@ impl Tally {
         count(&mut self.closed, is_closed);
         count(&mut self.matched_by_one, bounded.is_some());
         count(&mut self.closed_by_one, is_closed && bounded.is_some());
+        count(&mut self.bodies, has_body);
         count(&mut self.differing, !agrees);
+        matching.is_some()
     }
 }
 
