@@ -89,7 +89,12 @@ impl Bench {
             "field" => DefiningWord::Field,
             _ => return self.parted(word),
         };
-        self.words.define(defining, self.coding.code(), &mut self.stack, &mut self.memory)
+        self.words.define(
+            defining,
+            self.coding.code(),
+            &mut self.stack,
+            &mut self.memory,
+        )
     }
 
     /// A word with an FCode or a name behind it: `new:800`, `external:801:abc`, `to:800`, `find:abc`, `flag:abc`.
@@ -103,10 +108,19 @@ impl Bench {
         let flag = self.flag_of(text);
         match kind {
             "new" => Ok(self.words.announce(TokenMaker::New, code, &self.memory)?),
-            "named" => Ok(self.words.announce(TokenMaker::Named(name), code, &self.memory)?),
-            "external" => Ok(self.words.announce(TokenMaker::External(name), code, &self.memory)?),
+            "named" => Ok(
+                self.words
+                    .announce(TokenMaker::Named(name), code, &self.memory)?,
+            ),
+            "external" => Ok(
+                self.words
+                    .announce(TokenMaker::External(name), code, &self.memory)?,
+            ),
             "to" => Ok(self.words.store(xt, &mut self.stack)?),
-            "find" => Ok(self.stack.try_push(xt_of(self.words.dictionary().find(text.as_bytes())))?),
+            "find" => Ok(
+                self.stack
+                    .try_push(xt_of(self.words.dictionary().find(text.as_bytes())))?,
+            ),
             _ => Ok(self.stack.try_push(flag)?),
         }
     }

@@ -2,16 +2,17 @@
 //! each jump the part that it leaves or repeats, as far as the conditions hold.
 use crate::element::LENGTH;
 use crate::item::{Action, Item, Items};
+use crate::text::Text;
 
 /// More parts than this are never open at once: of two items, one opens a part and one closes it.
 const DEPTH: usize = 2 * LENGTH;
 
 /// A text of a body has no more steps: a step for each item, and two for each block, cycle or choice.
-const LONGEST: usize = 3 * LENGTH;
+pub const LONGEST: usize = 3 * LENGTH;
 
 /// A part of a body, as the text of the body begins it, takes an item into it, or ends it.
 #[derive(Clone, Copy)]
-enum Step {
+pub enum Step {
     /// Begins a part that no item begins.
     Begin(Kind),
     /// Takes the next item; a jump names the part that so many others are inside of.
@@ -33,7 +34,7 @@ const STEPS: [Step; 9] = [
 ];
 
 #[derive(Clone, Copy, PartialEq, Eq)]
-enum Kind {
+pub enum Kind {
     Block,
     Cycle,
     Counted,
@@ -61,10 +62,11 @@ struct Draft {
     taken: usize,
     begun: usize,
     to_end_of: [Option<usize>; LENGTH],
+    text: Text,
 }
 
-/// How many tight bodies have these items.
-pub fn bodies(items: &Items) -> u64 {
+/// How many tight bodies have these items, and the text of the last that was found.
+pub fn bodies(items: &Items) -> (u64, Text) {
     let part = Part {
         kind: Kind::Block,
         name: 0,
@@ -78,19 +80,27 @@ pub fn bodies(items: &Items) -> u64 {
         taken: 0,
         begun: 0,
         to_end_of: [None; LENGTH],
+        text: Text::default(),
     };
-    finished(items, &draft, LONGEST)
+    let mut text = Text::default();
+    let found = finished(items, &draft, LONGEST, &mut text);
+    (found, text)
 }
 
-/// How many bodies begin so, with at most `left` steps more.
-fn finished(items: &Items, draft: &Draft, left: usize) -> u64 {
+/// How many bodies begin so, with at most `left` steps more; the text of the last one is kept.
+fn finished(items: &Items, draft: &Draft, left: usize, text: &mut Text) -> u64 {
     let is_whole = draft.taken == items.len() && draft.depth == 0;
-    let mut found: u64 = if is_whole { 1 } else { 0 };
+    let mut found: u64 = 0;
+    if is_whole {
+        found = 1;
+        *text = draft.text;
+    }
     if left > 0 {
         for step in STEPS {
             let mut longer = *draft;
             if longer.advance(items, step) {
-                found = found.saturating_add(finished(items, &longer, left - 1));
+                longer.text.push(items, draft.taken, step);
+                found = found.saturating_add(finished(items, &longer, left - 1, text));
             }
         }
     }

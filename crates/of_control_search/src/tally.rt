@@ -1,9 +1,13 @@
 //! What was found, counted.
 use crate::body::bodies;
 use crate::calls::{Answered, called, compiled};
+use crate::code::coded;
 use crate::element::{Element, LENGTH};
 use crate::matching::{Partners, matchings, open_at};
+use crate::running::runs_alike;
+use crate::text::Text;
 use of_control::Control;
+use std::alloc::{AllocError, Global};
 use std::fmt;
 
 /// How many lists were tried, how many have a matching, how many of these leave nothing open, the same where never
@@ -37,7 +41,7 @@ impl fmt::Display for Tally {
 
 impl Tally {
     /// Tries a list, and answers whether it has a matching.
-    pub fn take(&mut self, list: &[Element]) -> bool {
+    pub fn take(&mut self, alloc: Global, list: &[Element]) -> Result<bool, AllocError> {
         let found = matchings(list);
         let matching = found.as_slice().first();
         let bounded = matching.filter(|partners| is_bounded(list, partners, 1));
@@ -45,9 +49,17 @@ impl Tally {
         let mut wide: Control<32> = Control::new();
         let mut narrow: Control<1> = Control::new();
         let items = compiled(&mut wide, list);
-        let has_body = is_closed && bodies(&items) == 1;
+        let (count_of_bodies, text) = if is_closed {
+            bodies(&items)
+        } else {
+            (0, Text::default())
+        };
+        let has_body = count_of_bodies == 1;
+        let (coding, is_coded) = coded(alloc, list, &items, is_closed)?;
         let agrees = found.len() < 2
             && has_body == is_closed
+            && is_coded
+            && (!is_closed || runs_alike(coding.code(), &text, &items))
             && is_answered(list, matching, &called(&mut wide, list))
             && is_answered(list, bounded, &called(&mut narrow, list));
         count(&mut self.lists, true);
@@ -57,7 +69,7 @@ impl Tally {
         count(&mut self.closed_by_one, is_closed && bounded.is_some());
         count(&mut self.bodies, has_body);
         count(&mut self.differing, !agrees);
-        matching.is_some()
+        Ok(matching.is_some())
     }
 }
 
