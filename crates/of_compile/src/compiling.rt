@@ -3,7 +3,7 @@ ghost use Rattle.std.specs.Prelude.{◌≡◌, ◌≤◌, ◌+◌, length, true}
 ghost use Rattle.of_code.specs.Items.{IsStorable, capacity, cells_of};
 ghost use Rattle.of_control.specs.Openers.{after_taking, dest_index, orig_index, taken_place};
 ghost use Rattle.of_control.specs.Element.{Back, Branch, Case, Do, EndCase, EndOf, Leave, Loop, Mark, Misfit, Of};
-ghost use Rattle.of_control.specs.Element.{Plain, Resolve, Roll};
+ghost use Rattle.of_control.specs.Element.{Resolve};
 ghost use Rattle.of_compile.specs.Elements.{CanBeStored, element_of, own_item, plain_item};
 ghost use Rattle.of_compile.specs.Coding.{IsAnsweredWithin, IsWithin, abandoning, cased, coding_of, compiled};
 ghost use Rattle.of_compile.specs.Coding.{compiling, finishing, fits, looped, outcome_of};
@@ -17,6 +17,7 @@ use of_code::{CodeStore, Item, Place};
 use of_control::{Control, places_stay_within};
 use of_stacks::Throw;
 
+// Appends an item that fits nowhere: from now on the definition can't be finished.
 fn append_misfit<C: CodeStore>(item: PlainItem, code: &mut C, control: &mut Control<32>)
     requires storable { IsStorable (plain_item item) }
     requires room { length (C.code code.old).cells + cells_of (plain_item item) ≤ capacity }
@@ -29,6 +30,7 @@ fn append_misfit<C: CodeStore>(item: PlainItem, code: &mut C, control: &mut Cont
     control.misfit();
 }
 
+// Appends a forward branch and opens it; its target is set where it is resolved.
 fn append_branch<C: CodeStore>(
     on_zero: bool,
     target: Option<usize>,
@@ -57,6 +59,7 @@ fn take_orig(position: Option<usize>, control: &mut Control<32>) -> Option<usize
     }
 }
 
+// Closes a forward branch, which goes to the end of the code so far.
 #[tactic(auto, using(crate::proofs::WithinLemmas::answer_within))]
 fn resolve<C: CodeStore>(position: Option<usize>, code: &mut C, control: &mut Control<32>)
     requires answered { IsAnsweredWithin (Resolve position) (coding_of (C.code code.old) control.old) }
@@ -70,6 +73,7 @@ fn resolve<C: CodeStore>(position: Option<usize>, code: &mut C, control: &mut Co
     }
 }
 
+// Opens a mark at the end of the code so far.
 fn mark<C: CodeStore>(position: Option<usize>, code: &mut C, control: &mut Control<32>)
     ensures coding { compiled (Mark position) (coding_of (C.code code.old) control.old)
         ≡ coding_of (C.code code.new) control.new }
@@ -90,6 +94,7 @@ fn take_dest(target: Option<usize>, control: &mut Control<32>) -> Option<usize>
     }
 }
 
+// Closes a mark and appends the branch back to it.
 #[tactic(auto, using(crate::proofs::WithinLemmas::answer_within))]
 fn append_back<C: CodeStore>(
     on_zero: bool,
@@ -110,6 +115,7 @@ fn append_back<C: CodeStore>(
     }
 }
 
+// Appends a `do` and opens its loop; the `do` gets its target from the `loop`.
 fn append_do<C: CodeStore>(asks: bool, code: &mut C, control: &mut Control<32>)
     requires room { length (C.code code.old).cells + 2 ≤ capacity }
     requires memory { 1 ≤ C.spare code.old }
@@ -122,7 +128,7 @@ fn append_do<C: CodeStore>(asks: bool, code: &mut C, control: &mut Control<32>)
     control.open_do(at.cell as usize);
 }
 
-// Ends a loop whose `do` is at a cell.
+// Appends the end of a loop whose `do` is at a cell; `do` and `leave`s go past it, and it goes back past the `do`.
 fn end_loop<C: CodeStore>(adds: bool, cell: usize, code: &mut C)
     requires within { cell ≤ length (C.code code.old).cells }
     requires room { length (C.code code.old).cells + 2 ≤ capacity }
@@ -139,6 +145,7 @@ fn end_loop<C: CodeStore>(adds: bool, cell: usize, code: &mut C)
     put(loop_item(adds, place_of(cell + 2)), code);
 }
 
+// Closes a loop and appends its end.
 #[tactic(auto, using(crate::proofs::WithinLemmas::answer_before))]
 fn append_loop<C: CodeStore>(adds: bool, code: &mut C, control: &mut Control<32>)
     requires answered { IsAnsweredWithin (Loop adds) (coding_of (C.code code.old) control.old) }
@@ -154,6 +161,7 @@ fn append_loop<C: CodeStore>(adds: bool, code: &mut C, control: &mut Control<32>
     }
 }
 
+// Appends a `leave`, which gets its target from the `loop`.
 fn append_leave<C: CodeStore>(code: &mut C, control: &mut Control<32>)
     requires room { length (C.code code.old).cells + 2 ≤ capacity }
     requires memory { 1 ≤ C.spare code.old }
@@ -165,6 +173,7 @@ fn append_leave<C: CodeStore>(code: &mut C, control: &mut Control<32>)
     control.leave();
 }
 
+// Opens a case at the end of the code so far.
 fn open_case<C: CodeStore>(code: &mut C, control: &mut Control<32>)
     ensures coding { compiled Case (coding_of (C.code code.old) control.old)
         ≡ coding_of (C.code code.new) control.new }
@@ -174,6 +183,7 @@ fn open_case<C: CodeStore>(code: &mut C, control: &mut Control<32>)
     control.open_case(at.cell as usize);
 }
 
+// Appends an `of` and opens its part of the case.
 fn append_of<C: CodeStore>(code: &mut C, control: &mut Control<32>)
     requires room { length (C.code code.old).cells + 2 ≤ capacity }
     requires memory { 1 ≤ C.spare code.old }
@@ -186,6 +196,8 @@ fn append_of<C: CodeStore>(code: &mut C, control: &mut Control<32>)
     control.of(at.cell as usize);
 }
 
+// Closes a part of a case, whose `of` goes past the `endof`, and appends the `endof`, which gets its target from the
+// `endcase`.
 #[tactic(auto, using(crate::proofs::WithinLemmas::answer_within))]
 fn append_endof<C: CodeStore>(code: &mut C, control: &mut Control<32>)
     requires answered { IsAnsweredWithin EndOf (coding_of (C.code code.old) control.old) }
@@ -204,7 +216,7 @@ fn append_endof<C: CodeStore>(code: &mut C, control: &mut Control<32>)
     put(Item::EndOf(NOWHERE), code);
 }
 
-// Ends a case that began at a place.
+// Appends the end of a case that began at a place; the `endof`s go past it.
 fn end_case<C: CodeStore>(began: Place, code: &mut C)
     requires room { length (C.code code.old).cells + 1 ≤ capacity }
     requires memory { 1 ≤ C.spare code.old }
@@ -218,6 +230,7 @@ fn end_case<C: CodeStore>(began: Place, code: &mut C)
     put(Item::EndCase, code);
 }
 
+// Closes a case and appends its end.
 #[tactic(auto, using(crate::proofs::WithinLemmas::answer_within))]
 fn append_endcase<C: CodeStore>(code: &mut C, control: &mut Control<32>)
     requires answered { IsAnsweredWithin EndCase (coding_of (C.code code.old) control.old) }
