@@ -7,7 +7,7 @@ use of_code::ListCode;
 use of_compile::{
     Coding, DefiningWord, TokenMaker, Words, abandon_definition, compile_call, end_definition,
 };
-use of_dict::OwnWord;
+use of_dict::{Kind, OwnWord};
 use of_fcodes::FCode;
 use of_memory::Memory;
 use of_stacks::{DataStack, Stop, Throw};
@@ -97,7 +97,8 @@ impl Bench {
         )
     }
 
-    /// A word with an FCode or a name behind it: `new:800`, `external:801:abc`, `to:800`, `find:abc`, `flag:abc`.
+    /// A word with an FCode or a name behind it: `new:800`, `external:801:abc`, `to:800`, `find:abc`, `flag:abc`,
+    /// `kind:800`.
     fn parted(&mut self, word: &str) -> Result<(), Stop> {
         let mut parts = word.split(':');
         let kind = parts.next().unwrap_or("");
@@ -117,12 +118,31 @@ impl Bench {
                     .announce(TokenMaker::External(name), code, &self.memory)?,
             ),
             "to" => Ok(self.words.store(xt, &mut self.stack)?),
+            "kind" => self.push_kind(xt),
             "find" => Ok(
                 self.stack
                     .try_push(xt_of(self.words.dictionary().find(text.as_bytes())))?,
             ),
             _ => Ok(self.stack.try_push(flag)?),
         }
+    }
+
+    /// Pushes what the own word of an execution token keeps, and the number of its kind.
+    fn push_kind(&mut self, xt: Cell) -> Result<(), Stop> {
+        let kind = OwnWord::with_xt(xt).and_then(|word| self.words.dictionary().kind_of(word));
+        let (kept, number) = match kind {
+            Some(Kind::Colon { start }) => (Cell(start), 1),
+            Some(Kind::Constant { value }) => (value, 2),
+            Some(Kind::Value { value }) => (value, 3),
+            Some(Kind::Variable { address }) => (address, 4),
+            Some(Kind::Create { address }) => (address, 5),
+            Some(Kind::Defer { xt }) => (xt, 6),
+            Some(Kind::Buffer { address }) => (address, 7),
+            Some(Kind::Field { offset }) => (offset, 8),
+            _ => (Cell(0), 9),
+        };
+        self.stack.try_push(kept)?;
+        Ok(self.stack.try_push(Cell(number))?)
     }
 
     /// What an FCode names, or 0.
@@ -152,16 +172,18 @@ fn xt_of(word: Option<OwnWord>) -> Cell {
 
 /// The words of a line, and behind `->` the cells that are left, or a throw.
 const LINES: &str = "\
-new:800 5 constant 800 get-token -> c000052c 0
+new:800 5 constant 800 get-token kind:800 -> c000052c 0 5 2
 5 constant -> throw -29
 external:801:abc 7 value find:ABC -> c0000530
-9 to:801 801 get-token drop behavior -> throw -32
+kind:801 9 to:801 kind:801 -> 7 3 9 3
+801 get-token drop behavior -> throw -32
 new:802 variable 802 get-token drop >body -> 100000
 new:803 create 803 get-token drop >body -> 100004
 100004 body> -> c0000538
 100000 body> -> c0000534
 new:804 9 buffer new:805 create 805 get-token drop >body -> 100010
-new:806 2 3 field -> 5
+kind:802 kind:803 kind:804 -> 100000 4 100004 5 100004 7
+new:806 2 3 field kind:806 -> 5 2 8
 new:807 defer 807 get-token drop behavior -> 0
 c0000080 to:807 807 get-token drop behavior -> c0000080
 5 to:800 -> throw -32
@@ -183,14 +205,16 @@ new:80d -> throw -29
 1 constant -> throw -29
 5 compile, -> throw -263
 compile, -> throw -4
-c0000080 compile, ; find:loop flag:loop -> c0000558 0
+c0000080 compile, ; find:loop flag:loop kind:80c -> c0000558 0 0 1
 immediate flag:loop 80c get-token -> ffffffff c0000558 0
 external:80d:gone colon c0000558 compile, give-up 80d get-token -> throw -256
-find:gone new:80d 1 constant 80d get-token -> 0 c0000560 0
+external:80e:next colon ; kind:80e -> 2 1
+find:gone new:80d 1 constant 80d get-token -> 0 c0000564 0
 c0000080 1 810 set-token 810 get-token -> c0000080 ffffffff
 c0000530 0 810 set-token 810 get-token -> c0000530 0
 5 1 810 set-token -> throw -263
 c000055c 1 810 set-token -> throw -263
+c0000568 1 810 set-token -> throw -263
 c0000080 1 7ff set-token -> throw -24
 5 1 7ff set-token -> throw -263
 c0000080 1 1000 set-token -> throw -24
