@@ -153,7 +153,8 @@ impl Words {
         memory: &mut Memory,
     ) -> Result<(), Stop>
         ensures { let old = making self.old stack.old memory.old in
-            Makes true (defining_entry word (end_of (C.code code.now)).cell old) old (making self.new stack.new memory.new) result }
+            Makes true (defining_entry word (end_of (C.code code.now)).cell old)
+            old (making self.new stack.new memory.new) result }
     {
         if self.defining.is_some() || self.pending.is_none() {
             return Err(Stop::Thrown(Throw::COMPILER_NESTING));

@@ -111,7 +111,8 @@ fn name_fault(name: Option<&[u8]>) -> Option<Throw>
 impl Words {
     /// No words of its own yet; each listed FCode names its written word.
     pub fn new(alloc: Global) -> Result<Words, AllocError>
-        ensures { IfOk result (λ w. w ≡ record { dictionary = []; table = first_table; pending = None; defining = None }) }
+        ensures { IfOk result (λ w. w ≡
+            record { dictionary = []; table = first_table; pending = None; defining = None }) }
     {
         Ok(Words {
             dictionary: Dict::new(alloc),
