@@ -6,7 +6,6 @@ use Rattle.std.proofs.lemmas.List.{append-nil, length-map, length_push, take-app
 use Rattle.of_control.specs.Element.{Element}
 use Rattle.of_control.specs.Items.{DropSelector, EndArm, EnterLoop, ExitLoop, Item, JumpTo, Perform, RepeatLoop}
 use Rattle.of_control.specs.Items.{TestArm, is_item, item_count, one_if, performed, performed_by, plain_items}
-use Rattle.of_control.specs.Calls.{after_calls, call_answer}
 use Rattle.of_control.specs.Law.{ItemsAreCounted}
 use Rattle.of_control.specs.Compiling.{compiled, compiled_next, from_item, with_endof, with_leave, with_target_at}
 use Rattle.of_control.specs.Compiling.{with_target}
@@ -36,9 +35,7 @@ counted_next e o is = grind (arith, length_push, length-with_target_at, length-f
 
 counted : {A : Type 0} → (limit : ℕ) (es : List (Element A)) → length (compiled limit es) ≡ item_count es
 counted limit [] = refl
-counted limit (e ∷ es) =
-    counted_next e (call_answer e (after_calls limit item_count es)) (compiled limit es)
-    ∙ ap (λ n. n + one_if (is_item e)) (counted limit es)
+counted limit (e ∷ es) = grind (arith, counted limit es, counted_next)
 
 -- ---- plain items
 
@@ -113,9 +110,7 @@ plain_next e o is =
 
 plain : {A : Type 0} → (limit : ℕ) (es : List (Element A)) → plain_items (compiled limit es) ≡ performed es
 plain limit [] = refl
-plain limit (e ∷ es) =
-    plain_next e (call_answer e (after_calls limit item_count es)) (compiled limit es)
-    ∙ ap (λ l. l ++ performed_by e) (plain limit es)
+plain limit (e ∷ es) = grind (arith, plain limit es, plain_next)
 
 pub items_are_counted : (A : Type 0) (limit : ℕ) → ItemsAreCounted A limit
 items_are_counted A limit = record { count = counted limit; plain = plain limit }

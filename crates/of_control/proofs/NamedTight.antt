@@ -8,7 +8,7 @@ use Rattle.of_control.specs.Body.{IsScoped}
 use Rattle.of_control.specs.Reading.{NamedArm, NamedBlock, NamedBody, NamedChoice, NamedCounted, NamedCycle, NamedEnd}
 use Rattle.of_control.specs.Reading.{NamedJump, NamedLeave, NamedOperation, label_index, nameless}
 use Rattle.of_control.specs.Tight.{AtEnd, BeginsWithArm, Beyond, Each, HasOneJump, Inside, IsBlock, IsCycle, IsOther}
-use Rattle.of_control.specs.Tight.{IsShorter, IsTight, Way, first_size, outward, shut, ways}
+use Rattle.of_control.specs.Tight.{IsShorter, IsTight, Way, first_size, outward, ways}
 use Rattle.of_control.proofs.NamedBodies.{body_size-nameless, named_size}
 
 -- where an item goes, by the name of the part: not out of the body, to its end by leaving this Block, or to this part
@@ -129,25 +129,11 @@ ways-nameless ls (NamedOperation a r) = ap (λ l. Inside ∷ l) (ways-nameless l
 ways-nameless ls (NamedLeave d r) = ap (λ l. Inside ∷ l) (ways-nameless ls r)
 ways-nameless ls (NamedJump z b r) = ap (λ l. Beyond (label_index b ls) ∷ l) (ways-nameless ls r)
 ways-nameless ls (NamedBlock b p r) =
-    ap (λ n. map (outward (n == 0)) (ways (nameless (b ∷ ls) p)) ++ ways (nameless ls r)) (body_size-nameless ls r)
-    ∙ part_ways (outward (named_size r == 0)) (way_in (b ∷ ls)) (way_in ls) (left b (named_size r == 0))
-    (ways (nameless (b ∷ ls) p)) (ways (nameless ls r)) (named_ways p) (named_ways r)
-    (left_out b ls (named_size r == 0)) (ways-nameless (b ∷ ls) p) (ways-nameless ls r)
-ways-nameless ls (NamedCycle c p r) =
-    part_ways (outward false) (way_in (c ∷ ls)) (way_in ls) (left c false) (ways (nameless (c ∷ ls) p))
-    (ways (nameless ls r)) (named_ways p) (named_ways r) (left_out c ls false) (ways-nameless (c ∷ ls) p)
-    (ways-nameless ls r)
-ways-nameless ls (NamedCounted q d p l r) =
-    ap (λ k. Inside ∷ k) (part_ways shut (way_in []) (way_in ls) kept_in (ways (nameless [] p))
-    (Inside ∷ ways (nameless ls r)) (named_ways p) (Stays ∷ named_ways r) (λ w. refl) (ways-nameless [] p)
-    (ap (λ k. Inside ∷ k) (ways-nameless ls r)))
-ways-nameless ls (NamedChoice c p r) =
-    part_ways shut (way_in []) (way_in ls) kept_in (ways (nameless [] p)) (Inside ∷ ways (nameless ls r)) (named_ways p)
-    (Stays ∷ named_ways r) (λ w. refl) (ways-nameless [] p) (ap (λ k. Inside ∷ k) (ways-nameless ls r))
-ways-nameless ls (NamedArm o c p r) =
-    ap (λ k. Inside ∷ k) (part_ways shut (way_in []) (way_in ls) kept_in (ways (nameless [] p))
-    (Inside ∷ ways (nameless ls r)) (named_ways p) (Stays ∷ named_ways r) (λ w. refl) (ways-nameless [] p)
-    (ap (λ k. Inside ∷ k) (ways-nameless ls r)))
+    grind (arith, ways-nameless (b ∷ ls) p, ways-nameless ls r, body_size-nameless, part_ways, named_size, left_out)
+ways-nameless ls (NamedCycle c p r) = grind (arith, ways-nameless (c ∷ ls) p, ways-nameless ls r, part_ways, left_out)
+ways-nameless ls (NamedCounted q d p l r) = grind (arith, ways-nameless [] p, ways-nameless ls r, part_ways)
+ways-nameless ls (NamedChoice c p r) = grind (arith, ways-nameless [] p, ways-nameless ls r, part_ways)
+ways-nameless ls (NamedArm o c p r) = grind (arith, ways-nameless [] p, ways-nameless ls r, part_ways)
 
 each_to :
     (P : NamedWay → Type 0) (Q : Way → Type 0) (f : NamedWay → Way) (ws : List NamedWay) →

@@ -79,8 +79,7 @@ length-ways NamedEnd = refl
 length-ways (NamedOperation a r) = ap suc (length-ways r)
 length-ways (NamedLeave d r) = ap suc (length-ways r)
 length-ways (NamedJump z b r) = ap suc (length-ways r)
-length-ways (NamedBlock b p r) =
-    length-map_then (left b (named_size r == 0)) kept_in p r (length-ways p) (length-ways r)
+length-ways (NamedBlock b p r) = grind (arith, length-ways p, length-ways r, length-map_then, left, named_size, kept_in)
 length-ways (NamedCycle c p r) = length-map_then (left c false) kept_in p r (length-ways p) (length-ways r)
 length-ways (NamedCounted q d p l r) = ap suc (length-shut p r (length-ways p) (length-ways r))
 length-ways (NamedChoice c p r) = length-shut p r (length-ways p) (length-ways r)

@@ -40,16 +40,12 @@ past_end w End k fs l = refl
 past_end w (Operation a r) (suc k) fs l = past_end w r k fs (omega (arith, l))
 past_end w (LeaveLoop r) (suc k) fs l = past_end w r k fs (omega (arith, l))
 past_end w (Jump z j r) (suc k) fs l = past_end w r k fs (omega (arith, l))
-past_end w (Block b r) k fs l =
-    in_right k (body_size b) _ (omega (arith, l)) ∙ past_end w r (k - body_size b) fs (omega (arith, l))
-past_end w (Cycle b r) k fs l =
-    in_right k (body_size b) _ (omega (arith, l)) ∙ past_end w r (k - body_size b) fs (omega (arith, l))
+past_end w (Block b r) k fs l = grind (arith, past_end w r (k - body_size b) fs (omega (arith, l)), in_right)
+past_end w (Cycle b r) k fs l = grind (arith, past_end w r (k - body_size b) fs (omega (arith, l)), in_right)
 past_end w (Counted q b d r) (suc k) fs l =
     in_rest k (body_size b) _ _ (omega (arith, l)) ∙ past_end w r (k - suc (body_size b)) fs (omega (arith, l))
-past_end w (Choice b r) k fs l =
-    in_rest k (body_size b) _ _ (omega (arith, l)) ∙ past_end w r (k - suc (body_size b)) fs (omega (arith, l))
-past_end w (Arm b r) (suc k) fs l =
-    in_rest k (body_size b) _ _ (omega (arith, l)) ∙ past_end w r (k - suc (body_size b)) fs (omega (arith, l))
+past_end w (Choice b r) k fs l = grind (arith, past_end w r (k - suc (body_size b)) fs (omega (arith, l)), in_rest)
+past_end w (Arm b r) (suc k) fs l = grind (arith, past_end w r (k - suc (body_size b)) fs (omega (arith, l)), in_rest)
 past_end w _ zero fs l = absurd (omega (arith, l))
 
 -- number k of what stands behind i items

@@ -50,9 +50,7 @@ size-items (Block b r) n ls lv past =
           past,
     )
 size-items (Cycle b r) n ls lv past =
-    let i = items_at b n (n ∷ ls) lv past in
-    let j = items_at r (n + body_size b) ls lv past in
-    omega (arith, length-append i j, size-items b n (n ∷ ls) lv past, size-items r (n + body_size b) ls lv past)
+    grind (arith, size-items b n (n ∷ ls) lv past, size-items r (n + body_size b) ls lv past, length-append)
 size-items (Counted q b l r) n ls lv past =
     let e = suc (suc n + body_size b) in
     let i = items_at b (suc n) [] e past in

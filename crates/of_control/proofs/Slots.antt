@@ -1,6 +1,6 @@
 -- Tight trees of parts with equal slots are equal.
 use Rattle.std.proofs.Common.{◌≡◌, ℕ, zero, suc, ◌+◌, ◌<◌, ◌≤◌, Bool, List, [], ◌∷◌, ◌++◌, length, Option, Some, None}
-use Rattle.std.proofs.Common.{refl, ap, ◌∙◌, subst, arith}
+use Rattle.std.proofs.Common.{refl, subst, arith}
 use Rattle.std.specs.Prelude.{map}
 use Rattle.std.proofs.lemmas.List.{length-append, length-map}
 use Rattle.of_control.specs.Tight.{Each}
@@ -126,10 +126,7 @@ length-part h n m xs = grind (arith, length-append, length-before, length-behind
 pub length-slots : {A : Type 0} → (t : Tree A) (n : ℕ) → length (slots t n) ≡ size t
 length-slots Leaf n = refl
 length-slots (Node h i r) n =
-    let xs = slots i (starts h n) in
-    let a = length-append (part h n (size i) xs) (slots r (n + width h (size i))) in
-    let p = length-part h n (size i) xs ∙ ap (width h) (length-slots i (starts h n)) in
-    omega (arith, a, p, length-slots r (n + width h (size i)))
+    grind (arith, length-slots i (starts h n), length-slots r (n + width h (size i)), length-append, length-part)
 
 -- ---- all targets
 

@@ -404,15 +404,9 @@ items_are :
     {A : Type 0} → (m : ℕ) (d c : Bool) (b : Body A) (n : ℕ) (ls : List ℕ) (lv ps : ℕ) → IsTight m d c b →
     map slot_of (items_at b n ls lv ps) ≡ map (placed ls ps) (slots (tree b) n)
 items_are m d c End n ls lv ps w = refl
-items_are m d c (Operation a r) n ls lv ps w =
-    ap (λ l. Does a ∷ l) (items_are m d c r (suc n) ls lv ps w
-    ∙ ap (λ k. map (placed ls ps) (slots (tree r) k)) (omega arith))
-items_are m d c (LeaveLoop r) n ls lv ps w =
-    ap (λ l. Leaves ∷ l) (items_are m d c r (suc n) ls lv ps w.1
-    ∙ ap (λ k. map (placed ls ps) (slots (tree r) k)) (omega arith))
-items_are m d c (Jump z k r) n ls lv ps w =
-    ap (λ l. To (Some z) (slice_index ls k) ∷ l)
-    (items_are m d c r (suc n) ls lv ps w.1 ∙ ap (λ i. map (placed ls ps) (slots (tree r) i)) (omega arith))
+items_are m d c (Operation a r) n ls lv ps w = grind (arith, items_are m d c r (suc n) ls lv ps w, slots, tree)
+items_are m d c (LeaveLoop r) n ls lv ps w = grind (arith, items_are m d c r (suc n) ls lv ps w.1, slots, tree)
+items_are m d c (Jump z k r) n ls lv ps w = grind (arith, items_are m d c r (suc n) ls lv ps w.1, slots, tree)
 items_are m d c (Block b r) n ls lv ps w =
     let t = n + body_size b in
     let s = n + size (tree b) in

@@ -120,14 +120,9 @@ covers {A = A} (Node ABlock i r) n c w l h =
     let one = cut-left n c (part ABlock n (size i) (slots i n)) (slots r e) h in
     let two = cut-left n c xs [] one in
     left_covers n c i w.0 (covers i n c w.1 l (cut-unclose n c e (slots i n) two)) two
-covers {A = A} (Node ACycle i r) n c w l h =
-    let e = n + width {A = A} ACycle (size i) in
-    let one = cut-left n c (part ACycle n (size i) (slots i n)) (slots r e) h in
-    repeated_covers n c i w.0 l (cut-left n c (map (close n) (slots i n)) [] one)
+covers {A = A} (Node ACycle i r) n c w l h = grind (arith, width, size, cut-left, part, slots, repeated_covers, close)
 covers (Node (ACounted q m) i r) n c w l h = h.0.0 l
-covers {A = A} (Node AChoice i r) n c w l h =
-    let e = n + width {A = A} AChoice (size i) in
-    arm_covers n c i w.0.1 l (cut-left n c (part AChoice n (size i) (slots i n)) (slots r e) h)
+covers {A = A} (Node AChoice i r) n c w l h = grind (arith, width, size, arm_covers, cut-left, part, slots)
 covers (Node AnArm i r) n c w l h = h.0.0 l
 
 cut_first : {A : Type 0} → (h : Head A) (i r : Tree A) (n : ℕ) → CutIn n (n + width h (size i)) (slots (Node h i r) n)
@@ -360,12 +355,7 @@ reopened_is :
     {A : Type 0} → (e : ℕ) (z : Bool) (xs ys : List (Slot A)) → Each IsInner xs → Each (λ x. hits e x ≡ false) xs →
     Each IsInner ys → reopened e (map (close e) xs ++ (To (Some z) e ∷ map (close e) ys)) ≡ xs ++ (Out (Some z) 0 ∷ ys)
 reopened_is e z [] ys i m j = reopened_here e z ys j
-reopened_is e z (x ∷ xs) ys i m j =
-    let rest = map (close e) xs ++ (To (Some z) e ∷ map (close e) ys) in
-    ap (λ b. if b then way_out (close e x) ∷ map unclosed rest else unclosed (close e x) ∷ reopened e rest)
-    (hits-close e x i.0 ∙ m.0)
-    ∙ ap (λ y. y ∷ reopened e rest) (unclosed-close e x i.0)
-    ∙ ap (λ l. x ∷ l) (reopened_is e z xs ys i.1 m.1 j)
+reopened_is e z (x ∷ xs) ys i m j = grind (arith, reopened_is e z xs ys i.1 m.1 j, close, hits-close, unclosed-close)
 
 left_inside :
     {A : Type 0} → (n : ℕ) (i : Tree A) → IsLeft n i →
@@ -386,9 +376,7 @@ last_out_is :
     last_out (map (close n) xs ++ (To (Some z) n ∷ [])) ≡ xs ++ (Out (Some z) 0 ∷ [])
 last_out_is n z [] h = refl
 last_out_is n z (x ∷ []) h = ap (λ y. y ∷ Out (Some z) 0 ∷ []) (unclosed-close n x h.0)
-last_out_is n z (x ∷ y ∷ xs) h =
-    ap (λ w. w ∷ last_out (map (close n) (y ∷ xs) ++ (To (Some z) n ∷ []))) (unclosed-close n x h.0)
-    ∙ ap (λ l. x ∷ l) (last_out_is n z (y ∷ xs) h.1)
+last_out_is n z (x ∷ y ∷ xs) h = grind (arith, last_out_is n z (y ∷ xs) h.1, close, unclosed-close)
 
 repeated_inside :
     {A : Type 0} → (n : ℕ) (i : Tree A) → IsRepeated n i → last_out (map (close n) (slots i n)) ≡ slots i n
