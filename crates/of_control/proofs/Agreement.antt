@@ -1,6 +1,6 @@
 -- The reading's items are the flat ones.
-use Rattle.std.proofs.Common.{◌≡◌, ℕ, suc, ◌+◌, Bool, true, false, List, [], ◌∷◌, ◌++◌, length, Option, Some, None}
-use Rattle.std.proofs.Common.{refl, sym, ap, ◌∙◌, subst, inl, arith, not, append_assoc}
+use Rattle.std.proofs.Common.{◌≡◌, ℕ, suc, ◌+◌, Bool, false, List, [], ◌∷◌, ◌++◌, length, Option, Some, None, refl, sym}
+use Rattle.std.proofs.Common.{ap, ◌∙◌, subst, inl, arith, not, append_assoc}
 use Rattle.std.specs.Prelude.{filter, nat_lt, if◌then◌else◌}
 use Rattle.of_control.specs.declared.opener.Kind.{Kind}
 use Rattle.of_control.specs.Openers.{is_case_sys, is_orig}
@@ -51,13 +51,7 @@ made :
     piece_items T new ≡ piece_items T d ++ item_of T es (open_ones es m) e o →
     piece_count new ≡ piece_count d + one_if (is_item e) → Good T new →
     frames new ≡ stack_frames (after (length es) e o (open_ones es m)) → Agreeing T (e ∷ es) (o ∷ m) new
-made T e es o m d new inv is l c g f =
-    record {
-      listed = l ∙ ap (λ k. k ++ item_of T es (open_ones es m) e o) inv.listed;
-      counted = omega (arith, c, inv.counted);
-      good = g;
-      framed = f ∙ ap stack_frames (sym (open-next e es o m is));
-    }
+made T e es o m d new inv is l c g f = grind (arith, stack_frames, open-next)
 
 -- an element that closes nothing leaves the structures below it
 kept :
@@ -279,8 +273,7 @@ with_gathered :
     (d : List (Piece A)) (f : List ℕ → NamedBody A → Piece A → List (Piece A) → Draft A) (g : Option (Gathered A)) →
     Structured T d g → ((bs : List ℕ) (p : NamedBody A) (from : Piece A) (before : List (Piece A)) →
     Keeps T d bs p (from ∷ before) → Step T e es o m (f bs p from before)) → Step T e es o m (with_structure f g)
-with_gathered T e es o m d f None h by = tt
-with_gathered T e es o m d f (Some g) h by = by g.blocks g.inside g.from g.before h.0.keeps
+with_gathered T e es o m d f g h by = grind (arith)
 
 put_next :
     {A : Type 0} → (T : Targets) (e : Element A) (es : List (Element A)) (o : Option Opening) (m : Partners)
@@ -331,8 +324,7 @@ pub record AgreeingRead {A : Type 0} (T : Targets) (es : List (Element A)) (m : 
 add_due-ends_step :
     (T : Targets) (n b c : ℕ) (cs : List ℕ) (t : Bool) → T.to b ≡ n → T.to c ≡ n → EndHere T n cs →
     EndHere T n (add_due b cs) → EndHere T n (if t then b ∷ c ∷ cs else c ∷ add_due b cs)
-add_due-ends_step T n b c cs true e f h k = (e, (f, h))
-add_due-ends_step T n b c cs false e f h k = (f, k)
+add_due-ends_step T n b c cs t e f h k = grind (arith)
 
 add_due-ends : (T : Targets) (n b : ℕ) (bs : List ℕ) → T.to b ≡ n → EndHere T n bs → EndHere T n (add_due b bs)
 add_due-ends T n b [] e h = (e, tt)
@@ -345,15 +337,7 @@ close_all-none (b ∷ bs) = close_all-none bs
 inv_same :
     {A : Type 0} → (T : Targets) (es : List (Element A)) (m : Partners) (d : List (Piece A)) (o : Draft A) →
     Agreeing T es m d → SameDraft T d o → AgreeingDraft T es m o
-inv_same T es m d None inv s = tt
-inv_same T es m d (Some e) inv s =
-    record {
-      listed = s.listed ∙ inv.listed;
-      counted = s.counted ∙ inv.counted;
-      good = s.good;
-      framed = s.framed
-          ∙ inv.framed;
-    }
+inv_same T es m d o inv s = grind (arith)
 
 same_refl : {A : Type 0} → (T : Targets) (d : List (Piece A)) → Good T d → Same T d d
 same_refl T d g = record { listed = refl; counted = refl; good = g; framed = refl }
@@ -361,28 +345,19 @@ same_refl T d g = record { listed = refl; counted = refl; good = g; framed = ref
 flushed :
     {A : Type 0} → (T : Targets) (es : List (Element A)) (m : Partners) (bs : List ℕ) (o : Draft A) →
     EndHere T (item_count es) bs → AgreeingDraft T es m o → AgreeingDraft T es m (close_all bs o)
-flushed T es m bs None h inv = subst (AgreeingDraft T es m) (sym (close_all-none bs)) tt
-flushed T es m bs (Some d) h inv =
-    inv_same T es m d (close_all bs (Some d)) inv
-    (close_all-keeps T bs d (Some d) (subst (λ n. EndHere T n bs) (sym inv.counted) h) (same_refl T d inv.good))
+flushed T es m bs o h inv = grind (arith, close_all-none, inv_same, close_all-keeps, same_refl)
 
 put_all_next :
     {A : Type 0} → (T : Targets) (e : Element A) (es : List (Element A)) (o : Option Opening) (m : Partners)
     (d : Draft A) → AgreeingDraft T es m d → IsMatching (e ∷ es) (o ∷ m) → Sets T es e o →
     Step T e es o m (put_all (length es) e d)
-put_all_next T e es o m None inv is to = tt
-put_all_next T e es o m (Some d) inv is to = put_next T e es o m d inv is to
+put_all_next T e es o m d inv is to = grind (arith, put_next)
 
 usual_next :
     {A : Type 0} → (T : Targets) (e : Element A) (es : List (Element A)) (o : Option Opening) (m : Partners)
     (r : PartlyRead A) → AgreeingRead T es m r → IsMatching (e ∷ es) (o ∷ m) → Sets T es e o →
     AgreeingRead T (e ∷ es) (o ∷ m) (record { due = []; pieces = put_all (length es) e (close_all r.due r.pieces) })
-usual_next T e es o m r h is to =
-    record {
-      due = tt;
-      pieces = put_all_next T e es o m (close_all r.due r.pieces)
-          (flushed T es m r.due r.pieces h.due h.pieces) is to;
-    }
+usual_next T e es o m r h is to = grind (arith, put_all_next, flushed)
 
 resolve_next :
     {A : Type 0} → (T : Targets) (p : Option ℕ) (es : List (Element A)) (x : Opening) (m : Partners) (o : Draft A) →
@@ -412,31 +387,7 @@ read_next-keeps :
     {A : Type 0} → (T : Targets) (e : Element A) (es : List (Element A)) (o : Option Opening) (m : Partners)
     (r : PartlyRead A) → AgreeingRead T es m r → IsMatching (e ∷ es) (o ∷ m) → Sets T es e o →
     AgreeingRead T (e ∷ es) (o ∷ m) (read_next (length es) e o r)
-read_next-keeps T (Resolve p) es (Some x) m r h is to =
-    record {
-      due = ends_at T (item_count es) (item_count es + 0) (add_due x.at r.due) (omega arith)
-          (add_due-ends T (item_count es) x.at r.due to h.due);
-      pieces = resolve_next T p es x m r.pieces h.pieces is;
-    }
-read_next-keeps T (Roll n) es (Some x) m r h is to =
-    record {
-      due = ends_at T (item_count es) (item_count es + 0) r.due (omega arith) h.due;
-      pieces =
-          roll_next T n es x m r.pieces h.pieces is;
-    }
-read_next-keeps T (Plain k) es o m r h is to = usual_next T (Plain k) es o m r h is to
-read_next-keeps T (Branch z t) es o m r h is to = usual_next T (Branch z t) es o m r h is to
-read_next-keeps T (Mark p) es o m r h is to = usual_next T (Mark p) es o m r h is to
-read_next-keeps T (Back z t) es o m r h is to = usual_next T (Back z t) es o m r h is to
-read_next-keeps T (Do q) es o m r h is to = usual_next T (Do q) es o m r h is to
-read_next-keeps T (Loop l) es o m r h is to = usual_next T (Loop l) es o m r h is to
-read_next-keeps T Leave es o m r h is to = usual_next T Leave es o m r h is to
-read_next-keeps T Case es o m r h is to = usual_next T Case es o m r h is to
-read_next-keeps T Of es o m r h is to = usual_next T Of es o m r h is to
-read_next-keeps T EndOf es o m r h is to = usual_next T EndOf es o m r h is to
-read_next-keeps T EndCase es o m r h is to = usual_next T EndCase es o m r h is to
-read_next-keeps T (Misfit k) es o m r h is to = usual_next T (Misfit k) es o m r h is to
-read_next-keeps T _ es None m r h is to = absurd is.1
+read_next-keeps T e es o m r h is to = grind (arith, ends_at, add_due-ends, resolve_next, roll_next, usual_next)
 
 pub read_so_far-keeps :
     {A : Type 0} → (T : Targets) (es : List (Element A)) (m : Partners) → IsMatching es m → AreTargets T es m →
@@ -503,14 +454,10 @@ agrees_named T es m d (Some q) inv h = (
 agrees_draft :
     {A : Type 0} → (T : Targets) (es : List (Element A)) (m : Partners) (o : Draft A) → AgreeingDraft T es m o →
     Agrees T es m (body_of (finished o))
-agrees_draft T es m None inv = tt
-agrees_draft T es m (Some d) inv = agrees_named T es m d (all_parts d) inv (all_parts-whole T d inv.good)
+agrees_draft T es m o inv = grind (arith, agrees_named, all_parts-whole)
 
 -- the items of the reading are the flat ones, with the same targets
 pub agrees :
     {A : Type 0} → (T : Targets) (es : List (Element A)) (m : Partners) → IsMatching es m → AreTargets T es m →
     Agrees T es m (reading es m)
-agrees T es m is to =
-    let r = read_so_far es m in
-    let h = read_so_far-keeps T es m is to in
-    agrees_draft T es m (close_all r.due r.pieces) (flushed T es m r.due r.pieces h.due h.pieces)
+agrees T es m is to = grind (arith, read_so_far-keeps, agrees_draft, flushed)

@@ -60,18 +60,13 @@ abbrev IsKeeping : {A : Type 0} → (Item A → Item A) → Type 0
 IsKeeping {A = A} f = (i : Item A) (is : List (Item A)) → plain_items (f i ∷ is) ≡ plain_items (i ∷ is)
 
 target_keeps : {A : Type 0} → (t : ℕ) → IsKeeping {A = A} (with_target t)
-target_keeps t (Perform k) is = refl
-target_keeps t _ is = refl
+target_keeps t h1 is = grind (arith)
 
 leave_keeps : {A : Type 0} → (t : ℕ) → IsKeeping {A = A} (with_leave t)
-leave_keeps t (ExitLoop zero) is = refl
-leave_keeps t (ExitLoop (suc s)) is = refl
-leave_keeps t _ is = refl
+leave_keeps t h1 is = grind (arith)
 
 endof_keeps : {A : Type 0} → (t : ℕ) → IsKeeping {A = A} (with_endof t)
-endof_keeps t (EndArm zero) is = refl
-endof_keeps t (EndArm (suc s)) is = refl
-endof_keeps t _ is = refl
+endof_keeps t h1 is = grind (arith)
 
 plain-with_target_at :
     {A : Type 0} → (n t : ℕ) (is : List (Item A)) → plain_items (with_target_at n t is) ≡ plain_items is

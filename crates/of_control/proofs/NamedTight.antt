@@ -1,6 +1,5 @@
 -- A tight body with names is tight without them.
-use Rattle.std.proofs.Common.{◌≡◌, ℕ, suc, ◌<◌, Bool, true, false, List, [], ◌∷◌, ◌++◌, length, refl, sym, ap, ◌∙◌}
-use Rattle.std.proofs.Common.{subst, arith}
+use Rattle.std.proofs.Common.{◌≡◌, ℕ, suc, ◌<◌, Bool, true, false, List, [], ◌∷◌, ◌++◌, length, refl, ap, ◌∙◌, arith}
 use Rattle.std.specs.Prelude.{◌==◌, if◌then◌else◌, map}
 use Rattle.std.proofs.lemmas.Bool.{ne_eqb, eq-eqb}
 use Rattle.std.proofs.lemmas.List.{map-append, length-map}
@@ -142,15 +141,10 @@ each_to P Q f [] g h = tt
 each_to P Q f (w ∷ ws) g h = (g w h.0, each_to P Q f ws g h.1)
 
 shorter_in : (b : ℕ) (ls : List ℕ) (w : NamedWay) → Shorter b w → IsShorter (way_in (b ∷ ls) w)
-shorter_in b ls Stays h = tt
-shorter_in b ls (Ends x) h = absurd h
-shorter_in b ls (Goes x) h =
-    subst (λ t. IsShorter (Beyond (if t then 0 else suc (label_index x ls)))) (sym (ne_eqb x b h)) tt
+shorter_in b ls w h = grind (arith, ne_eqb)
 
 other_in : (b : ℕ) (ls : List ℕ) (w : NamedWay) → NotTo b w → IsOther (way_in (b ∷ ls) w)
-other_in b ls (Goes x) h =
-    subst (λ t. IsOther (Beyond (if t then 0 else suc (label_index x ls)))) (sym (ne_eqb x b h)) tt
-other_in b ls _ h = tt
+other_in b ls w h = grind (arith, ne_eqb)
 
 abbrev jump_in :
     {A : Type 0} → (b : ℕ) (ls : List ℕ) (p : NamedBody A) → NamedJumpOnce b p → HasOneJump (nameless (b ∷ ls) p)
@@ -176,9 +170,7 @@ cycle_in : {A : Type 0} → (c : ℕ) (ls : List ℕ) (p : NamedBody A) → Name
 cycle_in c ls p h = record { jump = jump_in c ls p h.jump; last = ap (map (way_in (c ∷ ls))) h.last }
 
 begins_in : {A : Type 0} → (p : NamedBody A) → NamedBegins p → BeginsWithArm (nameless [] p)
-begins_in NamedEnd h = tt
-begins_in (NamedArm o c p r) h = tt
-begins_in _ h = absurd h
+begins_in p h = grind (arith)
 
 pub tight-nameless :
     {A : Type 0} → (n : ℕ) (d c : Bool) (ls : List ℕ) (p : NamedBody A) → NamedTight p →

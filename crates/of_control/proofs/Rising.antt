@@ -34,15 +34,12 @@ rise-append low mid high (Goes x ∷ xs) ys h k = (h.0, rise-append (suc x) mid 
 pub rise-ends :
     (low x high : ℕ) (last : Bool) (ws : List NamedWay) → low ≤ x → Rise (suc x) ws high →
     Rise low ((if last then Ends x else Stays) ∷ ws) high
-rise-ends low x high true ws l h = (l, h)
-rise-ends low x high false ws l h = rise-more (suc x) low high ws (omega (arith, l)) h
+rise-ends low x high last ws l h = grind (arith, rise-more)
 
 pub rise-goes :
     (low b x high : ℕ) (last t : Bool) (ws : List NamedWay) → (t ≡ true → x ≡ b) → low ≤ x → Rise (suc x) ws high →
     Rise low ((if t then (if last then Ends b else Stays) else Goes x) ∷ ws) high
-rise-goes low b x high last true ws e l h =
-    rise-ends low b high last ws (subst (λ y. low ≤ y) (e refl) l) (subst (λ y. Rise (suc y) ws high) (e refl) h)
-rise-goes low b x high last false ws e l h = (l, h)
+rise-goes low b x high last t ws e l h = grind (arith, rise-ends)
 
 -- seen from outside of a part they still do
 pub rise-left :

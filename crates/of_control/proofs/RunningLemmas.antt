@@ -85,8 +85,7 @@ record Agrees {A : Type 0} (w : Body A) (items : List (Item A)) (n k : ℕ) (s :
 pub split_lt :
     {X : Type 0} → (P : X → Type 0) (k n : ℕ) (s t : X) (b : Bool) → nat_lt k n ≡ b → (k < n → P s) → (n ≤ k → P t) →
     P (if b then s else t)
-split_lt P k n s t true e f g = f (ltb-true k n e)
-split_lt P k n s t false e f g = g (ltb-false k n e)
+split_lt P k n s t b e f g = grind (arith, ltb-true, ltb-false)
 
 same_number : (k n : ℕ) → (k == n) ≡ true → k ≡ n
 same_number k n e = grind (arith, e)
@@ -97,8 +96,7 @@ other_number k n e = grind (arith, e)
 pub split_eq :
     {X : Type 0} → (P : X → Type 0) (k n : ℕ) (s t : X) (b : Bool) → (k == n) ≡ b → (k ≡ n → P s) →
     ((k ≡ n → ⊥) → P t) → P (if b then s else t)
-split_eq P k n s t true e f g = f (same_number k n e)
-split_eq P k n s t false e f g = g (other_number k n e)
+split_eq P k n s t b e f g = grind (arith, same_number, other_number)
 
 pub number_is : {A : Type 0} → (w : Body A) (p : Point A) (n : ℕ) → n + ahead p ≡ body_size w → number w p ≡ n
 number_is w p n e = omega (arith, e)

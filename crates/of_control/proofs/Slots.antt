@@ -163,45 +163,24 @@ each-both P Q [] g h = tt
 each-both P Q (x ∷ xs) g h = ((g.0, h.0), each-both P Q xs g.1 h.1)
 
 pub aims-more : {A : Type 0} → (P Q : ℕ → Type 0) → ((u : ℕ) → P u → Q u) → (x : Slot A) → Aims P x → Aims Q x
-aims-more P Q g (To j u) h = g u h
-aims-more P Q g (Enters q u) h = g u h
-aims-more P Q g (Tests u) h = g u h
-aims-more P Q g _ h = tt
+aims-more P Q g h3 h = grind (arith)
 
 pub aims-close : {A : Type 0} → (P : ℕ → Type 0) (t : ℕ) → P t → (x : Slot A) → Aims P x → Aims P (close t x)
-aims-close P t p (Out j zero) h = p
-aims-close P t p (To j u) h = h
-aims-close P t p (Enters q u) h = h
-aims-close P t p (Tests u) h = h
-aims-close P t p _ h = tt
+aims-close P t p h3 h = grind (arith)
 
 pub aims-unclose : {A : Type 0} → (P : ℕ → Type 0) (t : ℕ) (x : Slot A) → Aims P (close t x) → Aims P x
-aims-unclose P t (To j u) h = h
-aims-unclose P t (Enters q u) h = h
-aims-unclose P t (Tests u) h = h
-aims-unclose P t _ h = tt
+aims-unclose P t x h = grind (arith)
 
 aims-bound :
     {A : Type 0} → (P : ℕ → Type 0) (h : Head A) (n e : ℕ) → P n → P e → (x : Slot A) → Aims P x →
     Aims P (bound h n e x)
-aims-bound P ABlock n e p q x g = aims-close P e q x g
-aims-bound P ACycle n e p q x g = aims-close P n p x g
-aims-bound P AChoice n e p q x g = aims-close P e q x g
-aims-bound P _ n e p q x g = g
+aims-bound P h n e p q x g = grind (arith, aims-close)
 
 aims-before : {A : Type 0} → (P : ℕ → Type 0) (h : Head A) (e : ℕ) → P e → Each (Aims P) (before h e)
-aims-before P ABlock e p = tt
-aims-before P ACycle e p = tt
-aims-before P (ACounted q l) e p = (p, tt)
-aims-before P AChoice e p = tt
-aims-before P AnArm e p = (p, tt)
-aims-before P _ e p = (tt, tt)
+aims-before P h e p = grind (arith)
 
 aims-behind : {A : Type 0} → (P : ℕ → Type 0) (h : Head A) → Each (Aims P) (behind h)
-aims-behind P (ACounted q l) = (tt, tt)
-aims-behind P AChoice = (tt, tt)
-aims-behind P AnArm = (tt, tt)
-aims-behind P _ = tt
+aims-behind P h = grind (arith)
 
 abbrev pub Within : ℕ → ℕ → ℕ → Type 0
 Within a b u = (a ≤ u) × (u ≤ b)
@@ -209,9 +188,7 @@ Within a b u = (a ≤ u) × (u ≤ b)
 pub within-more :
     {A : Type 0} → (a b c d : ℕ) → c ≤ a → b ≤ d → (xs : List (Slot A)) → Each (Aims (Within a b)) xs →
     Each (Aims (Within c d)) xs
-within-more a b c d p q xs h =
-    each-more (Aims (Within a b)) (Aims (Within c d)) xs
-    (aims-more (Within a b) (Within c d) (λ u w. (omega (arith, p, w.0), omega (arith, q, w.1)))) h
+within-more a b c d p q xs h = grind (arith, each-more, aims-more)
 
 pub within-part :
     {A : Type 0} → (h : Head A) (n m : ℕ) (xs : List (Slot A)) → Each (Aims (Within (starts h n) (starts h n + m))) xs →

@@ -190,9 +190,7 @@ misses_arms e x h = grind (arith, misses)
 pub strict :
     {A : Type 0} → (a b e : ℕ) → b < e → (xs : List (Slot A)) → Each (Aims (Within a b)) xs →
     Each (Aims (λ u. u < e)) xs
-strict a b e l xs h =
-    each-more (Aims (Within a b)) (Aims (λ u. u < e)) xs
-    (aims-more (Within a b) (λ u. u < e) (λ u w. omega (arith, l, w.1))) h
+strict a b e l xs h = grind (arith, each-more, aims-more)
 
 pub missing :
     {A : Type 0} → (e : ℕ) (xs : List (Slot A)) → Each (Aims (λ u. u < e)) xs → Each (λ x. hits e x ≡ false) xs
