@@ -6,19 +6,18 @@ use Rattle.of_control.specs.declared.opener.Kind.{Kind}
 use Rattle.of_control.specs.Openers.{is_case_sys, is_orig}
 use Rattle.of_control.specs.Element.{Back, Branch, Case, Do, Element, EndCase, EndOf, Leave, Loop, Mark, Misfit, Of}
 use Rattle.of_control.specs.Element.{Plain, Resolve, Roll}
-use Rattle.of_control.specs.Items.{DropSelector, EndArm, EnterLoop, ExitLoop, JumpTo, RepeatLoop, TestArm, is_item}
-use Rattle.of_control.specs.Items.{item_count, one_if}
+use Rattle.of_control.specs.Items.{DropSelector, EndArm, EnterLoop, JumpTo, RepeatLoop, TestArm, is_item, item_count}
+use Rattle.of_control.specs.Items.{one_if}
 use Rattle.of_control.specs.Body.{Body, IsScoped, items_of}
 use Rattle.of_control.proofs.Scopes.{scoped-nameless}
 use Rattle.of_control.specs.Matching.{IsDestFor, IsMatching, Opening, Partners, is_partner, open_ones, top_origs}
 use Rattle.of_control.specs.Matching.{top_structure}
 use Rattle.of_control.specs.Targets.{Targets, flat_items, innermost, item_of}
-use Rattle.of_control.specs.Reading.{BlockStart, Draft, Gathered, NamedArm, NamedBody, NamedChoice, NamedCounted}
-use Rattle.of_control.specs.Reading.{NamedCycle, NamedEnd, NamedJump, NamedLeave, NamedOperation, OpenCase, OpenChoice}
-use Rattle.of_control.specs.Reading.{OpenDo, OpenMark, OpenOf, Part, PartlyRead, Piece, add_due, add_leave, all_parts}
-use Rattle.of_control.specs.Reading.{body_of, close_all, close_case, close_counted, close_cycle, close_of, finished}
-use Rattle.of_control.specs.Reading.{hoisted, innermost_do, joined, open_of, put, put_all, read_next, read_so_far}
-use Rattle.of_control.specs.Reading.{reading, to_structure, with_last, with_structure}
+use Rattle.of_control.specs.Reading.{Draft, Gathered, NamedArm, NamedBody, NamedChoice, NamedCounted, NamedCycle}
+use Rattle.of_control.specs.Reading.{NamedEnd, NamedJump, OpenCase, OpenChoice, OpenDo, OpenMark, OpenOf, Part}
+use Rattle.of_control.specs.Reading.{PartlyRead, Piece, add_due, add_leave, all_parts, body_of, close_all, close_case}
+use Rattle.of_control.specs.Reading.{close_counted, close_cycle, close_of, finished, hoisted, innermost_do, joined}
+use Rattle.of_control.specs.Reading.{open_of, put, put_all, read_next, read_so_far, reading, with_last, with_structure}
 use Rattle.of_control.specs.AgedStack.{after}
 use Rattle.of_control.proofs.MatchingLemmas.{Desc-open, among-get, among-resolved, open-next}
 use Rattle.of_control.proofs.NamedBodies.{Fine, IsIn, Scoped, items-nameless, named_items, named_size}
@@ -66,10 +65,7 @@ leave_next :
     AgreeingDraft T (Leave ∷ es) (None ∷ m) (add_leave o d)
 leave_next T es m d None e inv is = tt
 leave_next T es m d (Some x) e inv is =
-    let f : do_in (stack_frames (open_ones es m)) ≡ Some x = ap do_in (sym inv.framed) ∙ sym (do_of-frames d) ∙ e in
-    let same = do_stack (length es) (open_ones es m) x f in
-    made T Leave es None m d (Part (NamedLeave x NamedEnd) ∷ d) inv is
-    (ap (λ a. piece_items T d ++ ExitLoop (T.to a) ∷ []) (sym same)) refl (inv.good, tt, (e, tt)) (kept T es m d inv)
+    grind (arith, do_in, stack_frames, do_of-frames, do_stack, made, piece_items, kept)
 
 -- ---- a cycle
 pub mark_frame : (t : Option ℕ) (k : Kind) (n : ℕ) → IsDestFor t k → frame_of k n ≡ OnMark n ∷ []
@@ -279,12 +275,8 @@ put_next :
     {A : Type 0} → (T : Targets) (e : Element A) (es : List (Element A)) (o : Option Opening) (m : Partners)
     (d : List (Piece A)) → Agreeing T es m d → IsMatching (e ∷ es) (o ∷ m) → Sets T es e o →
     Step T e es o m (put (length es) e d)
-put_next T (Plain k) es None m d inv is to =
-    made T (Plain k) es None m d (Part (NamedOperation k NamedEnd) ∷ d) inv is refl refl (inv.good, tt, tt)
-    (kept T es m d inv)
-put_next T (Branch z t) es None m d inv is to =
-    made T (Branch z t) es None m d (Part (NamedJump z (length es) NamedEnd) ∷ BlockStart (length es) ∷ d) inv is refl
-    refl (inv.good, tt, (inl refl, tt)) (kept T es m d inv)
+put_next T (Plain k) es None m d inv is to = grind (arith, made, kept)
+put_next T (Branch z t) es None m d inv is to = grind (arith, made, kept)
 put_next T (Mark p) es None m d inv is to =
     made T (Mark p) es None m d (OpenMark (length es) ∷ d) inv is (nil_append (piece_items T d)) (omega arith)
     (inv.good, to ∙ sym inv.counted) (ap (λ w. OnMark (length es) ∷ w) (kept T es m d inv))
@@ -295,21 +287,11 @@ put_next T Case es None m d inv is to =
     made T Case es None m d (OpenCase (length es) ∷ d) inv is (nil_append (piece_items T d)) (omega arith) inv.good
     (ap (λ w. OnCase (length es) ∷ w) (kept T es m d inv))
 put_next T Leave es None m d inv is to = leave_next T es m d (innermost_do d) refl inv is
-put_next T Of es None m d inv is to =
-    with_gathered T Of es None m d (open_of (length es)) (to_structure d) (to_structure-keeps T d inv.good)
-    (λ bs p from before k. of_next T es m d bs p from before inv is k)
-put_next T (Back z t) es (Some x) m d inv is to =
-    with_gathered T (Back z t) es (Some x) m d (close_cycle z) (to_structure d) (to_structure-keeps T d inv.good)
-    (λ bs p from before k. cycle_next T z t es x m d bs p from before inv is k)
-put_next T (Loop l) es (Some x) m d inv is to =
-    with_gathered T (Loop l) es (Some x) m d (close_counted l) (to_structure d) (to_structure-keeps T d inv.good)
-    (λ bs p from before k. counted_next T l es x m d bs p from before inv is to k)
-put_next T EndOf es (Some x) m d inv is to =
-    with_gathered T EndOf es (Some x) m d close_of (to_structure d) (to_structure-keeps T d inv.good)
-    (λ bs p from before k. endof_next T es x m d bs p from before inv is to k)
-put_next T EndCase es (Some x) m d inv is to =
-    with_gathered T EndCase es (Some x) m d close_case (to_structure d) (to_structure-keeps T d inv.good)
-    (λ bs p from before k. endcase_next T es x m d bs p from before inv is to k)
+put_next T Of es None m d inv is to = grind (arith, with_gathered, to_structure-keeps, of_next)
+put_next T (Back z t) es (Some x) m d inv is to = grind (arith, with_gathered, to_structure-keeps, cycle_next)
+put_next T (Loop l) es (Some x) m d inv is to = grind (arith, with_gathered, to_structure-keeps, counted_next)
+put_next T EndOf es (Some x) m d inv is to = grind (arith, with_gathered, to_structure-keeps, endof_next)
+put_next T EndCase es (Some x) m d inv is to = grind (arith, with_gathered, to_structure-keeps, endcase_next)
 put_next T (Resolve p) es o m d inv is to = tt
 put_next T (Roll n) es o m d inv is to = tt
 put_next T (Misfit k) es o m d inv is to = tt
@@ -392,10 +374,8 @@ read_next-keeps T e es o m r h is to = grind (arith, ends_at, add_due-ends, reso
 pub read_so_far-keeps :
     {A : Type 0} → (T : Targets) (es : List (Element A)) (m : Partners) → IsMatching es m → AreTargets T es m →
     AgreeingRead T es m (read_so_far es m)
-read_so_far-keeps T [] [] is to =
-    record { due = tt; pieces = record { listed = refl; counted = refl; good = tt; framed = refl } }
-read_so_far-keeps T (e ∷ es) (o ∷ m) is to =
-    read_next-keeps T e es o m (read_so_far es m) (read_so_far-keeps T es m is.0 to.0) is to.1
+read_so_far-keeps T [] [] is to = grind (arith)
+read_so_far-keeps T (e ∷ es) (o ∷ m) is to = grind (arith, read_so_far-keeps T es m is.0 to.0, read_next-keeps)
 read_so_far-keeps T _ _ is to = absurd is
 
 -- ---- the end
@@ -432,8 +412,7 @@ whole_part T p d (Some q) f s h =
     }
 
 all_parts-whole : {A : Type 0} → (T : Targets) (d : List (Piece A)) → Good T d → WholeIf T d (all_parts d)
-all_parts-whole T [] g =
-    record { listed = refl; counted = refl; fine = tt; no_labels = refl; no_do = refl; no_cases = refl; scoped = tt }
+all_parts-whole T [] g = grind (arith)
 all_parts-whole T (Part p ∷ d) g = whole_part T p d (all_parts d) g.1 g.2 (all_parts-whole T d g.0)
 all_parts-whole T _ g = tt
 

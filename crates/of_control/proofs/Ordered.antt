@@ -278,8 +278,7 @@ back_structure high top H B [] h = tt
 back_structure high top H B (Part q ∷ d) h =
     back_if_part high h.1.0 top H B q (to_structure d) h.0 h.1.1
     (back_structure h.1.0 top (λ b. HeldIn b q) (IsArm q) d h.1.2)
-back_structure high top H B (BlockStart c ∷ d) h =
-    back_if_start high c top H B (to_structure d) h.0 h.1 (back_structure high c H ⊥ d h.2)
+back_structure high top H B (BlockStart c ∷ d) h = grind (arith, back_structure high c H ⊥ d h.2, back_if_start)
 back_structure high top H B (OpenMark c ∷ d) h = back_here high top H B (OpenMark c) d h
 back_structure high top H B (OpenDo q c ∷ d) h = back_here high top H B (OpenDo q c) d h
 back_structure high top H B (OpenCase c ∷ d) h = back_here high top H B (OpenCase c) d h
@@ -326,7 +325,6 @@ from_branch b _ = tt
 pub ordered-hoisted :
     {A : Type 0} → (high top low : ℕ) (P K : ℕ → Type 0) (C : Type 0) (bs : List ℕ) (d : List (Piece A)) →
     Falls P top bs low → ((c : ℕ) → low ≤ c → P c → K c) → Ordered high low K ⊥ d → Ordered high top K C (hoisted bs d)
-ordered-hoisted high top low P K C [] d h f k =
-    ordered-more high high low top K K ⊥ C d (omega arith) h (λ e u x. x) (λ x. absurd x) k
+ordered-hoisted high top low P K C [] d h f k = grind (arith, ordered-more)
 ordered-hoisted high top low P K C (c ∷ cs) d h f k =
     (f c (falls_low P c low cs h.2) h.0, h.1, ordered-hoisted high c low P K ⊥ cs d h.2 f k)

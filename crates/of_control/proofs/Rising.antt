@@ -46,11 +46,9 @@ pub rise-left :
     (low b high : ℕ) (last : Bool) (ws : List NamedWay) → Rise low ws high → Rise low (map (left b last) ws) high
 rise-left low b high last [] h = h
 rise-left low b high last (Stays ∷ ws) h = rise-left low b high last ws h
-rise-left low b high last (Ends x ∷ ws) h =
-    rise-ends low x high last (map (left b last) ws) h.0 (rise-left (suc x) b high last ws h.1)
+rise-left low b high last (Ends x ∷ ws) h = grind (arith, rise-left (suc x) b high last ws h.1, rise-ends, left)
 rise-left low b high last (Goes x ∷ ws) h =
-    rise-goes low b x high last (x == b) (map (left b last) ws) (λ e. eqb-true x b e) h.0
-    (rise-left (suc x) b high last ws h.1)
+    grind (arith, rise-left (suc x) b high last ws h.1, rise-goes, left, eqb-true)
 
 pub rise-kept : (low high : ℕ) (ws : List NamedWay) → Rise low ws high → Rise low (map kept_in ws) high
 rise-kept low high [] h = h
@@ -88,11 +86,8 @@ shorter_by :
     Each (EndsAbove b) (xs ++ (Goes b ∷ ys)) → Each (Shorter b) xs
 shorter_by low b high [] ys h k = tt
 shorter_by low b high (Stays ∷ xs) ys h k = (tt, shorter_by low b high xs ys h k.1)
-shorter_by low b high (Ends x ∷ xs) ys h k =
-    let g = k.0 in let r = reaches (suc x) b high xs ys h.1 in absurd (omega (arith, g, r))
-shorter_by low b high (Goes x ∷ xs) ys h k =
-    let r = reaches (suc x) b high xs ys h.1 in
-    (λ e. absurd (omega (arith, e, r)), shorter_by (suc x) b high xs ys h.1 k.1)
+shorter_by low b high (Ends x ∷ xs) ys h k = grind (arith, reaches)
+shorter_by low b high (Goes x ∷ xs) ys h k = grind (arith, shorter_by (suc x) b high xs ys h.1 k.1, reaches)
 
 others_by : (low b high : ℕ) (ys : List NamedWay) → b < low → Rise low ys high → Each (NotTo b) ys
 others_by low b high [] l h = tt
@@ -200,8 +195,7 @@ pub rise-settled :
     (low high : ℕ) (k : Bool) (ws : List NamedWay) → Rise low ws high → Rise low (map (settled k) ws) high
 rise-settled low high k [] h = h
 rise-settled low high k (Stays ∷ ws) h = rise-settled low high k ws h
-rise-settled low high k (Ends x ∷ ws) h =
-    rise-ends low x high k (map (settled k) ws) h.0 (rise-settled (suc x) high k ws h.1)
+rise-settled low high k (Ends x ∷ ws) h = grind (arith, rise-settled (suc x) high k ws h.1, rise-ends)
 rise-settled low high k (Goes x ∷ ws) h = (h.0, rise-settled (suc x) high k ws h.1)
 
 pub rise-joined :

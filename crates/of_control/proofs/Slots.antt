@@ -242,19 +242,11 @@ cut-join p c q (x ∷ xs) ys e h k = (h.0, cut-join (suc p) c q xs ys (omega (ar
 pub cut-low :
     {A : Type 0} → (p c : ℕ) (xs : List (Slot A)) → p + length xs ≤ c → Each (Aims (λ u. u ≤ c)) xs → CutIn p c xs
 cut-low p c [] l h = tt
-cut-low p c (x ∷ xs) l h = (
-  aims-more (λ u. u ≤ c) (Keeps p c) (λ u w. (λ k. w, λ k. absurd (omega (arith, k, l)))) x h.0,
-  cut-low (suc p) c xs
-      (omega (arith, l)) h.1,
-)
+cut-low p c (x ∷ xs) l h = grind (arith, cut-low (suc p) c xs (omega (arith, l)) h.1, aims-more)
 
 pub cut-high : {A : Type 0} → (p c : ℕ) (xs : List (Slot A)) → c ≤ p → Each (Aims (λ u. c ≤ u)) xs → CutIn p c xs
 cut-high p c [] l h = tt
-cut-high p c (x ∷ xs) l h = (
-  aims-more (λ u. c ≤ u) (Keeps p c) (λ u w. (λ k. absurd (omega (arith, k, l)), λ k. w)) x h.0,
-  cut-high
-      (suc p) c xs (omega (arith, l)) h.1,
-)
+cut-high p c (x ∷ xs) l h = grind (arith, cut-high (suc p) c xs (omega (arith, l)) h.1, aims-more)
 
 pub cut-unclose : {A : Type 0} → (p c t : ℕ) (xs : List (Slot A)) → CutIn p c (map (close t) xs) → CutIn p c xs
 cut-unclose p c t [] h = tt

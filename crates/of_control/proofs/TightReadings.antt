@@ -315,26 +315,7 @@ endof_made n [] p (OpenChoice c) before k = tt
 endof_made n (b ∷ bs) p from before k = tt
 
 endcase_made : {A : Type 0} → (n : ℕ) → Made {A = A} n close_case
-endcase_made {A = A} n [] p (OpenCase c) before k =
-    let below = k.blocks in (
-      (
-        (tt, tt, tt),
-        (
-          n,
-          omega arith,
-          (
-            k.tight,
-            (
-              k.mid,
-              k.rise,
-              ordered_any k.mid k.mid k.low (suc n) (λ x. HeldIn x p) (IsArm p) before (omega arith)
-                  (omega (arith, below)) k.rest,
-            ),
-          ),
-        ),
-      ),
-      λ t. (omega arith, (tt, tt)),
-    )
+endcase_made {A = A} n [] p (OpenCase c) before k = grind (arith, ordered_any)
 endcase_made {A = A} n [] p (OpenChoice c) before k =
     let body : NamedBody A = NamedChoice c p NamedEnd in
     let below = k.blocks in
@@ -365,10 +346,8 @@ put_rested n (Mark p) d h = ((omega arith, ordered_any n n n (suc n) none ⊥ d 
 put_rested n (Do q) d h = (ordered_any n (suc n) n (suc n) none ⊥ d (omega arith) (omega arith) h, λ t. tt)
 put_rested n Case d h = (ordered_any n (suc n) n (suc n) none ⊥ d (omega arith) (omega arith) h, λ t. tt)
 put_rested n Leave d h = leave_rested n (innermost_do d) d h
-put_rested n (Back z t) d h =
-    with_back n (close_cycle z) (to_structure d) (back_structure n n none ⊥ d h) (cycle_made n z)
-put_rested n (Loop l) d h =
-    with_back n (close_counted l) (to_structure d) (back_structure n n none ⊥ d h) (counted_made n l)
+put_rested n (Back z t) d h = grind (arith, with_back, back_structure, none, cycle_made)
+put_rested n (Loop l) d h = grind (arith, with_back, back_structure, none, counted_made)
 put_rested n Of d h = with_back n (open_of n) (to_structure d) (back_structure n n none ⊥ d h) (of_made n)
 put_rested n EndOf d h = with_back n close_of (to_structure d) (back_structure n n none ⊥ d h) (endof_made n)
 put_rested n EndCase d h = with_back n close_case (to_structure d) (back_structure n n none ⊥ d h) (endcase_made n)

@@ -74,22 +74,14 @@ finds_aimed :
     {A : Type 0} → (place : List (Element A) → ℕ) (es : List (Element A)) (t : ℕ) (os : List Opening) →
     FindsIf os (first_orig_for t (top_origs os)) (aimed_index t (map (placed place es) os))
 finds_aimed place es t [] = tt
-finds_aimed place es t (x ∷ os) =
-    finds_aimed_step t x os (aimed_index t (map (placed place es) os)) (is_orig_for t x.kind) (is_orig x.kind) refl refl
-    (finds_aimed place es t os)
+finds_aimed place es t (x ∷ os) = grind (arith, finds_aimed place es t os, finds_aimed_step)
 
 pub finds_orig :
     {A : Type 0} → (place : List (Element A) → ℕ) (es : List (Element A)) (p : Option ℕ) (os : List Opening) →
     Finds os (found (resolved p (top_origs os))) (orig_index p (map (placed place es) os))
 finds_orig place es None [] = tt
 finds_orig place es None (x ∷ os) = finds_origs_if x os (is_orig x.kind)
-finds_orig place es (Some p) os =
-    let a = first_orig_for p (top_origs os) in
-    let b = first_orig_for (suc p) (top_origs os) in
-    let i = aimed_index p (map (placed place es) os) in
-    let j = aimed_index (suc p) (map (placed place es) os) in
-    finds_found os (or_opening a b) (or_else i j)
-    (finds_either os a b i j (finds_aimed place es p os) (finds_aimed place es (suc p) os))
+finds_orig place es (Some p) os = grind (arith, finds_found, finds_either, finds_aimed)
 
 -- ---- a backward branch
 
@@ -107,9 +99,7 @@ pub finds_dest :
     {A : Type 0} → (place : List (Element A) → ℕ) (es : List (Element A)) (t : Option ℕ) (os : List Opening) →
     Finds os (if_kind (is_dest_for t) (top_structure os)) (dest_index t (map (placed place es) os))
 finds_dest place es t [] = tt
-finds_dest place es t (x ∷ os) =
-    finds_dest_step t x os (dest_index t (map (placed place es) os)) (is_dest_for t x.kind) (is_orig x.kind) refl refl
-    (finds_dest place es t os)
+finds_dest place es t (x ∷ os) = grind (arith, finds_dest place es t os, finds_dest_step)
 
 -- ---- a roll
 
