@@ -135,13 +135,6 @@ pub waits-top :
 waits-top [] x e p b = refl
 waits-top (y ∷ os) x e p b = grind (arith, waits-is)
 
-pub times-none : (bs : List ℕ) → ((a : ℕ) → times a bs ≡ 0) → bs ≡ []
-times-none [] h = refl
-times-none (b ∷ bs) h =
-    let one : one_if (b == b) ≡ 1 = ap one_if (eq-eqb b b refl) in
-    let e = h b in
-    absurd (omega (arith, e, one))
-
 pub some_block : (b : ℕ) (bs : List ℕ) → ((a : ℕ) → times a (b ∷ bs) ≡ 0) → ⊥
 some_block b bs h =
     let one : one_if (b == b) ≡ 1 = ap one_if (eq-eqb b b refl) in

@@ -58,11 +58,6 @@ rise-kept low high (Ends x ∷ ws) h =
 rise-kept low high (Goes x ∷ ws) h =
     let g = h.0 in rise-kept low high ws (rise-more (suc x) low high ws (omega (arith, g)) h.1)
 
-abbrev pub NameBelow : ℕ → NamedWay → Type 0
-NameBelow b Stays = Unit {0}
-NameBelow b (Ends x) = x < b
-NameBelow b (Goes x) = x < b
-
 -- the Blocks that end with the body have no earlier jumps than b
 abbrev pub EndsAbove : ℕ → NamedWay → Type 0
 EndsAbove b (Ends x) = b ≤ x

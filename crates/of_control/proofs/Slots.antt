@@ -142,10 +142,6 @@ pub each-append :
 each-append P [] ys h k = k
 each-append P (x ∷ xs) ys h k = (h.0, each-append P xs ys h.1 k)
 
-pub each-left : {A : Type 0} → (P : Slot A → Type 0) (xs ys : List (Slot A)) → Each P (xs ++ ys) → Each P xs
-each-left P [] ys h = tt
-each-left P (x ∷ xs) ys h = (h.0, each-left P xs ys h.1)
-
 pub each-map :
     {A : Type 0} → (P Q : Slot A → Type 0) (f : Slot A → Slot A) (xs : List (Slot A)) → ((x : Slot A) → P x → Q (f x)) →
     Each P xs → Each Q (map f xs)

@@ -167,10 +167,6 @@ map_twice :
 map_twice f g h k [] e = refl
 map_twice f g h k (x ∷ xs) e = ap (λ y. y ∷ map f (map g xs)) e.0 ∙ ap (λ l. h (k x) ∷ l) (map_twice f g h k xs e.1)
 
-if_other :
-    (b c : Bool) → (if b then (if c then AtEnd else Inside) else Inside) ≡ outward c (if b then AtEnd else Inside)
-if_other b c = grind (arith)
-
 -- a jump to u, seen from the Block that ends at s, and from the body round it that ends at e
 seen_out :
     (u s e : ℕ) → u ≤ s → s ≤ e → outward (s == e) (if u == s then AtEnd else Inside) ≡ if u == e then AtEnd else Inside

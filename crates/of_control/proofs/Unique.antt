@@ -6,10 +6,10 @@ use Rattle.std.proofs.lemmas.Bool.{ne_eqb, eq-eqb, cases_lt}
 use Rattle.std.proofs.lemmas.List.{append-nil, append_cancel_left, append_cancel_right, map-append, map-id}
 use Rattle.std.proofs.lemmas.List.{length-append, length-map}
 use Rattle.of_control.proofs.Slots.{Slot, Does, Leaves, Out, To, Enters, Again, Tests, Drops, Head, AnOperation, ALeave}
-use Rattle.of_control.proofs.Slots.{AJump, ABlock, ACycle, ACounted, AChoice, AnArm, Tree, Leaf, Node, starts, width-is}
-use Rattle.of_control.proofs.Slots.{width, size, before, behind, close, bound, part, slots, length-slots, length-part}
-use Rattle.of_control.proofs.Slots.{Aims, each-append, each-map, each-more, each-both, aims-more, Within, within-part}
-use Rattle.of_control.proofs.Slots.{within, Keeps, CutIn, cut-left, cut-right, cut-join, cut-low, cut-high, cut-unclose}
+use Rattle.of_control.proofs.Slots.{AJump, ABlock, ACycle, ACounted, AChoice, AnArm, Tree, Leaf, Node, starts, width}
+use Rattle.of_control.proofs.Slots.{size, before, behind, close, bound, part, slots, length-slots, length-part, Aims}
+use Rattle.of_control.proofs.Slots.{each-append, each-map, each-more, each-both, aims-more, Within, within-part, within}
+use Rattle.of_control.proofs.Slots.{Keeps, CutIn, cut-left, cut-right, cut-join, cut-low, cut-high, cut-unclose}
 use Rattle.of_control.specs.Tight.{Each}
 
 -- no way out of the part
@@ -427,9 +427,6 @@ split_equal (x ∷ xs) ys (u ∷ us) vs l e =
     (ap (λ w. w ∷ xs) heads ∙ ap (λ w. u ∷ w) r.0, r.1)
 split_equal _ ys _ vs l e = absurd (omega (arith, l))
 
-split_last : {A : Type 0} → (xs us ws : List (Slot A)) → xs ++ ws ≡ us ++ ws → xs ≡ us
-split_last xs us ws e = append_cancel_right xs us ws e
-
 pub wide_left :
     {A : Type 0} → (n : ℕ) (i : Tree A) (xs ys : List (Slot A)) (x : Slot A) → slots i n ≡ xs ++ (x ∷ ys) → 1 ≤ size i
 wide_left n i xs ys x e =
@@ -439,9 +436,6 @@ wide_left n i xs ys x e =
 -- each part has an item
 pub wide : {A : Type 0} → (h : Head A) (n : ℕ) (i : Tree A) → Fits h n i → 1 ≤ width h (size i)
 wide h n i f = grind (arith, wide_left)
-
-inner_size : {A : Type 0} → (h : Head A) (a b : ℕ) → width h a ≡ width h b → a ≡ b
-inner_size h a b e = omega (arith, e, width-is h a, width-is h b)
 
 -- of two trees with these items, the first part of one is no wider than that of the other
 no_wider :
