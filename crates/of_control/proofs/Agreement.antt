@@ -1,24 +1,23 @@
 -- The reading's items are the flat ones.
-use Rattle.std.proofs.Common.{◌≡◌, ℕ, suc, ◌+◌, Bool, true, false, List, [], ◌∷◌, ◌++◌, length, Option, Some, None}
-use Rattle.std.proofs.Common.{refl, sym, ap, ◌∙◌, subst, inl, arith, not, append_assoc}
+use Rattle.std.proofs.Common.{◌≡◌, ℕ, suc, ◌+◌, Bool, false, List, [], ◌∷◌, ◌++◌, length, Option, Some, None, refl, sym}
+use Rattle.std.proofs.Common.{ap, ◌∙◌, subst, inl, arith, not, append_assoc}
 use Rattle.std.specs.Prelude.{filter, nat_lt, if◌then◌else◌}
 use Rattle.of_control.specs.declared.opener.Kind.{Kind}
 use Rattle.of_control.specs.Openers.{is_case_sys, is_orig}
 use Rattle.of_control.specs.Element.{Back, Branch, Case, Do, Element, EndCase, EndOf, Leave, Loop, Mark, Misfit, Of}
 use Rattle.of_control.specs.Element.{Plain, Resolve, Roll}
-use Rattle.of_control.specs.Items.{DropSelector, EndArm, EnterLoop, ExitLoop, JumpTo, RepeatLoop, TestArm, is_item}
-use Rattle.of_control.specs.Items.{item_count, one_if}
+use Rattle.of_control.specs.Items.{DropSelector, EndArm, EnterLoop, JumpTo, RepeatLoop, TestArm, is_item, item_count}
+use Rattle.of_control.specs.Items.{one_if}
 use Rattle.of_control.specs.Body.{Body, IsScoped, items_of}
 use Rattle.of_control.proofs.Scopes.{scoped-nameless}
 use Rattle.of_control.specs.Matching.{IsDestFor, IsMatching, Opening, Partners, is_partner, open_ones, top_origs}
 use Rattle.of_control.specs.Matching.{top_structure}
 use Rattle.of_control.specs.Targets.{Targets, flat_items, innermost, item_of}
-use Rattle.of_control.specs.Reading.{BlockStart, Draft, Gathered, NamedArm, NamedBody, NamedChoice, NamedCounted}
-use Rattle.of_control.specs.Reading.{NamedCycle, NamedEnd, NamedJump, NamedLeave, NamedOperation, OpenCase, OpenChoice}
-use Rattle.of_control.specs.Reading.{OpenDo, OpenMark, OpenOf, Part, PartlyRead, Piece, add_due, add_leave, all_parts}
-use Rattle.of_control.specs.Reading.{body_of, close_all, close_case, close_counted, close_cycle, close_of, finished}
-use Rattle.of_control.specs.Reading.{hoisted, innermost_do, joined, open_of, put, put_all, read_next, read_so_far}
-use Rattle.of_control.specs.Reading.{reading, to_structure, with_last, with_structure}
+use Rattle.of_control.specs.Reading.{Draft, Gathered, NamedArm, NamedBody, NamedChoice, NamedCounted, NamedCycle}
+use Rattle.of_control.specs.Reading.{NamedEnd, NamedJump, OpenCase, OpenChoice, OpenDo, OpenMark, OpenOf, Part}
+use Rattle.of_control.specs.Reading.{PartlyRead, Piece, add_due, add_leave, all_parts, body_of, close_all, close_case}
+use Rattle.of_control.specs.Reading.{close_counted, close_cycle, close_of, finished, hoisted, innermost_do, joined}
+use Rattle.of_control.specs.Reading.{open_of, put, put_all, read_next, read_so_far, reading, with_last, with_structure}
 use Rattle.of_control.specs.AgedStack.{after}
 use Rattle.of_control.proofs.MatchingLemmas.{Desc-open, among-get, among-resolved, open-next}
 use Rattle.of_control.proofs.NamedBodies.{Fine, IsIn, Scoped, items-nameless, named_items, named_size}
@@ -51,13 +50,7 @@ made :
     piece_items T new ≡ piece_items T d ++ item_of T es (open_ones es m) e o →
     piece_count new ≡ piece_count d + one_if (is_item e) → Good T new →
     frames new ≡ stack_frames (after (length es) e o (open_ones es m)) → Agreeing T (e ∷ es) (o ∷ m) new
-made T e es o m d new inv is l c g f =
-    record {
-      listed = l ∙ ap (λ k. k ++ item_of T es (open_ones es m) e o) inv.listed;
-      counted = omega (arith, c, inv.counted);
-      good = g;
-      framed = f ∙ ap stack_frames (sym (open-next e es o m is));
-    }
+made T e es o m d new inv is l c g f = grind (arith, stack_frames, open-next)
 
 -- an element that closes nothing leaves the structures below it
 kept :
@@ -72,10 +65,7 @@ leave_next :
     AgreeingDraft T (Leave ∷ es) (None ∷ m) (add_leave o d)
 leave_next T es m d None e inv is = tt
 leave_next T es m d (Some x) e inv is =
-    let f : do_in (stack_frames (open_ones es m)) ≡ Some x = ap do_in (sym inv.framed) ∙ sym (do_of-frames d) ∙ e in
-    let same = do_stack (length es) (open_ones es m) x f in
-    made T Leave es None m d (Part (NamedLeave x NamedEnd) ∷ d) inv is
-    (ap (λ a. piece_items T d ++ ExitLoop (T.to a) ∷ []) (sym same)) refl (inv.good, tt, (e, tt)) (kept T es m d inv)
+    grind (arith, do_in, stack_frames, do_of-frames, do_stack, made, piece_items, kept)
 
 -- ---- a cycle
 pub mark_frame : (t : Option ℕ) (k : Kind) (n : ℕ) → IsDestFor t k → frame_of k n ≡ OnMark n ∷ []
@@ -279,19 +269,14 @@ with_gathered :
     (d : List (Piece A)) (f : List ℕ → NamedBody A → Piece A → List (Piece A) → Draft A) (g : Option (Gathered A)) →
     Structured T d g → ((bs : List ℕ) (p : NamedBody A) (from : Piece A) (before : List (Piece A)) →
     Keeps T d bs p (from ∷ before) → Step T e es o m (f bs p from before)) → Step T e es o m (with_structure f g)
-with_gathered T e es o m d f None h by = tt
-with_gathered T e es o m d f (Some g) h by = by g.blocks g.inside g.from g.before h.0.keeps
+with_gathered T e es o m d f g h by = grind (arith)
 
 put_next :
     {A : Type 0} → (T : Targets) (e : Element A) (es : List (Element A)) (o : Option Opening) (m : Partners)
     (d : List (Piece A)) → Agreeing T es m d → IsMatching (e ∷ es) (o ∷ m) → Sets T es e o →
     Step T e es o m (put (length es) e d)
-put_next T (Plain k) es None m d inv is to =
-    made T (Plain k) es None m d (Part (NamedOperation k NamedEnd) ∷ d) inv is refl refl (inv.good, tt, tt)
-    (kept T es m d inv)
-put_next T (Branch z t) es None m d inv is to =
-    made T (Branch z t) es None m d (Part (NamedJump z (length es) NamedEnd) ∷ BlockStart (length es) ∷ d) inv is refl
-    refl (inv.good, tt, (inl refl, tt)) (kept T es m d inv)
+put_next T (Plain k) es None m d inv is to = grind (arith, made, kept)
+put_next T (Branch z t) es None m d inv is to = grind (arith, made, kept)
 put_next T (Mark p) es None m d inv is to =
     made T (Mark p) es None m d (OpenMark (length es) ∷ d) inv is (nil_append (piece_items T d)) (omega arith)
     (inv.good, to ∙ sym inv.counted) (ap (λ w. OnMark (length es) ∷ w) (kept T es m d inv))
@@ -302,21 +287,11 @@ put_next T Case es None m d inv is to =
     made T Case es None m d (OpenCase (length es) ∷ d) inv is (nil_append (piece_items T d)) (omega arith) inv.good
     (ap (λ w. OnCase (length es) ∷ w) (kept T es m d inv))
 put_next T Leave es None m d inv is to = leave_next T es m d (innermost_do d) refl inv is
-put_next T Of es None m d inv is to =
-    with_gathered T Of es None m d (open_of (length es)) (to_structure d) (to_structure-keeps T d inv.good)
-    (λ bs p from before k. of_next T es m d bs p from before inv is k)
-put_next T (Back z t) es (Some x) m d inv is to =
-    with_gathered T (Back z t) es (Some x) m d (close_cycle z) (to_structure d) (to_structure-keeps T d inv.good)
-    (λ bs p from before k. cycle_next T z t es x m d bs p from before inv is k)
-put_next T (Loop l) es (Some x) m d inv is to =
-    with_gathered T (Loop l) es (Some x) m d (close_counted l) (to_structure d) (to_structure-keeps T d inv.good)
-    (λ bs p from before k. counted_next T l es x m d bs p from before inv is to k)
-put_next T EndOf es (Some x) m d inv is to =
-    with_gathered T EndOf es (Some x) m d close_of (to_structure d) (to_structure-keeps T d inv.good)
-    (λ bs p from before k. endof_next T es x m d bs p from before inv is to k)
-put_next T EndCase es (Some x) m d inv is to =
-    with_gathered T EndCase es (Some x) m d close_case (to_structure d) (to_structure-keeps T d inv.good)
-    (λ bs p from before k. endcase_next T es x m d bs p from before inv is to k)
+put_next T Of es None m d inv is to = grind (arith, with_gathered, to_structure-keeps, of_next)
+put_next T (Back z t) es (Some x) m d inv is to = grind (arith, with_gathered, to_structure-keeps, cycle_next)
+put_next T (Loop l) es (Some x) m d inv is to = grind (arith, with_gathered, to_structure-keeps, counted_next)
+put_next T EndOf es (Some x) m d inv is to = grind (arith, with_gathered, to_structure-keeps, endof_next)
+put_next T EndCase es (Some x) m d inv is to = grind (arith, with_gathered, to_structure-keeps, endcase_next)
 put_next T (Resolve p) es o m d inv is to = tt
 put_next T (Roll n) es o m d inv is to = tt
 put_next T (Misfit k) es o m d inv is to = tt
@@ -331,8 +306,7 @@ pub record AgreeingRead {A : Type 0} (T : Targets) (es : List (Element A)) (m : 
 add_due-ends_step :
     (T : Targets) (n b c : ℕ) (cs : List ℕ) (t : Bool) → T.to b ≡ n → T.to c ≡ n → EndHere T n cs →
     EndHere T n (add_due b cs) → EndHere T n (if t then b ∷ c ∷ cs else c ∷ add_due b cs)
-add_due-ends_step T n b c cs true e f h k = (e, (f, h))
-add_due-ends_step T n b c cs false e f h k = (f, k)
+add_due-ends_step T n b c cs t e f h k = grind (arith)
 
 add_due-ends : (T : Targets) (n b : ℕ) (bs : List ℕ) → T.to b ≡ n → EndHere T n bs → EndHere T n (add_due b bs)
 add_due-ends T n b [] e h = (e, tt)
@@ -345,15 +319,7 @@ close_all-none (b ∷ bs) = close_all-none bs
 inv_same :
     {A : Type 0} → (T : Targets) (es : List (Element A)) (m : Partners) (d : List (Piece A)) (o : Draft A) →
     Agreeing T es m d → SameDraft T d o → AgreeingDraft T es m o
-inv_same T es m d None inv s = tt
-inv_same T es m d (Some e) inv s =
-    record {
-      listed = s.listed ∙ inv.listed;
-      counted = s.counted ∙ inv.counted;
-      good = s.good;
-      framed = s.framed
-          ∙ inv.framed;
-    }
+inv_same T es m d o inv s = grind (arith)
 
 same_refl : {A : Type 0} → (T : Targets) (d : List (Piece A)) → Good T d → Same T d d
 same_refl T d g = record { listed = refl; counted = refl; good = g; framed = refl }
@@ -361,28 +327,19 @@ same_refl T d g = record { listed = refl; counted = refl; good = g; framed = ref
 flushed :
     {A : Type 0} → (T : Targets) (es : List (Element A)) (m : Partners) (bs : List ℕ) (o : Draft A) →
     EndHere T (item_count es) bs → AgreeingDraft T es m o → AgreeingDraft T es m (close_all bs o)
-flushed T es m bs None h inv = subst (AgreeingDraft T es m) (sym (close_all-none bs)) tt
-flushed T es m bs (Some d) h inv =
-    inv_same T es m d (close_all bs (Some d)) inv
-    (close_all-keeps T bs d (Some d) (subst (λ n. EndHere T n bs) (sym inv.counted) h) (same_refl T d inv.good))
+flushed T es m bs o h inv = grind (arith, close_all-none, inv_same, close_all-keeps, same_refl)
 
 put_all_next :
     {A : Type 0} → (T : Targets) (e : Element A) (es : List (Element A)) (o : Option Opening) (m : Partners)
     (d : Draft A) → AgreeingDraft T es m d → IsMatching (e ∷ es) (o ∷ m) → Sets T es e o →
     Step T e es o m (put_all (length es) e d)
-put_all_next T e es o m None inv is to = tt
-put_all_next T e es o m (Some d) inv is to = put_next T e es o m d inv is to
+put_all_next T e es o m d inv is to = grind (arith, put_next)
 
 usual_next :
     {A : Type 0} → (T : Targets) (e : Element A) (es : List (Element A)) (o : Option Opening) (m : Partners)
     (r : PartlyRead A) → AgreeingRead T es m r → IsMatching (e ∷ es) (o ∷ m) → Sets T es e o →
     AgreeingRead T (e ∷ es) (o ∷ m) (record { due = []; pieces = put_all (length es) e (close_all r.due r.pieces) })
-usual_next T e es o m r h is to =
-    record {
-      due = tt;
-      pieces = put_all_next T e es o m (close_all r.due r.pieces)
-          (flushed T es m r.due r.pieces h.due h.pieces) is to;
-    }
+usual_next T e es o m r h is to = grind (arith, put_all_next, flushed)
 
 resolve_next :
     {A : Type 0} → (T : Targets) (p : Option ℕ) (es : List (Element A)) (x : Opening) (m : Partners) (o : Draft A) →
@@ -412,39 +369,13 @@ read_next-keeps :
     {A : Type 0} → (T : Targets) (e : Element A) (es : List (Element A)) (o : Option Opening) (m : Partners)
     (r : PartlyRead A) → AgreeingRead T es m r → IsMatching (e ∷ es) (o ∷ m) → Sets T es e o →
     AgreeingRead T (e ∷ es) (o ∷ m) (read_next (length es) e o r)
-read_next-keeps T (Resolve p) es (Some x) m r h is to =
-    record {
-      due = ends_at T (item_count es) (item_count es + 0) (add_due x.at r.due) (omega arith)
-          (add_due-ends T (item_count es) x.at r.due to h.due);
-      pieces = resolve_next T p es x m r.pieces h.pieces is;
-    }
-read_next-keeps T (Roll n) es (Some x) m r h is to =
-    record {
-      due = ends_at T (item_count es) (item_count es + 0) r.due (omega arith) h.due;
-      pieces =
-          roll_next T n es x m r.pieces h.pieces is;
-    }
-read_next-keeps T (Plain k) es o m r h is to = usual_next T (Plain k) es o m r h is to
-read_next-keeps T (Branch z t) es o m r h is to = usual_next T (Branch z t) es o m r h is to
-read_next-keeps T (Mark p) es o m r h is to = usual_next T (Mark p) es o m r h is to
-read_next-keeps T (Back z t) es o m r h is to = usual_next T (Back z t) es o m r h is to
-read_next-keeps T (Do q) es o m r h is to = usual_next T (Do q) es o m r h is to
-read_next-keeps T (Loop l) es o m r h is to = usual_next T (Loop l) es o m r h is to
-read_next-keeps T Leave es o m r h is to = usual_next T Leave es o m r h is to
-read_next-keeps T Case es o m r h is to = usual_next T Case es o m r h is to
-read_next-keeps T Of es o m r h is to = usual_next T Of es o m r h is to
-read_next-keeps T EndOf es o m r h is to = usual_next T EndOf es o m r h is to
-read_next-keeps T EndCase es o m r h is to = usual_next T EndCase es o m r h is to
-read_next-keeps T (Misfit k) es o m r h is to = usual_next T (Misfit k) es o m r h is to
-read_next-keeps T _ es None m r h is to = absurd is.1
+read_next-keeps T e es o m r h is to = grind (arith, ends_at, add_due-ends, resolve_next, roll_next, usual_next)
 
 pub read_so_far-keeps :
     {A : Type 0} → (T : Targets) (es : List (Element A)) (m : Partners) → IsMatching es m → AreTargets T es m →
     AgreeingRead T es m (read_so_far es m)
-read_so_far-keeps T [] [] is to =
-    record { due = tt; pieces = record { listed = refl; counted = refl; good = tt; framed = refl } }
-read_so_far-keeps T (e ∷ es) (o ∷ m) is to =
-    read_next-keeps T e es o m (read_so_far es m) (read_so_far-keeps T es m is.0 to.0) is to.1
+read_so_far-keeps T [] [] is to = grind (arith)
+read_so_far-keeps T (e ∷ es) (o ∷ m) is to = grind (arith, read_so_far-keeps T es m is.0 to.0, read_next-keeps)
 read_so_far-keeps T _ _ is to = absurd is
 
 -- ---- the end
@@ -481,8 +412,7 @@ whole_part T p d (Some q) f s h =
     }
 
 all_parts-whole : {A : Type 0} → (T : Targets) (d : List (Piece A)) → Good T d → WholeIf T d (all_parts d)
-all_parts-whole T [] g =
-    record { listed = refl; counted = refl; fine = tt; no_labels = refl; no_do = refl; no_cases = refl; scoped = tt }
+all_parts-whole T [] g = grind (arith)
 all_parts-whole T (Part p ∷ d) g = whole_part T p d (all_parts d) g.1 g.2 (all_parts-whole T d g.0)
 all_parts-whole T _ g = tt
 
@@ -503,14 +433,10 @@ agrees_named T es m d (Some q) inv h = (
 agrees_draft :
     {A : Type 0} → (T : Targets) (es : List (Element A)) (m : Partners) (o : Draft A) → AgreeingDraft T es m o →
     Agrees T es m (body_of (finished o))
-agrees_draft T es m None inv = tt
-agrees_draft T es m (Some d) inv = agrees_named T es m d (all_parts d) inv (all_parts-whole T d inv.good)
+agrees_draft T es m o inv = grind (arith, agrees_named, all_parts-whole)
 
 -- the items of the reading are the flat ones, with the same targets
 pub agrees :
     {A : Type 0} → (T : Targets) (es : List (Element A)) (m : Partners) → IsMatching es m → AreTargets T es m →
     Agrees T es m (reading es m)
-agrees T es m is to =
-    let r = read_so_far es m in
-    let h = read_so_far-keeps T es m is to in
-    agrees_draft T es m (close_all r.due r.pieces) (flushed T es m r.due r.pieces h.due h.pieces)
+agrees T es m is to = grind (arith, read_so_far-keeps, agrees_draft, flushed)

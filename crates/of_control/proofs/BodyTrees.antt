@@ -64,20 +64,13 @@ IsSeen m c (Out None (suc k)) = ⊥
 IsSeen m c _ = Unit {0}
 
 pub seen-close : {A : Type 0} → (m t : ℕ) (c : Bool) (x : Slot A) → IsSeen (suc m) false x → IsSeen m c (close t x)
-seen-close m t c (Out (Some z) (suc k)) h = omega (arith, h)
-seen-close m t c (Out None (suc k)) h = absurd h
-seen-close m t c _ h = tt
+seen-close m t c x h = grind (arith)
 
 pub seen-arms : {A : Type 0} → (m t : ℕ) (c : Bool) (x : Slot A) → IsSeen 0 true x → IsSeen m c (close t x)
-seen-arms m t c (Out (Some z) k) h = absurd (omega (arith, h))
-seen-arms m t c (Out None (suc k)) h = absurd h
-seen-arms m t c _ h = tt
+seen-arms m t c x h = grind (arith)
 
 pub seen-shut : {A : Type 0} → (m : ℕ) (c : Bool) (x : Slot A) → IsSeen 0 false x → IsSeen m c x
-seen-shut m c (Out (Some z) k) h = absurd (omega (arith, h))
-seen-shut m c (Out None zero) h = let bad : ⊥ = cc in absurd bad
-seen-shut m c (Out None (suc k)) h = absurd h
-seen-shut m c _ h = tt
+seen-shut m c x h = grind (arith)
 
 pub seen :
     {A : Type 0} → (m : ℕ) (d c : Bool) (b : Body A) (n : ℕ) → IsTight m d c b → Each (IsSeen m c) (slots (tree b) n)

@@ -6,7 +6,6 @@ use Rattle.std.proofs.lemmas.List.{append-nil, length-map, length_push, take-app
 use Rattle.of_control.specs.Element.{Element}
 use Rattle.of_control.specs.Items.{DropSelector, EndArm, EnterLoop, ExitLoop, Item, JumpTo, Perform, RepeatLoop}
 use Rattle.of_control.specs.Items.{TestArm, is_item, item_count, one_if, performed, performed_by, plain_items}
-use Rattle.of_control.specs.Calls.{after_calls, call_answer}
 use Rattle.of_control.specs.Law.{ItemsAreCounted}
 use Rattle.of_control.specs.Compiling.{compiled, compiled_next, from_item, with_endof, with_leave, with_target_at}
 use Rattle.of_control.specs.Compiling.{with_target}
@@ -36,9 +35,7 @@ counted_next e o is = grind (arith, length_push, length-with_target_at, length-f
 
 counted : {A : Type 0} → (limit : ℕ) (es : List (Element A)) → length (compiled limit es) ≡ item_count es
 counted limit [] = refl
-counted limit (e ∷ es) =
-    counted_next e (call_answer e (after_calls limit item_count es)) (compiled limit es)
-    ∙ ap (λ n. n + one_if (is_item e)) (counted limit es)
+counted limit (e ∷ es) = grind (arith, counted limit es, counted_next)
 
 -- ---- plain items
 
@@ -63,18 +60,13 @@ abbrev IsKeeping : {A : Type 0} → (Item A → Item A) → Type 0
 IsKeeping {A = A} f = (i : Item A) (is : List (Item A)) → plain_items (f i ∷ is) ≡ plain_items (i ∷ is)
 
 target_keeps : {A : Type 0} → (t : ℕ) → IsKeeping {A = A} (with_target t)
-target_keeps t (Perform k) is = refl
-target_keeps t _ is = refl
+target_keeps t h1 is = grind (arith)
 
 leave_keeps : {A : Type 0} → (t : ℕ) → IsKeeping {A = A} (with_leave t)
-leave_keeps t (ExitLoop zero) is = refl
-leave_keeps t (ExitLoop (suc s)) is = refl
-leave_keeps t _ is = refl
+leave_keeps t h1 is = grind (arith)
 
 endof_keeps : {A : Type 0} → (t : ℕ) → IsKeeping {A = A} (with_endof t)
-endof_keeps t (EndArm zero) is = refl
-endof_keeps t (EndArm (suc s)) is = refl
-endof_keeps t _ is = refl
+endof_keeps t h1 is = grind (arith)
 
 plain-with_target_at :
     {A : Type 0} → (n t : ℕ) (is : List (Item A)) → plain_items (with_target_at n t is) ≡ plain_items is
@@ -113,9 +105,7 @@ plain_next e o is =
 
 plain : {A : Type 0} → (limit : ℕ) (es : List (Element A)) → plain_items (compiled limit es) ≡ performed es
 plain limit [] = refl
-plain limit (e ∷ es) =
-    plain_next e (call_answer e (after_calls limit item_count es)) (compiled limit es)
-    ∙ ap (λ l. l ++ performed_by e) (plain limit es)
+plain limit (e ∷ es) = grind (arith, plain limit es, plain_next)
 
 pub items_are_counted : (A : Type 0) (limit : ℕ) → ItemsAreCounted A limit
 items_are_counted A limit = record { count = counted limit; plain = plain limit }

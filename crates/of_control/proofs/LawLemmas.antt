@@ -1,19 +1,18 @@
 -- The laws.
-use Rattle.std.proofs.Common.{◌≡◌, false, ℕ, List, [], Some, None, refl, sym, ap, ◌∙◌, subst, IsTrue, ◌⊎◌, inl, inr}
+use Rattle.std.proofs.Common.{arith, ◌≡◌, false, ℕ, List, [], Some, None, refl, sym, ap, ◌∙◌, subst, IsTrue, ◌⊎◌, inl}
 use Rattle.std.specs.Prelude.{map}
 use Rattle.of_control.specs.Openers.{is_all_closed}
 use Rattle.of_control.specs.Element.{Element}
 use Rattle.of_control.specs.Matching.{IsMatching, Partners}
-use Rattle.of_control.specs.Body.{Body, items_of}
+use Rattle.of_control.specs.Body.{Body}
 use Rattle.of_control.specs.Reading.{body_in, read_by, reading}
 use Rattle.of_control.specs.Tight.{IsReading}
-use Rattle.of_control.specs.Targets.{flat_items, targets_of}
 use Rattle.of_control.specs.Calls.{after_calls, placed}
 use Rattle.of_control.specs.Law.{CallsFollowMatching, ClosedIsRead, HasNone, IsBodyIn, IsBounded, IsMatched}
 use Rattle.of_control.specs.Law.{ItemsAreFlat, JumpsStayInside, MatchingIsDecided, OneReading}
 use Rattle.of_control.specs.AgedStack.{AgedStack, aged_stack}
 use Rattle.of_control.proofs.MatchingLemmas.{Sound, complete, sound, one_matching}
-use Rattle.of_control.proofs.Agreement.{Agrees, agrees}
+use Rattle.of_control.proofs.Agreement.{agrees}
 use Rattle.of_control.proofs.Totality.{total, only}
 use Rattle.of_control.proofs.TargetLemmas.{targets}
 use Rattle.of_control.proofs.Scopes.{tight_scoped}
@@ -25,18 +24,11 @@ use Rattle.of_control.proofs.CallLemmas.{answers, open_then, no_answer, broken, 
 decided_by :
     {A : Type 0} → (limit : ℕ) (es : List (Element A)) (c : AgedStack) → aged_stack limit es ≡ c → Sound limit es c →
     ((m : Partners) × IsBounded limit es m) ⊎ HasNone limit es
-decided_by limit es None e h =
-    inr (λ m b. let f = sym e ∙ complete limit es m b.matching b.few in let bad : ⊥ = cc in bad)
+decided_by limit es None e h = grind (arith, complete)
 decided_by limit es (Some (m, os)) e h = inl (m, record { matching = h.0; few = h.1 })
 
 pub calls_follow_matching : (A : Type 0) (limit : ℕ) → CallsFollowMatching A limit
-calls_follow_matching A limit = record {
-  one = one_matching;
-  answers = λ place es m b. answers limit place es m b.matching b.few;
-  open_then = λ place es m b. open_then limit place es m b.matching b.few;
-  no_answer = no_answer limit;
-  broken = broken limit;
-}
+calls_follow_matching A limit = grind (arith, one_matching, answers, open_then, no_answer, broken)
 
 pub matching_is_decided : (A : Type 0) (limit : ℕ) → MatchingIsDecided A limit
 matching_is_decided A limit es = decided_by limit es (aged_stack limit es) refl (sound limit es)
@@ -44,16 +36,13 @@ matching_is_decided A limit es = decided_by limit es (aged_stack limit es) refl 
 matched_from :
     {A : Type 0} → (limit : ℕ) (place : List (Element A) → ℕ) (es : List (Element A)) (c : AgedStack) →
     Sound limit es c → IsTrue (is_all_closed (kept_of place es c)) → (m : Partners) × IsMatched limit es m
-matched_from limit place es (Some (m, [])) h t =
-    (m, record { bounded = record { matching = h.0; few = h.1 }; closed = sym h.2 })
+matched_from limit place es (Some (m, [])) h t = grind (arith)
 matched_from limit place es _ h t = let bad : ⊥ = cc in absurd bad
 
 closed_matched :
     {A : Type 0} → (limit : ℕ) (place : List (Element A) → ℕ) (es : List (Element A)) →
     IsTrue (is_all_closed (after_calls limit place es)) → (m : Partners) × IsMatched limit es m
-closed_matched limit place es t =
-    matched_from limit place es (aged_stack limit es) (sound limit es)
-    (subst (λ c. IsTrue (is_all_closed c)) (kept limit place es) t)
+closed_matched limit place es t = grind (arith, matched_from, sound, kept)
 
 matched_closed :
     {A : Type 0} → (limit : ℕ) (place : List (Element A) → ℕ) (es : List (Element A)) →
@@ -70,9 +59,7 @@ matched_closed limit place es w =
 read_so :
     {A : Type 0} → (es : List (Element A)) (m : Partners) (b : Body A) → IsMatching es m → reading es m ≡ Some b →
     IsReading es m b
-read_so es m b is e =
-    let w = subst (Agrees (targets_of es m) es m) e (agrees (targets_of es m) es m is (targets es m is)) in
-    record { tight = reading_tight es m b e w.1; listed = w.0 }
+read_so es m b is e = grind (arith, agrees, targets, reading_tight)
 
 body_by :
     {A : Type 0} → (limit : ℕ) (es : List (Element A)) (b : Body A) (c : AgedStack) → Sound limit es c →
@@ -105,9 +92,7 @@ body_found limit es b w =
 body_where :
     {A : Type 0} → (limit : ℕ) (es : List (Element A)) → (m : Partners) × IsMatched limit es m →
     (b : Body A) × IsBodyIn limit es b
-body_where limit es w =
-    let r = body_of_matched limit es w.0 w.1 in
-    (r.0, record { partners = w.0; matched = w.1; read = r.2 })
+body_where limit es w = grind (arith, body_of_matched)
 
 matched_where :
     {A : Type 0} → (limit : ℕ) (es : List (Element A)) → (b : Body A) × IsBodyIn limit es b →
@@ -140,6 +125,4 @@ pub jumps_stay_inside : (A : Type 0) (limit : ℕ) → JumpsStayInside A limit
 jumps_stay_inside A limit es b w = tight_scoped 0 false false b w.read.tight
 
 pub items_are_flat : (A : Type 0) (limit : ℕ) → ItemsAreFlat A limit
-items_are_flat A limit es m b is w =
-    let same = one_matching es w.partners m w.matched.bounded.matching is in
-    subst (λ n. items_of b ≡ flat_items (targets_of es n) es n) same w.read.listed
+items_are_flat A limit es m b is w = grind (arith, one_matching)

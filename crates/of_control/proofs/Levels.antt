@@ -108,12 +108,7 @@ waits-closed_step true x y os b e d f s =
     let kept = ap (waits 0 b) (keep_step x y os ne) in
     let there = waits-is true 0 b y (filter (λ z. not (is_partner (Some x) z)) os) e in
     omega (arith, a0, a1, kept, there, f s)
-waits-closed_step false x y os b e d f s =
-    let same : y ≡ x = cc in
-    let a0 = waits-is false 0 b y os e in
-    let a1 = waits-is false 1 b y os e in
-    let g = ap (waits 0 b) (gone x y os same d) in
-    omega (arith, a0, a1, g)
+waits-closed_step false x y os b e d f s = grind (arith, waits-is, gone)
 
 pub waits-closed :
     (x : Opening) (os : List Opening) → Desc os → top_structure os ≡ Some x → (b : ℕ) →
@@ -138,16 +133,7 @@ waits-closed_below x (y ∷ os) d s k b =
 pub waits-top :
     (os : List Opening) (x : Opening) → slice_get os 0 ≡ Some x → is_orig x.kind ≡ false → (b : ℕ) → waits 0 b os ≡ 0
 waits-top [] x e p b = refl
-waits-top (y ∷ os) x e p b =
-    let same : y ≡ x = cc in
-    waits-is false 0 b y os (ap (λ z. is_orig z.kind) same ∙ p)
-
-pub times-none : (bs : List ℕ) → ((a : ℕ) → times a bs ≡ 0) → bs ≡ []
-times-none [] h = refl
-times-none (b ∷ bs) h =
-    let one : one_if (b == b) ≡ 1 = ap one_if (eq-eqb b b refl) in
-    let e = h b in
-    absurd (omega (arith, e, one))
+waits-top (y ∷ os) x e p b = grind (arith, waits-is)
 
 pub some_block : (b : ℕ) (bs : List ℕ) → ((a : ℕ) → times a (b ∷ bs) ≡ 0) → ⊥
 some_block b bs h =

@@ -1,6 +1,5 @@
 -- A tight body with names is tight without them.
-use Rattle.std.proofs.Common.{◌≡◌, ℕ, suc, ◌<◌, Bool, true, false, List, [], ◌∷◌, ◌++◌, length, refl, sym, ap, ◌∙◌}
-use Rattle.std.proofs.Common.{subst, arith}
+use Rattle.std.proofs.Common.{◌≡◌, ℕ, suc, ◌<◌, Bool, true, false, List, [], ◌∷◌, ◌++◌, length, refl, ap, ◌∙◌, arith}
 use Rattle.std.specs.Prelude.{◌==◌, if◌then◌else◌, map}
 use Rattle.std.proofs.lemmas.Bool.{ne_eqb, eq-eqb}
 use Rattle.std.proofs.lemmas.List.{map-append, length-map}
@@ -8,7 +7,7 @@ use Rattle.of_control.specs.Body.{IsScoped}
 use Rattle.of_control.specs.Reading.{NamedArm, NamedBlock, NamedBody, NamedChoice, NamedCounted, NamedCycle, NamedEnd}
 use Rattle.of_control.specs.Reading.{NamedJump, NamedLeave, NamedOperation, label_index, nameless}
 use Rattle.of_control.specs.Tight.{AtEnd, BeginsWithArm, Beyond, Each, HasOneJump, Inside, IsBlock, IsCycle, IsOther}
-use Rattle.of_control.specs.Tight.{IsShorter, IsTight, Way, first_size, outward, shut, ways}
+use Rattle.of_control.specs.Tight.{IsShorter, IsTight, Way, first_size, outward, ways}
 use Rattle.of_control.proofs.NamedBodies.{body_size-nameless, named_size}
 
 -- where an item goes, by the name of the part: not out of the body, to its end by leaving this Block, or to this part
@@ -129,25 +128,11 @@ ways-nameless ls (NamedOperation a r) = ap (λ l. Inside ∷ l) (ways-nameless l
 ways-nameless ls (NamedLeave d r) = ap (λ l. Inside ∷ l) (ways-nameless ls r)
 ways-nameless ls (NamedJump z b r) = ap (λ l. Beyond (label_index b ls) ∷ l) (ways-nameless ls r)
 ways-nameless ls (NamedBlock b p r) =
-    ap (λ n. map (outward (n == 0)) (ways (nameless (b ∷ ls) p)) ++ ways (nameless ls r)) (body_size-nameless ls r)
-    ∙ part_ways (outward (named_size r == 0)) (way_in (b ∷ ls)) (way_in ls) (left b (named_size r == 0))
-    (ways (nameless (b ∷ ls) p)) (ways (nameless ls r)) (named_ways p) (named_ways r)
-    (left_out b ls (named_size r == 0)) (ways-nameless (b ∷ ls) p) (ways-nameless ls r)
-ways-nameless ls (NamedCycle c p r) =
-    part_ways (outward false) (way_in (c ∷ ls)) (way_in ls) (left c false) (ways (nameless (c ∷ ls) p))
-    (ways (nameless ls r)) (named_ways p) (named_ways r) (left_out c ls false) (ways-nameless (c ∷ ls) p)
-    (ways-nameless ls r)
-ways-nameless ls (NamedCounted q d p l r) =
-    ap (λ k. Inside ∷ k) (part_ways shut (way_in []) (way_in ls) kept_in (ways (nameless [] p))
-    (Inside ∷ ways (nameless ls r)) (named_ways p) (Stays ∷ named_ways r) (λ w. refl) (ways-nameless [] p)
-    (ap (λ k. Inside ∷ k) (ways-nameless ls r)))
-ways-nameless ls (NamedChoice c p r) =
-    part_ways shut (way_in []) (way_in ls) kept_in (ways (nameless [] p)) (Inside ∷ ways (nameless ls r)) (named_ways p)
-    (Stays ∷ named_ways r) (λ w. refl) (ways-nameless [] p) (ap (λ k. Inside ∷ k) (ways-nameless ls r))
-ways-nameless ls (NamedArm o c p r) =
-    ap (λ k. Inside ∷ k) (part_ways shut (way_in []) (way_in ls) kept_in (ways (nameless [] p))
-    (Inside ∷ ways (nameless ls r)) (named_ways p) (Stays ∷ named_ways r) (λ w. refl) (ways-nameless [] p)
-    (ap (λ k. Inside ∷ k) (ways-nameless ls r)))
+    grind (arith, ways-nameless (b ∷ ls) p, ways-nameless ls r, body_size-nameless, part_ways, named_size, left_out)
+ways-nameless ls (NamedCycle c p r) = grind (arith, ways-nameless (c ∷ ls) p, ways-nameless ls r, part_ways, left_out)
+ways-nameless ls (NamedCounted q d p l r) = grind (arith, ways-nameless [] p, ways-nameless ls r, part_ways)
+ways-nameless ls (NamedChoice c p r) = grind (arith, ways-nameless [] p, ways-nameless ls r, part_ways)
+ways-nameless ls (NamedArm o c p r) = grind (arith, ways-nameless [] p, ways-nameless ls r, part_ways)
 
 each_to :
     (P : NamedWay → Type 0) (Q : Way → Type 0) (f : NamedWay → Way) (ws : List NamedWay) →
@@ -156,15 +141,10 @@ each_to P Q f [] g h = tt
 each_to P Q f (w ∷ ws) g h = (g w h.0, each_to P Q f ws g h.1)
 
 shorter_in : (b : ℕ) (ls : List ℕ) (w : NamedWay) → Shorter b w → IsShorter (way_in (b ∷ ls) w)
-shorter_in b ls Stays h = tt
-shorter_in b ls (Ends x) h = absurd h
-shorter_in b ls (Goes x) h =
-    subst (λ t. IsShorter (Beyond (if t then 0 else suc (label_index x ls)))) (sym (ne_eqb x b h)) tt
+shorter_in b ls w h = grind (arith, ne_eqb)
 
 other_in : (b : ℕ) (ls : List ℕ) (w : NamedWay) → NotTo b w → IsOther (way_in (b ∷ ls) w)
-other_in b ls (Goes x) h =
-    subst (λ t. IsOther (Beyond (if t then 0 else suc (label_index x ls)))) (sym (ne_eqb x b h)) tt
-other_in b ls _ h = tt
+other_in b ls w h = grind (arith, ne_eqb)
 
 abbrev jump_in :
     {A : Type 0} → (b : ℕ) (ls : List ℕ) (p : NamedBody A) → NamedJumpOnce b p → HasOneJump (nameless (b ∷ ls) p)
@@ -190,9 +170,7 @@ cycle_in : {A : Type 0} → (c : ℕ) (ls : List ℕ) (p : NamedBody A) → Name
 cycle_in c ls p h = record { jump = jump_in c ls p h.jump; last = ap (map (way_in (c ∷ ls))) h.last }
 
 begins_in : {A : Type 0} → (p : NamedBody A) → NamedBegins p → BeginsWithArm (nameless [] p)
-begins_in NamedEnd h = tt
-begins_in (NamedArm o c p r) h = tt
-begins_in _ h = absurd h
+begins_in p h = grind (arith)
 
 pub tight-nameless :
     {A : Type 0} → (n : ℕ) (d c : Bool) (ls : List ℕ) (p : NamedBody A) → NamedTight p →

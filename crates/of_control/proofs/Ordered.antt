@@ -1,6 +1,6 @@
 -- The pieces of a reading stand in order, so its parts are tight.
 use Rattle.std.proofs.Common.{◌≡◌, ℕ, suc, ◌+◌, ◌<◌, ◌≤◌, Bool, true, false, List, [], ◌∷◌, ◌++◌, length, Option, Some}
-use Rattle.std.proofs.Common.{None, refl, sym, ap, ◌∙◌, subst, arith, ◌⊎◌, ⊎_elim, inl, inr, eqb-true}
+use Rattle.std.proofs.Common.{None, refl, sym, ap, ◌∙◌, subst, arith, ◌⊎◌, ⊎_elim, inl, inr}
 use Rattle.std.specs.Prelude.{◌==◌, if◌then◌else◌, map}
 use Rattle.std.proofs.lemmas.Bool.{ne_eqb}
 use Rattle.std.proofs.lemmas.List.{append-nil, append_assoc, length-append, length-map, map-append}
@@ -27,13 +27,10 @@ IsArm (NamedArm o c p r) = Unit {0}
 IsArm _ = ⊥
 
 arm-joined : {A : Type 0} → (p s : NamedBody A) → IsArm p → IsArm (joined p s)
-arm-joined (NamedArm o c p r) s h = tt
-arm-joined _ s h = absurd h
+arm-joined p s h = grind (arith)
 
 pub arm_begins : {A : Type 0} → (p : NamedBody A) → IsArm p → NamedBegins p
-arm_begins (NamedArm o c p r) h = tt
-arm_begins NamedEnd h = tt
-arm_begins _ h = absurd h
+arm_begins p h = grind (arith)
 
 pub goes_held : {A : Type 0} → (c : ℕ) (p : NamedBody A) → HeldIn c p → GoesIn c p
 goes_held c p h = record { earlier = h.earlier; later = h.later; split = h.split }
@@ -79,8 +76,7 @@ length-ways NamedEnd = refl
 length-ways (NamedOperation a r) = ap suc (length-ways r)
 length-ways (NamedLeave d r) = ap suc (length-ways r)
 length-ways (NamedJump z b r) = ap suc (length-ways r)
-length-ways (NamedBlock b p r) =
-    length-map_then (left b (named_size r == 0)) kept_in p r (length-ways p) (length-ways r)
+length-ways (NamedBlock b p r) = grind (arith, length-ways p, length-ways r, length-map_then, left, named_size, kept_in)
 length-ways (NamedCycle c p r) = length-map_then (left c false) kept_in p r (length-ways p) (length-ways r)
 length-ways (NamedCounted q d p l r) = ap suc (length-shut p r (length-ways p) (length-ways r))
 length-ways (NamedChoice c p r) = length-shut p r (length-ways p) (length-ways r)
@@ -258,17 +254,7 @@ back_start :
     {A : Type 0} → (high c top : ℕ) (H : ℕ → Type 0) (B : Type 0) (g : Gathered A) → H c → c < top →
     IsBack high c H ⊥ g →
     IsBack high top H B (record { blocks = c ∷ g.blocks; inside = g.inside; from = g.from; before = g.before })
-back_start high c top H B g h l k =
-    record {
-      mid = k.mid;
-      low = k.low;
-      rise = k.rise;
-      tight = k.tight;
-      blocks = (inl h, l, k.blocks);
-      rest = ordered-more k.mid k.mid k.low k.low (HeldBy H g.inside) (HeldBy H g.inside) (BegunBy ⊥ g.inside)
-          (BegunBy B g.inside) (g.from ∷ g.before) (omega arith) (omega arith) (λ e u x. x)
-          (⊎_elim (λ f. absurd f.0) (λ f. inr f)) k.rest;
-    }
+back_start high c top H B g h l k = grind (arith, ordered-more)
 
 abbrev pub BackIf : {A : Type 0} → ℕ → ℕ → (ℕ → Type 0) → Type 0 → Option (Gathered A) → Type 0
 BackIf high top H B None = Unit {0}
@@ -278,14 +264,12 @@ back_if_part :
     {A : Type 0} → (high low top : ℕ) (H : ℕ → Type 0) (B : Type 0) (q : NamedBody A) (o : Option (Gathered A)) →
     NamedTight q → Rise low (named_ways q) high → BackIf low top (λ b. HeldIn b q) (IsArm q) o →
     BackIf high top H B (with_part q o)
-back_if_part high low top H B q None t r k = tt
-back_if_part high low top H B q (Some g) t r k = back_part high low top H B q g t r k
+back_if_part high low top H B q o t r k = grind (arith, back_part)
 
 back_if_start :
     {A : Type 0} → (high c top : ℕ) (H : ℕ → Type 0) (B : Type 0) (o : Option (Gathered A)) → H c → c < top →
     BackIf high c H ⊥ o → BackIf high top H B (with_start c o)
-back_if_start high c top H B None h l k = tt
-back_if_start high c top H B (Some g) h l k = back_start high c top H B g h l k
+back_if_start high c top H B o h l k = grind (arith, back_start)
 
 pub back_structure :
     {A : Type 0} → (high top : ℕ) (H : ℕ → Type 0) (B : Type 0) (d : List (Piece A)) → Ordered high top H B d →
@@ -294,8 +278,7 @@ back_structure high top H B [] h = tt
 back_structure high top H B (Part q ∷ d) h =
     back_if_part high h.1.0 top H B q (to_structure d) h.0 h.1.1
     (back_structure h.1.0 top (λ b. HeldIn b q) (IsArm q) d h.1.2)
-back_structure high top H B (BlockStart c ∷ d) h =
-    back_if_start high c top H B (to_structure d) h.0 h.1 (back_structure high c H ⊥ d h.2)
+back_structure high top H B (BlockStart c ∷ d) h = grind (arith, back_structure high c H ⊥ d h.2, back_if_start)
 back_structure high top H B (OpenMark c ∷ d) h = back_here high top H B (OpenMark c) d h
 back_structure high top H B (OpenDo q c ∷ d) h = back_here high top H B (OpenDo q c) d h
 back_structure high top H B (OpenCase c ∷ d) h = back_here high top H B (OpenCase c) d h
@@ -306,8 +289,7 @@ back_if :
     {A : Type 0} → (high top b c : ℕ) (t : Bool) (H : ℕ → Type 0) (B : Type 0) (d : List (Piece A)) →
     Ordered high top H B (BlockStart c ∷ d) → BackIf high c H ⊥ (to_branch b d) →
     BackIf high top H B (if t then here (BlockStart c) d else with_start c (to_branch b d))
-back_if high top b c true H B d h k = back_here high top H B (BlockStart c) d h
-back_if high top b c false H B d h k = back_if_start high c top H B (to_branch b d) h.0 h.1 k
+back_if high top b c t H B d h k = grind (arith, back_here, back_if_start)
 
 pub back_branch :
     {A : Type 0} → (b high top : ℕ) (H : ℕ → Type 0) (B : Type 0) (d : List (Piece A)) → Ordered high top H B d →
@@ -325,18 +307,15 @@ IsFrom b None = Unit {0}
 IsFrom b (Some g) = g.from ≡ BlockStart b
 
 from_part : {A : Type 0} → (b : ℕ) (q : NamedBody A) (o : Option (Gathered A)) → IsFrom b o → IsFrom b (with_part q o)
-from_part b q None h = tt
-from_part b q (Some g) h = h
+from_part b q o h = grind (arith)
 
 from_start : {A : Type 0} → (b c : ℕ) (o : Option (Gathered A)) → IsFrom b o → IsFrom b (with_start c o)
-from_start b c None h = tt
-from_start b c (Some g) h = h
+from_start b c o h = grind (arith)
 
 from_if :
     {A : Type 0} → (b c : ℕ) (d : List (Piece A)) (t : Bool) → (b == c) ≡ t → IsFrom b (to_branch b d) →
     IsFrom b (if t then here (BlockStart c) d else with_start c (to_branch b d))
-from_if b c d true e h = ap BlockStart (sym (eqb-true b c e))
-from_if b c d false e h = from_start b c (to_branch b d) h
+from_if b c d t e h = grind (arith, from_start)
 
 pub from_branch : {A : Type 0} → (b : ℕ) (d : List (Piece A)) → IsFrom b (to_branch b d)
 from_branch b (Part q ∷ d) = from_part b q (to_branch b d) (from_branch b d)
@@ -346,7 +325,6 @@ from_branch b _ = tt
 pub ordered-hoisted :
     {A : Type 0} → (high top low : ℕ) (P K : ℕ → Type 0) (C : Type 0) (bs : List ℕ) (d : List (Piece A)) →
     Falls P top bs low → ((c : ℕ) → low ≤ c → P c → K c) → Ordered high low K ⊥ d → Ordered high top K C (hoisted bs d)
-ordered-hoisted high top low P K C [] d h f k =
-    ordered-more high high low top K K ⊥ C d (omega arith) h (λ e u x. x) (λ x. absurd x) k
+ordered-hoisted high top low P K C [] d h f k = grind (arith, ordered-more)
 ordered-hoisted high top low P K C (c ∷ cs) d h f k =
     (f c (falls_low P c low cs h.2) h.0, h.1, ordered-hoisted high c low P K ⊥ cs d h.2 f k)

@@ -40,16 +40,12 @@ past_end w End k fs l = refl
 past_end w (Operation a r) (suc k) fs l = past_end w r k fs (omega (arith, l))
 past_end w (LeaveLoop r) (suc k) fs l = past_end w r k fs (omega (arith, l))
 past_end w (Jump z j r) (suc k) fs l = past_end w r k fs (omega (arith, l))
-past_end w (Block b r) k fs l =
-    in_right k (body_size b) _ (omega (arith, l)) ∙ past_end w r (k - body_size b) fs (omega (arith, l))
-past_end w (Cycle b r) k fs l =
-    in_right k (body_size b) _ (omega (arith, l)) ∙ past_end w r (k - body_size b) fs (omega (arith, l))
+past_end w (Block b r) k fs l = grind (arith, past_end w r (k - body_size b) fs (omega (arith, l)), in_right)
+past_end w (Cycle b r) k fs l = grind (arith, past_end w r (k - body_size b) fs (omega (arith, l)), in_right)
 past_end w (Counted q b d r) (suc k) fs l =
     in_rest k (body_size b) _ _ (omega (arith, l)) ∙ past_end w r (k - suc (body_size b)) fs (omega (arith, l))
-past_end w (Choice b r) k fs l =
-    in_rest k (body_size b) _ _ (omega (arith, l)) ∙ past_end w r (k - suc (body_size b)) fs (omega (arith, l))
-past_end w (Arm b r) (suc k) fs l =
-    in_rest k (body_size b) _ _ (omega (arith, l)) ∙ past_end w r (k - suc (body_size b)) fs (omega (arith, l))
+past_end w (Choice b r) k fs l = grind (arith, past_end w r (k - suc (body_size b)) fs (omega (arith, l)), in_rest)
+past_end w (Arm b r) (suc k) fs l = grind (arith, past_end w r (k - suc (body_size b)) fs (omega (arith, l)), in_rest)
 past_end w _ zero fs l = absurd (omega (arith, l))
 
 -- number k of what stands behind i items
@@ -185,10 +181,7 @@ module _ {A : Type 0} {w : Body A} where
   numbered_point b n fs o e = first_is b n fs o ∙ ap (step_at w) (sym (number_is w (at b fs) n e))
 
 whole_occurs : {A : Type 0} → (w : Body A) → Occurs w w 0 []
-whole_occurs w = record {
-  inside = λ k l. ap (step_at w) (omega arith);
-  ending = past_end w w (0 + body_size w) [] (omega arith);
-}
+whole_occurs w = grind (arith, past_end)
 
 -- the points that enclosing parts give
 Context : {A : Type 0} → Body A → List (Enclosing A) → Type 0
@@ -341,14 +334,11 @@ goes_at w k l = goes (whole_numbered w) w 0 k [] (whole_occurs w) tt (omega arit
 
 if_target :
     {A : Type 0} → (w : Body A) (o : Option (Point A)) (p : Point A) → IsNumberedIf w o → o ≡ Some p → IsNumbered w p
-if_target w (Some q) p h e = let same : q ≡ p = cc in subst (IsNumbered w) same h
-if_target w None p h e = let bad : ⊥ = cc in absurd bad
+if_target w o p h e = grind (arith)
 
 -- past the last item is the return, which goes on at itself
 goes_past : {A : Type 0} → (w : Body A) (k : ℕ) → body_size w ≤ k → Goes w (step_at w k)
-goes_past w k l =
-    subst (Goes w) (sym (past_end w w k [] l))
-    (record { next = sym (past_end w w (number w (at End [])) [] (omega arith)); target = tt })
+goes_past w k l = grind (arith, past_end)
 
 goes_on : {A : Type 0} → (w : Body A) (p : Point A) → IsNumbered w p → Goes w (step_from w p)
 goes_on w p h =

@@ -34,26 +34,21 @@ rise-append low mid high (Goes x ∷ xs) ys h k = (h.0, rise-append (suc x) mid 
 pub rise-ends :
     (low x high : ℕ) (last : Bool) (ws : List NamedWay) → low ≤ x → Rise (suc x) ws high →
     Rise low ((if last then Ends x else Stays) ∷ ws) high
-rise-ends low x high true ws l h = (l, h)
-rise-ends low x high false ws l h = rise-more (suc x) low high ws (omega (arith, l)) h
+rise-ends low x high last ws l h = grind (arith, rise-more)
 
 pub rise-goes :
     (low b x high : ℕ) (last t : Bool) (ws : List NamedWay) → (t ≡ true → x ≡ b) → low ≤ x → Rise (suc x) ws high →
     Rise low ((if t then (if last then Ends b else Stays) else Goes x) ∷ ws) high
-rise-goes low b x high last true ws e l h =
-    rise-ends low b high last ws (subst (λ y. low ≤ y) (e refl) l) (subst (λ y. Rise (suc y) ws high) (e refl) h)
-rise-goes low b x high last false ws e l h = (l, h)
+rise-goes low b x high last t ws e l h = grind (arith, rise-ends)
 
 -- seen from outside of a part they still do
 pub rise-left :
     (low b high : ℕ) (last : Bool) (ws : List NamedWay) → Rise low ws high → Rise low (map (left b last) ws) high
 rise-left low b high last [] h = h
 rise-left low b high last (Stays ∷ ws) h = rise-left low b high last ws h
-rise-left low b high last (Ends x ∷ ws) h =
-    rise-ends low x high last (map (left b last) ws) h.0 (rise-left (suc x) b high last ws h.1)
+rise-left low b high last (Ends x ∷ ws) h = grind (arith, rise-left (suc x) b high last ws h.1, rise-ends, left)
 rise-left low b high last (Goes x ∷ ws) h =
-    rise-goes low b x high last (x == b) (map (left b last) ws) (λ e. eqb-true x b e) h.0
-    (rise-left (suc x) b high last ws h.1)
+    grind (arith, rise-left (suc x) b high last ws h.1, rise-goes, left, eqb-true)
 
 pub rise-kept : (low high : ℕ) (ws : List NamedWay) → Rise low ws high → Rise low (map kept_in ws) high
 rise-kept low high [] h = h
@@ -62,11 +57,6 @@ rise-kept low high (Ends x ∷ ws) h =
     let g = h.0 in rise-kept low high ws (rise-more (suc x) low high ws (omega (arith, g)) h.1)
 rise-kept low high (Goes x ∷ ws) h =
     let g = h.0 in rise-kept low high ws (rise-more (suc x) low high ws (omega (arith, g)) h.1)
-
-abbrev pub NameBelow : ℕ → NamedWay → Type 0
-NameBelow b Stays = Unit {0}
-NameBelow b (Ends x) = x < b
-NameBelow b (Goes x) = x < b
 
 -- the Blocks that end with the body have no earlier jumps than b
 abbrev pub EndsAbove : ℕ → NamedWay → Type 0
@@ -91,11 +81,8 @@ shorter_by :
     Each (EndsAbove b) (xs ++ (Goes b ∷ ys)) → Each (Shorter b) xs
 shorter_by low b high [] ys h k = tt
 shorter_by low b high (Stays ∷ xs) ys h k = (tt, shorter_by low b high xs ys h k.1)
-shorter_by low b high (Ends x ∷ xs) ys h k =
-    let g = k.0 in let r = reaches (suc x) b high xs ys h.1 in absurd (omega (arith, g, r))
-shorter_by low b high (Goes x ∷ xs) ys h k =
-    let r = reaches (suc x) b high xs ys h.1 in
-    (λ e. absurd (omega (arith, e, r)), shorter_by (suc x) b high xs ys h.1 k.1)
+shorter_by low b high (Ends x ∷ xs) ys h k = grind (arith, reaches)
+shorter_by low b high (Goes x ∷ xs) ys h k = grind (arith, shorter_by (suc x) b high xs ys h.1 k.1, reaches)
 
 others_by : (low b high : ℕ) (ys : List NamedWay) → b < low → Rise low ys high → Each (NotTo b) ys
 others_by low b high [] l h = tt
@@ -203,8 +190,7 @@ pub rise-settled :
     (low high : ℕ) (k : Bool) (ws : List NamedWay) → Rise low ws high → Rise low (map (settled k) ws) high
 rise-settled low high k [] h = h
 rise-settled low high k (Stays ∷ ws) h = rise-settled low high k ws h
-rise-settled low high k (Ends x ∷ ws) h =
-    rise-ends low x high k (map (settled k) ws) h.0 (rise-settled (suc x) high k ws h.1)
+rise-settled low high k (Ends x ∷ ws) h = grind (arith, rise-settled (suc x) high k ws h.1, rise-ends)
 rise-settled low high k (Goes x ∷ ws) h = (h.0, rise-settled (suc x) high k ws h.1)
 
 pub rise-joined :

@@ -50,9 +50,7 @@ size-items (Block b r) n ls lv past =
           past,
     )
 size-items (Cycle b r) n ls lv past =
-    let i = items_at b n (n ∷ ls) lv past in
-    let j = items_at r (n + body_size b) ls lv past in
-    omega (arith, length-append i j, size-items b n (n ∷ ls) lv past, size-items r (n + body_size b) ls lv past)
+    grind (arith, size-items b n (n ∷ ls) lv past, size-items r (n + body_size b) ls lv past, length-append)
 size-items (Counted q b l r) n ls lv past =
     let e = suc (suc n + body_size b) in
     let i = items_at b (suc n) [] e past in
@@ -87,8 +85,7 @@ record Agrees {A : Type 0} (w : Body A) (items : List (Item A)) (n k : ℕ) (s :
 pub split_lt :
     {X : Type 0} → (P : X → Type 0) (k n : ℕ) (s t : X) (b : Bool) → nat_lt k n ≡ b → (k < n → P s) → (n ≤ k → P t) →
     P (if b then s else t)
-split_lt P k n s t true e f g = f (ltb-true k n e)
-split_lt P k n s t false e f g = g (ltb-false k n e)
+split_lt P k n s t b e f g = grind (arith, ltb-true, ltb-false)
 
 same_number : (k n : ℕ) → (k == n) ≡ true → k ≡ n
 same_number k n e = grind (arith, e)
@@ -99,8 +96,7 @@ other_number k n e = grind (arith, e)
 pub split_eq :
     {X : Type 0} → (P : X → Type 0) (k n : ℕ) (s t : X) (b : Bool) → (k == n) ≡ b → (k ≡ n → P s) →
     ((k ≡ n → ⊥) → P t) → P (if b then s else t)
-split_eq P k n s t true e f g = f (same_number k n e)
-split_eq P k n s t false e f g = g (other_number k n e)
+split_eq P k n s t b e f g = grind (arith, same_number, other_number)
 
 pub number_is : {A : Type 0} → (w : Body A) (p : Point A) (n : ℕ) → n + ahead p ≡ body_size w → number w p ≡ n
 number_is w p n e = omega (arith, e)

@@ -1,6 +1,6 @@
 -- A body whose names are in scope has its numbers in scope, and so has a tight body.
-use Rattle.std.proofs.Common.{◌≡◌, ℕ, suc, ◌<◌, Bool, true, false, List, [], ◌∷◌, length, Option, Some, None, refl}
-use Rattle.std.proofs.Common.{⊎_elim, arith}
+use Rattle.std.proofs.Common.{◌≡◌, ℕ, suc, ◌<◌, Bool, true, false, List, [], ◌∷◌, length, Option, Some, refl, ⊎_elim}
+use Rattle.std.proofs.Common.{arith}
 use Rattle.std.specs.Prelude.{◌==◌, if◌then◌else◌, IsTrue, is_some}
 use Rattle.std.proofs.lemmas.Bool.{eqb-false}
 use Rattle.of_control.specs.Body.{Arm, Block, Body, Choice, Counted, Cycle, End, IsScoped, Jump, LeaveLoop, Operation}
@@ -24,12 +24,10 @@ index_within b (c ∷ ls) h =
     (λ ne. ⊎_elim (λ e. absurd (ne e)) (λ r. index_within b ls r) h)
 
 some_is : (d : Option ℕ) (x : ℕ) → d ≡ Some x → IsTrue (is_some d)
-some_is None x e = let bad : ⊥ = cc in absurd bad
-some_is (Some y) x e = refl
+some_is d x e = grind (arith)
 
 any_is : (cs : List ℕ) (c : ℕ) → IsIn cs c → IsTrue (any cs)
-any_is [] c h = absurd h
-any_is (b ∷ cs) c h = refl
+any_is cs c h = grind (arith)
 
 pub scoped-nameless :
     {A : Type 0} → (ls : List ℕ) (d : Option ℕ) (cs : List ℕ) (p : NamedBody A) → Scoped ls d cs p →

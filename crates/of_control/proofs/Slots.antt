@@ -1,6 +1,6 @@
 -- Tight trees of parts with equal slots are equal.
 use Rattle.std.proofs.Common.{◌≡◌, ℕ, zero, suc, ◌+◌, ◌<◌, ◌≤◌, Bool, List, [], ◌∷◌, ◌++◌, length, Option, Some, None}
-use Rattle.std.proofs.Common.{refl, ap, ◌∙◌, subst, arith}
+use Rattle.std.proofs.Common.{refl, subst, arith}
 use Rattle.std.specs.Prelude.{map}
 use Rattle.std.proofs.lemmas.List.{length-append, length-map}
 use Rattle.of_control.specs.Tight.{Each}
@@ -126,10 +126,7 @@ length-part h n m xs = grind (arith, length-append, length-before, length-behind
 pub length-slots : {A : Type 0} → (t : Tree A) (n : ℕ) → length (slots t n) ≡ size t
 length-slots Leaf n = refl
 length-slots (Node h i r) n =
-    let xs = slots i (starts h n) in
-    let a = length-append (part h n (size i) xs) (slots r (n + width h (size i))) in
-    let p = length-part h n (size i) xs ∙ ap (width h) (length-slots i (starts h n)) in
-    omega (arith, a, p, length-slots r (n + width h (size i)))
+    grind (arith, length-slots i (starts h n), length-slots r (n + width h (size i)), length-append, length-part)
 
 -- ---- all targets
 
@@ -144,10 +141,6 @@ pub each-append :
     {A : Type 0} → (P : Slot A → Type 0) (xs ys : List (Slot A)) → Each P xs → Each P ys → Each P (xs ++ ys)
 each-append P [] ys h k = k
 each-append P (x ∷ xs) ys h k = (h.0, each-append P xs ys h.1 k)
-
-pub each-left : {A : Type 0} → (P : Slot A → Type 0) (xs ys : List (Slot A)) → Each P (xs ++ ys) → Each P xs
-each-left P [] ys h = tt
-each-left P (x ∷ xs) ys h = (h.0, each-left P xs ys h.1)
 
 pub each-map :
     {A : Type 0} → (P Q : Slot A → Type 0) (f : Slot A → Slot A) (xs : List (Slot A)) → ((x : Slot A) → P x → Q (f x)) →
@@ -166,45 +159,24 @@ each-both P Q [] g h = tt
 each-both P Q (x ∷ xs) g h = ((g.0, h.0), each-both P Q xs g.1 h.1)
 
 pub aims-more : {A : Type 0} → (P Q : ℕ → Type 0) → ((u : ℕ) → P u → Q u) → (x : Slot A) → Aims P x → Aims Q x
-aims-more P Q g (To j u) h = g u h
-aims-more P Q g (Enters q u) h = g u h
-aims-more P Q g (Tests u) h = g u h
-aims-more P Q g _ h = tt
+aims-more P Q g h3 h = grind (arith)
 
 pub aims-close : {A : Type 0} → (P : ℕ → Type 0) (t : ℕ) → P t → (x : Slot A) → Aims P x → Aims P (close t x)
-aims-close P t p (Out j zero) h = p
-aims-close P t p (To j u) h = h
-aims-close P t p (Enters q u) h = h
-aims-close P t p (Tests u) h = h
-aims-close P t p _ h = tt
+aims-close P t p h3 h = grind (arith)
 
 pub aims-unclose : {A : Type 0} → (P : ℕ → Type 0) (t : ℕ) (x : Slot A) → Aims P (close t x) → Aims P x
-aims-unclose P t (To j u) h = h
-aims-unclose P t (Enters q u) h = h
-aims-unclose P t (Tests u) h = h
-aims-unclose P t _ h = tt
+aims-unclose P t x h = grind (arith)
 
 aims-bound :
     {A : Type 0} → (P : ℕ → Type 0) (h : Head A) (n e : ℕ) → P n → P e → (x : Slot A) → Aims P x →
     Aims P (bound h n e x)
-aims-bound P ABlock n e p q x g = aims-close P e q x g
-aims-bound P ACycle n e p q x g = aims-close P n p x g
-aims-bound P AChoice n e p q x g = aims-close P e q x g
-aims-bound P _ n e p q x g = g
+aims-bound P h n e p q x g = grind (arith, aims-close)
 
 aims-before : {A : Type 0} → (P : ℕ → Type 0) (h : Head A) (e : ℕ) → P e → Each (Aims P) (before h e)
-aims-before P ABlock e p = tt
-aims-before P ACycle e p = tt
-aims-before P (ACounted q l) e p = (p, tt)
-aims-before P AChoice e p = tt
-aims-before P AnArm e p = (p, tt)
-aims-before P _ e p = (tt, tt)
+aims-before P h e p = grind (arith)
 
 aims-behind : {A : Type 0} → (P : ℕ → Type 0) (h : Head A) → Each (Aims P) (behind h)
-aims-behind P (ACounted q l) = (tt, tt)
-aims-behind P AChoice = (tt, tt)
-aims-behind P AnArm = (tt, tt)
-aims-behind P _ = tt
+aims-behind P h = grind (arith)
 
 abbrev pub Within : ℕ → ℕ → ℕ → Type 0
 Within a b u = (a ≤ u) × (u ≤ b)
@@ -212,9 +184,7 @@ Within a b u = (a ≤ u) × (u ≤ b)
 pub within-more :
     {A : Type 0} → (a b c d : ℕ) → c ≤ a → b ≤ d → (xs : List (Slot A)) → Each (Aims (Within a b)) xs →
     Each (Aims (Within c d)) xs
-within-more a b c d p q xs h =
-    each-more (Aims (Within a b)) (Aims (Within c d)) xs
-    (aims-more (Within a b) (Within c d) (λ u w. (omega (arith, p, w.0), omega (arith, q, w.1)))) h
+within-more a b c d p q xs h = grind (arith, each-more, aims-more)
 
 pub within-part :
     {A : Type 0} → (h : Head A) (n m : ℕ) (xs : List (Slot A)) → Each (Aims (Within (starts h n) (starts h n + m))) xs →
@@ -268,19 +238,11 @@ cut-join p c q (x ∷ xs) ys e h k = (h.0, cut-join (suc p) c q xs ys (omega (ar
 pub cut-low :
     {A : Type 0} → (p c : ℕ) (xs : List (Slot A)) → p + length xs ≤ c → Each (Aims (λ u. u ≤ c)) xs → CutIn p c xs
 cut-low p c [] l h = tt
-cut-low p c (x ∷ xs) l h = (
-  aims-more (λ u. u ≤ c) (Keeps p c) (λ u w. (λ k. w, λ k. absurd (omega (arith, k, l)))) x h.0,
-  cut-low (suc p) c xs
-      (omega (arith, l)) h.1,
-)
+cut-low p c (x ∷ xs) l h = grind (arith, cut-low (suc p) c xs (omega (arith, l)) h.1, aims-more)
 
 pub cut-high : {A : Type 0} → (p c : ℕ) (xs : List (Slot A)) → c ≤ p → Each (Aims (λ u. c ≤ u)) xs → CutIn p c xs
 cut-high p c [] l h = tt
-cut-high p c (x ∷ xs) l h = (
-  aims-more (λ u. c ≤ u) (Keeps p c) (λ u w. (λ k. absurd (omega (arith, k, l)), λ k. w)) x h.0,
-  cut-high
-      (suc p) c xs (omega (arith, l)) h.1,
-)
+cut-high p c (x ∷ xs) l h = grind (arith, cut-high (suc p) c xs (omega (arith, l)) h.1, aims-more)
 
 pub cut-unclose : {A : Type 0} → (p c t : ℕ) (xs : List (Slot A)) → CutIn p c (map (close t) xs) → CutIn p c xs
 cut-unclose p c t [] h = tt

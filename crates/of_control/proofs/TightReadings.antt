@@ -12,9 +12,9 @@ use Rattle.of_control.specs.Reading.{BlockStart, Draft, Gathered, NamedArm, Name
 use Rattle.of_control.specs.Reading.{NamedCounted, NamedCycle, NamedEnd, NamedJump, NamedLeave, NamedOperation}
 use Rattle.of_control.specs.Reading.{OpenCase, OpenChoice, OpenDo, OpenMark, OpenOf, Part, PartlyRead, Piece, add_due}
 use Rattle.of_control.specs.Reading.{add_leave, all_parts, body_of, close_all, close_block, close_case, close_counted}
-use Rattle.of_control.specs.Reading.{close_cycle, close_of, finished, innermost_do, joined, nameless, open_of, put}
-use Rattle.of_control.specs.Reading.{put_all, read_next, read_so_far, reading, to_branch, to_structure, with_last}
-use Rattle.of_control.specs.Reading.{with_part, with_structure}
+use Rattle.of_control.specs.Reading.{close_cycle, close_of, finished, innermost_do, joined, open_of, put, put_all}
+use Rattle.of_control.specs.Reading.{read_next, read_so_far, reading, to_branch, to_structure, with_last, with_part}
+use Rattle.of_control.specs.Reading.{with_structure}
 use Rattle.of_control.specs.Tight.{Each, IsTight}
 use Rattle.of_control.proofs.NamedBodies.{named_size}
 use Rattle.of_control.proofs.NamedTight.{Ends, Goes, NamedTight, NamedWay, Stays, kept_in, left, named_ways}
@@ -50,8 +50,7 @@ ends-kept b [] = tt
 ends-kept b (w ∷ ws) = (tt, ends-kept b ws)
 
 goes_block : (b x : ℕ) (t : Bool) → EndsAbove b (if t then (if true then Ends b else Stays) else Goes x)
-goes_block b x true = omega arith
-goes_block b x false = tt
+goes_block b x t = grind (arith)
 
 ends-block : (b : ℕ) (ws : List NamedWay) → Each (EndsAbove b) ws → Each (EndsAbove b) (map (left b true) ws)
 ends-block b [] h = tt
@@ -60,8 +59,7 @@ ends-block b (Ends x ∷ ws) h = (h.0, ends-block b ws h.1)
 ends-block b (Goes x ∷ ws) h = (goes_block b x (x == b), ends-block b ws h.1)
 
 goes_cycle : (b c x : ℕ) (t : Bool) → EndsAbove b (if t then (if false then Ends c else Stays) else Goes x)
-goes_cycle b c x true = tt
-goes_cycle b c x false = tt
+goes_cycle b c x t = grind (arith)
 
 ends-cycle : (b c : ℕ) (ws : List NamedWay) → Each (EndsAbove b) (map (left c false) ws)
 ends-cycle b c [] = tt
@@ -168,8 +166,7 @@ Rested n (Some d) = Ordered n n none ⊥ d × ((t : ℕ) → EndsFrom t d)
 one_more :
     {A : Type 0} → (n : ℕ) (p : NamedBody A) (d : List (Piece A)) → NamedTight p → Rise n (named_ways p) (suc n) →
     Ordered n n none ⊥ d → Ordered (suc n) (suc n) none ⊥ (Part p ∷ d)
-one_more n p d t r h =
-    (t, (n, r, ordered_any n n n (suc n) (λ b. HeldIn b p) (IsArm p) d (omega arith) (omega arith) h))
+one_more n p d t r h = grind (arith, ordered_any)
 
 leave_rested :
     {A : Type 0} → (n : ℕ) (o : Option ℕ) (d : List (Piece A)) → Ordered n n none ⊥ d → Rested (suc n) (add_leave o d)
@@ -206,8 +203,7 @@ Made {A = A} n f =
 with_back :
     {A : Type 0} → (n : ℕ) (f : List ℕ → NamedBody A → Piece A → List (Piece A) → Draft A) (o : Option (Gathered A)) →
     BackIf n n none ⊥ o → Made n f → Rested (suc n) (with_structure f o)
-with_back n f None k by = tt
-with_back n f (Some g) k by = by g.blocks g.inside g.from g.before k
+with_back n f o k by = grind (arith)
 
 falls_top : (P : ℕ → Type 0) (s t low : ℕ) (cs : List ℕ) → s ≤ t → Falls P s cs low → Falls P t cs low
 falls_top P s t low [] l h = omega (arith, l, h)
@@ -293,19 +289,7 @@ counted_made n l (b ∷ bs) p (OpenChoice c) before k = tt
 counted_made n l (b ∷ bs) p (OpenOf o c) before k = tt
 
 of_made : {A : Type 0} → (n : ℕ) → Made {A = A} n (open_of n)
-of_made n [] p (OpenCase c) before k =
-    let below = k.blocks in
-    let rest = ordered_any k.mid k.mid k.low (suc n) (λ x. HeldIn x p) (IsArm p) before (omega arith)
-    (omega (arith, below)) k.rest in
-    let r = k.rise in
-    ((tt, (k.tight, (k.mid, rise-high k.mid n (suc n) (named_ways p) (omega arith) r, rest))), λ t. tt)
-of_made n [] p (OpenChoice c) before k =
-    let below = k.blocks in
-    let w = k.rest in
-    let arm : IsArm p = ⊎_elim (λ f. absurd f.0) (λ f. f) w.0 in
-    let rest = ordered_any k.mid k.mid k.low (suc n) none ⊥ before (omega arith) (omega (arith, below)) w.1 in
-    ((k.tight, (k.mid, rise-high k.mid n (suc n) (named_ways p) (omega arith) k.rise, (arm, rest))), λ t. tt)
-of_made n _ p _ before k = tt
+of_made n h1 p h3 before k = grind (arith, ordered_any, rise-high, named_ways, none)
 
 endof_made : {A : Type 0} → (n : ℕ) → Made {A = A} n close_of
 endof_made {A = A} n [] p (OpenOf o c) before k =
@@ -331,26 +315,7 @@ endof_made n [] p (OpenChoice c) before k = tt
 endof_made n (b ∷ bs) p from before k = tt
 
 endcase_made : {A : Type 0} → (n : ℕ) → Made {A = A} n close_case
-endcase_made {A = A} n [] p (OpenCase c) before k =
-    let below = k.blocks in (
-      (
-        (tt, tt, tt),
-        (
-          n,
-          omega arith,
-          (
-            k.tight,
-            (
-              k.mid,
-              k.rise,
-              ordered_any k.mid k.mid k.low (suc n) (λ x. HeldIn x p) (IsArm p) before (omega arith)
-                  (omega (arith, below)) k.rest,
-            ),
-          ),
-        ),
-      ),
-      λ t. (omega arith, (tt, tt)),
-    )
+endcase_made {A = A} n [] p (OpenCase c) before k = grind (arith, ordered_any)
 endcase_made {A = A} n [] p (OpenChoice c) before k =
     let body : NamedBody A = NamedChoice c p NamedEnd in
     let below = k.blocks in
@@ -381,10 +346,8 @@ put_rested n (Mark p) d h = ((omega arith, ordered_any n n n (suc n) none ⊥ d 
 put_rested n (Do q) d h = (ordered_any n (suc n) n (suc n) none ⊥ d (omega arith) (omega arith) h, λ t. tt)
 put_rested n Case d h = (ordered_any n (suc n) n (suc n) none ⊥ d (omega arith) (omega arith) h, λ t. tt)
 put_rested n Leave d h = leave_rested n (innermost_do d) d h
-put_rested n (Back z t) d h =
-    with_back n (close_cycle z) (to_structure d) (back_structure n n none ⊥ d h) (cycle_made n z)
-put_rested n (Loop l) d h =
-    with_back n (close_counted l) (to_structure d) (back_structure n n none ⊥ d h) (counted_made n l)
+put_rested n (Back z t) d h = grind (arith, with_back, back_structure, none, cycle_made)
+put_rested n (Loop l) d h = grind (arith, with_back, back_structure, none, counted_made)
 put_rested n Of d h = with_back n (open_of n) (to_structure d) (back_structure n n none ⊥ d h) (of_made n)
 put_rested n EndOf d h = with_back n close_of (to_structure d) (back_structure n n none ⊥ d h) (endof_made n)
 put_rested n EndCase d h = with_back n close_case (to_structure d) (back_structure n n none ⊥ d h) (endcase_made n)
@@ -405,24 +368,20 @@ fall_step :
     (t b c : ℕ) (cs : List ℕ) (u : Bool) → nat_lt c b ≡ u → b ≤ t → c ≤ t → FallFrom c cs →
     ((s : ℕ) → b ≤ s → FallFrom s cs → FallFrom s (add_due b cs)) →
     FallFrom t (if u then b ∷ c ∷ cs else c ∷ add_due b cs)
-fall_step t b c cs true e l m h f = let less = ltb-true c b e in (l, (omega (arith, less), h))
-fall_step t b c cs false e l m h f = (m, f c (ltb-false c b e) h)
+fall_step t b c cs u e l m h f = grind (arith, ltb-true, ltb-false)
 
 fall_due : (t b : ℕ) (cs : List ℕ) → b ≤ t → FallFrom t cs → FallFrom t (add_due b cs)
 fall_due t b [] l h = (l, tt)
 fall_due t b (c ∷ cs) l h = fall_step t b c cs (nat_lt c b) refl l h.0 h.1 (λ s k g. fall_due s b cs k g)
 
 rested_more : {A : Type 0} → (n : ℕ) (o : Draft A) → Rested n o → Rested (suc n) o
-rested_more n None h = tt
-rested_more n (Some d) h = (ordered_any n (suc n) n (suc n) none ⊥ d (omega arith) (omega arith) h.0, h.1)
+rested_more n o h = grind (arith, ordered_any, none)
 
 closed_rested : {A : Type 0} → (n t : ℕ) (o : Draft A) → Rested n o → ClosedTo n t o
-closed_rested n t None h = tt
-closed_rested n t (Some d) h = (h.0, h.1 t)
+closed_rested n t o h = grind (arith)
 
 all_put : {A : Type 0} → (n : ℕ) (e : Element A) (o : Draft A) → OrderedDraft n o → Rested (suc n) (put_all n e o)
-all_put n e None h = tt
-all_put n e (Some d) h = put_rested n e d h
+all_put n e o h = grind (arith, put_rested)
 
 abbrev flushed : {A : Type 0} → (n : ℕ) (r : PartlyRead A) → ReadRested n r → OrderedDraft n (close_all r.due r.pieces)
 flushed n r h = close_due n h.greatest r.due r.pieces h.due (closed_rested n h.greatest r.pieces h.pieces)
@@ -469,8 +428,7 @@ AllTight (Some q) = NamedTight q
 
 last_tight :
     {A : Type 0} → (p : NamedBody A) (o : Option (NamedBody A)) → NamedTight p → AllTight o → AllTight (with_last p o)
-last_tight p None h k = tt
-last_tight p (Some q) h k = tight-joined q p k h
+last_tight p o h k = grind (arith, tight-joined)
 
 parts_tight :
     {A : Type 0} → (high top : ℕ) (H : ℕ → Type 0) (B : Type 0) (d : List (Piece A)) → Ordered high top H B d →
@@ -480,18 +438,13 @@ parts_tight high top H B (Part p ∷ d) h =
 parts_tight high top H B _ h = tt
 
 draft_tight : {A : Type 0} → (n : ℕ) (o : Draft A) → OrderedDraft n o → AllTight (finished o)
-draft_tight n None h = tt
-draft_tight n (Some d) h = parts_tight n n none ⊥ d h
+draft_tight n o h = grind (arith, parts_tight, none)
 
 body_tight :
     {A : Type 0} → (o : Option (NamedBody A)) (b : Body A) → AllTight o → body_of o ≡ Some b →
     IsScoped 0 false false b →
     IsTight 0 false false b
-body_tight None b h e s = let bad : ⊥ = cc in absurd bad
-body_tight (Some q) b h e s =
-    let same : nameless [] q ≡ b = cc in
-    subst (IsTight 0 false false) same (tight-nameless 0 false false [] q h
-    (subst (IsScoped 0 false false) (sym same) s))
+body_tight o b h e s = grind (arith, tight-nameless)
 
 -- a reading that is scoped is tight
 pub reading_tight :

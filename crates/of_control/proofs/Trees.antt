@@ -1,6 +1,6 @@
 -- Tight bodies are tight trees, so tight bodies with equal items are equal.
-use Rattle.std.proofs.Common.{◌≡◌, ℕ, zero, suc, ◌+◌, ◌<◌, ◌≤◌, Bool, true, false, List, [], ◌∷◌, ◌++◌, length, Some}
-use Rattle.std.proofs.Common.{None, refl, sym, ap, ◌∙◌, subst, arith}
+use Rattle.std.proofs.Common.{◌≡◌, ℕ, suc, ◌+◌, ◌<◌, ◌≤◌, Bool, true, false, List, [], ◌∷◌, ◌++◌, length, Some, None}
+use Rattle.std.proofs.Common.{refl, sym, ap, ◌∙◌, subst, arith}
 use Rattle.std.specs.Prelude.{◌==◌, if◌then◌else◌, map, slice_index}
 use Rattle.std.proofs.lemmas.Bool.{ne_eqb, eq-eqb, cases_eq}
 use Rattle.std.proofs.lemmas.List.{append-nil, append_assoc, map-append, length-map}
@@ -13,7 +13,7 @@ use Rattle.of_control.specs.Body.{items_at, items_of}
 use Rattle.of_control.specs.Tight.{AtEnd, BeginsWithArm, Beyond, Each, Inside, IsBlock, IsCycle, IsOther, IsReading}
 use Rattle.of_control.specs.Tight.{IsShorter, IsTight, Way, outward, shut, ways}
 use Rattle.of_control.proofs.Slots.{Slot, Does, Leaves, Out, To, Enters, Again, Tests, Drops, Tree, size, close, slots}
-use Rattle.of_control.proofs.Slots.{Aims, each-append, each-more, each-both, aims-more, Within, within}
+use Rattle.of_control.proofs.Slots.{Aims, each-append, each-more, each-both, aims-more, within}
 use Rattle.of_control.proofs.Unique
 use Rattle.of_control.proofs.Unique.{wide_left, IsInner, IsLeft, IsRepeated, IsShut, Tight, first, hits, same}
 use Rattle.of_control.proofs.BodyTrees.{IsSeen, back, body, first-tree, seen, size-tree, tree}
@@ -69,14 +69,10 @@ if_beyond : (b : Bool) → (if b then AtEnd else Inside) ≡ Beyond 0 → ⊥
 if_beyond b e = grind (arith)
 
 out_is : {A : Type 0} → (e : ℕ) (x : Slot A) → way_of e x ≡ Beyond 0 → (z : Bool) × (x ≡ Out (Some z) 0)
-out_is e (Out (Some z) k) h = let g : k ≡ 0 = cc in (z, ap (Out (Some z)) g)
-out_is e (To (Some z) u) h = absurd (if_beyond (u == e) h)
-out_is e _ h = let bad : ⊥ = cc in absurd bad
+out_is e x h = grind (arith, if_beyond)
 
 inner_is : {A : Type 0} → (m e : ℕ) (x : Slot A) → IsSeen m false x → IsOther (way_of e x) → IsInner x
-inner_is m e (Out (Some z) zero) s h = absurd h
-inner_is m e (Out None zero) s h = let bad : ⊥ = cc in absurd bad
-inner_is m e _ s h = tt
+inner_is m e x s h = grind (arith)
 
 not_end : (b : Bool) → IsShorter (if b then AtEnd else Inside) → b ≡ false
 not_end b h = grind (arith)
@@ -85,8 +81,7 @@ hits_not : {A : Type 0} → (e : ℕ) (x : Slot A) → IsShorter (way_of e x) �
 hits_not e x h = grind (arith, not_end)
 
 shorter_other : (w : Way) → IsShorter w → IsOther w
-shorter_other (Beyond zero) h = h
-shorter_other _ h = tt
+shorter_other w h = grind (arith)
 
 each-split : {A : Type 0} → (P : Slot A → Type 0) (xs ys : List (Slot A)) → Each P (xs ++ ys) → Each P xs × Each P ys
 each-split P [] ys h = (tt, h)
@@ -172,10 +167,6 @@ map_twice :
 map_twice f g h k [] e = refl
 map_twice f g h k (x ∷ xs) e = ap (λ y. y ∷ map f (map g xs)) e.0 ∙ ap (λ l. h (k x) ∷ l) (map_twice f g h k xs e.1)
 
-if_other :
-    (b c : Bool) → (if b then (if c then AtEnd else Inside) else Inside) ≡ outward c (if b then AtEnd else Inside)
-if_other b c = grind (arith)
-
 -- a jump to u, seen from the Block that ends at s, and from the body round it that ends at e
 seen_out :
     (u s e : ℕ) → u ≤ s → s ≤ e → outward (s == e) (if u == s then AtEnd else Inside) ≡ if u == e then AtEnd else Inside
@@ -205,9 +196,7 @@ arms_way s e t l h4 h = grind (arith, if_false, ne_eqb)
 
 -- no item of a tree goes past its end
 before_end : {A : Type 0} → (t : Tree A) (n : ℕ) → Each (Aims (λ u. u ≤ n + size t)) (slots t n)
-before_end t n =
-    each-more (Aims (Within n (n + size t))) (Aims (λ u. u ≤ n + size t)) (slots t n)
-    (aims-more (Within n (n + size t)) (λ u. u ≤ n + size t) (λ u k. k.1)) (within t n)
+before_end t n = grind (arith, each-more, size, slots, aims-more, within)
 
 last_part : (r s e : ℕ) → s + r ≡ e → (r == 0) ≡ (s == e)
 last_part r s e h = grind (arith, eq-eqb, ne_eqb, cases_eq)
@@ -311,14 +300,10 @@ ways_are m d c (Arm b r) n e w h =
 -- ---- tight
 
 seen_is_shut : {A : Type 0} → (x : Slot A) → IsSeen 0 true x → IsShut x
-seen_is_shut (Out (Some z) k) h = absurd (omega (arith, h))
-seen_is_shut (Out None (suc k)) h = absurd h
-seen_is_shut _ h = tt
+seen_is_shut x h = grind (arith)
 
 begins : {A : Type 0} → (b : Body A) → BeginsWithArm b → Unique.BeginsWithArm (tree b)
-begins End h = tt
-begins (Arm b r) h = tt
-begins _ h = absurd h
+begins b h = grind (arith)
 
 tight : {A : Type 0} → (m : ℕ) (d c : Bool) (b : Body A) (n : ℕ) → IsTight m d c b → Tight n (tree b)
 tight m d c End n w = tt
@@ -404,15 +389,9 @@ items_are :
     {A : Type 0} → (m : ℕ) (d c : Bool) (b : Body A) (n : ℕ) (ls : List ℕ) (lv ps : ℕ) → IsTight m d c b →
     map slot_of (items_at b n ls lv ps) ≡ map (placed ls ps) (slots (tree b) n)
 items_are m d c End n ls lv ps w = refl
-items_are m d c (Operation a r) n ls lv ps w =
-    ap (λ l. Does a ∷ l) (items_are m d c r (suc n) ls lv ps w
-    ∙ ap (λ k. map (placed ls ps) (slots (tree r) k)) (omega arith))
-items_are m d c (LeaveLoop r) n ls lv ps w =
-    ap (λ l. Leaves ∷ l) (items_are m d c r (suc n) ls lv ps w.1
-    ∙ ap (λ k. map (placed ls ps) (slots (tree r) k)) (omega arith))
-items_are m d c (Jump z k r) n ls lv ps w =
-    ap (λ l. To (Some z) (slice_index ls k) ∷ l)
-    (items_are m d c r (suc n) ls lv ps w.1 ∙ ap (λ i. map (placed ls ps) (slots (tree r) i)) (omega arith))
+items_are m d c (Operation a r) n ls lv ps w = grind (arith, items_are m d c r (suc n) ls lv ps w, slots, tree)
+items_are m d c (LeaveLoop r) n ls lv ps w = grind (arith, items_are m d c r (suc n) ls lv ps w.1, slots, tree)
+items_are m d c (Jump z k r) n ls lv ps w = grind (arith, items_are m d c r (suc n) ls lv ps w.1, slots, tree)
 items_are m d c (Block b r) n ls lv ps w =
     let t = n + body_size b in
     let s = n + size (tree b) in

@@ -6,10 +6,10 @@ use Rattle.std.proofs.lemmas.Bool.{ne_eqb, eq-eqb, cases_lt}
 use Rattle.std.proofs.lemmas.List.{append-nil, append_cancel_left, append_cancel_right, map-append, map-id}
 use Rattle.std.proofs.lemmas.List.{length-append, length-map}
 use Rattle.of_control.proofs.Slots.{Slot, Does, Leaves, Out, To, Enters, Again, Tests, Drops, Head, AnOperation, ALeave}
-use Rattle.of_control.proofs.Slots.{AJump, ABlock, ACycle, ACounted, AChoice, AnArm, Tree, Leaf, Node, starts, width-is}
-use Rattle.of_control.proofs.Slots.{width, size, before, behind, close, bound, part, slots, length-slots, length-part}
-use Rattle.of_control.proofs.Slots.{Aims, each-append, each-map, each-more, each-both, aims-more, Within, within-part}
-use Rattle.of_control.proofs.Slots.{within, Keeps, CutIn, cut-left, cut-right, cut-join, cut-low, cut-high, cut-unclose}
+use Rattle.of_control.proofs.Slots.{AJump, ABlock, ACycle, ACounted, AChoice, AnArm, Tree, Leaf, Node, starts, width}
+use Rattle.of_control.proofs.Slots.{size, before, behind, close, bound, part, slots, length-slots, length-part, Aims}
+use Rattle.of_control.proofs.Slots.{each-append, each-map, each-more, each-both, aims-more, Within, within-part, within}
+use Rattle.of_control.proofs.Slots.{Keeps, CutIn, cut-left, cut-right, cut-join, cut-low, cut-high, cut-unclose}
 use Rattle.of_control.specs.Tight.{Each}
 
 -- no way out of the part
@@ -120,14 +120,9 @@ covers {A = A} (Node ABlock i r) n c w l h =
     let one = cut-left n c (part ABlock n (size i) (slots i n)) (slots r e) h in
     let two = cut-left n c xs [] one in
     left_covers n c i w.0 (covers i n c w.1 l (cut-unclose n c e (slots i n) two)) two
-covers {A = A} (Node ACycle i r) n c w l h =
-    let e = n + width {A = A} ACycle (size i) in
-    let one = cut-left n c (part ACycle n (size i) (slots i n)) (slots r e) h in
-    repeated_covers n c i w.0 l (cut-left n c (map (close n) (slots i n)) [] one)
+covers {A = A} (Node ACycle i r) n c w l h = grind (arith, width, size, cut-left, part, slots, repeated_covers, close)
 covers (Node (ACounted q m) i r) n c w l h = h.0.0 l
-covers {A = A} (Node AChoice i r) n c w l h =
-    let e = n + width {A = A} AChoice (size i) in
-    arm_covers n c i w.0.1 l (cut-left n c (part AChoice n (size i) (slots i n)) (slots r e) h)
+covers {A = A} (Node AChoice i r) n c w l h = grind (arith, width, size, arm_covers, cut-left, part, slots)
 covers (Node AnArm i r) n c w l h = h.0.0 l
 
 cut_first : {A : Type 0} → (h : Head A) (i r : Tree A) (n : ℕ) → CutIn n (n + width h (size i)) (slots (Node h i r) n)
@@ -195,9 +190,7 @@ misses_arms e x h = grind (arith, misses)
 pub strict :
     {A : Type 0} → (a b e : ℕ) → b < e → (xs : List (Slot A)) → Each (Aims (Within a b)) xs →
     Each (Aims (λ u. u < e)) xs
-strict a b e l xs h =
-    each-more (Aims (Within a b)) (Aims (λ u. u < e)) xs
-    (aims-more (Within a b) (λ u. u < e) (λ u w. omega (arith, l, w.1))) h
+strict a b e l xs h = grind (arith, each-more, aims-more)
 
 pub missing :
     {A : Type 0} → (e : ℕ) (xs : List (Slot A)) → Each (Aims (λ u. u < e)) xs → Each (λ x. hits e x ≡ false) xs
@@ -360,12 +353,7 @@ reopened_is :
     {A : Type 0} → (e : ℕ) (z : Bool) (xs ys : List (Slot A)) → Each IsInner xs → Each (λ x. hits e x ≡ false) xs →
     Each IsInner ys → reopened e (map (close e) xs ++ (To (Some z) e ∷ map (close e) ys)) ≡ xs ++ (Out (Some z) 0 ∷ ys)
 reopened_is e z [] ys i m j = reopened_here e z ys j
-reopened_is e z (x ∷ xs) ys i m j =
-    let rest = map (close e) xs ++ (To (Some z) e ∷ map (close e) ys) in
-    ap (λ b. if b then way_out (close e x) ∷ map unclosed rest else unclosed (close e x) ∷ reopened e rest)
-    (hits-close e x i.0 ∙ m.0)
-    ∙ ap (λ y. y ∷ reopened e rest) (unclosed-close e x i.0)
-    ∙ ap (λ l. x ∷ l) (reopened_is e z xs ys i.1 m.1 j)
+reopened_is e z (x ∷ xs) ys i m j = grind (arith, reopened_is e z xs ys i.1 m.1 j, close, hits-close, unclosed-close)
 
 left_inside :
     {A : Type 0} → (n : ℕ) (i : Tree A) → IsLeft n i →
@@ -386,9 +374,7 @@ last_out_is :
     last_out (map (close n) xs ++ (To (Some z) n ∷ [])) ≡ xs ++ (Out (Some z) 0 ∷ [])
 last_out_is n z [] h = refl
 last_out_is n z (x ∷ []) h = ap (λ y. y ∷ Out (Some z) 0 ∷ []) (unclosed-close n x h.0)
-last_out_is n z (x ∷ y ∷ xs) h =
-    ap (λ w. w ∷ last_out (map (close n) (y ∷ xs) ++ (To (Some z) n ∷ []))) (unclosed-close n x h.0)
-    ∙ ap (λ l. x ∷ l) (last_out_is n z (y ∷ xs) h.1)
+last_out_is n z (x ∷ y ∷ xs) h = grind (arith, last_out_is n z (y ∷ xs) h.1, close, unclosed-close)
 
 repeated_inside :
     {A : Type 0} → (n : ℕ) (i : Tree A) → IsRepeated n i → last_out (map (close n) (slots i n)) ≡ slots i n
@@ -441,9 +427,6 @@ split_equal (x ∷ xs) ys (u ∷ us) vs l e =
     (ap (λ w. w ∷ xs) heads ∙ ap (λ w. u ∷ w) r.0, r.1)
 split_equal _ ys _ vs l e = absurd (omega (arith, l))
 
-split_last : {A : Type 0} → (xs us ws : List (Slot A)) → xs ++ ws ≡ us ++ ws → xs ≡ us
-split_last xs us ws e = append_cancel_right xs us ws e
-
 pub wide_left :
     {A : Type 0} → (n : ℕ) (i : Tree A) (xs ys : List (Slot A)) (x : Slot A) → slots i n ≡ xs ++ (x ∷ ys) → 1 ≤ size i
 wide_left n i xs ys x e =
@@ -453,9 +436,6 @@ wide_left n i xs ys x e =
 -- each part has an item
 pub wide : {A : Type 0} → (h : Head A) (n : ℕ) (i : Tree A) → Fits h n i → 1 ≤ width h (size i)
 wide h n i f = grind (arith, wide_left)
-
-inner_size : {A : Type 0} → (h : Head A) (a b : ℕ) → width h a ≡ width h b → a ≡ b
-inner_size h a b e = omega (arith, e, width-is h a, width-is h b)
 
 -- of two trees with these items, the first part of one is no wider than that of the other
 no_wider :

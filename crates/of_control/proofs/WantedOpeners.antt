@@ -1,6 +1,6 @@
 -- The calls find, by its place in the list, the opener that a matching wants.
 use Rattle.std.proofs.Common.{◌≡◌, ℕ, zero, suc, ◌<◌, ◌≤◌, Bool, true, false, List, [], ◌∷◌, length, Option, Some, None}
-use Rattle.std.proofs.Common.{refl, sym, ap, ◌∙◌, subst, arith, ◌||◌}
+use Rattle.std.proofs.Common.{refl, sym, ap, ◌∙◌, arith, ◌||◌}
 use Rattle.std.specs.Prelude.{slice_get, map, nat_lt, if◌then◌else◌}
 use Rattle.std.proofs.lemmas.Bool.{ltb-true, ltb-false}
 use Rattle.of_control.specs.declared.opener.Kind.{Kind}
@@ -9,8 +9,8 @@ use Rattle.of_control.specs.Openers.{aimed_index, orig_index, dest_index, orig_c
 use Rattle.of_control.specs.Element.{Element}
 use Rattle.of_control.specs.Matching.{Opening, origs_if, top_origs, structure_or, top_structure}
 use Rattle.of_control.specs.Calls.{placed}
-use Rattle.of_control.specs.AgedStack.{Answer, Broken, Closed, first_or, first_orig_for, or_opening, resolved, found}
-use Rattle.of_control.specs.AgedStack.{closed_if, if_kind, any_loop, is_on_case}
+use Rattle.of_control.specs.AgedStack.{Answer, Broken, Closed, first_orig_for, or_opening, resolved, found, closed_if}
+use Rattle.of_control.specs.AgedStack.{if_kind, any_loop, is_on_case}
 
 -- the i-th latest is what is closed, if anything is
 abbrev pub Finds : List Opening → Answer → Option ℕ → Type 0
@@ -25,36 +25,27 @@ FindsIf os (Some x) (Some i) = slice_get os i ≡ Some x
 FindsIf os _ _ = ⊥
 
 finds_found : (os : List Opening) (o : Option Opening) (i : Option ℕ) → FindsIf os o i → Finds os (found o) i
-finds_found os None None h = tt
-finds_found os (Some x) (Some i) h = h
-finds_found os _ _ h = absurd h
+finds_found os o i h = grind (arith)
 
 finds_if_later :
     (y : Opening) (os : List Opening) (o : Option Opening) (i : Option ℕ) → FindsIf os o i →
     FindsIf (y ∷ os) o (one_later i)
-finds_if_later y os None None h = tt
-finds_if_later y os (Some x) (Some i) h = h
-finds_if_later y os _ _ h = absurd h
+finds_if_later y os o i h = grind (arith)
 
 finds_later :
     (y : Opening) (os : List Opening) (a : Answer) (i : Option ℕ) → Finds os a i → Finds (y ∷ os) a (one_later i)
-finds_later y os Broken None h = tt
-finds_later y os (Closed x) (Some i) h = h
-finds_later y os _ _ h = absurd h
+finds_later y os a i h = grind (arith)
 
 finds_either :
     (os : List Opening) (o p : Option Opening) (i j : Option ℕ) → FindsIf os o i → FindsIf os p j →
     FindsIf os (or_opening o p) (or_else i j)
-finds_either os None p None j h k = k
-finds_either os (Some x) p (Some i) j h k = h
-finds_either os _ p _ j h k = absurd h
+finds_either os o p i j h k = grind (arith)
 
 -- ---- the latest
 
 finds_closed_if :
     (x : Opening) (os : List Opening) (b : Bool) → Finds (x ∷ os) (closed_if b x) (if b then Some 0 else None)
-finds_closed_if x os true = refl
-finds_closed_if x os false = tt
+finds_closed_if x os b = grind (arith)
 
 pub finds_top :
     {A : Type 0} → (place : List (Element A) → ℕ) (es : List (Element A)) (p : Kind → Bool) (os : List Opening) →
@@ -67,8 +58,7 @@ finds_top place es p (x ∷ os) = finds_closed_if x os (p x.kind)
 finds_origs_if :
     (x : Opening) (os : List Opening) (b : Bool) →
     Finds (x ∷ os) (found (slice_get (origs_if b x (top_origs os)) 0)) (if b then Some 0 else None)
-finds_origs_if x os true = refl
-finds_origs_if x os false = tt
+finds_origs_if x os b = grind (arith)
 
 orig_for_is_orig : (t : ℕ) (k : Kind) → is_orig_for t k ≡ true → is_orig k ≡ true
 orig_for_is_orig t k e = grind (arith)
@@ -78,35 +68,20 @@ finds_aimed_step :
     is_orig x.kind ≡ c → FindsIf os (first_orig_for t (top_origs os)) i →
     FindsIf (x ∷ os) (first_orig_for t (origs_if c x (top_origs os)))
     (if b then Some 0 else if c then one_later i else None)
-finds_aimed_step t x os i true true e f h =
-    subst (λ d. FindsIf (x ∷ os) (first_or d x (first_orig_for t (top_origs os))) (Some 0)) (sym e) refl
-finds_aimed_step t x os i true false e f h =
-    let g : true ≡ false = sym (orig_for_is_orig t x.kind e) ∙ f in let bad : ⊥ = cc in absurd bad
-finds_aimed_step t x os i false true e f h =
-    subst (λ d. FindsIf (x ∷ os) (first_or d x (first_orig_for t (top_origs os))) (one_later i)) (sym e)
-    (finds_if_later x os (first_orig_for t (top_origs os)) i h)
-finds_aimed_step t x os i false false e f h = tt
+finds_aimed_step t x os i b c e f h = grind (arith, orig_for_is_orig, finds_if_later)
 
 finds_aimed :
     {A : Type 0} → (place : List (Element A) → ℕ) (es : List (Element A)) (t : ℕ) (os : List Opening) →
     FindsIf os (first_orig_for t (top_origs os)) (aimed_index t (map (placed place es) os))
 finds_aimed place es t [] = tt
-finds_aimed place es t (x ∷ os) =
-    finds_aimed_step t x os (aimed_index t (map (placed place es) os)) (is_orig_for t x.kind) (is_orig x.kind) refl refl
-    (finds_aimed place es t os)
+finds_aimed place es t (x ∷ os) = grind (arith, finds_aimed place es t os, finds_aimed_step)
 
 pub finds_orig :
     {A : Type 0} → (place : List (Element A) → ℕ) (es : List (Element A)) (p : Option ℕ) (os : List Opening) →
     Finds os (found (resolved p (top_origs os))) (orig_index p (map (placed place es) os))
 finds_orig place es None [] = tt
 finds_orig place es None (x ∷ os) = finds_origs_if x os (is_orig x.kind)
-finds_orig place es (Some p) os =
-    let a = first_orig_for p (top_origs os) in
-    let b = first_orig_for (suc p) (top_origs os) in
-    let i = aimed_index p (map (placed place es) os) in
-    let j = aimed_index (suc p) (map (placed place es) os) in
-    finds_found os (or_opening a b) (or_else i j)
-    (finds_either os a b i j (finds_aimed place es p os) (finds_aimed place es (suc p) os))
+finds_orig place es (Some p) os = grind (arith, finds_found, finds_either, finds_aimed)
 
 -- ---- a backward branch
 
@@ -118,19 +93,13 @@ finds_dest_step :
     is_orig x.kind ≡ c → Finds os (if_kind (is_dest_for t) (top_structure os)) i →
     Finds (x ∷ os) (if_kind (is_dest_for t) (structure_or c x (top_structure os)))
     (if b then Some 0 else if c then one_later i else None)
-finds_dest_step t x os i true true e f h =
-    let g : false ≡ true = sym (dest_for_no_orig t x.kind e) ∙ f in let bad : ⊥ = cc in absurd bad
-finds_dest_step t x os i true false e f h = subst (λ d. Finds (x ∷ os) (closed_if d x) (Some 0)) (sym e) refl
-finds_dest_step t x os i false true e f h = finds_later x os (if_kind (is_dest_for t) (top_structure os)) i h
-finds_dest_step t x os i false false e f h = subst (λ d. Finds (x ∷ os) (closed_if d x) None) (sym e) tt
+finds_dest_step t x os i b c e f h = grind (arith, dest_for_no_orig, finds_later)
 
 pub finds_dest :
     {A : Type 0} → (place : List (Element A) → ℕ) (es : List (Element A)) (t : Option ℕ) (os : List Opening) →
     Finds os (if_kind (is_dest_for t) (top_structure os)) (dest_index t (map (placed place es) os))
 finds_dest place es t [] = tt
-finds_dest place es t (x ∷ os) =
-    finds_dest_step t x os (dest_index t (map (placed place es) os)) (is_dest_for t x.kind) (is_orig x.kind) refl refl
-    (finds_dest place es t os)
+finds_dest place es t (x ∷ os) = grind (arith, finds_dest place es t os, finds_dest_step)
 
 -- ---- a roll
 
@@ -191,14 +160,8 @@ orig_count_within place es (x ∷ os) =
 roll_finds_step :
     {A : Type 0} → (place : List (Element A) → ℕ) (es : List (Element A)) (n : ℕ) (os : List Opening) (b : Bool) →
     nat_lt n (orig_count (map (placed place es) os)) ≡ b → RollFinds n os (slice_get (top_origs os) n) b
-roll_finds_step place es n os true e =
-    let lt = ltb-true n (orig_count (map (placed place es) os)) e in
-    let w = orig_count_within place es os in
-    roll_finds_true n os (slice_get (top_origs os) n) (slice_get os n) (some_orig place es os n lt)
-    (omega (arith, lt, w)) refl
-roll_finds_step place es n os false e =
-    let le = ltb-false n (orig_count (map (placed place es) os)) e in
-    subst (λ o. RollFinds n os o false) (sym (no_orig place es os n le)) refl
+roll_finds_step place es n os b e =
+    grind (arith, ltb-true, orig_count_within, roll_finds_true, some_orig, ltb-false, no_orig)
 
 pub roll_finds :
     {A : Type 0} → (place : List (Element A) → ℕ) (es : List (Element A)) (n : ℕ) (os : List Opening) →
