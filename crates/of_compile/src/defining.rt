@@ -57,13 +57,13 @@ fn next_address(memory: &Memory) -> Cell
 }
 
 impl Product {
-    /// A word without data that takes so many cells from the stack.
-    fn of(kind: Kind, taken: usize) -> Product
-        ensures { result ≡ record { kind = kind; bytes = record { 0 = 0 }; taken = taken; left = None } }
+    /// A word with so many bytes of its own that takes so many cells from the stack and leaves none.
+    fn of(kind: Kind, bytes: Cell, taken: usize) -> Product
+        ensures { result ≡ record { kind = kind; bytes = bytes; taken = taken; left = None } }
     {
         Product {
             kind,
-            bytes: Cell(0),
+            bytes,
             taken,
             left: None,
         }
@@ -97,39 +97,26 @@ impl DefiningWord {
         ensures room { IfOk result (λ p. (p.left ≡ None) ⊎ (1 ≤ p.taken)) }
         ensures err { IfErr result (λ t. (made_by self start.cell here.0 stack.now ≡ None) × (t ≡ stack_underflow)) }
     {
+        let none = Cell(0);
         let product = match self {
-            DefiningWord::Colon => Product::of(Kind::Colon { start: start.cell }, 0),
-            DefiningWord::Value => Product::of(
-                Kind::Value {
-                    value: stack.peek()?,
-                },
-                1,
-            ),
-            DefiningWord::Constant => Product::of(
-                Kind::Constant {
-                    value: stack.peek()?,
-                },
-                1,
-            ),
-            DefiningWord::Variable => Product {
-                kind: Kind::Variable { address: here },
-                bytes: Cell(4),
-                taken: 0,
-                left: None,
-            },
-            DefiningWord::Create => Product::of(Kind::Create { address: here }, 0),
-            DefiningWord::Defer => Product::of(Kind::Defer { xt: Cell(0) }, 0),
-            DefiningWord::Buffer => Product {
-                kind: Kind::Buffer { address: here },
-                bytes: stack.peek()?,
-                taken: 1,
-                left: None,
-            },
+            DefiningWord::Colon => Product::of(Kind::Colon { start: start.cell }, none, 0),
+            DefiningWord::Value => {
+                let value = stack.peek()?;
+                Product::of(Kind::Value { value }, none, 1)
+            }
+            DefiningWord::Constant => {
+                let value = stack.peek()?;
+                Product::of(Kind::Constant { value }, none, 1)
+            }
+            DefiningWord::Variable => Product::of(Kind::Variable { address: here }, Cell(4), 0),
+            DefiningWord::Create => Product::of(Kind::Create { address: here }, none, 0),
+            DefiningWord::Defer => Product::of(Kind::Defer { xt: none }, none, 0),
+            DefiningWord::Buffer => Product::of(Kind::Buffer { address: here }, stack.peek()?, 1),
             DefiningWord::Field => {
                 let (offset, size) = stack.top_two()?;
                 Product {
                     kind: Kind::Field { offset },
-                    bytes: Cell(0),
+                    bytes: none,
                     taken: 2,
                     left: Some(offset.add(size)),
                 }
