@@ -1,11 +1,7 @@
 -- What the code of a defining word holds between its steps.
-use Rattle.std.specs.Prelude.{List, ◌∷◌, drop, length, Option, Some, None, Result, nat_le}
+use Rattle.std.specs.Prelude.{List, ◌∷◌, drop, Option, Some, None}
 use Rattle.of_cells.specs.declared.cells.Cell.{Cell}
-use Rattle.of_stacks.specs.declared.throws.Throw.{Throw}
-use Rattle.of_stacks.specs.Throws.{dictionary_overflow}
-use Rattle.of_stacks.specs.Order.{refused_if}
 use Rattle.of_dict.specs.declared.word.Kind.{Kind}
-use Rattle.of_dict.specs.Words.{capacity}
 use Rattle.of_compile.specs.declared.words.Pending.{Pending}
 use Rattle.of_compile.specs.declared.defining.DefiningWord.{DefiningWord}
 use Rattle.of_compile.specs.declared.defining.Product.{Product}
@@ -25,7 +21,3 @@ made_of p s = one p.kind p.bytes.0 (left_on p.left (drop p.taken s))
 abbrev pub with_pending : DefiningWord → Kind → Option Pending → WordsState → WordsState
 with_pending d k None w = w
 with_pending d k (Some p) w = with_word d k p w
-
--- what adding a word of the pending number and name leaves, or throws
-abbrev pub added : DefiningWord → Kind → WordsState → Result WordsState Throw
-added d k w = refused_if (nat_le capacity (length w.dictionary)) dictionary_overflow (with_pending d k w.pending w)

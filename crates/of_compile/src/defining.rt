@@ -1,19 +1,21 @@
 //! The words that define, and the open definition's word.
-ghost use Rattle.std.specs.Prelude.{◌≡◌, ◌≤◌, ◌⊎◌, true, length, IfOk, IfErr, IsSome, None, Some};
+ghost use Rattle.std.specs.Prelude.{◌≡◌, ◌≤◌, ◌<◌, ◌⊎◌, length, is_ok, IfOk, IfErr, OnErr, None, Some};
 ghost use Rattle.of_stacks.specs.Stacks.{Makes};
 ghost use Rattle.of_stacks.specs.Throws.{stack_underflow};
 ghost use Rattle.of_code.specs.Code.{end_of};
 ghost use Rattle.of_memory.specs.Growth.{aligned};
+ghost use Rattle.of_dict.specs.Words.{capacity};
 ghost use Rattle.of_compile.specs.Defining.{abandoned, closed, defining_entry, made_by, making, opens};
-ghost use Rattle.of_compile.specs.Products.{added, made_of};
+ghost use Rattle.of_compile.specs.Products.{made_of, with_pending};
 
 use crate::words::Words;
 use of_cells::Cell;
 use of_code::{CodeStore, Place};
-use of_dict::{DictFault, Kind, Name};
+use of_dict::{CAPACITY, Kind, Name};
 use of_fcodes::TokenEntry;
 use of_memory::Memory;
 use of_stacks::{DataStack, Stop, Throw};
+use std::alloc::AllocError;
 
 /// A word that defines another one (IEEE 1275-1994, 5.3.3.1 and annex A).
 #[derive(Clone, Copy, Debug, PartialEq, Eq)]
@@ -53,7 +55,7 @@ struct Product {
 fn next_address(memory: &Memory) -> Cell
     ensures { result.0 ≡ aligned memory.now.here }
 {
-    Cell((memory.here().0 + 3) / 4 * 4)
+    Cell(memory.here().0.next_multiple_of(4))
 }
 
 impl Product {
@@ -131,7 +133,8 @@ impl Words {
     /// definition's code begins at the end of the code. `here` is moved up to a multiple of 4 first.
     ///
     /// -29 while a definition is open or without a pending number, -4 where the word takes more cells than there are,
-    /// -8 where 8,192 words were made or the data region has no room. A stop changes nothing.
+    /// -8 where 8,192 words were made or the data region has no room. A stop for memory comes only where none of these
+    /// does. A stop changes nothing.
     pub fn define<C: CodeStore>(
         &mut self,
         word: DefiningWord,
@@ -140,8 +143,8 @@ impl Words {
         memory: &mut Memory,
     ) -> Result<(), Stop>
         ensures { let old = making self.old stack.old memory.old in
-            Makes true (defining_entry word (end_of (C.code code.now)).cell old)
-            old (making self.new stack.new memory.new) result }
+            let entry = defining_entry word (end_of (C.code code.now)).cell old in
+            Makes (is_ok entry) entry old (making self.new stack.new memory.new) result }
     {
         if self.defining.is_some() || self.pending.is_none() {
             return Err(Stop::Thrown(Throw::COMPILER_NESTING));
@@ -150,7 +153,7 @@ impl Words {
             Ok(product) => product,
             Err(fault) => return Err(Stop::Thrown(fault)),
         };
-        if memory.check_zeros(product.bytes).is_err() {
+        if self.dictionary.made() >= CAPACITY || memory.check_zeros(product.bytes).is_err() {
             return Err(Stop::Thrown(Throw::DICTIONARY_OVERFLOW));
         }
         self.add(word, product.kind)?;
@@ -159,21 +162,20 @@ impl Words {
         Ok(())
     }
 
-    /// Adds a word of the pending number and name.
+    /// Adds a word of the pending number and name. A refusal is one of memory.
     #[tactic(auto, using(crate::proofs::WordsLemmas::newest_pushed, crate::proofs::WordsLemmas::changed_pushed))]
-    fn add(&mut self, word: DefiningWord, kind: Kind) -> Result<(), Stop>
+    fn add(&mut self, word: DefiningWord, kind: Kind) -> Result<(), AllocError>
         requires closed { self.old.defining ≡ None }
-        requires pending { IsSome self.old.pending }
-        ensures { Makes true (added word kind self.old) self.old self.new result }
+        requires room { length self.old.dictionary < capacity }
+        ensures ok { IfOk result (λ _. self.new ≡ with_pending word kind self.old.pending self.old) }
+        ensures err { OnErr result (self.new ≡ self.old) }
     {
         let Some(pending) = &self.pending else {
-            return Err(Stop::Thrown(Throw::COMPILER_NESTING));
+            return Ok(());
         };
         let name = pending.name.as_ref().map(Name::as_bytes);
-        let number = match self.dictionary.add(name, kind) {
-            Ok(number) => number,
-            Err(DictFault::NoMemory) => return Err(Stop::NoMemory),
-            Err(_) => return Err(Stop::Thrown(Throw::DICTIONARY_OVERFLOW)),
+        let Ok(number) = self.dictionary.add(name, kind) else {
+            return Err(AllocError);
         };
         self.table.set(
             pending.code,

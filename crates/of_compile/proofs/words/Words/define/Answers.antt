@@ -8,7 +8,7 @@ use Rattle.of_compile.proofs.words.Words.define.Goals.{then-is_some-via-then-is_
 use Rattle.of_compile.proofs.words.Words.define.Goals.{then-is_some-via-else-is_some+then-is_none}
 use Rattle.of_compile.proofs.words.Words.define.Goals as goal
 
--- src/defining.rt:149:13
+-- src/defining.rt:150:13
 pub returns-then-is_some : goal.returns-then-is_some
 returns-then-is_some g c =
     let old = making c.args.self.now c.args.stack.now c.args.memory.now in
@@ -18,7 +18,7 @@ returns-then-is_some g c =
     ] in
     (entry_nested c.args.word (end_of (g.C.CodeStore.code c.args.code.now)).cell old e, refl {a = old})
 
--- src/defining.rt:151:23
+-- src/defining.rt:154:27
 pub returns-in-Err : goal.returns-in-Err
 returns-in-Err g c =
     let old = making c.args.self.now c.args.stack.now c.args.memory.now in
