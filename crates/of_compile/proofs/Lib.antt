@@ -13,4 +13,5 @@ mod BoardLemmas
 mod Pins
 mod FaultLemmas
 mod WordsLemmas
+mod LifeLemmas
 mod Endings

@@ -26,7 +26,7 @@ pub changed_pushed : (f : Word → Word) (words : List (Option Word)) (w : Word)
 changed_pushed f words w =
     rw (at-push words (Some w) None) (set-push words (Some w) (Some (f w)))
 
-same_below : (p q : ℕ → Bool) (n : ℕ) → ((k : ℕ) → p k ≡ q k) → newest_below p n ≡ newest_below q n
+pub same_below : (p q : ℕ → Bool) (n : ℕ) → ((k : ℕ) → p k ≡ q k) → newest_below p n ≡ newest_below q n
 same_below p q zero h = refl
 same_below p q (suc n) h = rw (h n, same_below p q n h) refl
 

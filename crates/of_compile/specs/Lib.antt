@@ -10,3 +10,4 @@ pub mod Defining
 pub mod Products
 pub mod DictionaryWords
 pub mod Definitions
+pub mod LifeLaw

@@ -1,9 +1,12 @@
 //! What holds of all definitions.
 ghost use Rattle.of_compile.specs.BoardLaw.{BoardIsFlat};
 ghost use Rattle.of_compile.specs.Law.{CompilesReading};
+ghost use Rattle.of_compile.specs.LifeLaw.{DefinitionsComeAndGo};
 
 use crate::PlainItem;
 use of_control::{calls_follow_matching, closed_is_read, compiled_is_flat, runs_by_places};
+use of_dict::changes_are_found;
+use of_fcodes::table_is_map;
 
 /// A definition can be finished exactly where its elements have a body, and its code is then that body laid out where
 /// it began. Its cells are those of its elements. Once it is abandoned, the code is what was there before.
@@ -23,4 +26,14 @@ pub fn board_is_flat()
     compiles_reading();
     closed_is_read::<PlainItem, 32>();
     runs_by_places::<PlainItem>();
+}
+
+/// While a definition is open, its number names it and its name isn't found; once it is ended, its name is found and is
+/// it; once it is abandoned, all names are found as before and no FCode names it. Where none is open, `b(;)` throws -29
+/// and giving up changes nothing.
+pub fn definitions_come_and_go()
+    ensures { DefinitionsComeAndGo }
+{
+    changes_are_found();
+    table_is_map();
 }
