@@ -52,7 +52,8 @@ hidden law k p w name =
 -- the dictionary once the definition is ended
 closed_is : (k : Kind) (p : Pending) (w : WordsState)
     → (closed (begun k p w)).dictionary ≡ w.dictionary ++ Some (made p.name k) ∷ []
-closed_is k p w = changed_pushed (λ x. record x { hidden = false }) w.dictionary (record (made p.name k) { hidden = true })
+closed_is k p w =
+    changed_pushed (λ x. record x { hidden = false }) w.dictionary (record (made p.name k) { hidden = true })
 
 -- the same of a definition with a name
 closed_as : (k : Kind) (p : Pending) (w : WordsState) (name : Option (List ℕ)) → p.name ≡ name
