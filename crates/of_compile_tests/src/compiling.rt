@@ -4,7 +4,9 @@ ghost use Rattle.std.specs.Prelude.{◌≤◌};
 
 use of_cells::Cell;
 use of_code::{CodeStore, Item, ListCode, Place};
-use of_compile::{Coding, Element, PlainItem, board_is_flat, compiles_reading};
+use of_compile::{
+    Coding, Element, PlainItem, board_is_flat, compiles_reading, definitions_come_and_go,
+};
 use of_stacks::Throw;
 use std::alloc::Global;
 use std::process::Abort;
@@ -488,4 +490,5 @@ fn is_storable(rt: HostRuntime) {
 fn laws() {
     compiles_reading();
     board_is_flat();
+    definitions_come_and_go();
 }

@@ -54,8 +54,27 @@ impl Bench {
                 self.stack.pop()?;
                 Ok(())
             }
+            "fill" => self.fill(),
+            "crowd" => self.crowd(),
             _ => self.coded(word),
         }
+    }
+
+    /// Pushes cells of 0 until there are 256.
+    fn fill(&mut self) -> Result<(), Stop> {
+        for _ in self.stack.depth()..256 {
+            self.stack.try_push(Cell(0))?;
+        }
+        Ok(())
+    }
+
+    /// Makes words without a name until 8,192 were made.
+    fn crowd(&mut self) -> Result<(), Stop> {
+        for _ in self.words.dictionary().made()..8192 {
+            self.parted("new:fff")?;
+            self.defining("create")?;
+        }
+        Ok(())
     }
 
     /// A word of the open definition.
@@ -181,6 +200,9 @@ new:802 variable 802 get-token drop >body -> 100000
 new:803 create 803 get-token drop >body -> 100004
 100004 body> -> c0000538
 100000 body> -> c0000534
+800 get-token drop >body -> throw -31
+5 body> -> throw -263
+9 body> -> throw -263
 new:804 9 buffer new:805 create 805 get-token drop >body -> 100010
 kind:802 kind:803 kind:804 -> 100000 4 100004 5 100004 7
 new:806 2 3 field kind:806 -> 5 2 8
@@ -188,6 +210,7 @@ new:807 defer 807 get-token drop behavior -> 0
 c0000080 to:807 807 get-token drop behavior -> c0000080
 5 to:800 -> throw -32
 to:801 -> throw -4
+to:800 -> throw -4
 new:7ff -> throw -24
 external:808: -> throw -16
 external:700: -> throw -16
@@ -200,6 +223,7 @@ new:80a value -> throw -4
 ffff get-token -> throw -256
 ; -> throw -29
 c0000080 compile, -> throw -14
+compile, -> throw -14
 external:80c:loop colon find:loop 80c get-token -> 0 c0000558 0
 new:80d -> throw -29
 1 constant -> throw -29
@@ -221,7 +245,15 @@ c0000080 1 1000 set-token -> throw -24
 1 810 set-token -> throw -4
 c0000080 >body -> throw -31
 1234 body> -> throw -263
-new:811 fffffffc buffer -> throw -8
+new:811 create new:812 create 100010 body> -> c000056c
+new:813 fffffffc buffer -> throw -8
+fill drop 800 get-token -> throw -3
+fill drop 80b get-token -> throw -256
+crowd fff get-token -> c0008528 0
+constant -> throw -29
+new:800 constant -> throw -4
+5 constant -> throw -8
+800 get-token kind:800 -> c000052c 0 5 2
 ";
 
 /// The throw of a line's words, or none.
