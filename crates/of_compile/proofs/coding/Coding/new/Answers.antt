@@ -1,0 +1,5 @@
+use Rattle.std.proofs.Common.{rules}
+use Rattle.of_compile.proofs.coding.Coding.new.Goals as goal
+
+pub returns-clause-coding : goal.returns-clause-coding
+returns-clause-coding g c = search rules

@@ -1,0 +1,5 @@
+use Rattle.std.proofs.Common.{rules}
+use Rattle.of_compile.proofs.words.Words.get_token.Goals as goal
+
+pub returns : goal.returns
+returns c = search rules
