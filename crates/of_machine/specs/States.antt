@@ -1,6 +1,6 @@
 -- The abstract machine: its states, and what each call makes of them.
-use Rattle.std.specs.Prelude.{◌≡◌, ◌⊎◌, ℕ, ◌+◌, ◌-◌, ◌^◌, Bool, true, false, List, [], ◌++◌, length, Option, Some, None}
-use Rattle.std.specs.Prelude.{is_some, Result, Ok, Err, IsErr, nat_lt, ◌&&◌, if◌then◌else◌, codes}
+use Rattle.std.specs.Prelude.{◌≡◌, ◌⊎◌, ℕ, ◌+◌, ◌-◌, ◌^◌, Bool, true, false, List, [], length, Option, Some, None}
+use Rattle.std.specs.Prelude.{is_some, Result, Ok, Err, nat_lt, ◌&&◌, if◌then◌else◌, codes}
 use Rattle.std.specs.Str.{bytes_eq}
 use Rattle.of_stacks.specs.declared.throws.Throw.{Throw}
 use Rattle.of_stacks.specs.Throws.{ThrowsListed}
@@ -12,14 +12,14 @@ use Rattle.of_memory.specs.DataSpace.{DataSpace, fresh}
 use Rattle.of_memory.specs.Access.{read}
 use Rattle.of_memory.specs.Growth.{image_pushed, image_popped}
 use Rattle.of_machine.specs.declared.tokens.Source.{Source}
-use Rattle.of_machine.specs.declared.parts.Parts.{Parts}
+use Rattle.of_eval.specs.declared.parts.Parts.{Parts}
 use Rattle.of_machine.specs.declared.machine.Running.{Running}
 use Rattle.of_machine.specs.declared.answers.Progress.{Progress}
 use Rattle.of_machine.specs.declared.answers.Progress.TheVariants.{Done, Ended}
 use Rattle.of_machine.specs.declared.answers.Refusal.{Refusal}
 use Rattle.of_machine.specs.declared.answers.Refusal.TheVariants.{Busy, ImageTooLong, BadStart, NoNode, NoMemory}
 use Rattle.of_machine.specs.Images.{image_bytes}
-use Rattle.of_machine.specs.Text.{fault_text}
+use Rattle.of_eval.specs.Text.{Printed, nothing_printed, made_ready, fault_printed}
 use Rattle.of_machine.specs.Tokens.{After, source_entry, source_grows, source_if}
 
 -- a state of the machine
@@ -33,13 +33,18 @@ pub record State : Type 0 where
 
 -- the parts of a machine as it is made
 abbrev pub first_parts : Parts
-first_parts = record { stack = []; memory = fresh; pictured = 0; console = [] }
+first_parts = record { stack = []; memory = fresh; pictured = 0; console = nothing_printed }
 
 -- a machine as it is made
 abbrev pub idle : State
 idle = record { parts = first_parts; running = None; steps = 0 }
 
 -- ---- the image that runs
+
+-- what runs has a console that is ready for a throw
+abbrev pub IsReadyIf : Bool → Printed → Type 0
+IsReadyIf true c = c.ready ≡ true
+IsReadyIf false c = Unit {0}
 
 -- the image, if it runs
 abbrev pub running_if : Bool → Running → Option Running
@@ -59,7 +64,7 @@ byte_of m a = number_or_none (read One m a)
 
 -- a throw that nothing catches empties the stack, prints its text and ends the image
 abbrev pub thrown : Throw → Parts → After
-thrown t m = record { parts = record m { stack = []; console = m.console ++ fault_text t }; source = None }
+thrown t m = record { parts = record m { stack = []; console = fault_printed m.console t }; source = None }
 
 abbrev pub settled : Result After Throw → Parts → After
 settled (Ok a) m = a
@@ -99,14 +104,10 @@ running_step s (Some r) =
 unfoldable pub stepped : State → State
 stepped s = running_step s s.running
 
--- Memory may be asked for at the next token of an image: something grows by its word, or it throws, which prints.
-abbrev pub MayGrowAt : List ℕ → Source → Parts → Type 0
-MayGrowAt image here m = (source_grows image here ≡ true) ⊎ IsErr (source_entry image here m)
-
--- memory may be asked for in the next step
+-- memory may be asked for in the next step of an image: something grows by the word of its token
 abbrev pub running_may_grow : Parts → Option Running → Type 0
 running_may_grow m None = ⊥
-running_may_grow m (Some r) = MayGrowAt (image_bytes m.memory r.begin r.size) r.source m
+running_may_grow m (Some r) = source_grows (image_bytes m.memory r.begin r.size) r.source ≡ true
 
 abbrev pub MayGrow : State → Type 0
 MayGrow s = running_may_grow s.parts s.running
@@ -139,10 +140,14 @@ started a image = record {
   source = record { position = 8; size = first_size image };
 }
 
+-- the parts with the data space that has the image, and ready for a throw
+abbrev pub parts_loaded : Parts → DataSpace → Parts
+parts_loaded m memory = record m { memory = memory; console = made_ready m.console }
+
 -- the machine with the image at the address where it found room
 abbrev pub loaded_at : State → List ℕ → Result (ℕ × DataSpace) MemFault → State
 loaded_at s image (Ok found) =
-    record s { parts = record s.parts { memory = found.1 }; running = Some (started found.0 image) }
+    record s { parts = parts_loaded s.parts found.1; running = Some (started found.0 image) }
 loaded_at s image (Err fault) = s
 
 -- a machine with an image that has just been loaded

@@ -15,10 +15,10 @@ use Rattle.of_stream.specs.Sizes.{size_behind}
 use Rattle.of_stream.specs.Targets.{landing}
 use Rattle.of_stream.specs.Decoding.{Argument, Nothing, Literal, String, Code, Named, Offset, Token, token_from}
 use Rattle.of_machine.specs.declared.tokens.Source.{Source}
-use Rattle.of_machine.specs.declared.parts.Parts.{Parts}
+use Rattle.of_eval.specs.declared.parts.Parts.{Parts}
 use Rattle.of_stacks.specs.declared.stop.Stop.{Stop}
 use Rattle.of_stacks.specs.declared.stop.Stop.TheVariants.{Thrown, NoMemory}
-use Rattle.of_machine.specs.Words.{grows, word_entry}
+use Rattle.of_eval.specs.Words.{grows, word_entry}
 
 -- what a token of the stream leaves: the data stack, and from where the image goes on, if it does
 pub record Move : Type 0 where

@@ -1,11 +1,11 @@
 // A law has no parameters and does nothing: its contract is the law.
 ghost use Rattle.of_machine.specs.States.{StepsThrowListed};
 
-use of_prims::prims_throw_listed;
+use of_eval::words_throw_listed;
 
 /// What the steps of every machine throw has one of the numbers that words raise of themselves.
 pub fn steps_throw_listed()
     ensures { StepsThrowListed }
 {
-    prims_throw_listed();
+    words_throw_listed();
 }

@@ -2,15 +2,10 @@
 #![tactic(auto)]
 
 mod answers;
-mod console;
-mod heap;
 mod laws;
 mod machine;
-mod parts;
-mod printing;
 mod run;
 mod tokens;
-mod words;
 
 pub use answers::{End, Progress, Refusal};
 pub use laws::steps_throw_listed;

@@ -1,14 +1,13 @@
-ghost use Rattle.std.specs.Prelude.{◌≡◌, IfOk, IfErr, OnOk, OnErr, None, Some};
+ghost use Rattle.std.specs.Prelude.{◌≡◌, true, IfOk, IfErr, OnOk, OnErr, None, Some};
 ghost use Rattle.of_machine.specs.Images.{image_bytes};
-ghost use Rattle.of_machine.specs.Tokens.{source_if};
-ghost use Rattle.of_machine.specs.States.{idle, stepped, MayGrow, MayGrowAt, given_back, image_refusal, loaded};
+ghost use Rattle.of_machine.specs.Tokens.{source_grows, source_if};
+ghost use Rattle.of_machine.specs.States.{idle, stepped, MayGrow, IsReadyIf, given_back, image_refusal, loaded};
 ghost use Rattle.of_machine.specs.States.{load_refusal, Settles, Steps, Refuses};
 
 use crate::answers::{Progress, Refusal};
-use crate::console::Console;
-use crate::parts::Parts;
 use crate::tokens::{Source, run_token};
 use of_cells::Cell;
+use of_eval::{Console, Parts};
 use of_format::Pictured;
 use of_memory::Memory;
 use of_stacks::{DataStack, Stop};
@@ -48,21 +47,25 @@ pub struct Machine {
 
 // Clauses see a state of the abstract machine.
 impl Model for Machine {
-    ghost use Rattle.of_machine.specs.States.{State, running_if};
+    ghost use Rattle.of_machine.specs.States.{State, running_if, IsReadyIf};
 
     ghost Value = { State };
 
     ghost view = { λ m. record { parts = m.parts; running = running_if m.is_running m.running; steps = m.steps } };
+
+    ghost invariant = { λ m. IsReadyIf m.is_running m.parts.console };
 }
 
 /// Runs the next token of an image, and answers whether the image goes on. A throw empties the
 /// stack, prints its text and ends the image. A refusal changes nothing.
 #[inline]
 fn take_token(running: &mut Running, parts: &mut Parts) -> Result<bool, AllocError>
+    requires ready { parts.old.console.ready ≡ true }
     ensures ok { IfOk result (λ goes. Settles (image_bytes parts.old.memory running.old.begin running.old.size)
         running.old running.new parts.old parts.new goes) }
-    ensures grows { OnErr result (MayGrowAt (image_bytes parts.old.memory running.old.begin running.old.size)
-        running.old.source parts.old) }
+    ensures ready { IfOk result (λ goes. IsReadyIf goes parts.new.console) }
+    ensures grows { OnErr result (source_grows (image_bytes parts.old.memory running.old.begin running.old.size)
+        running.old.source ≡ true) }
     ensures parts { OnErr result (parts.new ≡ parts.old) }
     ensures running { OnErr result (running.new ≡ running.old) }
 {
@@ -70,10 +73,7 @@ fn take_token(running: &mut Running, parts: &mut Parts) -> Result<bool, AllocErr
     match run_token(running.begin, running.size, &mut running.source, parts) {
         Ok(goes_on) => Ok(goes_on),
         Err(Stop::Thrown(fault)) => {
-            if parts.console.print_fault(fault).is_err() {
-                running.source = source;
-                return Err(AllocError);
-            }
+            parts.console.print_fault(fault);
             parts.stack.clear();
             Ok(false)
         }
@@ -144,7 +144,7 @@ impl Machine {
     /// (IEEE 1275-1994, 5.2).
     ///
     /// An error is for memory alone, and then nothing has changed. It comes only where the token
-    /// prints, takes a block of the heap, or throws: the other steps ask for no memory.
+    /// prints or takes a block of the heap: the other steps ask for no memory, also where they throw.
     #[tactic(auto, unfolding(crate::specs::States::stepped))]
     pub fn step(&mut self) -> Result<Progress, AllocError>
         ensures ok { IfOk result (λ p. Steps p self.old self.new) }
@@ -166,11 +166,12 @@ impl Machine {
     ///
     /// Busy where an image runs; then ImageTooLong over 256 KiB, BadStart where its header can't
     /// be read, NoNode where the path is another than `/slot`, and ImageTooLong where the image
-    /// region has no room left. A refusal changes nothing.
+    /// region has no room left; and NoMemory where none is found for the text of a throw. A refusal
+    /// changes nothing.
     pub fn load(&mut self, image: &[u8], path: &str) -> Result<(), Refusal>
         ensures ok { OnOk result ((load_refusal self.old image.now path.now ≡ None)
             × (self.new ≡ loaded self.old image.now)) }
-        ensures err { IfErr result (λ e. load_refusal self.old image.now path.now ≡ Some e) }
+        ensures err { IfErr result (λ e. Refuses (load_refusal self.old image.now path.now) e) }
         ensures unchanged { OnErr result (self.new ≡ self.old) }
     {
         if self.is_running {
@@ -180,7 +181,14 @@ impl Machine {
         if path != SLOT {
             return Err(Refusal::NoNode);
         }
+        if !self.parts.memory.image_fits(image.len()) {
+            return Err(Refusal::ImageTooLong);
+        }
+        if self.parts.console.make_ready().is_err() {
+            return Err(Refusal::NoMemory);
+        }
         let Ok(begin) = self.parts.memory.image_push(image) else {
+            // It fits.
             return Err(Refusal::ImageTooLong);
         };
         self.running = Running {

@@ -1,12 +1,11 @@
-ghost use Rattle.std.specs.Prelude.{◌≡◌};
+ghost use Rattle.std.specs.Prelude.{◌≡◌, true};
 ghost use Rattle.of_machine.specs.Tokens.{going_to, branching, branch_entry, stream_entry, literal_entry, stream_of};
 ghost use Rattle.of_machine.specs.Tokens.{offset_entry, code_entry, source_entry, source_grows, word_grows, Moves};
 ghost use Rattle.of_machine.specs.Tokens.{GoesOn};
 ghost use Rattle.of_machine.specs.Images.{image_bytes};
 
-use crate::parts::Parts;
-use crate::words::run_word;
 use of_cells::Cell;
+use of_eval::{Parts, run_word};
 use of_fcodes::{StreamWord, Word, word_of};
 use of_memory::Memory;
 use of_stacks::{DataStack, Stop, Throw};
@@ -204,7 +203,9 @@ fn run_offset(
 /// nothing.
 #[inline]
 pub fn run_code(word: Option<Word>, source: &mut Source, parts: &mut Parts) -> Result<bool, Stop>
-    ensures { GoesOn (word_grows word) (code_entry word source.old parts.old) parts.old parts.new source.new result }
+    requires ready { parts.old.console.ready ≡ true }
+    ensures value { GoesOn (word_grows word) (code_entry word source.old parts.old) parts.old parts.new source.new result }
+    ensures ready { parts.new.console.ready ≡ true }
 {
     match word {
         Some(Word::Stream(word)) => Ok(run_stream(word, source, &mut parts.stack)?),
@@ -226,9 +227,11 @@ pub fn run_token(
     source: &mut Source,
     parts: &mut Parts,
 ) -> Result<bool, Stop>
-    ensures { GoesOn (source_grows (image_bytes parts.old.memory begin size) source.old)
+    requires ready { parts.old.console.ready ≡ true }
+    ensures value { GoesOn (source_grows (image_bytes parts.old.memory begin size) source.old)
         (source_entry (image_bytes parts.old.memory begin size) source.old parts.old) parts.old parts.new
         source.new result }
+    ensures ready { parts.new.console.ready ≡ true }
 {
     let at = source.position;
     let image = bytes_of(&parts.memory, begin, size);

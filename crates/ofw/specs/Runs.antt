@@ -112,12 +112,12 @@ AppendsPart old new bs = (n : ℕ) × Appends old new (take n bs)
 
 -- the run of the file printed all its console bytes
 abbrev pub PrintsRun : List ℕ → ℕ → Option (List ℕ) → Option (List ℕ) → End → Type 0
-PrintsRun file limit old new e = (m : State) × RunsFile file limit m e × Appends old new m.parts.console
+PrintsRun file limit old new e = (m : State) × RunsFile file limit m e × Appends old new m.parts.console.text
 
 -- nothing was printed, or the first console bytes of the run
 abbrev pub PrintsPart : List ℕ → ℕ → Option (List ℕ) → Option (List ℕ) → Type 0
 PrintsPart file limit old new = Keeps old new
-    ⊎ ((m : State) × ((e : End) × RunsFile file limit m e) × AppendsPart old new m.parts.console)
+    ⊎ ((m : State) × ((e : End) × RunsFile file limit m e) × AppendsPart old new m.parts.console.text)
 
 -- an image's faults: what the monitor refuses it for, or why it has no listing
 abbrev pub FaultsImage : List ℕ → Fault → Type 0

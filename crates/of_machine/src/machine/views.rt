@@ -24,7 +24,7 @@ impl Machine {
 
     /// All bytes printed so far.
     pub fn console(&self) -> &[u8]
-        ensures { result.now ≡ self.now.parts.console }
+        ensures { result.now ≡ self.now.parts.console.text }
     {
         self.parts.console.bytes()
     }

@@ -1,5 +1,5 @@
-ghost use Rattle.std.specs.Prelude.{◌≡◌};
-ghost use Rattle.of_machine.specs.Words.{grows, word_entry};
+ghost use Rattle.std.specs.Prelude.{◌≡◌, true};
+ghost use Rattle.of_eval.specs.Words.{grows, word_entry};
 ghost use Rattle.of_stacks.specs.Stacks.{Makes};
 
 use crate::heap::run_heap_word;
@@ -12,8 +12,10 @@ use of_stacks::{Stop, Throw};
 /// Runs a word over the data stack, the data space and the pictured text.
 #[inline]
 fn run_primitive(word: PrimitiveWord, parts: &mut Parts) -> Result<(), Stop>
-    ensures { Makes (grows (Word.Primitive word)) (word_entry (Word.Primitive word) parts.old) parts.old parts.new
+    requires ready { parts.old.console.ready ≡ true }
+    ensures value { Makes (grows (Word.Primitive word)) (word_entry (Word.Primitive word) parts.old) parts.old parts.new
         result }
+    ensures ready { parts.new.console.ready ≡ true }
 {
     prim(
         word,
@@ -27,7 +29,9 @@ fn run_primitive(word: PrimitiveWord, parts: &mut Parts) -> Result<(), Stop>
 /// Runs an ordinary word; a stop changes nothing. A group that is not run yet throws -256.
 #[inline]
 pub fn run_word(word: Word, parts: &mut Parts) -> Result<(), Stop>
-    ensures { Makes (grows word) (word_entry word parts.old) parts.old parts.new result }
+    requires ready { parts.old.console.ready ≡ true }
+    ensures value { Makes (grows word) (word_entry word parts.old) parts.old parts.new result }
+    ensures ready { parts.new.console.ready ≡ true }
 {
     match word {
         Word::Primitive(word) => run_primitive(word, parts),

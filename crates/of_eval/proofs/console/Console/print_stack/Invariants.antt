@@ -1,6 +1,6 @@
 use Rattle.std.proofs.Common.{◌≡◌, ◌+◌, ◌*◌, ◌≤◌, ◌++◌, take, reverse, vec_len, vec_capacity}
-use Rattle.of_machine.specs.Text.{stack_text}
-use Rattle.of_machine.proofs.console.Console.print_stack.Given as goal
+use Rattle.of_eval.specs.Text.{stack_text}
+use Rattle.of_eval.proofs.console.Console.print_stack.Given as goal
 
 abbrev pub invariant-loop-x : goal.invariant-loop-x
 invariant-loop-x l = record {

@@ -2,8 +2,8 @@
 
 ghost use Rattle.std.specs.Prelude.{◌≡◌, ◌≤◌, length, true};
 ghost use Rattle.of_format.specs.Pictured.{base_in};
-ghost use Rattle.of_machine.specs.Words.{digits_of, number_entry, right_entry, dot_stack_entry, emit_entry, type_entry};
-ghost use Rattle.of_machine.specs.Words.{newline_entry, printing_entry};
+ghost use Rattle.of_eval.specs.Words.{digits_of, number_entry, right_entry, dot_stack_entry, emit_entry, type_entry};
+ghost use Rattle.of_eval.specs.Words.{newline_entry, printing_entry};
 ghost use Rattle.of_stacks.specs.Stacks.{Makes};
 
 use crate::parts::Parts;
@@ -40,7 +40,9 @@ impl Signs {
 /// Runs a word that prints; a stop changes nothing.
 #[inline(never)]
 pub fn run_printing_word(word: PrintingWord, parts: &mut Parts) -> Result<(), Stop>
-    ensures { Makes true (printing_entry word parts.old) parts.old parts.new result }
+    requires ready { parts.old.console.ready ≡ true }
+    ensures value { Makes true (printing_entry word parts.old) parts.old parts.new result }
+    ensures ready { parts.new.console.ready ≡ true }
 {
     match word {
         PrintingWord::Dot => print_number(Signs::Signed, parts),
@@ -56,8 +58,10 @@ pub fn run_printing_word(word: PrintingWord, parts: &mut Parts) -> Result<(), St
 
 /// `.` and `u.` ( x -- ) print the number and a space; -24 where there is no base
 fn print_number(signs: Signs, parts: &mut Parts) -> Result<(), Stop>
-    ensures { Makes true (number_entry signs (base_in parts.old.memory) parts.old.stack parts.old) parts.old parts.new
-        result }
+    requires ready { parts.old.console.ready ≡ true }
+    ensures value { Makes true (number_entry signs (base_in parts.old.memory) parts.old.stack parts.old)
+        parts.old parts.new result }
+    ensures ready { parts.new.console.ready ≡ true }
 {
     let x = parts.stack.peek()?;
     let text = signs.digits(x, base(&parts.memory)?);
@@ -68,8 +72,10 @@ fn print_number(signs: Signs, parts: &mut Parts) -> Result<(), Stop>
 
 /// `.r` and `u.r` ( x width -- ) print the number at the right of a width; -24 where there is no base
 fn print_at_right(signs: Signs, parts: &mut Parts) -> Result<(), Stop>
-    ensures { Makes true (right_entry signs (base_in parts.old.memory) parts.old.stack parts.old) parts.old parts.new
-        result }
+    requires ready { parts.old.console.ready ≡ true }
+    ensures value { Makes true (right_entry signs (base_in parts.old.memory) parts.old.stack parts.old)
+        parts.old parts.new result }
+    ensures ready { parts.new.console.ready ≡ true }
 {
     let (x, width) = parts.stack.top_two()?;
     let text = signs.digits(x, base(&parts.memory)?);
@@ -81,8 +87,10 @@ fn print_at_right(signs: Signs, parts: &mut Parts) -> Result<(), Stop>
 
 /// `.s` ( -- ) prints all cells, the bottom first; -24 where there are some and no base
 fn print_stack(parts: &mut Parts) -> Result<(), Stop>
-    ensures { Makes true (dot_stack_entry (base_in parts.old.memory) parts.old.stack parts.old) parts.old parts.new
-        result }
+    requires ready { parts.old.console.ready ≡ true }
+    ensures value { Makes true (dot_stack_entry (base_in parts.old.memory) parts.old.stack parts.old)
+        parts.old parts.new result }
+    ensures ready { parts.new.console.ready ≡ true }
 {
     if parts.stack.depth() == 0 {
         return Ok(());
@@ -94,7 +102,9 @@ fn print_stack(parts: &mut Parts) -> Result<(), Stop>
 
 /// `emit` ( char -- ) prints the low byte
 fn print_byte(parts: &mut Parts) -> Result<(), Stop>
-    ensures { Makes true (emit_entry parts.old.stack parts.old) parts.old parts.new result }
+    requires ready { parts.old.console.ready ≡ true }
+    ensures value { Makes true (emit_entry parts.old.stack parts.old) parts.old parts.new result }
+    ensures ready { parts.new.console.ready ≡ true }
 {
     let x = parts.stack.peek()?;
     parts.console.print(&[(x.0 % 0x100) as u8])?;
@@ -104,7 +114,9 @@ fn print_byte(parts: &mut Parts) -> Result<(), Stop>
 
 /// `type` ( s n -- ) prints the bytes; -9 where one can't be read
 fn print_bytes(parts: &mut Parts) -> Result<(), Stop>
-    ensures { Makes true (type_entry parts.old.stack parts.old) parts.old parts.new result }
+    requires ready { parts.old.console.ready ≡ true }
+    ensures value { Makes true (type_entry parts.old.stack parts.old) parts.old parts.new result }
+    ensures ready { parts.new.console.ready ≡ true }
 {
     let (addr, len) = parts.stack.top_two()?;
     match parts.memory.slice(addr, len) {
@@ -117,7 +129,9 @@ fn print_bytes(parts: &mut Parts) -> Result<(), Stop>
 
 /// `cr` ( -- ) prints a newline
 fn print_newline(parts: &mut Parts) -> Result<(), Stop>
-    ensures { Makes true (newline_entry parts.old) parts.old parts.new result }
+    requires ready { parts.old.console.ready ≡ true }
+    ensures value { Makes true (newline_entry parts.old) parts.old parts.new result }
+    ensures ready { parts.new.console.ready ≡ true }
 {
     parts.console.print(b"\n")?;
     Ok(())

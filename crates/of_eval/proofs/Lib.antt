@@ -1,0 +1,2 @@
+-- ListedLemmas: the law `words_throw_listed`.
+pub mod ListedLemmas

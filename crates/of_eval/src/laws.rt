@@ -1,0 +1,12 @@
+// A law has no parameters and does nothing: its contract is the law.
+ghost use Rattle.of_eval.specs.Listed.{WordsThrowListed};
+
+use of_prims::prims_throw_listed;
+
+/// What the ordinary words throw has one of the numbers that words raise of themselves.
+#[tactic(auto, using(crate::proofs::ListedLemmas::words_throw_listed))]
+pub fn words_throw_listed()
+    ensures { WordsThrowListed }
+{
+    prims_throw_listed();
+}
