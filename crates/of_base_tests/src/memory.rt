@@ -41,6 +41,8 @@ fn region(memory: &mut Memory, word: &str, x: Cell, y: Cell) -> Result<Cell, Mem
         "allot" => nothing(memory.allot(x)),
         "here" => Ok(memory.here()),
         "room" => Ok(memory.image_room()),
+        "latest" => Ok(memory.latest_start()),
+        "fits" => Ok(Cell(u32::from(memory.image_fits(x.0 as usize)))),
         "end" => memory.end_of(x),
         "pop" => {
             memory.image_pop();
@@ -72,6 +74,7 @@ fn put(memory: &mut Memory, word: &str, x: Cell, y: Cell, text: &[u8]) -> Result
         "property-copy" => memory.copy_property(x, y, text),
         "named" => second(memory.put_named(text, b"val")),
         "named-copy" => second(memory.copy_named(text, x, y, b"\0")),
+        "is-latest" => Ok(Cell(u32::from(memory.latest_image() == text))),
         _ => memory.image_push(text),
     }
 }
@@ -322,8 +325,14 @@ access read32 200000 0 0 - 0
 /// Images, one after another. Of bytes that stand apart the first is taken, and then each so many
 /// behind; the last image is copied to where its own bytes stand.
 const IMAGES: &str = "\
+region latest 0 0 0 - 600000
+put is-latest 0 0 0 - 1
 put image 0 0 0 abc 600000
 put image 0 0 0 de 600003
+put is-latest 0 0 0 de 1
+region latest 0 0 0 - 600003
+region fits 3fffb 0 0 - 1
+region fits 3fffc 0 0 - 0
 region room 0 0 0 - 3fffb
 region pop 0 0 0 - 0
 access read32 600000 0 0 - 61626300

@@ -204,7 +204,8 @@ fn run_offset(
 #[inline]
 pub fn run_code(word: Option<Word>, source: &mut Source, parts: &mut Parts) -> Result<bool, Stop>
     requires ready { parts.old.console.ready ≡ true }
-    ensures value { GoesOn (word_grows word) (code_entry word source.old parts.old) parts.old parts.new source.new result }
+    ensures value { GoesOn (word_grows word) (code_entry word source.old parts.old) parts.old parts.new source.new
+        result }
     ensures ready { parts.new.console.ready ≡ true }
 {
     match word {

@@ -14,7 +14,7 @@ use Rattle.of_memory.proofs.Ranges.{ranges_are_placed}
 use Rattle.of_memory.proofs.Splices.{splice_behind, splice_apart}
 use Rattle.of_memory.proofs.Nothing.{written_none}
 
-read_back : (l ys : List ℕ) (i : ℕ) → i + length ys ≤ length l → take (length ys) (drop i (splice l i ys)) ≡ ys
+pub read_back : (l ys : List ℕ) (i : ℕ) → i + length ys ≤ length l → take (length ys) (drop i (splice l i ys)) ≡ ys
 read_back l ys i fits = same_lists _ _ (grind (arith, places)) (λ k d h. grind (arith, places))
 
 room : (m : DataSpace) (a n : ℕ) → IsSound m → read_fault m a n One ≡ None → 0 < n → place_of a + n ≤ length m.bytes

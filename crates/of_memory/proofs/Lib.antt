@@ -15,3 +15,4 @@ pub mod Gathered
 pub mod Grown
 pub mod Ranges
 pub mod Joined
+pub mod Latest

@@ -91,6 +91,10 @@ with_state m compiling = written m property_start (big_bytes 4 (flag compiling).
 abbrev pub image_room : DataSpace → ℕ
 image_room m = image_limit - free_after m.images
 
+-- whether an image of n bytes finds room after those that run
+abbrev pub image_fits : DataSpace → ℕ → Bool
+image_fits m n = nat_le (free_after m.images + n) image_limit && nat_lt (length m.images) image_count
+
 -- what an image at the address, after those that run, answers and leaves
 abbrev pub image_pushed_at : DataSpace → List ℕ → ℕ → Result (ℕ × DataSpace) MemFault
 image_pushed_at m xs a =

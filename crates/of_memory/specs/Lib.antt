@@ -6,6 +6,7 @@ pub mod DataSpace
 pub mod Access
 pub mod Outcomes
 pub mod Growth
+pub mod Images
 pub mod BlockCalls
 pub mod Laws
 pub mod RangeLaws

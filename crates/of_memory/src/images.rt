@@ -1,6 +1,7 @@
 ghost use Rattle.std.specs.Prelude.{◌≡◌, ◌<◌, [], ◌∷◌, length, MatchOption};
 ghost use Rattle.of_memory.specs.Regions.{image_count};
 ghost use Rattle.of_memory.specs.DataSpace.{free_after};
+ghost use Rattle.of_memory.specs.Images.{latest_start};
 
 use crate::regions::IMAGE_START;
 use arrayvec::ArrayVec;
@@ -51,6 +52,18 @@ impl ImageEnds {
             Some(end) => *end,
             None => IMAGE_START,
         }
+    }
+
+    /// Where the latest image begins; the beginning of the region where none runs.
+    #[tactic(auto, using(crate::proofs::Latest::start_of_latest))]
+    pub(crate) fn latest_start(&self) -> u32
+        ensures { result ≡ latest_start self.now }
+    {
+        let count = self.ends.len();
+        if count < 2 {
+            return IMAGE_START;
+        }
+        self.ends[count - 2]
     }
 
     pub(crate) fn push(&mut self, end: u32)

@@ -1,3 +1,4 @@
+ghost use Rattle.of_memory.specs.Images.{LatestIsPushed};
 ghost use Rattle.of_memory.specs.Laws.{WritesChangeTheirBytes, ReadsGiveTheBytes, SpreadsGiveTheBytes};
 ghost use Rattle.of_memory.specs.RangeLaws.{PartsAreGood, FaultsStay, RangesArePlaced, ScratchIsOpen, WritesJoin};
 
@@ -47,4 +48,10 @@ pub fn scratch_is_open()
 #[tactic(auto, using(crate::proofs::Joined::writes_join))]
 pub fn writes_join()
     ensures { WritesJoin }
+{}
+
+/// An image that was pushed is the latest, at the address that was answered.
+#[tactic(auto, using(crate::proofs::Latest::latest_is_pushed))]
+pub fn latest_is_pushed()
+    ensures { LatestIsPushed }
 {}

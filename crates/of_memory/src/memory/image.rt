@@ -1,6 +1,7 @@
 ghost use Rattle.std.specs.Prelude.{◌≡◌, ◌≤◌};
 ghost use Rattle.of_memory.specs.Outcomes.{Answers, TakesNoMemory};
-ghost use Rattle.of_memory.specs.Growth.{image_room, image_pushed, image_pushed_from, image_popped};
+ghost use Rattle.of_memory.specs.Growth.{image_room, image_fits, image_pushed, image_pushed_from, image_popped};
+ghost use Rattle.of_memory.specs.Images.{latest_start, latest_image};
 
 use super::Memory;
 use crate::fault::MemFault;
@@ -16,6 +17,31 @@ impl Memory {
         Cell(IMAGE_LIMIT - self.images.free())
     }
 
+    /// Whether an image of `len` bytes finds room: it fits into what is free, and fewer than 256
+    /// images run.
+    pub fn image_fits(&self, len: usize) -> bool
+        ensures { result ≡ image_fits self.now len }
+    {
+        len <= (IMAGE_LIMIT - self.images.free()) as usize && self.images.count() < LIMIT
+    }
+
+    /// Where the latest image begins; the beginning of the region where none runs.
+    pub fn latest_start(&self) -> Cell
+        ensures { result.0 ≡ latest_start self.now.images }
+    {
+        Cell(self.images.latest_start())
+    }
+
+    /// The bytes of the latest image; none where none runs.
+    #[tactic(auto, using(crate::proofs::Latest::latest_stands))]
+    pub fn latest_image(&self) -> &[u8]
+        ensures { result.now ≡ latest_image self.now }
+    {
+        let start = self.images.latest_start();
+        let at = place(start);
+        &self.bytes[at..at + (self.images.free() - start) as usize]
+    }
+
     /// Copies an image into the image region after those that run, and answers its address.
     ///
     /// Full, if it doesn't fit, or 256 images run.
@@ -23,10 +49,10 @@ impl Memory {
         ensures value { Answers result self.old self.new (image_pushed self.old image.now) }
         ensures memory { TakesNoMemory result }
     {
-        let at = self.images.free();
-        if image.len() > (IMAGE_LIMIT - at) as usize || self.images.count() >= LIMIT {
+        if !self.image_fits(image.len()) {
             return Err(MemFault::Full);
         }
+        let at = self.images.free();
         self.images.push(at + image.len() as u32);
         self.put(place(at), image);
         Ok(Cell(at))
