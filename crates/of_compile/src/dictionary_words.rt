@@ -1,5 +1,8 @@
 //! The words on words and on their numbers.
-ghost use Rattle.std.specs.Prelude.{◌≡◌, ◌≤◌, ◌<◌, MatchOption, None, Some, IfSome, length};
+ghost use Rattle.std.specs.Prelude.{◌≡◌, ◌≤◌, ◌<◌, MatchOption, None, Some, IfSome, length, true};
+ghost use Rattle.of_control.specs.Element.{Plain};
+ghost use Rattle.of_compile.specs.Elements.{CanBeStored, own_item};
+ghost use Rattle.of_compile.specs.Tokens.{called};
 ghost use Rattle.std.specs.Option.{option_map};
 ghost use Rattle.of_stacks.specs.Stacks.{Becomes};
 ghost use Rattle.of_fcodes.specs.Tokens.{entry_in};
@@ -119,6 +122,23 @@ fn entry_in(table: &TokenTable, code: Cell) -> Option<TokenEntry>
 }
 
 impl Words {
+    /// What the own word of an execution token does, if there is one.
+    #[inline]
+    pub fn kind_at(&self, xt: Cell) -> Option<Kind>
+        ensures { result ≡ kind_in (own_word self.now.dictionary xt.0) }
+    {
+        kind_at(&self.dictionary, xt)
+    }
+
+    /// Whether a number is the execution token of a word, written or own.
+    #[inline]
+    pub fn is_word(&self, xt: Cell) -> bool
+        ensures word { result ≡ is_word self.now.dictionary xt.0 }
+        ensures storable { result ≡ true → CanBeStored (own_item (Plain (called xt))) }
+    {
+        is_word(&self.dictionary, xt)
+    }
+
     /// `immediate` ( -- ): the newest word that still exists is executed while compiling, too (Forth 2012, 6.1.1710).
     /// The token table isn't touched.
     ///

@@ -1,7 +1,7 @@
 //! From words and tokens to the elements that they leave in the open definition.
-ghost use Rattle.std.specs.Prelude.{◌≡◌, ◌<◌, ◌^◌, map};
+ghost use Rattle.std.specs.Prelude.{◌≡◌, ◌<◌, ◌^◌, map, IfSome};
 ghost use Rattle.std.specs.Option.{option_map};
-ghost use Rattle.of_compile.specs.Elements.{element_of};
+ghost use Rattle.of_compile.specs.Elements.{CanBeStored, element_of, own_item};
 ghost use Rattle.of_compile.specs.Tokens.{backward, bare_element, branch, called, cell_element, forward};
 ghost use Rattle.of_compile.specs.Tokens.{goes_back, offset_element, string_element, text_elements, token_element};
 
@@ -45,7 +45,8 @@ pub fn called(xt: Cell) -> PlainItem
 /// negative fits nowhere, and so does another token of the families of `b(do)` and `b(case)` whose offset is.
 pub fn token_element(word: StreamWord, operand: CompiledOperand, position: usize) -> Option<Element>
     requires { position < 2 ^ 63 }
-    ensures { option_map element_of result ≡ token_element word operand position }
+    ensures element { option_map element_of result ≡ token_element word operand position }
+    ensures storable { IfSome result (λ e. CanBeStored (own_item (element_of e))) }
 {
     match operand {
         CompiledOperand::Nothing => bare_element(word, position),
@@ -57,7 +58,8 @@ pub fn token_element(word: StreamWord, operand: CompiledOperand, position: usize
 
 /// A token with a cell.
 fn cell_element(word: StreamWord, x: Cell) -> Option<Element>
-    ensures { option_map element_of result ≡ cell_element word x }
+    ensures element { option_map element_of result ≡ cell_element word x }
+    ensures storable { IfSome result (λ e. CanBeStored (own_item (element_of e))) }
 {
     match word {
         StreamWord::Literal | StreamWord::Tick => Some(Element::Plain(PlainItem::Literal(x))),
@@ -68,7 +70,8 @@ fn cell_element(word: StreamWord, x: Cell) -> Option<Element>
 
 /// A token with a string.
 fn string_element(word: StreamWord, address: Cell, length: Cell) -> Option<Element>
-    ensures { option_map element_of result ≡ string_element word address length }
+    ensures element { option_map element_of result ≡ string_element word address length }
+    ensures storable { IfSome result (λ e. CanBeStored (own_item (element_of e))) }
 {
     match word {
         StreamWord::String => Some(Element::Plain(PlainItem::String { address, length })),
@@ -78,7 +81,8 @@ fn string_element(word: StreamWord, address: Cell, length: Cell) -> Option<Eleme
 
 /// A token with nothing behind it.
 fn bare_element(word: StreamWord, position: usize) -> Option<Element>
-    ensures { option_map element_of result ≡ bare_element word position }
+    ensures element { option_map element_of result ≡ bare_element word position }
+    ensures storable { IfSome result (λ e. CanBeStored (own_item (element_of e))) }
 {
     match word {
         StreamWord::Mark => Some(Element::Mark(Some(position))),
@@ -93,7 +97,8 @@ fn bare_element(word: StreamWord, position: usize) -> Option<Element>
 /// A token with an offset.
 fn offset_element(word: StreamWord, position: usize, by: i16) -> Option<Element>
     requires { position < 2 ^ 63 }
-    ensures { option_map element_of result ≡ offset_element word position by }
+    ensures element { option_map element_of result ≡ offset_element word position by }
+    ensures storable { IfSome result (λ e. CanBeStored (own_item (element_of e))) }
 {
     match word {
         StreamWord::Branch => Some(branch(false, position, by)),
@@ -118,7 +123,8 @@ fn goes_back(by: i16) -> bool
 /// A branch, by its offset.
 fn branch(on_zero: bool, position: usize, by: i16) -> Element
     requires { position < 2 ^ 63 }
-    ensures { element_of result ≡ branch on_zero position by }
+    ensures element { element_of result ≡ branch on_zero position by }
+    ensures storable { CanBeStored (own_item (element_of result)) }
 {
     let target = target_at(position, by);
     if goes_back(by) {
@@ -130,14 +136,18 @@ fn branch(on_zero: bool, position: usize, by: i16) -> Element
 
 /// An element whose offset must go back.
 fn backward(by: i16, element: Element) -> Element
-    ensures { element_of result ≡ backward by (element_of element) }
+    requires { CanBeStored (own_item (element_of element)) }
+    ensures element { element_of result ≡ backward by (element_of element) }
+    ensures storable { CanBeStored (own_item (element_of result)) }
 {
     if goes_back(by) { element } else { MISFIT }
 }
 
 /// An element whose offset must go forward.
 fn forward(by: i16, element: Element) -> Element
-    ensures { element_of result ≡ forward by (element_of element) }
+    requires { CanBeStored (own_item (element_of element)) }
+    ensures element { element_of result ≡ forward by (element_of element) }
+    ensures storable { CanBeStored (own_item (element_of result)) }
 {
     if goes_back(by) { MISFIT } else { element }
 }

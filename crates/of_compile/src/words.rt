@@ -3,7 +3,7 @@ ghost use Rattle.std.specs.Prelude.{◌≡◌, ◌<◌, [], IfOk, IfSome, None};
 ghost use Rattle.std.specs.Option.{option_copied, option_map};
 ghost use Rattle.of_stacks.specs.Stacks.{Becomes};
 ghost use Rattle.of_fcodes.specs.Tokens.{first_table};
-ghost use Rattle.of_dict.specs.Words.{capacity};
+ghost use Rattle.of_dict.specs.Words.{capacity, xt_of};
 ghost use Rattle.of_compile.specs.Words.{is_debugging, is_own_code, name_fault, name_given, numbered};
 
 use of_cells::Cell;
@@ -144,6 +144,17 @@ impl Words {
         ensures { option_map (λ o. o.0) result ≡ self.now.defining }
     {
         self.defining
+    }
+
+    /// The execution token of the open definition, if one is open.
+    #[inline]
+    pub fn open_xt(&self) -> Option<Cell>
+        ensures { result ≡ option_map (λ n. record { 0 = xt_of n }) self.now.defining }
+    {
+        match self.open_word() {
+            Some(word) => Some(word.xt()),
+            None => None,
+        }
     }
 
     /// The word whose definition is open: the newest one.

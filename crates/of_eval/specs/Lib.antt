@@ -1,3 +1,11 @@
 pub mod Text
 pub mod Words
 pub mod Listed
+pub mod Control
+pub mod State
+pub mod Executing
+pub mod Settling
+pub mod Tokens
+pub mod Steps
+pub mod Loading
+pub mod Reading

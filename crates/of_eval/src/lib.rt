@@ -1,14 +1,27 @@
-//! What words work on, and what each ordinary word does to it.
+//! The evaluator: what tokens, items and words make of the state of the machine, step by step.
 #![tactic(auto)]
 
+mod acting;
 mod console;
+mod control;
+mod eval;
+mod executing;
+mod flow;
 mod heap;
 mod laws;
+mod loading;
 mod parts;
 mod printing;
+mod reading;
+mod returns;
+mod settling;
+mod steps;
+mod tokens;
+mod views;
 mod words;
 
 pub use console::Console;
+pub use eval::Eval;
 pub use laws::words_throw_listed;
 pub use parts::Parts;
 pub use words::run_word;

@@ -204,9 +204,9 @@ impl ReturnStack {
         index_inside(self.items(), 1)
     }
 
-    /// The loop on top, or -26 where the top item is none.
+    /// The loop on top, or -26 where the top item is none. Nothing is changed.
     #[inline]
-    fn top_loop(&self) -> Result<LoopParameters, Throw>
+    pub fn top_loop(&self) -> Result<LoopParameters, Throw>
         ensures { result ≡ loop_on_top self.now }
     {
         match self.peek() {
@@ -231,6 +231,16 @@ impl ReturnStack {
         let found = self.top_loop()?;
         let _ = self.pop();
         Ok(found)
+    }
+
+    /// Whether the loop on top would go on after a signed step, as `loop` and `+loop` take one (Forth
+    /// 2012, 6.1.1800, 6.1.0140), or -26 where the top item is no loop. Nothing is changed.
+    #[inline]
+    pub fn loop_goes_on(&self, step: Cell) -> Result<bool, Throw>
+        ensures { result ≡ goes_on step self.now }
+    {
+        let current = self.top_loop()?;
+        Ok(!passes_limit(current.index, current.limit, step))
     }
 
     /// Adds a signed step to the index of the loop on top, as `loop` and `+loop` do (Forth 2012,

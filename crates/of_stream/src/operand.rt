@@ -4,7 +4,7 @@
 ghost use Rattle.std.specs.Prelude.{◌≡◌, ◌<◌, ◌≤◌, length, IfSome, Some, None};
 ghost use Rattle.std.specs.Option.{option_map};
 ghost use Rattle.of_stream.specs.Decoding.{code, literal, counted, offset, argument, code_read, literal_read};
-ghost use Rattle.of_stream.specs.Decoding.{counted_read, offset_read, argument_read};
+ghost use Rattle.of_stream.specs.Decoding.{counted_read, offset_read, argument_read, argument_shown, IsShort};
 
 use crate::stream::OffsetSize;
 use crate::token::Argument;
@@ -49,6 +49,7 @@ fn read_literal(bytes: &[u8]) -> Option<(Cell, &[u8])>
 #[inline(always)]
 fn read_string(bytes: &[u8]) -> Option<(&[u8], &[u8])>
     ensures read { option_map counted_read result ≡ counted bytes.now }
+    ensures short { IfSome result (λ r. length r.0.now < 256) }
     ensures shorter { IfSome result (λ r. length r.1.now ≤ length bytes.now) }
 {
     match bytes {
@@ -89,6 +90,7 @@ pub fn read_argument(
     bytes: &[u8],
 ) -> Option<(Argument<'_>, &[u8])>
     ensures read { option_map argument_read result ≡ argument operand size bytes.now }
+    ensures short { IfSome result (λ r. IsShort (argument_shown r.0)) }
     ensures shorter { IfSome result (λ r. length r.1.now ≤ length bytes.now) }
 {
     match operand {

@@ -3,7 +3,7 @@ ghost use Rattle.std.specs.Option.{option_map};
 ghost use Rattle.of_stream.specs.Image.{header_fault, header_length, first_size};
 ghost use Rattle.of_stream.specs.Sizes.{width};
 ghost use Rattle.of_stream.specs.Targets.{landing};
-ghost use Rattle.of_stream.specs.Decoding.{token_from, token_shown};
+ghost use Rattle.of_stream.specs.Decoding.{IsShort, argument_shown, token_from, token_shown};
 
 use crate::fault::StreamFault;
 use crate::operand::{read_argument, read_code};
@@ -88,6 +88,7 @@ impl<'a> Stream<'a> {
         ensures ok { IfOk result (λ r. token_from self.entry.image.now position size ≡ Some (token_shown r.0, r.1)) }
         ensures err { IfErr result (λ f. (token_from self.entry.image.now position size ≡ None) ×
             (f ≡ StreamFault.Ended position)) }
+        ensures short { IfOk result (λ r. IsShort (argument_shown r.0.argument)) }
         ensures rises { IfOk result (λ r. position < r.1) }
         ensures within { IfOk result (λ r. r.1 ≤ length self.entry.image.now) }
     {
@@ -117,6 +118,7 @@ impl<'a> Stream<'a> {
 #[tactic(auto, unfolding(crate::specs::Decoding::token_from, crate::specs::Decoding::decoded))]
 fn token_in(image: &[u8], position: usize, size: OffsetSize) -> Option<(Token<'_>, usize)>
     ensures token { option_map (λ r. (token_shown r.0, r.1)) result ≡ token_from image.now position size }
+    ensures short { IfSome result (λ r. IsShort (argument_shown r.0.argument)) }
     ensures rises { IfSome result (λ r. position < r.1) }
     ensures within { IfSome result (λ r. r.1 ≤ length image.now) }
 {

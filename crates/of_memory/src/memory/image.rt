@@ -1,4 +1,5 @@
-ghost use Rattle.std.specs.Prelude.{◌≡◌, ◌≤◌};
+ghost use Rattle.std.specs.Prelude.{◌≡◌, ◌≤◌, length};
+ghost use Rattle.of_memory.specs.Regions.{image_limit};
 ghost use Rattle.of_memory.specs.Outcomes.{Answers, TakesNoMemory};
 ghost use Rattle.of_memory.specs.Growth.{image_room, image_fits, image_pushed, image_pushed_from, image_popped};
 ghost use Rattle.of_memory.specs.Images.{latest_start, latest_image};
@@ -27,7 +28,8 @@ impl Memory {
 
     /// Where the latest image begins; the beginning of the region where none runs.
     pub fn latest_start(&self) -> Cell
-        ensures { result.0 ≡ latest_start self.now.images }
+        ensures value { result.0 ≡ latest_start self.now.images }
+        ensures fits { result.0 ≤ image_limit }
     {
         Cell(self.images.latest_start())
     }
@@ -35,7 +37,8 @@ impl Memory {
     /// The bytes of the latest image; none where none runs.
     #[tactic(auto, using(crate::proofs::Latest::latest_stands))]
     pub fn latest_image(&self) -> &[u8]
-        ensures { result.now ≡ latest_image self.now }
+        ensures value { result.now ≡ latest_image self.now }
+        ensures fits { length result.now ≤ 0x4_0000 }
     {
         let start = self.images.latest_start();
         let at = place(start);

@@ -1,0 +1,130 @@
+//! What tokens of the stream do: they define, compile, and go on elsewhere in the image.
+ghost use Rattle.std.specs.Prelude.{◌≡◌, true};
+ghost use Rattle.of_stacks.specs.Loops.{loop_on_top};
+ghost use Rattle.of_compile.specs.Elements.{CanBeStored, element_of, own_item};
+ghost use Rattle.of_eval.specs.State.{Ends, Leaves, flat_calls};
+ghost use Rattle.of_eval.specs.Tokens.{at_position, compiled, define_entry, leave_done, semicolon_entry, turn_at};
+
+use crate::control::{ControlWord, run_control};
+use crate::eval::Eval;
+use of_code::CodeStore;
+use of_compile::{DefiningWord, Element, end_definition};
+use of_stacks::{Continuation, Input, LoopExit, Stop, Throw};
+use of_stream::HEADER_LENGTH;
+
+impl<C: CodeStore> Eval<C> {
+    // ---- defining and compiling
+
+    /// A defining word: `b(:)` to `b(field)`.
+    pub(crate) fn define(&mut self, word: DefiningWord) -> Result<(), Stop>
+        requires ready { self.old.parts.console.ready ≡ true }
+        ensures outcome { Ends true (define_entry flat_calls word self.old) self.old self.new result }
+        ensures ready { self.new.parts.console.ready ≡ true }
+    {
+        self.words.define(
+            word,
+            self.coding.code(),
+            &mut self.parts.stack,
+            &mut self.parts.memory,
+        )?;
+        if word == DefiningWord::Colon {
+            self.set_compiling(true);
+        }
+        Ok(())
+    }
+
+    /// `b(;)` ( -- ) ends the open definition.
+    #[tactic(auto, using(crate::proofs::Endings::closing_leaves))]
+    pub(crate) fn semicolon(&mut self) -> Result<(), Stop>
+        requires ready { self.old.parts.console.ready ≡ true }
+        ensures outcome { Ends true (semicolon_entry flat_calls self.old.words.defining self.old) self.old self.new
+            result }
+        ensures ready { self.new.parts.console.ready ≡ true }
+    {
+        self.coding.reserve(1)?;
+        match end_definition(&mut self.words, &mut self.coding) {
+            Ok(()) => {
+                self.set_compiling(false);
+                Ok(())
+            }
+            Err(fault) => Err(Stop::Thrown(fault)),
+        }
+    }
+
+    /// Appends an element to the open definition.
+    pub(crate) fn compile(&mut self, element: Element) -> Result<(), Stop>
+        requires storable { CanBeStored (own_item (element_of element)) }
+        requires ready { self.old.parts.console.ready ≡ true }
+        ensures outcome { Ends true (compiled flat_calls (element_of element) self.old) self.old self.new result }
+        ensures ready { self.new.parts.console.ready ≡ true }
+    {
+        self.coding.reserve(1)?;
+        self.coding.compile(element)?;
+        Ok(())
+    }
+
+    // ---- going on in an image
+
+    /// Goes on at a position of what is being read.
+    fn go_to(&mut self, position: usize)
+        requires ready { self.old.parts.console.ready ≡ true }
+        ensures state { self.new ≡ at_position position self.old }
+        ensures ready { self.new.parts.console.ready ≡ true }
+    {
+        self.flow.reading.input = match self.flow.reading.input {
+            Input::Image { size, .. } => Input::Image { size, position },
+            Input::Text { .. } => Input::Text { position },
+            Input::Nothing => Input::Nothing,
+        };
+    }
+
+    /// Runs a word of control whose target is a position.
+    pub(crate) fn turn_at(
+        &mut self,
+        word: ControlWord,
+        target: Option<usize>,
+        exit: LoopExit,
+    ) -> Result<(), Throw>
+        requires ready { self.old.parts.console.ready ≡ true }
+        ensures outcome { Leaves (turn_at word target exit self.old) self.new result }
+        ensures ready { self.new.parts.console.ready ≡ true }
+    {
+        let goes = run_control(
+            word,
+            target.is_some(),
+            exit,
+            &mut self.parts.stack,
+            &mut self.flow.items,
+        )?;
+        if goes && let Some(position) = target {
+            self.go_to(position);
+        }
+        Ok(())
+    }
+
+    /// `b(leave)` ( -- ) drops the loop on top, and goes on behind its end.
+    ///
+    /// -26 where no loop is on top, -257 where its end isn't in the image.
+    pub(crate) fn leave(&mut self, size: usize) -> Result<(), Throw>
+        requires ready { self.old.parts.console.ready ≡ true }
+        ensures outcome { Leaves (leave_done size (loop_on_top self.old.flow.items) self.old) self.new result }
+        ensures ready { self.new.parts.console.ready ≡ true }
+    {
+        let found = self.flow.items.top_loop()?;
+        match found.exit {
+            LoopExit::Position(position) => {
+                if position < HEADER_LENGTH || position >= size {
+                    return Err(Throw::IMAGE_ENDED);
+                }
+                let _ = self.flow.items.pop();
+                self.go_to(position);
+                Ok(())
+            }
+            LoopExit::Code(cell) => {
+                let _ = self.flow.items.pop();
+                self.flow.next = Continuation::Code(cell);
+                Ok(())
+            }
+        }
+    }
+}

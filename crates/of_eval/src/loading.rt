@@ -1,0 +1,91 @@
+//! The evaluator as it is made, and images that begin to run on it.
+ghost use Rattle.std.specs.Prelude.{◌≡◌, [], Some, true, false, length, IfOk, OnOk, OnErr, Err};
+ghost use Rattle.of_memory.specs.Growth.{image_fits, image_pushed};
+ghost use Rattle.of_compile.specs.Coding.{coding_of};
+ghost use Rattle.of_eval.specs.Loading.{begun, first_state};
+
+use crate::console::Console;
+use crate::eval::Eval;
+use crate::flow::Flow;
+use crate::parts::Parts;
+use crate::settling::NOTHING_READ;
+use of_cells::Cell;
+use of_code::CodeStore;
+use of_compile::{Coding, Words};
+use of_format::Pictured;
+use of_memory::{MemFault, Memory};
+use of_stacks::{Continuation, DataStack, Due, Input, Reading, ReturnItem, ReturnStack};
+use of_stream::{HEADER_LENGTH, Stream};
+use std::alloc::{AllocError, Global};
+
+impl<C: CodeStore + Drop> Eval<C> {
+    /// Nothing runs, nothing is defined, over a store of code that holds nothing yet.
+    ///
+    /// An error is for memory alone.
+    pub fn new(alloc: Global, code: C) -> Result<Eval<C>, AllocError>
+        ensures { IfOk result (λ e. e ≡ first_state (coding_of (C.code code) (Some []))) }
+    {
+        let memory = Memory::new(alloc)?;
+        let words = Words::new(alloc)?;
+        Ok(Eval {
+            parts: Parts {
+                stack: DataStack::new(),
+                memory,
+                pictured: Pictured::new(),
+                console: Console::new(alloc),
+            },
+            flow: Flow {
+                items: ReturnStack::new(),
+                reading: NOTHING_READ,
+                is_running: false,
+                next: Continuation::Source,
+                is_compiling: false,
+                my_self: Cell::ZERO,
+            },
+            words,
+            coding: Coding::new(code),
+        })
+    }
+}
+
+impl<C: CodeStore> Eval<C> {
+    /// Begins to run an image, where nothing runs: its bytes are copied into the image region, and room is made for the
+    /// text of a throw.
+    ///
+    /// Full where the image region has no room; then NoMemory. A refusal changes nothing.
+    pub fn begin_image(&mut self, image: &[u8]) -> Result<(), MemFault>
+        ensures begun { OnOk result
+            (self.new ≡ begun image.now (image_pushed self.old.parts.memory image.now) self.old) }
+        ensures ready { OnOk result (self.new.parts.console.ready ≡ true) }
+        ensures room { OnOk result (image_fits self.old.parts.memory (length image.now) ≡ true) }
+        ensures full { result ≡ Err MemFault.Full → image_fits self.old.parts.memory (length image.now) ≡ false }
+        ensures unchanged { OnErr result (self.new ≡ self.old) }
+    {
+        if !self.parts.memory.image_fits(image.len()) {
+            return Err(MemFault::Full);
+        }
+        if self.parts.console.make_ready().is_err() {
+            return Err(MemFault::NoMemory);
+        }
+        let _ = self.parts.memory.image_push(image);
+        let outer = self.flow.reading;
+        self.flow.items = ReturnStack::new();
+        self.flow.items.push(ReturnItem::Caller(Due::Load {
+            active: None,
+            my_self: self.flow.my_self,
+            instance: Cell::ZERO,
+            new_devices: 0,
+        }));
+        self.flow.items.push(ReturnItem::Source(outer));
+        self.flow.reading = Reading {
+            input: Input::Image {
+                size: (Stream { image }).first_size(),
+                position: HEADER_LENGTH,
+            },
+            opened: self.words.open_xt(),
+        };
+        self.flow.is_running = true;
+        self.flow.next = Continuation::Source;
+        Ok(())
+    }
+}

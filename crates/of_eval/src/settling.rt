@@ -1,0 +1,247 @@
+//! The end of a step: what is worked off beneath a finished word, and what a throw cuts.
+ghost use Rattle.std.specs.Prelude.{◌≡◌, true, false};
+ghost use Rattle.of_memory.specs.Growth.{with_state};
+ghost use Rattle.of_eval.specs.State.{Leaves, flat_calls, given_up, open_xt, with_compiling};
+ghost use Rattle.of_eval.specs.Settling.{caller_self, caught, cut_one, ended, given_back, given_up_since, going_back};
+ghost use Rattle.of_eval.specs.Settling.{is_same, or_nothing, reading_on, settled, source_ended, still_thrown};
+ghost use Rattle.of_eval.specs.Settling.{thrown_in, uncaught, worked_one, nothing_read};
+
+use crate::eval::Eval;
+use crate::flow::Flow;
+use of_cells::Cell;
+use of_code::CodeStore;
+use of_compile::abandon_definition;
+use of_memory::Memory;
+use of_stacks::{
+    Continuation, Due, ExceptionFrame, Input, Reading, ReturnItem, ReturnStack, Throw,
+};
+
+/// Nothing is read.
+pub(crate) const NOTHING_READ: Reading = Reading {
+    input: Input::Nothing,
+    opened: None,
+};
+
+/// Whether two execution tokens, or none, are the same.
+fn is_same(a: Option<Cell>, b: Option<Cell>) -> bool
+    ensures { result ≡ is_same a b }
+{
+    match (a, b) {
+        (Some(a), Some(b)) => a.0 == b.0,
+        (None, None) => true,
+        _ => false,
+    }
+}
+
+/// The current instance that a caller brings back.
+fn caller_self(due: Due) -> Cell
+    ensures { result ≡ caller_self due }
+{
+    match due {
+        Due::Method { my_self } => my_self,
+        Due::Open { my_self, .. } => my_self,
+        Due::Close { my_self, .. } => my_self,
+        Due::Load { my_self, .. } => my_self,
+    }
+}
+
+/// Gives back the bytes of an image that ends.
+fn give_back(ended: Input, memory: &mut Memory)
+    ensures { memory.new ≡ given_back ended memory.old }
+{
+    if let Input::Image { .. } = ended {
+        memory.image_pop();
+    }
+}
+
+/// Goes on at the return on top, where the end of an image left one; else nothing runs.
+fn go_back(flow: &mut Flow)
+    ensures { flow.new ≡ going_back flow.old.items flow.old }
+{
+    match flow.items.take_return() {
+        Ok(to) => flow.next = to,
+        Err(_) => {
+            flow.is_running = false;
+            flow.next = Continuation::Source;
+        }
+    }
+}
+
+impl<C: CodeStore> Eval<C> {
+    /// Words are compiled from now on, or executed.
+    pub(crate) fn set_compiling(&mut self, compiling: bool)
+        requires ready { self.old.parts.console.ready ≡ true }
+        ensures state { self.new ≡ with_compiling compiling self.old }
+        ensures ready { self.new.parts.console.ready ≡ true }
+    {
+        self.flow.is_compiling = compiling;
+        self.parts.memory.set_state(compiling);
+    }
+
+    /// Gives up the open definition, if there is one.
+    pub(crate) fn give_up(&mut self)
+        ensures state { self.new ≡ given_up flat_calls self.old }
+        ensures console { self.new.parts.console ≡ self.old.parts.console }
+        ensures running { self.new.flow.is_running ≡ self.old.flow.is_running }
+    {
+        if self.words.defining().is_none() {
+            return;
+        }
+        abandon_definition(&mut self.words, &mut self.coding);
+        self.flow.is_compiling = false;
+        self.parts.memory.set_state(false);
+    }
+
+    /// Gives up the open definition, unless it was open then.
+    fn give_up_since(&mut self, then: Option<Cell>)
+        requires ready { self.old.parts.console.ready ≡ true }
+        ensures state { self.new ≡ given_up_since flat_calls then self.old }
+        ensures ready { self.new.parts.console.ready ≡ true }
+    {
+        if !is_same(self.words.open_xt(), then) {
+            self.give_up();
+        }
+    }
+
+    /// What is being read has ended: another reading goes on.
+    fn read_on(&mut self, reading: Reading)
+        requires ready { self.old.parts.console.ready ≡ true }
+        ensures state { self.new ≡ reading_on reading self.old }
+        ensures ready { self.new.parts.console.ready ≡ true }
+    {
+        give_back(self.flow.reading.input, &mut self.parts.memory);
+        self.flow.reading = reading;
+    }
+
+    /// A handler takes a throw: control goes on behind its `catch` (Forth 2012, 9.6.1.2275).
+    fn catch(&mut self, frame: ExceptionFrame, thrown: Throw)
+        requires ready { self.old.parts.console.ready ≡ true }
+        ensures state { self.new ≡ caught flat_calls frame thrown self.old }
+        ensures ready { self.new.parts.console.ready ≡ true }
+    {
+        self.parts.stack.cut_to(frame.depth);
+        self.parts.stack.push(Cell(thrown.0.cast_unsigned()));
+        self.flow.my_self = frame.my_self;
+        self.flow.next = frame.resume;
+        self.flow.is_running = true;
+        self.give_up_since(frame.opened);
+    }
+
+    /// No handler takes a throw: all that runs has ended, and the console gets its text.
+    #[cold]
+    fn fall(&mut self, thrown: Throw)
+        requires ready { self.old.parts.console.ready ≡ true }
+        ensures state { self.new ≡ uncaught flat_calls thrown self.old }
+        ensures ended { self.new.flow.is_running ≡ false }
+    {
+        self.parts.stack.clear();
+        self.parts.console.print_fault(thrown);
+        self.flow.items = ReturnStack::new();
+        self.flow.reading = NOTHING_READ;
+        self.flow.is_running = false;
+        self.flow.next = Continuation::Source;
+        self.flow.my_self = Cell::ZERO;
+        self.give_up();
+    }
+
+    /// Does what a throw does at an item that it cuts, and answers whether it goes on.
+    fn cut(&mut self, item: ReturnItem, thrown: Throw) -> Option<Throw>
+        requires ready { self.old.parts.console.ready ≡ true }
+        ensures state { self.new ≡ cut_one flat_calls item thrown self.old }
+        ensures left { result ≡ still_thrown item thrown }
+        ensures ready { self.new.parts.console.ready ≡ true }
+    {
+        match item {
+            ReturnItem::Handler(frame) => {
+                self.catch(frame, thrown);
+                None
+            }
+            ReturnItem::Source(reading) => {
+                self.read_on(reading);
+                Some(thrown)
+            }
+            ReturnItem::Return(_)
+            | ReturnItem::Loop(_)
+            | ReturnItem::User(_)
+            | ReturnItem::Caller(_) => Some(thrown),
+        }
+    }
+
+    /// Does what is due at an item beneath a finished word.
+    fn work_off(&mut self, item: ReturnItem)
+        requires ready { self.old.parts.console.ready ≡ true }
+        ensures state { self.new ≡ worked_one flat_calls item self.old }
+        ensures ready { self.new.parts.console.ready ≡ true }
+    {
+        match item {
+            ReturnItem::Handler(frame) => {
+                if self.parts.stack.try_push(Cell::ZERO).is_err() {
+                    self.catch(frame, Throw::STACK_OVERFLOW);
+                }
+            }
+            ReturnItem::Caller(due) => self.flow.my_self = caller_self(due),
+            ReturnItem::Return(_)
+            | ReturnItem::Loop(_)
+            | ReturnItem::User(_)
+            | ReturnItem::Source(_) => {}
+        }
+    }
+
+    /// Ends a step: works off what is due beneath a finished word, or cuts the return stack where something was thrown.
+    #[tactic(auto, using(crate::proofs::Settled::stays), unfolding(crate::specs::Settling::settled))]
+    pub(crate) fn settle(&mut self, thrown: Option<Throw>)
+        requires ready { self.old.parts.console.ready ≡ true }
+        ensures state { self.new ≡ settled flat_calls self.old.flow.items thrown self.old }
+        ensures ready { self.new.flow.is_running ≡ true → self.new.parts.console.ready ≡ true }
+    {
+        match thrown {
+            Some(fault) => {
+                let Some(item) = self.flow.items.pop() else {
+                    self.fall(fault);
+                    return;
+                };
+                let left = self.cut(item, fault);
+                self.settle(left);
+            }
+            None => {
+                let Some(item) = self.flow.items.peek() else {
+                    return;
+                };
+                if !item.is_due() {
+                    return;
+                }
+                let _ = self.flow.items.pop();
+                self.work_off(item);
+                self.settle(None);
+            }
+        }
+    }
+
+    /// What is being read has ended: what stood above its source is dropped (IEEE 1275-1994, `end0`).
+    fn end_source(&mut self)
+        requires ready { self.old.parts.console.ready ≡ true }
+        ensures state { self.new ≡ source_ended self.old }
+        ensures ready { self.new.parts.console.ready ≡ true }
+    {
+        let reading = self.flow.items.end_source().unwrap_or(NOTHING_READ);
+        self.read_on(reading);
+        go_back(&mut self.flow);
+    }
+
+    /// `end0` and `end1` ( -- ): the end of an image.
+    ///
+    /// -29 where a definition is open that was opened since it began; that is given up then.
+    pub(crate) fn end_image(&mut self) -> Result<(), Throw>
+        requires ready { self.old.parts.console.ready ≡ true }
+        ensures outcome { Leaves (ended flat_calls self.old) self.new result }
+        ensures ready { self.new.parts.console.ready ≡ true }
+    {
+        let opened = self.words.open_xt();
+        if opened.is_some() && !is_same(opened, self.flow.reading.opened) {
+            self.give_up();
+            return Err(Throw::COMPILER_NESTING);
+        }
+        self.end_source();
+        Ok(())
+    }
+}

@@ -1,0 +1,51 @@
+ghost use Rattle.std.specs.Prelude.{◌≡◌, length, reverse};
+
+use crate::eval::Eval;
+use of_cells::Cell;
+use of_code::CodeStore;
+use of_compile::Words;
+use of_memory::Memory;
+
+impl<C: CodeStore> Eval<C> {
+    /// The cells of the data stack, the bottom first.
+    pub fn stack(&self) -> &[Cell]
+        ensures { reverse result.now ≡ self.now.parts.stack }
+    {
+        self.parts.stack.cells()
+    }
+
+    /// How many items the return stack has.
+    pub fn depth(&self) -> usize
+        ensures { result ≡ length self.now.flow.items }
+    {
+        self.flow.items.depth()
+    }
+
+    /// The data space.
+    pub fn memory(&self) -> &Memory
+        ensures { result.now ≡ self.now.parts.memory }
+    {
+        &self.parts.memory
+    }
+
+    /// All bytes printed so far.
+    pub fn console(&self) -> &[u8]
+        ensures { result.now ≡ self.now.parts.console.text }
+    {
+        self.parts.console.bytes()
+    }
+
+    /// Whether something runs.
+    pub fn is_running(&self) -> bool
+        ensures { result ≡ self.now.flow.is_running }
+    {
+        self.flow.is_running
+    }
+
+    /// The words that images define.
+    pub fn words(&self) -> &Words
+        ensures { result.now ≡ self.now.words }
+    {
+        &self.words
+    }
+}
