@@ -495,4 +495,5 @@ fn laws() {
     of_memory::ranges_are_placed();
     of_memory::scratch_is_open();
     of_memory::writes_join();
+    of_memory::latest_is_pushed();
 }
