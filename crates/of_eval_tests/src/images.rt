@@ -1,0 +1,144 @@
+//! Whole images, and what they make.
+
+use crate::running::{bytes_of, ran, shown};
+use of_fcodes::FCode;
+use std::alloc::Global;
+use std::test::Fail;
+
+const TWO_ARMS: &str = "f10806640000001cb50800b7140007a6130005b2a7b2c2a508009d00";
+
+const REBOUND_TOKEN: &str = "\
+f1080d3c00000033b50800b7a69dc2b50801b70800c2b50802b7a79dc2110802a51000000800db0801b50803b70800c2080300";
+
+const TWO_WHILES: &str = "\
+f108097e00000028b50800b7b14714000fa61f47a73d14000613fff3b2b2c2100000000508009d00";
+
+/// Images by name, and behind their bytes what their runs make: the steps, the depths of both stacks, and the console.
+const IMAGES: &str = "\
+five|f108020a0000000da7a81e9d00|5 0/0 5 
+empty-program|f10800000000000900|1 0/0 
+least-number|f10801f2000000111080000000a4219d00|5 0/0 -80000000 
+division-by-zero|f108016c0000000ca6a52100|3 0/0 fault -10: division by zero$
+branch-over|f10803f700000012a5140005a69db2a79d00|5 0/0 2 
+branch-out-of-image|f10801910000000c137fff00|1 0/0 fault -257: image ended$
+heap-address|f108013e0000001010000000088b9b00|4 0/0 400000 
+catch-and-throw|f108064900000021b50800b7464610000000070218c2a6a711080002179d9d9d00|19 0/0 7 0 0 
+two-arms|f10806640000001cb50800b7140007a6130005b2a7b2c2a508009d00|16 0/0 2 
+two-arms-early-targets|f10806640000001cb50800b7140006a6130004b2a7b2c2a508009d00|16 0/0 2 
+cut-in-definition|f10806640000001cb50800b7140007a61300|5 0/0 fault -257: image ended$
+rebound-token|f1080d3c00000033b50800b7a69dc2 b50801b70800c2 b50802b7a79dc2 110802a51000000800db 0801 \
+b50803b70800c2 080300|35 0/0 1 2 
+macro-before-resolve|f1080cc100000034b50800b7a69dc2 b50801b7110800ddc2 110801a41000000801db \
+b50802b71400050801b2c2 a50802a4080200|36 0/0 1 
+branch-into-loop|f108066600000017b50800b7140004b1b2a514fffdc200|8 0/0 fault -22: control structure mismatch$
+counted-do|f108043200000013a8a5170007199d15fffd00|13 0/0 0 1 2 
+jump-into-string|f108016d000000101300041201a69d00|4 0/0 1 
+target-inside-string|f10803c500000015b50800b71400041201b2b2c200|6 0/0 fault -22: control structure mismatch$
+endless-recursion|f108024600000012b50800b70800c2080000|259 0/0 fault -5: return stack overflow$
+version1-branch|fd0804c300000013cca5140005a69db2a79d00|6 0/0 2 
+two-whiles|f108097e00000028b50800b7b14714000fa61f47a73d14000613fff3b2b2c2100000000508009d00|46 0/0 2 
+";
+
+#[test]
+fn images(rt: HostRuntime) -> Result<(), Fail> {
+    for line in IMAGES.lines() {
+        let mut parts = line.split('|');
+        let name = parts.next().unwrap_or("");
+        let image = bytes_of(rt.alloc(), parts.next().unwrap_or(""))?;
+        let wanted = parts.next().unwrap_or("");
+        assert_eq!(rt; shown(rt.alloc(), &image, 999)?.as_str(), wanted, "{name}");
+    }
+    Ok(())
+}
+
+/// An image whose definition has so many branches open at once: each goes to a resolve, the last one to the first.
+fn nested_branches(alloc: Global, count: u16) -> Result<Vec<u8>, Fail> {
+    let mut image = bytes_of(alloc, "f10800000000ffff b50800b7")?;
+    for number in 1..=count {
+        let [high, low] = (3 + (count - number) * 4).to_be_bytes();
+        image.extend_from_slice(&[0x14, high, low])?;
+    }
+    for _ in 0..count {
+        image.push(0xb2)?;
+    }
+    image.extend_from_slice(&[0xc2, 0x00])?;
+    Ok(image)
+}
+
+/// A definition has at most 32 structures open at once.
+#[test]
+fn thirty_two_branches(rt: HostRuntime) -> Result<(), Fail> {
+    let most = nested_branches(rt.alloc(), 32)?;
+    assert_eq!(rt; shown(rt.alloc(), &most, 999)?.as_str(), "68 0/0 ");
+    let more = nested_branches(rt.alloc(), 33)?;
+    let wanted = "69 0/0 fault -22: control structure mismatch$";
+    assert_eq!(rt; shown(rt.alloc(), &more, 999)?.as_str(), wanted);
+    Ok(())
+}
+
+/// A run of fewer steps than an image takes makes them all, and goes on to run.
+#[test]
+fn limits(rt: HostRuntime) -> Result<(), Fail> {
+    let image = bytes_of(rt.alloc(), TWO_WHILES)?;
+    for limit in 0..46u64 {
+        let (eval, made) = ran(rt.alloc(), &image, limit)?;
+        assert_eq!(rt; made, limit);
+        assert!(rt; eval.is_running(), "{limit}");
+    }
+    let (eval, made) = ran(rt.alloc(), &image, 46)?;
+    assert_eq!(rt; made, 46);
+    assert!(rt; !eval.is_running());
+    Ok(())
+}
+
+/// An image cut at each length behind its header prints a part of what the whole prints, and then throws -257.
+#[test]
+fn cuts(rt: HostRuntime) -> Result<(), Fail> {
+    for digits in [TWO_ARMS, REBOUND_TOKEN, TWO_WHILES] {
+        let image = bytes_of(rt.alloc(), digits)?;
+        let (whole, _) = ran(rt.alloc(), &image, 999)?;
+        for length in 8..image.len() {
+            let (eval, _) = ran(rt.alloc(), &image[..length], 999)?;
+            let printed = eval.console().strip_suffix(b"fault -257: image ended\n");
+            let is_part = printed.is_some_and(|part| whole.console().starts_with(part));
+            assert!(rt; is_part, "{digits} {length}");
+            assert!(rt; eval.stack().is_empty(), "{digits} {length}");
+            assert_eq!(rt; eval.depth(), 0, "{digits} {length}");
+        }
+    }
+    Ok(())
+}
+
+/// Tokens behind a header, and what their image leaves a number with: an execution token, or none.
+const NUMBERS: &str = "\
+b50800 b7 c2 00|800|c000052c
+b50800 b7 00|800|none
+b50800 b7 c2 b50801 b7 00|800|c000052c
+b50800 b7 c2 b50801 b7 00|801|none
+b50800 b7 140007 a6 1300|800|none
+b50800 b7 140004 b1 b2 a5 14fffd c2 00|800|none
+b50800 b7 c2 b50801 b7 c2 110800 a5 1000000801 db 00|801|c000052c
+a6 b50fff b8 b50ffe ba|fff|c000052c
+a6 b50fff b8 b50ffe ba|ffe|none
+b50801 b7 1000000800 da 46 1d c2 110801 a4 1000000801 db b50800 b7 0801|800|none
+";
+
+/// What the end of an image, or a throw, leaves of an open definition's number.
+#[test]
+fn numbers(rt: HostRuntime) -> Result<(), Fail> {
+    for line in NUMBERS.lines() {
+        let mut parts = line.split('|');
+        let tokens = parts.next().unwrap_or("");
+        let code = u16::from_str_radix(parts.next().unwrap_or(""), 16)?;
+        let wanted = parts.next().unwrap_or("");
+        let digits = format!(in rt.alloc(); "f108000000000000{tokens}")?;
+        let image = bytes_of(rt.alloc(), &digits)?;
+        let (eval, _) = ran(rt.alloc(), &image, 999)?;
+        let found = match eval.words().table().get(FCode(code)) {
+            Some(entry) => format!(in rt.alloc(); "{:x}", entry.xt)?,
+            None => format!(in rt.alloc(); "none")?,
+        };
+        assert_eq!(rt; found.as_str(), wanted, "{line}");
+    }
+    Ok(())
+}

@@ -1,0 +1,9 @@
+//! Tests of the evaluator's public calls, by images and what they make.
+#![tactic(auto)]
+
+#[cfg(test)]
+mod images;
+#[cfg(test)]
+mod running;
+#[cfg(test)]
+mod tokens;
