@@ -190,6 +190,8 @@ fn steps(rt: HostRuntime) -> Result<(), Fail> {
     for line in STEPS.lines() {
         let mut stack = ReturnStack::new();
         stack.push(loop_of(number(line, 0)?, number(line, 1)?));
+        let would = stack.loop_goes_on(Cell(number(line, 2)?))?;
+        assert_eq!(rt; u32::from(would), number(line, 3)?, "{line}");
         let goes_on = stack.turn_loop(Cell(number(line, 2)?))?;
         assert_eq!(rt; u32::from(goes_on), number(line, 3)?, "{line}");
         if goes_on {

@@ -138,6 +138,11 @@ impl Bench {
             ),
             "to" => Ok(self.words.store(xt, &mut self.stack)?),
             "kind" => self.push_kind(xt),
+            "word" => Ok(self.stack.try_push(Cell::flag(self.words.is_word(xt)))?),
+            "open" => Ok(
+                self.stack
+                    .try_push(self.words.open_xt().unwrap_or(Cell::ZERO))?,
+            ),
             "find" => Ok(
                 self.stack
                     .try_push(xt_of(self.words.dictionary().find(text.as_bytes())))?,
@@ -148,8 +153,7 @@ impl Bench {
 
     /// Pushes what the own word of an execution token keeps, and the number of its kind.
     fn push_kind(&mut self, xt: Cell) -> Result<(), Stop> {
-        let kind = OwnWord::with_xt(xt).and_then(|word| self.words.dictionary().kind_of(word));
-        let (kept, number) = match kind {
+        let (kept, number) = match self.words.kind_at(xt) {
             Some(Kind::Colon { start }) => (Cell(start), 1),
             Some(Kind::Constant { value }) => (value, 2),
             Some(Kind::Value { value }) => (value, 3),
@@ -192,6 +196,7 @@ fn xt_of(word: Option<OwnWord>) -> Cell {
 /// The words of a line, and behind `->` the cells that are left, or a throw.
 const LINES: &str = "\
 new:800 5 constant 800 get-token kind:800 -> c000052c 0 5 2
+open: word:800 word:801 -> 0 ffffffff 0
 5 constant -> throw -29
 external:801:abc 7 value find:ABC -> c0000530
 kind:801 9 to:801 kind:801 -> 7 3 9 3
@@ -224,7 +229,7 @@ ffff get-token -> throw -256
 ; -> throw -29
 c0000080 compile, -> throw -14
 compile, -> throw -14
-external:80c:loop colon find:loop 80c get-token -> 0 c0000558 0
+external:80c:loop colon open: find:loop 80c get-token -> c0000558 0 c0000558 0
 new:80d -> throw -29
 1 constant -> throw -29
 5 compile, -> throw -263
