@@ -1,4 +1,5 @@
 //! Whole images, and what they make.
+ghost use Rattle.std.specs.Prelude.{◌≤◌};
 
 use crate::running::{bytes_of, ran, shown};
 use of_fcodes::FCode;
@@ -52,7 +53,9 @@ fn images(rt: HostRuntime) -> Result<(), Fail> {
 }
 
 /// An image whose definition has so many branches open at once: each goes to a resolve, the last one to the first.
-fn nested_branches(alloc: Global, count: u16) -> Result<Vec<u8>, Fail> {
+fn nested_branches(alloc: Global, count: u16) -> Result<Vec<u8>, Fail>
+    requires { count ≤ 33 }
+{
     let mut image = bytes_of(alloc, "f10800000000ffff b50800b7")?;
     for number in 1..=count {
         let [high, low] = (3 + (count - number) * 4).to_be_bytes();
