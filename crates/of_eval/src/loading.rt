@@ -1,5 +1,5 @@
 //! The evaluator as it is made, and images that begin to run on it.
-ghost use Rattle.std.specs.Prelude.{◌≡◌, [], Some, true, false, length, IfOk, OnOk, OnErr, Err};
+ghost use Rattle.std.specs.Prelude.{◌≡◌, [], Some, true, length, if◌then◌else◌, IfOk, IfErr, OnOk, OnErr};
 ghost use Rattle.of_memory.specs.Growth.{image_fits, image_pushed};
 ghost use Rattle.of_compile.specs.Coding.{coding_of};
 ghost use Rattle.of_eval.specs.Loading.{begun, first_state};
@@ -58,7 +58,8 @@ impl<C: CodeStore> Eval<C> {
             (self.new ≡ begun image.now (image_pushed self.old.parts.memory image.now) self.old) }
         ensures ready { OnOk result (self.new.parts.console.ready ≡ true) }
         ensures room { OnOk result (image_fits self.old.parts.memory (length image.now) ≡ true) }
-        ensures full { result ≡ Err MemFault.Full → image_fits self.old.parts.memory (length image.now) ≡ false }
+        ensures refused { IfErr result (λ e. e ≡
+            (if image_fits self.old.parts.memory (length image.now) then MemFault.NoMemory else MemFault.Full)) }
         ensures unchanged { OnErr result (self.new ≡ self.old) }
     {
         if !self.parts.memory.image_fits(image.len()) {
