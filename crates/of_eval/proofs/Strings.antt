@@ -1,5 +1,5 @@
 -- Strings that are compiled.
-use Rattle.std.proofs.Common.{◌≡◌, ◌<◌, ◌≤◌, ◌+◌, ℕ, Bool, true, false, List, [], Result, Ok, Err, refl, ap, sym, ◌∙◌}
+use Rattle.std.proofs.Common.{◌≡◌, ◌<◌, ◌≤◌, ◌+◌, ℕ, Bool, true, false, [], Result, Ok, Err, refl, ap, sym, ◌∙◌}
 use Rattle.std.proofs.Common.{arith, length, if◌then◌else◌}
 use Rattle.std.proofs.lemmas.Bool.Decides.{leb_tells}
 use Rattle.std.specs.Prelude.{nat_le}
@@ -11,8 +11,7 @@ use Rattle.of_memory.specs.Growth.{append_copied, zeros_allotted}
 use Rattle.of_memory.specs.Outcomes.{Answers}
 use Rattle.of_memory.specs.declared.fault.MemFault.{MemFault}
 use Rattle.of_prims.specs.Data.{throw_of}
-use Rattle.of_compile.specs.Coding.{Coding, Outcome as CodingOutcome, compiled, compiling, fits}
-use Rattle.of_compile.specs.Elements.{own_item}
+use Rattle.of_compile.specs.Coding.{Coding, Outcome as CodingOutcome, compiled, compiling}
 use Rattle.of_eval.specs.State.{State, answer_of, done, failed, flat_calls}
 use Rattle.of_eval.specs.Tokens.{rounded, rounded_to, string_compiled, string_element, string_kept}
 

@@ -9,3 +9,4 @@ pub mod Tokens
 pub mod Steps
 pub mod Loading
 pub mod Reading
+pub mod Board

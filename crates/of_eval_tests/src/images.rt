@@ -2,6 +2,7 @@
 ghost use Rattle.std.specs.Prelude.{◌≤◌};
 
 use crate::running::{bytes_of, ran, shown};
+use of_eval::{steps_agree, words_throw_listed};
 use of_fcodes::FCode;
 use std::alloc::Global;
 use std::test::Fail;
@@ -139,4 +140,11 @@ fn numbers(rt: HostRuntime) -> Result<(), Fail> {
         assert_eq!(rt; found.as_str(), wanted, "{line}");
     }
     Ok(())
+}
+
+/// The laws of the evaluator.
+#[test]
+fn laws() {
+    words_throw_listed();
+    steps_agree();
 }

@@ -1,6 +1,4 @@
-use Rattle.std.proofs.Common.{rules, ◌≡◌, List, Ok, Err}
-use Rattle.of_cells.specs.declared.cells.Cell.{Cell}
-use Rattle.of_compile.specs.Coding.{Coding}
+use Rattle.std.proofs.Common.{rules, ◌≡◌, Ok}
 use Rattle.of_compile.specs.Definitions.{compile_entry}
 use Rattle.of_eval.proofs.Endings.{comma_ends, comma_throws}
 use Rattle.of_eval.proofs.eval.Eval.compile_comma.Goals as goal

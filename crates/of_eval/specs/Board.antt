@@ -1,0 +1,44 @@
+-- The evaluator whose definitions are structured bodies: it makes the same steps over them, and its state is that of
+-- the evaluator whose definitions are cells, once they are laid out.
+use Rattle.std.specs.Prelude.{◌≡◌, ℕ, ◌+◌, ◌<◌, length}
+use Rattle.of_stacks.specs.declared.return_item.Continuation.{Continuation}
+use Rattle.of_stacks.specs.declared.return_item.Continuation.TheVariants.{Code, Source}
+use Rattle.of_compile.specs.Board.{Definitions, Told, abandoned_told, element_told, fetched, flat_of, laid_all}
+use Rattle.of_compile.specs.Board.{semicolon_told}
+use Rattle.of_compile.specs.Coding.{Coding}
+use Rattle.of_compile.specs.Elements.{element_cells}
+use Rattle.of_eval.specs.State.{Answered, Calls, Outcome, State, flat_calls}
+use Rattle.of_eval.specs.Steps.{stepped}
+
+abbrev pub told_answer : Told → Answered Definitions
+told_answer t = record { code = t.definitions; ended = t.ended }
+
+-- what is asked of definitions, by their structure: `b(;)` gives a word the body of the open definition's elements
+abbrev pub board_calls : Calls Definitions
+board_calls = record {
+  fetch = fetched;
+  ends_at = λ d. length (laid_all d.finished) + element_cells d.elements;
+  element = λ e d. told_answer (element_told e d);
+  semicolon = λ xt d. told_answer (semicolon_told xt d);
+  abandon = abandoned_told;
+}
+
+-- the state with its definitions as cells
+abbrev pub flat_state : State Definitions → State Coding
+flat_state s = record { parts = s.parts; flow = s.flow; words = s.words; code = flat_of s.code }
+
+abbrev pub flat_outcome : Outcome Definitions → Outcome Coding
+flat_outcome o = record { state = flat_state o.state; ended = o.ended }
+
+-- where control goes on lies in a finished definition, unless it is in what is read
+abbrev pub IsPlacedIn : ℕ → Continuation → Type 0
+IsPlacedIn end Source = Unit {0}
+IsPlacedIn end (Code n) = n < end
+
+abbrev pub IsPlaced : State Definitions → Type 0
+IsPlaced s = IsPlacedIn (length (laid_all s.code.finished)) s.flow.next
+
+-- a step of structured definitions is, laid out, the step of their cells
+abbrev pub StepsAgree : Type 0
+StepsAgree =
+    (s : State Definitions) → IsPlaced s → stepped flat_calls (flat_state s) ≡ flat_state (stepped board_calls s)
