@@ -90,7 +90,7 @@ impl Console {
     }
 
     /// Prints a text, and makes room for the text of a throw behind it, as each print does.
-    pub fn print(&mut self, text: &[u8]) -> Result<(), AllocError>
+    pub(crate) fn print(&mut self, text: &[u8]) -> Result<(), AllocError>
         ensures ok { OnOk result (self.new ≡ printed self.old text.now) }
         ensures err { OnErr result (self.new ≡ self.old) }
     {
@@ -101,7 +101,7 @@ impl Console {
     }
 
     /// Prints a text and a space.
-    pub fn print_spaced(&mut self, text: &[u8]) -> Result<(), AllocError>
+    pub(crate) fn print_spaced(&mut self, text: &[u8]) -> Result<(), AllocError>
         requires { length text.now ≤ 64 }
         ensures ok { OnOk result (self.new ≡ printed self.old (spaced text.now)) }
         ensures err { OnErr result (self.new ≡ self.old) }
@@ -114,7 +114,7 @@ impl Console {
     }
 
     /// Prints a text at the right end of a width, with spaces before it. It is never cut.
-    pub fn print_at_right(&mut self, width: i32, text: &[u8]) -> Result<(), AllocError>
+    pub(crate) fn print_at_right(&mut self, width: i32, text: &[u8]) -> Result<(), AllocError>
         requires { length text.now ≤ 64 }
         ensures ok { OnOk result (self.new ≡ printed self.old (at_right width text.now)) }
         ensures err { OnErr result (self.new ≡ self.old) }
@@ -130,7 +130,7 @@ impl Console {
     }
 
     /// Prints the cells of a stack, the bottom first, each as a signed number and a space.
-    pub fn print_stack(&mut self, base: u32, cells: &[Cell]) -> Result<(), AllocError>
+    pub(crate) fn print_stack(&mut self, base: u32, cells: &[Cell]) -> Result<(), AllocError>
         requires least { 2 ≤ base }
         requires most { base ≤ 36 }
         requires few { length cells.now ≤ 256 }
