@@ -4,6 +4,8 @@
 -- Settled: the end of a step, item by item.
 -- Strings: strings that are compiled.
 -- Squares, SquareWords, SquareTokens: the law `steps_agree`, from what a part leaves up to a step.
+-- Placed, PlacedParts, PlacedWords, PlacedTokens: the law `states_stay_placed`, from what stays placed up to a step.
+-- Mismatch: the law `mismatch_is_no_body`.
 pub mod ListedLemmas
 pub mod Executed
 pub mod Endings
@@ -12,3 +14,8 @@ pub mod Strings
 pub mod Squares
 pub mod SquareWords
 pub mod SquareTokens
+pub mod Placed
+pub mod PlacedParts
+pub mod PlacedWords
+pub mod PlacedTokens
+pub mod Mismatch

@@ -1,14 +1,25 @@
 -- The evaluator whose definitions are structured bodies: it makes the same steps over them, and its state is that of
 -- the evaluator whose definitions are cells, once they are laid out.
-use Rattle.std.specs.Prelude.{◌≡◌, ℕ, ◌+◌, ◌<◌, length}
+use Rattle.std.specs.Prelude.{◌≡◌, ◌↔◌, ℕ, ◌+◌, ◌<◌, true, [], ◌∷◌, length, Some, None, Ok, Err}
+use Rattle.of_code.specs.declared.item.Item.TheVariants as item
+use Rattle.of_control.specs.Body.{Body}
+use Rattle.of_control.specs.Reading.{body_in}
 use Rattle.of_stacks.specs.declared.return_item.Continuation.{Continuation}
 use Rattle.of_stacks.specs.declared.return_item.Continuation.TheVariants.{Code, Source}
-use Rattle.of_compile.specs.Board.{Definitions, Told, abandoned_told, element_told, fetched, flat_of, laid_all}
-use Rattle.of_compile.specs.Board.{semicolon_told}
+use Rattle.of_stacks.specs.Throws.{control_mismatch}
+use Rattle.of_dict.specs.Words.{xt_of}
+use Rattle.of_compile.specs.declared.element.PlainItem.{PlainItem}
+use Rattle.of_compile.specs.Board.{Definitions, Told, abandoned_told, element_told, fetched, flat_of, has_room}
+use Rattle.of_compile.specs.Board.{laid_all, semicolon_told}
 use Rattle.of_compile.specs.Coding.{Coding}
 use Rattle.of_compile.specs.Elements.{element_cells}
 use Rattle.of_eval.specs.State.{Answered, Calls, Outcome, State, flat_calls}
 use Rattle.of_eval.specs.Steps.{stepped}
+use Rattle.of_eval.specs.Tokens.{semicolon_entry}
+
+-- no word is finished, and the open definition is empty
+abbrev pub no_definitions : Definitions
+no_definitions = record { finished = []; elements = [] }
 
 abbrev pub told_answer : Told → Answered Definitions
 told_answer t = record { code = t.definitions; ended = t.ended }
@@ -42,3 +53,18 @@ IsPlaced s = IsPlacedIn (length (laid_all s.code.finished)) s.flow.next
 abbrev pub StepsAgree : Type 0
 StepsAgree =
     (s : State Definitions) → IsPlaced s → stepped flat_calls (flat_state s) ≡ flat_state (stepped board_calls s)
+
+-- what `b(;)` makes of the open definition, the word n, by its elements
+pub record MismatchIsNoBody : Type 0 where
+  -- it throws -22 exactly where they have no body
+  pub mismatch :
+      (n : ℕ) (s : State Definitions) →
+      ((semicolon_entry board_calls (Some n) s).ended ≡ Err control_mismatch) ↔ (body_in 32 s.code.elements ≡ None)
+  -- where they have one, and there is room for a return, that is the body of the latest finished word
+  pub finished :
+      (n : ℕ) (s : State Definitions) (b : Body PlainItem) →
+      body_in 32 s.code.elements ≡ Some b →
+      has_room (Some item.Return) s.code ≡ true →
+      ((semicolon_entry board_calls (Some n) s).ended ≡ Ok tt)
+      × ((semicolon_entry board_calls (Some n) s).state.code.finished
+      ≡ record { xt = record { 0 = xt_of n }; body = b } ∷ s.code.finished)

@@ -10,3 +10,4 @@ pub mod Steps
 pub mod Loading
 pub mod Reading
 pub mod Board
+pub mod Placed

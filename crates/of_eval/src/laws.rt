@@ -1,6 +1,7 @@
 // A law has no parameters and does nothing: its contract is the law.
-ghost use Rattle.of_eval.specs.Board.{StepsAgree};
+ghost use Rattle.of_eval.specs.Board.{MismatchIsNoBody, StepsAgree};
 ghost use Rattle.of_eval.specs.Listed.{WordsThrowListed};
+ghost use Rattle.of_eval.specs.Placed.{StatesStayPlaced};
 
 use of_compile::{board_is_flat, compiles_reading};
 use of_prims::prims_throw_listed;
@@ -21,3 +22,18 @@ pub fn steps_agree()
     board_is_flat();
     compiles_reading();
 }
+
+/// From the beginning on, and whatever image begins, control goes on in what is read or in a finished definition: each
+/// step leaves all items of the return stack and all own words so that it does.
+pub fn states_stay_placed()
+    ensures { StatesStayPlaced }
+{
+    board_is_flat();
+}
+
+/// `b(;)` throws -22 exactly where the elements of the open definition have no body. Where they have one, and there is
+/// room for a return, that is the body of the word from then on.
+#[tactic(auto, using(crate::proofs::Mismatch::mismatch_is_no_body))]
+pub fn mismatch_is_no_body()
+    ensures { MismatchIsNoBody }
+{}
