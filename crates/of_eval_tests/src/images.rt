@@ -2,7 +2,7 @@
 ghost use Rattle.std.specs.Prelude.{◌≤◌};
 
 use crate::running::{bytes_of, ran, shown};
-use of_eval::{steps_agree, words_throw_listed};
+use of_eval::{mismatch_is_no_body, states_stay_placed, steps_agree, words_throw_listed};
 use of_fcodes::FCode;
 use std::alloc::Global;
 use std::test::Fail;
@@ -147,4 +147,6 @@ fn numbers(rt: HostRuntime) -> Result<(), Fail> {
 fn laws() {
     words_throw_listed();
     steps_agree();
+    states_stay_placed();
+    mismatch_is_no_body();
 }
