@@ -3,6 +3,7 @@ pub mod Words
 pub mod Listed
 pub mod Control
 pub mod State
+pub mod ByteLoading
 pub mod Executing
 pub mod Settling
 pub mod Tokens

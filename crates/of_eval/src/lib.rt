@@ -2,6 +2,7 @@
 #![tactic(auto)]
 
 mod acting;
+mod byte_loading;
 mod console;
 mod control;
 mod eval;

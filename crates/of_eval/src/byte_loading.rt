@@ -1,0 +1,138 @@
+//! `byte-load`: images whose bytes stand in the data space.
+ghost use Rattle.std.specs.Prelude.{◌≡◌, ◌≤◌, ◌+◌, drop, length, true};
+ghost use Rattle.of_stacks.specs.Order.{counting, fault_if};
+ghost use Rattle.of_eval.specs.ByteLoading.{begins_image, byte_load_entry, has_bad_header, image_loaded, length_at};
+ghost use Rattle.of_eval.specs.ByteLoading.{loading_faults, spread_of, start_at};
+ghost use Rattle.of_eval.specs.State.{Leaves};
+
+use crate::eval::Eval;
+use of_cells::Cell;
+use of_code::CodeStore;
+use of_memory::Memory;
+use of_prims::throw_of;
+use of_stacks::{Continuation, Input, Reading, ReturnItem, Throw};
+use of_stream::{HEADER_LENGTH, Stream};
+
+/// Whether an image begins with this byte.
+fn begins_image(start: u8) -> bool
+    ensures { result ≡ begins_image start }
+{
+    matches!(start, 0xf1 | 0xf2 | 0xf3 | 0xfd)
+}
+
+/// How far apart the bytes of an image stand that begins with this byte.
+fn spread_of(start: u8) -> u32
+    ensures value { result ≡ spread_of start }
+    ensures some { 1 ≤ result }
+{
+    match start {
+        0xf2 => 2,
+        0xf3 => 4,
+        _ => 1,
+    }
+}
+
+/// The byte at an address, or 0 where none can be read.
+fn start_at(memory: &Memory, at: Cell) -> u8
+    ensures { result ≡ start_at memory.now at.0 }
+{
+    match memory.read8(at) {
+        Ok(byte) => byte,
+        Err(_) => 0,
+    }
+}
+
+/// How many bytes the image at an address has, up to the end of its region or live block, or as many as find room.
+fn length_at(memory: &Memory, at: Cell) -> u32
+    ensures { result ≡ length_at memory.now at.0 }
+{
+    let bytes = match memory.end_of(at) {
+        Ok(end) => end.0.saturating_sub(at.0),
+        Err(_) => 0,
+    };
+    let count = bytes.div_ceil(spread_of(start_at(memory, at)));
+    count.min(memory.image_room().0)
+}
+
+/// Whether the image at an address has another first byte than images have, or is shorter than a header.
+fn has_bad_header(memory: &Memory, at: Cell) -> bool
+    ensures { result ≡ has_bad_header memory.now at.0 }
+{
+    !begins_image(start_at(memory, at)) || (length_at(memory, at) as usize) < HEADER_LENGTH
+}
+
+/// A fault, where it is found.
+fn fault_if(found: bool, fault: Throw) -> Option<Throw>
+    ensures { result ≡ fault_if found fault }
+{
+    if found { Some(fault) } else { None }
+}
+
+/// The fault that counts of an address and a fetch word, where the return stack has so many items.
+fn loading_fault(memory: &Memory, at: Cell, fetch: Cell, depth: usize) -> Option<Throw>
+    requires { depth ≤ 256 }
+    ensures { result ≡ counting (loading_faults memory.now at fetch depth) }
+{
+    Throw::counting(&[
+        fault_if(memory.read8(at).is_err(), Throw::INVALID_ADDRESS),
+        fault_if(fetch.0 != 1, Throw::INVALID_ARGUMENT),
+        fault_if(has_bad_header(memory, at), Throw::IMAGE_ENDED),
+        fault_if(depth + 2 > 256, Throw::RETURN_STACK_OVERFLOW),
+    ])
+}
+
+impl<C: CodeStore> Eval<C> {
+    /// Takes the operands, copies the image at an address behind the images that run, and goes on in it.
+    ///
+    /// -8 where it finds no place among them. A throw changes nothing.
+    fn load_image(&mut self, at: Cell) -> Result<(), Throw>
+        requires ready { self.old.parts.console.ready ≡ true }
+        requires operands { 2 ≤ length self.old.parts.stack }
+        requires room { length self.old.flow.items + 2 ≤ 256 }
+        ensures outcome { Leaves (image_loaded at.0 (drop 2 self.old.parts.stack) self.old) self.new result }
+        ensures ready { self.new.parts.console.ready ≡ true }
+    {
+        let start = start_at(&self.parts.memory, at);
+        let length = length_at(&self.parts.memory, at);
+        let spread = spread_of(start);
+        if let Err(fault) = self
+            .parts
+            .memory
+            .image_push_from(at, Cell(length), Cell(spread))
+        {
+            return Err(throw_of(fault));
+        }
+        self.parts.stack.drop_top(2);
+        self.flow.items.push(ReturnItem::Return(self.flow.next));
+        self.flow.items.push(ReturnItem::Source(self.flow.reading));
+        self.flow.reading = Reading {
+            input: Input::Image {
+                size: (Stream { image: &[start] }).first_size(),
+                position: HEADER_LENGTH,
+            },
+            opened: self.words.open_xt(),
+        };
+        self.flow.next = Continuation::Source;
+        Ok(())
+    }
+
+    /// `byte-load` ( a 1 -- ) runs the image whose bytes stand at an address, inside what runs now.
+    ///
+    /// -29 while a definition is open; -4 with fewer cells; -9 where the address can't be read; -24 for another fetch
+    /// word than 1; -257 for a bad header; -5 where the return stack has no room for two items. A throw changes nothing.
+    pub(crate) fn byte_load(&mut self) -> Result<(), Throw>
+        requires ready { self.old.parts.console.ready ≡ true }
+        ensures outcome { Leaves (byte_load_entry self.old) self.new result }
+        ensures ready { self.new.parts.console.ready ≡ true }
+    {
+        if self.words.defining().is_some() {
+            return Err(Throw::COMPILER_NESTING);
+        }
+        let (at, fetch) = self.parts.stack.top_two()?;
+        let depth = self.flow.items.depth();
+        if let Some(fault) = loading_fault(&self.parts.memory, at, fetch, depth) {
+            return Err(fault);
+        }
+        self.load_image(at)
+    }
+}
