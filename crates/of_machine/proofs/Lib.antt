@@ -1,4 +1,2 @@
--- RunLemmas: runs turn by turn, for `run_script`.
--- ListedLemmas: the law `steps_throw_listed`.
-pub mod ListedLemmas
+-- RunLemmas: runs turn by turn, for `run_script` and the law `runs_agree`.
 pub mod RunLemmas

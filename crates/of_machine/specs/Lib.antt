@@ -1,4 +1,3 @@
-pub mod Images
-pub mod Tokens
 pub mod States
+pub mod Views
 pub mod Runs

@@ -1,11 +1,12 @@
 // A law has no parameters and does nothing: its contract is the law.
-ghost use Rattle.of_machine.specs.States.{StepsThrowListed};
+ghost use Rattle.of_machine.specs.Runs.{RunsAgree};
 
-use of_eval::words_throw_listed;
+use of_eval::{states_stay_placed, steps_agree};
 
-/// What the steps of every machine throw has one of the numbers that words raise of themselves.
-pub fn steps_throw_listed()
-    ensures { StepsThrowListed }
+/// A run over the cells of definitions is, turn by turn, the abstract machine's run over their structure, laid out.
+pub fn runs_agree()
+    ensures { RunsAgree }
 {
-    words_throw_listed();
+    states_stay_placed();
+    steps_agree();
 }

@@ -5,9 +5,8 @@ mod answers;
 mod laws;
 mod machine;
 mod run;
-mod tokens;
 
-pub use answers::{End, Progress, Refusal};
-pub use laws::steps_throw_listed;
+pub use answers::{Answer, ClientCall, End, Progress, Refusal};
+pub use laws::runs_agree;
 pub use machine::{LONGEST_IMAGE, Machine};
-pub use run::run_script;
+pub use run::{ScriptMachine, run_script};

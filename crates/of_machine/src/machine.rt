@@ -1,17 +1,13 @@
-ghost use Rattle.std.specs.Prelude.{◌≡◌, true, IfOk, IfErr, OnOk, OnErr, None, Some};
-ghost use Rattle.of_machine.specs.Images.{image_bytes};
-ghost use Rattle.of_machine.specs.Tokens.{source_grows, source_if};
-ghost use Rattle.of_machine.specs.States.{idle, stepped, MayGrow, IsReadyIf, given_back, image_refusal, loaded};
-ghost use Rattle.of_machine.specs.States.{load_refusal, Settles, Steps, Refuses};
+ghost use Rattle.std.specs.Prelude.{◌≡◌, [], true, IfOk, IfErr, OnOk, OnErr, None, Some};
+ghost use Rattle.of_eval.specs.Board.{no_definitions};
+ghost use Rattle.of_machine.specs.States.{MayGrow, Refuses, Steps, flat_machine, idle, image_refusal, loaded};
+ghost use Rattle.of_machine.specs.States.{load_refusal};
 
 use crate::answers::{Progress, Refusal};
-use crate::tokens::{Source, run_token};
-use of_cells::Cell;
-use of_eval::{Console, Parts};
-use of_format::Pictured;
-use of_memory::Memory;
-use of_stacks::{DataStack, Stop};
-use of_stream::{HEADER_LENGTH, OffsetSize, Stream, open};
+use of_code::CodeStore;
+use of_eval::Eval;
+use of_memory::MemFault;
+use of_stream::{Stream, open};
 use std::alloc::{AllocError, Global};
 use std::marker::Model;
 
@@ -23,76 +19,27 @@ pub const LONGEST_IMAGE: usize = 0x4_0000;
 /// The path of the package for which images are loaded.
 const SLOT: &str = "/slot";
 
-/// An image that runs.
-#[derive(Clone, Copy, Debug, PartialEq, Eq)]
-pub struct Running {
-    /// Where it begins in the data space.
-    pub begin: Cell,
-    /// How many bytes it has.
-    pub size: Cell,
-    /// From where it is read on.
-    pub source: Source,
-}
-
-/// A boot monitor on its board.
+/// A boot monitor on its board, over a store of code.
 ///
 /// A call that answers NoMemory has changed nothing, and may be made again.
 #[derive(Drop)]
-pub struct Machine {
-    parts: Parts,
-    is_running: bool,
-    running: Running,
+pub struct Machine<C: CodeStore> {
+    eval: Eval<C>,
     steps: u64,
 }
 
-// Clauses see a state of the abstract machine.
-impl Model for Machine {
-    ghost use Rattle.of_machine.specs.States.{State, running_if, IsReadyIf};
+// Clauses see a state of the machine whose definitions are cells.
+impl<C: CodeStore> Model for Machine<C> {
+    ghost use Rattle.std.specs.Prelude.{◌≡◌, true};
+    ghost use Rattle.of_compile.specs.Coding.{Coding};
+    ghost use Rattle.of_machine.specs.States.{MachineState};
 
-    ghost Value = { State };
+    ghost Value = { MachineState Coding };
 
-    ghost view = { λ m. record { parts = m.parts; running = running_if m.is_running m.running; steps = m.steps } };
+    ghost view = { λ m. record { eval = m.eval; steps = m.steps } };
 
-    ghost invariant = { λ m. IsReadyIf m.is_running m.parts.console };
-}
-
-/// Runs the next token of an image, and answers whether the image goes on. A throw empties the
-/// stack, prints its text and ends the image. A refusal changes nothing.
-#[inline]
-fn take_token(running: &mut Running, parts: &mut Parts) -> Result<bool, AllocError>
-    requires ready { parts.old.console.ready ≡ true }
-    ensures ok { IfOk result (λ goes. Settles (image_bytes parts.old.memory running.old.begin running.old.size)
-        running.old running.new parts.old parts.new goes) }
-    ensures ready { IfOk result (λ goes. IsReadyIf goes parts.new.console) }
-    ensures grows { OnErr result (source_grows (image_bytes parts.old.memory running.old.begin running.old.size)
-        running.old.source ≡ true) }
-    ensures parts { OnErr result (parts.new ≡ parts.old) }
-    ensures running { OnErr result (running.new ≡ running.old) }
-{
-    let source = running.source;
-    match run_token(running.begin, running.size, &mut running.source, parts) {
-        Ok(goes_on) => Ok(goes_on),
-        Err(Stop::Thrown(fault)) => {
-            parts.console.print_fault(fault);
-            parts.stack.clear();
-            Ok(false)
-        }
-        Err(Stop::NoMemory) => {
-            running.source = source;
-            Err(AllocError)
-        }
-    }
-}
-
-/// Gives the latest image back, unless it goes on.
-#[inline]
-fn give_back(memory: &mut Memory, goes_on: bool, source: Source)
-    ensures { memory.new ≡ given_back (source_if goes_on source) memory.old }
-{
-    let _ = &source;
-    if !goes_on {
-        memory.image_pop();
-    }
+    // what runs has a console that is ready for a throw
+    ghost invariant = { λ m. m.eval.flow.is_running ≡ true → m.eval.parts.console.ready ≡ true };
 }
 
 /// The image, with its header read.
@@ -112,51 +59,38 @@ pub fn check_image<'a>(image: &'a [u8]) -> Result<Stream<'a>, Refusal>
     }
 }
 
-impl Machine {
-    /// An idle machine with an empty stack and console, and a fresh data space.
+impl<C: CodeStore + Drop> Machine<C> {
+    /// An idle machine with empty stacks and console, a fresh data space and no own words, over a store of code that
+    /// holds nothing yet.
     ///
     /// An error is for memory alone.
-    pub fn new(alloc: Global) -> Result<Self, AllocError>
-        ensures { IfOk result (λ m. m ≡ idle) }
+    pub fn new(alloc: Global, code: C) -> Result<Machine<C>, AllocError>
+        requires empty { C.code code ≡ record { cells = []; opened = record { cell = 0 }; starts = [] } }
+        ensures { IfOk result (λ m. m ≡ flat_machine (idle no_definitions)) }
     {
-        let memory = Memory::new(alloc)?;
         Ok(Machine {
-            parts: Parts {
-                stack: DataStack::new(),
-                memory,
-                pictured: Pictured::new(),
-                console: Console::new(alloc),
-            },
-            is_running: false,
-            running: Running {
-                begin: Cell::ZERO,
-                size: Cell::ZERO,
-                source: Source {
-                    position: HEADER_LENGTH,
-                    size: OffsetSize::Two,
-                },
-            },
+            eval: Eval::new(alloc, code)?,
             steps: 0,
         })
     }
+}
 
-    /// Makes one step, if one can be made: reads a token of the running image and runs it
-    /// (IEEE 1275-1994, 5.2).
+impl<C: CodeStore> Machine<C> {
+    /// Makes one step, if one can be made: a token of the running image, or an item of the definition that runs, and
+    /// what is due then (IEEE 1275-1994, 5.2).
     ///
-    /// An error is for memory alone, and then nothing has changed. It comes only where the token
-    /// prints or takes a block of the heap: the other steps ask for no memory, also where they throw.
-    #[tactic(auto, unfolding(crate::specs::States::stepped))]
+    /// An error is for memory alone, and then nothing has changed. It comes only where the token or item prints, takes
+    /// a block of the heap, defines a word, or is appended to the open definition: the other steps ask for no memory,
+    /// also where they throw.
     pub fn step(&mut self) -> Result<Progress, AllocError>
         ensures ok { IfOk result (λ p. Steps p self.old self.new) }
         ensures grows { OnErr result (MayGrow self.old) }
         ensures err { OnErr result (self.new ≡ self.old) }
     {
-        if !self.is_running || self.steps == u64::MAX {
+        if !self.eval.is_running() || self.steps == u64::MAX {
             return Ok(Progress::Ended);
         }
-        let goes_on = take_token(&mut self.running, &mut self.parts)?;
-        give_back(&mut self.parts.memory, goes_on, self.running.source);
-        self.is_running = goes_on;
+        self.eval.step()?;
         self.steps += 1;
         Ok(Progress::Done)
     }
@@ -164,7 +98,7 @@ impl Machine {
     /// Makes an idle machine ready to run an image for the package at a path: the image is copied
     /// into the image region of the data space.
     ///
-    /// Busy where an image runs; then ImageTooLong over 256 KiB, BadStart where its header can't
+    /// Busy where something runs; then ImageTooLong over 256 KiB, BadStart where its header can't
     /// be read, NoNode where the path is another than `/slot`, and ImageTooLong where the image
     /// region has no room left; and NoMemory where none is found for the text of a throw. A refusal
     /// changes nothing.
@@ -174,32 +108,17 @@ impl Machine {
         ensures err { IfErr result (λ e. Refuses (load_refusal self.old image.now path.now) e) }
         ensures unchanged { OnErr result (self.new ≡ self.old) }
     {
-        if self.is_running {
+        if self.eval.is_running() {
             return Err(Refusal::Busy);
         }
-        let stream = check_image(image)?;
+        let _ = check_image(image)?;
         if path != SLOT {
             return Err(Refusal::NoNode);
         }
-        if !self.parts.memory.image_fits(image.len()) {
-            return Err(Refusal::ImageTooLong);
+        match self.eval.begin_image(image) {
+            Ok(()) => Ok(()),
+            Err(MemFault::NoMemory) => Err(Refusal::NoMemory),
+            Err(_) => Err(Refusal::ImageTooLong),
         }
-        if self.parts.console.make_ready().is_err() {
-            return Err(Refusal::NoMemory);
-        }
-        let Ok(begin) = self.parts.memory.image_push(image) else {
-            // It fits.
-            return Err(Refusal::ImageTooLong);
-        };
-        self.running = Running {
-            begin,
-            size: Cell(image.len() as u32),
-            source: Source {
-                position: HEADER_LENGTH,
-                size: stream.first_size(),
-            },
-        };
-        self.is_running = true;
-        Ok(())
     }
 }

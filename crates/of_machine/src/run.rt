@@ -1,24 +1,43 @@
-ghost use Rattle.std.specs.Prelude.{◌≡◌, IfOk, IfErr, OnOk, None};
+ghost use Rattle.std.specs.Prelude.{◌≡◌, [], IfOk, IfErr, OnOk, None, map};
 ghost use Rattle.of_machine.specs.States.{image_refusal, Refuses};
 ghost use Rattle.of_machine.specs.Runs.{RunsTo};
 
-use crate::answers::{End, Progress, Refusal};
+use crate::answers::{Answer, ClientCall, End, Progress, Refusal};
+use crate::laws::runs_agree;
 use crate::machine::{Machine, check_image};
+use of_code::ListCode;
 use std::alloc::Global;
 
-/// Runs an image for `/slot` on a new machine, for at most `limit` steps.
+/// The machine on which scripts run.
+pub type ScriptMachine = Machine<ListCode>;
+
+/// Runs an image for `/slot` on a new machine, for at most `limit` steps. There are no console lines, answers and
+/// client calls to be handed in yet.
 ///
 /// The machine that it gives back is the abstract machine after as many steps as were made. The
 /// end is Done where nothing runs any more, else LimitReached. Refused are ImageTooLong over
 /// 256 KiB, then BadStart where the header can't be read, and NoMemory, which gives no machine.
 #[tactic(auto, using(crate::proofs::RunLemmas::run_begins, crate::proofs::RunLemmas::slot_refusal))]
-pub fn run_script(alloc: Global, image: &[u8], limit: u64) -> Result<(Machine, End), Refusal>
+pub fn run_script(
+    alloc: Global,
+    image: &[u8],
+    lines: &[Vec<u8>],
+    answers: &[Answer],
+    calls: &[(u64, ClientCall)],
+    limit: u64,
+) -> Result<(ScriptMachine, End), Refusal>
+    requires no_lines { lines.now ≡ [] }
+    requires no_answers { answers.now ≡ [] }
+    requires no_calls { calls.now ≡ [] }
     ensures accepted { OnOk result (image_refusal image.now ≡ None) }
-    ensures ok { IfOk result (λ r. RunsTo image.now limit r.0 r.1) }
+    ensures ok { IfOk result (λ r. RunsTo image.now [] [] [] limit r.0 r.1) }
     ensures err { IfErr result (λ e. Refuses (image_refusal image.now) e) }
 {
+    let _ = &lines;
+    let _ = &answers;
+    let _ = &calls;
     let _ = check_image(image)?;
-    let Ok(mut machine) = Machine::new(alloc) else {
+    let Ok(mut machine) = Machine::new(alloc, ListCode::new(alloc)) else {
         return Err(Refusal::NoMemory);
     };
     machine.load(image, "/slot")?;
@@ -34,5 +53,6 @@ pub fn run_script(alloc: Global, image: &[u8], limit: u64) -> Result<(Machine, E
     } else {
         End::Done
     };
+    runs_agree();
     Ok((machine, end))
 }

@@ -1,6 +1,8 @@
 use hex::decode;
 use of_cells::Cell;
-use of_machine::{LONGEST_IMAGE, Machine, Progress, Refusal, run_script};
+use of_code::ListCode;
+use of_fcodes::FCode;
+use of_machine::{LONGEST_IMAGE, Machine, Progress, Refusal, ScriptMachine, run_script};
 use of_stream::StreamFault;
 use std::alloc::Global;
 use std::test::Fail;
@@ -8,14 +10,17 @@ use std::test::Fail;
 /// `2 3 + .` in an image.
 const FIVE: &str = "f108020a0000000da7a81e9d00";
 
+/// A definition with two arms, which is run with 0: it prints 2.
+const TWO_ARMS: &str = "f10806640000001cb50800b7140007a6130005b2a7b2c2a508009d00";
+
 const BAD_START: Refusal = Refusal::BadStart(StreamFault::BadStart(0xff));
 
 #[test]
 fn images_are_refused(rt: HostRuntime) -> Result<(), Fail> {
     let erased = [0xffu8; 16];
-    assert_eq!(rt; run_script(rt.alloc(), &erased, 9).err(), Some(BAD_START));
+    assert_eq!(rt; run_script(rt.alloc(), &erased, &[], &[], &[], 9).err(), Some(BAD_START));
     let long = vec![in rt.alloc(); 0xf0u8; LONGEST_IMAGE + 1]?;
-    let refusal = run_script(rt.alloc(), &long, 9).err();
+    let refusal = run_script(rt.alloc(), &long, &[], &[], &[], 9).err();
     assert_eq!(rt; refusal, Some(Refusal::ImageTooLong));
     Ok(())
 }
@@ -24,7 +29,7 @@ fn images_are_refused(rt: HostRuntime) -> Result<(), Fail> {
 fn loads_are_refused(rt: HostRuntime) -> Result<(), Fail> {
     let erased = [0xffu8; 16];
     let image = decode(rt.alloc(), FIVE)?;
-    let mut machine = Machine::new(rt.alloc())?;
+    let mut machine = Machine::new(rt.alloc(), ListCode::new(rt.alloc()))?;
     assert_eq!(rt; machine.load(&image, "/"), Err(Refusal::NoNode));
     assert_eq!(rt; machine.load(&erased, "/slots"), Err(BAD_START));
     assert_eq!(rt; machine.load(&image, "/slot"), Ok(()));
@@ -34,16 +39,16 @@ fn loads_are_refused(rt: HostRuntime) -> Result<(), Fail> {
 
 #[test]
 fn nothing_to_do(rt: HostRuntime) -> Result<(), Fail> {
-    let mut machine = Machine::new(rt.alloc())?;
+    let mut machine = Machine::new(rt.alloc(), ListCode::new(rt.alloc()))?;
     assert_eq!(rt; machine.step()?, Progress::Ended);
     assert_eq!(rt; machine.is_running(), false);
     Ok(())
 }
 
 /// A machine that is to run `2 3 + .`.
-fn loaded(alloc: Global) -> Result<Machine, Fail> {
+fn loaded(alloc: Global) -> Result<ScriptMachine, Fail> {
     let image = decode(alloc, FIVE)?;
-    let mut machine = Machine::new(alloc)?;
+    let mut machine = Machine::new(alloc, ListCode::new(alloc))?;
     machine.load(&image, "/slot")?;
     Ok(machine)
 }
@@ -52,13 +57,14 @@ fn loaded(alloc: Global) -> Result<Machine, Fail> {
 fn steps(rt: HostRuntime) -> Result<(), Fail> {
     let mut machine = loaded(rt.alloc())?;
     assert_eq!(rt; machine.is_running(), true);
+    assert_eq!(rt; machine.depth(), 2);
     assert_eq!(rt; machine.step()?, Progress::Done);
     assert_eq!(rt; machine.stack(), [Cell(2)].as_slice());
     Ok(())
 }
 
 /// Whether the image region begins with these bytes.
-fn stands_in_the_region(machine: &Machine, bytes: &[u8]) -> bool {
+fn stands_in_the_region(machine: &ScriptMachine, bytes: &[u8]) -> bool {
     bytes
         .iter()
         .zip(0x60_0000u32..)
@@ -79,16 +85,47 @@ fn images_stand_in_the_data_space(rt: HostRuntime) -> Result<(), Fail> {
 #[test]
 fn images_are_given_back(rt: HostRuntime) -> Result<(), Fail> {
     let image = decode(rt.alloc(), FIVE)?;
-    let (machine, _) = run_script(rt.alloc(), &image, 5)?;
+    let (machine, _) = run_script(rt.alloc(), &image, &[], &[], &[], 5)?;
     assert!(rt; stands_in_the_region(&machine, &[0; 14]));
+    Ok(())
+}
+
+/// Names, or numbers behind a `#`, and the execution tokens that they find once an image has defined `foo` as 0x801.
+const NAMES: &str = "\
++ c0000080
+foo c000052c
+FOO c000052c
+fooo none
+#34 c00000e4
+#800 none
+#801 c000052c
+#1e c0000080
+";
+
+/// `external-token foo 0x801 b(:) b(;)` in an image.
+const FOO: &str = "f10800000000000aca03666f6f0801b7c200";
+
+#[test]
+fn names_and_numbers_find_words(rt: HostRuntime) -> Result<(), Fail> {
+    let image = decode(rt.alloc(), FOO)?;
+    let (machine, _) = run_script(rt.alloc(), &image, &[], &[], &[], 9)?;
+    for line in NAMES.lines() {
+        let (name, wanted) = line.split_once(' ').unwrap_or(("", ""));
+        let found = match name.strip_prefix('#') {
+            Some(number) => machine.token(FCode(u16::from_str_radix(number, 16)?)),
+            None => machine.word(name.as_bytes()),
+        };
+        let wanted = u32::from_str_radix(wanted, 16).ok();
+        assert_eq!(rt; found.map(|xt| xt.0), wanted, "{name}");
+    }
     Ok(())
 }
 
 /// A machine whose growths are refused in turn goes on where it stood.
 #[test]
 fn refused_memory(rt: HostRuntime) -> Result<(), Fail> {
-    let image = decode(rt.alloc(), FIVE)?;
-    let Ok(mut machine) = Machine::new(rt.alloc()) else {
+    let image = decode(rt.alloc(), TWO_ARMS)?;
+    let Ok(mut machine) = Machine::new(rt.alloc(), ListCode::new(rt.alloc())) else {
         return Ok(());
     };
     for _ in 0..9 {
@@ -104,7 +141,7 @@ fn refused_memory(rt: HostRuntime) -> Result<(), Fail> {
             Err(_) => assert_eq!(rt; machine.steps(), before),
         }
     }
-    assert_eq!(rt; machine.console(), b"5 ".as_slice());
+    assert_eq!(rt; machine.console(), b"2 ".as_slice());
     Ok(())
 }
 

@@ -1,5 +1,5 @@
 use hex::decode;
-use of_machine::{End, run_script, steps_throw_listed};
+use of_machine::{End, run_script, runs_agree};
 use std::alloc::Global;
 use std::test::Fail;
 
@@ -8,7 +8,7 @@ use std::test::Fail;
 fn shown(alloc: Global, digits: &str, limit: u64) -> Result<String, Fail> {
     let packed: String = digits.chars().filter(|c| *c != ' ').collect(alloc)?;
     let image = decode(alloc, packed)?;
-    let (machine, end) = run_script(alloc, &image, limit)?;
+    let (machine, end) = run_script(alloc, &image, &[], &[], &[], limit)?;
     let mut text = format!(in alloc; "{}", machine.steps())?;
     text.push_str(match end {
         End::Done => " ",
@@ -24,7 +24,7 @@ fn shown(alloc: Global, digits: &str, limit: u64) -> Result<String, Fail> {
     Ok(text)
 }
 
-/// Whole images, and what their runs of 99 steps at most make: the steps, and the console.
+/// Whole images, and what their runs of 999 steps at most make: the steps, and the console.
 const IMAGES: &str = "\
 f108020a0000000da7a81e9d00|5 5 
 f208020a0000000da7a81e9d00|5 5 
@@ -36,13 +36,16 @@ f10801910000000c137fff00|1 fault -257: image ended$
 f108013e0000001010000000088b9b00|4 400000 
 f1080a270000001aa6d0a7d0a8d0ada81fada71fa878ad719d00|18 3 
 fd0804c300000013cca5140005a69db2a79d00|6 2 
+f108064900000021b50800b7464610000000070218c2a6a711080002179d9d9d00|19 7 0 0 
+f10806640000001cb50800b7140007a6130005b2a7b2c2a508009d00|16 2 
+f108024600000012b50800b70800c2080000|259 fault -5: return stack overflow$
 ";
 
 #[test]
 fn images(rt: HostRuntime) -> Result<(), Fail> {
     for line in IMAGES.lines() {
         let (image, wanted) = line.split_once('|').unwrap_or(("", ""));
-        assert_eq!(rt; shown(rt.alloc(), image, 99)?.as_str(), wanted, "{image}");
+        assert_eq!(rt; shown(rt.alloc(), image, 999)?.as_str(), wanted, "{image}");
     }
     Ok(())
 }
@@ -76,7 +79,7 @@ a69000|2 fault -4: stack underflow$
 a4a69000|3 fault -9: invalid memory address$
 a48b00|2 fault -8: dictionary overflow$
 015000|1 fault -256: fcode not assigned$
-1d00|1 fault -256: fcode not assigned$
+1d00|1 fault -4: stack underflow$
 a6a5a0729d00|5 fault -24: invalid numeric argument$
 a6a0729d00|4 fault -4: stack underflow$
 a6a6a0729d00|5 fault -24: invalid numeric argument$
@@ -90,7 +93,7 @@ fn tokens(rt: HostRuntime) -> Result<(), Fail> {
         let image = format!(in rt.alloc(); "f108000000000000{tokens}")?;
         assert_eq!(rt; shown(rt.alloc(), &image, 99)?.as_str(), wanted, "{tokens}");
     }
-    steps_throw_listed();
+    runs_agree();
     Ok(())
 }
 
@@ -118,7 +121,7 @@ fn limits(rt: HostRuntime) -> Result<(), Fail> {
 fn cuts(rt: HostRuntime) -> Result<(), Fail> {
     let image = decode(rt.alloc(), "f10803f700000012a5140005a69db2a79d00")?;
     for length in 0..image.len() {
-        let is_cut = match run_script(rt.alloc(), &image[..length], 99) {
+        let is_cut = match run_script(rt.alloc(), &image[..length], &[], &[], &[], 99) {
             Ok((machine, _)) => machine.console().ends_with(b"fault -257: image ended\n"),
             Err(_) => length < 8,
         };

@@ -16,7 +16,8 @@ use Rattle.of_machine.specs.declared.answers.Refusal.{Refusal}
 use Rattle.of_machine.specs.declared.answers.Refusal.TheVariants as refusal
 use Rattle.of_stream.specs.declared.fault.StreamFault.{StreamFault}
 use Rattle.of_stream.specs.declared.fault.StreamFault.TheVariants as stream
-use Rattle.of_machine.specs.States.{State, image_refusal, Refuses}
+use Rattle.of_compile.specs.Coding.{Coding}
+use Rattle.of_machine.specs.States.{MachineState, image_refusal, Refuses}
 use Rattle.of_machine.specs.Runs.{RunsTo}
 use Rattle.clap.specs.declared.error.kind.ErrorKind.{ErrorKind}
 use Rattle.clap.specs.declared.error.kind.ErrorKind.TheVariants as kind
@@ -103,8 +104,8 @@ image_in text (Ok image) = Ok image
 image_in text (Err e) = Err (fault_of text e)
 
 -- the run of the image that a file has in hexadecimal
-abbrev pub RunsFile : List ℕ → ℕ → State → End → Type 0
-RunsFile file limit m e = (image : List ℕ) × (decode_of (dense file) ≡ Ok image) × RunsTo image limit m e
+abbrev pub RunsFile : List ℕ → ℕ → MachineState Coding → End → Type 0
+RunsFile file limit m e = (image : List ℕ) × (decode_of (dense file) ≡ Ok image) × RunsTo image [] [] [] limit m e
 
 -- known bytes grow by the first of bs
 abbrev pub AppendsPart : Option (List ℕ) → Option (List ℕ) → List ℕ → Type 0
@@ -112,12 +113,14 @@ AppendsPart old new bs = (n : ℕ) × Appends old new (take n bs)
 
 -- the run of the file printed all its console bytes
 abbrev pub PrintsRun : List ℕ → ℕ → Option (List ℕ) → Option (List ℕ) → End → Type 0
-PrintsRun file limit old new e = (m : State) × RunsFile file limit m e × Appends old new m.parts.console.text
+PrintsRun file limit old new e =
+    (m : MachineState Coding) × RunsFile file limit m e × Appends old new m.eval.parts.console.text
 
 -- nothing was printed, or the first console bytes of the run
 abbrev pub PrintsPart : List ℕ → ℕ → Option (List ℕ) → Option (List ℕ) → Type 0
 PrintsPart file limit old new = Keeps old new
-    ⊎ ((m : State) × ((e : End) × RunsFile file limit m e) × AppendsPart old new m.parts.console.text)
+    ⊎ ((m : MachineState Coding) × ((e : End) × RunsFile file limit m e)
+        × AppendsPart old new m.eval.parts.console.text)
 
 -- an image's faults: what the monitor refuses it for, or why it has no listing
 abbrev pub FaultsImage : List ℕ → Fault → Type 0

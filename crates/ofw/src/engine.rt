@@ -8,17 +8,17 @@ use crate::input::{image_of, read_whole};
 use crate::output::{report, write_whole};
 use crate::status::Status;
 use of_detok::listing;
-use of_machine::{End, Machine, run_script};
+use of_machine::{End, ScriptMachine, run_script};
 use std::alloc::Global;
 use std::io::{Read, Write};
 
 /// Runs the image of a text.
-fn run_text(alloc: Global, text: &[u8], limit: u64) -> Result<(Machine, End), Fault>
+fn run_text(alloc: Global, text: &[u8], limit: u64) -> Result<(ScriptMachine, End), Fault>
     ensures ok { IfOk result (λ r. RunsFile text.now limit r.0 r.1) }
     ensures err { IfErr result (λ f. FaultsText text.now f) }
 {
     let image = image_of(alloc, text)?;
-    match run_script(alloc, &image, limit) {
+    match run_script(alloc, &image, &[], &[], &[], limit) {
         Ok(run) => Ok(run),
         Err(refusal) => Err(Fault::Refused(refusal)),
     }

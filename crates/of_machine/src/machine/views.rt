@@ -1,22 +1,25 @@
-ghost use Rattle.std.specs.Prelude.{◌≡◌, reverse, is_some};
-ghost use Rattle.of_machine.specs.States.{byte_of};
+ghost use Rattle.std.specs.Prelude.{◌≡◌, length, reverse};
+ghost use Rattle.of_machine.specs.States.{is_running};
+ghost use Rattle.of_machine.specs.Views.{byte_of, xt_named, xt_numbered};
 
 use super::Machine;
 use of_cells::Cell;
+use of_code::CodeStore;
+use of_fcodes::{FCode, word_with_name};
 
-impl Machine {
+impl<C: CodeStore> Machine<C> {
     /// The cells of the data stack, the bottom first.
     pub fn stack(&self) -> &[Cell]
-        ensures { reverse result.now ≡ self.now.parts.stack }
+        ensures { reverse result.now ≡ self.now.eval.parts.stack }
     {
-        self.parts.stack.cells()
+        self.eval.stack()
     }
 
     /// The byte at an address of the data space, if it can be read.
     pub fn byte(&self, addr: Cell) -> Option<u8>
-        ensures { result ≡ byte_of self.now.parts.memory addr.0 }
+        ensures { result ≡ byte_of self.now.eval.parts.memory addr.0 }
     {
-        match self.parts.memory.read8(addr) {
+        match self.eval.memory().read8(addr) {
             Ok(byte) => Some(byte),
             Err(_) => None,
         }
@@ -24,9 +27,9 @@ impl Machine {
 
     /// All bytes printed so far.
     pub fn console(&self) -> &[u8]
-        ensures { result.now ≡ self.now.parts.console.text }
+        ensures { result.now ≡ self.now.eval.parts.console.text }
     {
-        self.parts.console.bytes()
+        self.eval.console()
     }
 
     /// How many steps were made.
@@ -36,10 +39,41 @@ impl Machine {
         self.steps
     }
 
-    /// Whether an image runs.
+    /// Whether something runs.
     pub fn is_running(&self) -> bool
-        ensures { result ≡ is_some self.now.running }
+        ensures { result ≡ is_running self.now }
     {
-        self.is_running
+        self.eval.is_running()
+    }
+
+    /// The execution token of the word that a name finds, if there is one: the newest own word of that name comes
+    /// before the written one. The case of letters doesn't count (Forth 2012, 3.4.2).
+    pub fn word(&self, name: &[u8]) -> Option<Cell>
+        ensures { result ≡ xt_named self.now.eval.words name.now }
+    {
+        match self.eval.words().dictionary().find(name) {
+            Some(word) => Some(word.xt()),
+            None => match word_with_name(name) {
+                Some(word) => Some(Cell(word.xt())),
+                None => None,
+            },
+        }
+    }
+
+    /// The execution token that an FCode names, if it is assigned.
+    pub fn token(&self, code: FCode) -> Option<Cell>
+        ensures { result ≡ xt_numbered self.now.eval.words code.0 }
+    {
+        match self.eval.words().table().get(code) {
+            Some(entry) => Some(Cell(entry.xt)),
+            None => None,
+        }
+    }
+
+    /// How many items the return stack has.
+    pub fn depth(&self) -> usize
+        ensures { result ≡ length self.now.eval.flow.items }
+    {
+        self.eval.depth()
     }
 }
