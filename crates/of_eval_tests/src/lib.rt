@@ -2,6 +2,8 @@
 #![tactic(auto)]
 
 #[cfg(test)]
+mod byte_loading;
+#[cfg(test)]
 mod images;
 #[cfg(test)]
 mod running;

@@ -133,7 +133,7 @@ b50800 b7 b1 c2|4 0/0 fault -22: control structure mismatch$
 ";
 
 /// The first line whose tokens make something else behind a header, with what they make; nothing where there is none.
-fn differing(alloc: Global, lines: &str) -> Result<String, Fail> {
+pub(crate) fn differing(alloc: Global, lines: &str) -> Result<String, Fail> {
     for line in lines.lines() {
         let (tokens, wanted) = line.split_once('|').unwrap_or(("", ""));
         let digits = format!(in alloc; "f108000000000000{tokens}")?;
