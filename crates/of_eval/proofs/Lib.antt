@@ -1,4 +1,5 @@
 -- ListedLemmas: the law `words_throw_listed`.
+-- ListedFaults, ListedParts, Raised: the law `steps_throw_listed`, from one fault of several up to a step.
 -- Executed: executing a word, one word at a time, and following its defers.
 -- Endings: what calls on definitions leave of the whole state.
 -- Settled: the end of a step, item by item.
@@ -7,6 +8,9 @@
 -- Placed, PlacedParts, PlacedWords, PlacedTokens: the law `states_stay_placed`, from what stays placed up to a step.
 -- Mismatch: the law `mismatch_is_no_body`.
 pub mod ListedLemmas
+pub mod ListedFaults
+pub mod ListedParts
+pub mod Raised
 pub mod Executed
 pub mod Endings
 pub mod Settled

@@ -1,6 +1,5 @@
 pub mod Text
 pub mod Words
-pub mod Listed
 pub mod Control
 pub mod State
 pub mod ByteLoading
@@ -11,4 +10,5 @@ pub mod Steps
 pub mod Loading
 pub mod Reading
 pub mod Board
+pub mod Listed
 pub mod Placed

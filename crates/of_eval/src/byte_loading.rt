@@ -119,7 +119,8 @@ impl<C: CodeStore> Eval<C> {
     /// `byte-load` ( a 1 -- ) runs the image whose bytes stand at an address, inside what runs now.
     ///
     /// -29 while a definition is open; -4 with fewer cells; -9 where the address can't be read; -24 for another fetch
-    /// word than 1; -257 for a bad header; -5 where the return stack has no room for two items. A throw changes nothing.
+    /// word than 1; -257 for a bad header; -5 where the return stack has no room for two items. A throw changes
+    /// nothing.
     pub(crate) fn byte_load(&mut self) -> Result<(), Throw>
         requires ready { self.old.parts.console.ready ≡ true }
         ensures outcome { Leaves (byte_load_entry self.old) self.new result }

@@ -1,6 +1,6 @@
 // A law has no parameters and does nothing: its contract is the law.
 ghost use Rattle.of_eval.specs.Board.{MismatchIsNoBody, StepsAgree};
-ghost use Rattle.of_eval.specs.Listed.{WordsThrowListed};
+ghost use Rattle.of_eval.specs.Listed.{StepsThrowListed, WordsThrowListed};
 ghost use Rattle.of_eval.specs.Placed.{StatesStayPlaced};
 
 use of_compile::{board_is_flat, compiles_reading};
@@ -11,6 +11,16 @@ use of_prims::prims_throw_listed;
 pub fn words_throw_listed()
     ensures { WordsThrowListed }
 {
+    prims_throw_listed();
+}
+
+/// What a token or an item throws has one of these numbers, too, or is the number of a cell on the data stack, as
+/// `throw` takes it.
+#[tactic(auto, using(crate::proofs::Raised::steps_throw_listed))]
+pub fn steps_throw_listed()
+    ensures { StepsThrowListed }
+{
+    words_throw_listed();
     prims_throw_listed();
 }
 
