@@ -2,7 +2,9 @@
 ghost use Rattle.std.specs.Prelude.{◌≤◌};
 
 use crate::running::{bytes_of, ran, shown};
-use of_eval::{mismatch_is_no_body, states_stay_placed, steps_agree, words_throw_listed};
+use of_eval::{
+    mismatch_is_no_body, states_stay_placed, steps_agree, steps_throw_listed, words_throw_listed,
+};
 use of_fcodes::FCode;
 use std::alloc::Global;
 use std::test::Fail;
@@ -25,8 +27,10 @@ branch-over|f10803f700000012a5140005a69db2a79d00|5 0/0 2
 branch-out-of-image|f10801910000000c137fff00|1 0/0 fault -257: image ended$
 heap-address|f108013e0000001010000000088b9b00|4 0/0 400000 
 catch-and-throw|f108064900000021b50800b7464610000000070218c2a6a711080002179d9d9d00|19 0/0 7 0 0 
-byte-load-spread|f10806ab0000002ead10000000f2487510000000a44810000000101e75100000009d4810000000121e75a6023e00|20 0/0 -1 
-offset-sizes-apart|fd08000000000000 1215 fd08000000000000 1302a6a79d cc 130003a6a89d00 46a6023e 1302a6 a59d00|16 0/0 2 3 0 
+byte-load-spread|f10806ab0000002ead10000000f2487510000000a44810000000101e75100000009d4810000000121e75a6023e00\
+|20 0/0 -1 
+offset-sizes-apart|fd08000000000000 1215fd08000000000000 1302a6a79d cc 130003a6a89d00 46a6023e 1302a6 a59d00\
+|16 0/0 2 3 0 
 two-arms|f10806640000001cb50800b7140007a6130005b2a7b2c2a508009d00|16 0/0 2 
 two-arms-early-targets|f10806640000001cb50800b7140006a6130004b2a7b2c2a508009d00|16 0/0 2 
 cut-in-definition|f10806640000001cb50800b7140007a61300|5 0/0 fault -257: image ended$
@@ -148,6 +152,7 @@ fn numbers(rt: HostRuntime) -> Result<(), Fail> {
 #[test]
 fn laws() {
     words_throw_listed();
+    steps_throw_listed();
     steps_agree();
     states_stay_placed();
     mismatch_is_no_body();
