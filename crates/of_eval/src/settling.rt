@@ -1,5 +1,6 @@
 //! The end of a step: what is worked off beneath a finished word, and what a throw cuts.
 ghost use Rattle.std.specs.Prelude.{◌≡◌, true, false};
+ghost use Rattle.of_stacks.specs.Returns.{has_due_top};
 ghost use Rattle.of_memory.specs.Growth.{with_state};
 ghost use Rattle.of_eval.specs.State.{Leaves, flat_calls, given_up, open_xt, with_compiling};
 ghost use Rattle.of_eval.specs.Settling.{caller_self, caught, cut_one, ended, given_back, given_up_since, going_back};
@@ -184,6 +185,17 @@ impl<C: CodeStore> Eval<C> {
             | ReturnItem::Loop(_)
             | ReturnItem::User(_)
             | ReturnItem::Source(_) => {}
+        }
+    }
+
+    /// Whether something is due beneath a finished word.
+    #[inline]
+    pub(crate) fn has_due(&self) -> bool
+        ensures { result ≡ has_due_top self.now.flow.items }
+    {
+        match self.flow.items.peek() {
+            Some(item) => item.is_due(),
+            None => false,
         }
     }
 

@@ -140,6 +140,7 @@ impl<C: CodeStore> Eval<C> {
     }
 
     /// The element that a token of the stream leaves in the open definition, if it is compiled now.
+    #[inline(always)]
     fn compiled_element(
         &self,
         word: StreamWord,
@@ -245,7 +246,7 @@ impl<C: CodeStore> Eval<C> {
         };
         let xt = Cell(entry.xt);
         if !self.flow.is_compiling || entry.immediate {
-            return self.execute(xt);
+            return self.perform(xt);
         }
         if !self.words.is_word(xt) {
             return Err(Stop::Thrown(Throw::BAD_HANDLE));

@@ -11,7 +11,7 @@ use of_stacks::{Stop, Throw};
 
 /// Runs a word over the data stack, the data space and the pictured text.
 #[inline]
-fn run_primitive(word: PrimitiveWord, parts: &mut Parts) -> Result<(), Stop>
+pub(crate) fn run_primitive(word: PrimitiveWord, parts: &mut Parts) -> Result<(), Stop>
     requires ready { parts.old.console.ready ≡ true }
     ensures value { Makes (grows (Word.Primitive word)) (word_entry (Word.Primitive word) parts.old) parts.old parts.new
         result }
