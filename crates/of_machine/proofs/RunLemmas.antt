@@ -15,8 +15,8 @@ use Rattle.of_eval.specs.Board.{StepsAgree, board_calls, flat_state, no_definiti
 use Rattle.of_eval.specs.Placed.{AllPlaced, StatesStayPlaced}
 use Rattle.of_machine.specs.declared.answers.Progress.TheVariants.{Done}
 use Rattle.of_machine.specs.declared.answers.Refusal.{Refusal}
-use Rattle.of_machine.specs.States.{MachineState, Steps, can_step, flat_machine, idle, image_refusal, load_refusal, moved}
-use Rattle.of_machine.specs.States.{or_next, start_refusal}
+use Rattle.of_machine.specs.States.{MachineState, Steps, can_step, flat_machine, idle, image_refusal, load_refusal}
+use Rattle.of_machine.specs.States.{moved, or_next, start_refusal}
 use Rattle.of_machine.specs.Runs.{Feed, RunsAgree, after, beginning, next}
 
 -- ---- what is refused
