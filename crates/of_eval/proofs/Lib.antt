@@ -7,6 +7,8 @@
 -- Squares, SquareWords, SquareTokens: the law `steps_agree`, from what a part leaves up to a step.
 -- Placed, PlacedParts, PlacedWords, PlacedTokens: the law `states_stay_placed`, from what stays placed up to a step.
 -- Mismatch: the law `mismatch_is_no_body`.
+-- Frames, FramedTurns, FramedWords, FramedTokens: the law `frames_hold`.
+-- FramedSpace, FramedMemory, FramedWriting: the law `images_stand`.
 pub mod ListedLemmas
 pub mod ListedFaults
 pub mod ListedParts
@@ -23,3 +25,10 @@ pub mod PlacedParts
 pub mod PlacedWords
 pub mod PlacedTokens
 pub mod Mismatch
+pub mod FramedTurns
+pub mod FramedWords
+pub mod FramedTokens
+pub mod FramedSpace
+pub mod FramedMemory
+pub mod FramedWriting
+pub mod Frames

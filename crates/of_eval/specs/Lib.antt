@@ -12,3 +12,5 @@ pub mod Reading
 pub mod Board
 pub mod Listed
 pub mod Placed
+pub mod Frames
+pub mod Images

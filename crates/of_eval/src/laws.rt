@@ -1,9 +1,14 @@
 // A law has no parameters and does nothing: its contract is the law.
+ghost use Rattle.of_compile.specs.Board.{Definitions};
+ghost use Rattle.of_compile.specs.Coding.{Coding};
 ghost use Rattle.of_eval.specs.Board.{MismatchIsNoBody, StepsAgree};
+ghost use Rattle.of_eval.specs.Frames.{FramesHold, TargetsCountLast};
+ghost use Rattle.of_eval.specs.Images.{ImagesStand};
 ghost use Rattle.of_eval.specs.Listed.{StepsThrowListed, WordsThrowListed};
 ghost use Rattle.of_eval.specs.Placed.{StatesStayPlaced};
 
 use of_compile::{board_is_flat, compiles_reading};
+use of_memory::{parts_are_good, ranges_are_placed, writes_join};
 use of_prims::prims_throw_listed;
 
 /// What the ordinary words throw has one of the numbers that words raise of themselves.
@@ -47,3 +52,21 @@ pub fn states_stay_placed()
 pub fn mismatch_is_no_body()
     ensures { MismatchIsNoBody }
 {}
+
+/// Parts of a step leave as it was what is read, the size of its offsets, and the items of the return stack, and the
+/// target of a word of control counts only where control goes there, after all else.
+#[tactic(auto, using(crate::proofs::Frames::targets, crate::proofs::Frames::frames_hold))]
+pub fn frames_hold()
+    ensures cells { FramesHold Coding }
+    ensures bodies { FramesHold Definitions }
+    ensures targets { TargetsCountLast }
+{}
+
+/// An ordinary word keeps the images that run: it writes only where programs may.
+pub fn images_stand()
+    ensures { ImagesStand }
+{
+    parts_are_good();
+    ranges_are_placed();
+    writes_join();
+}

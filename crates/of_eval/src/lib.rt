@@ -24,7 +24,8 @@ mod words;
 pub use console::Console;
 pub use eval::Eval;
 pub use laws::{
-    mismatch_is_no_body, states_stay_placed, steps_agree, steps_throw_listed, words_throw_listed,
+    frames_hold, images_stand, mismatch_is_no_body, states_stay_placed, steps_agree,
+    steps_throw_listed, words_throw_listed,
 };
 pub use parts::Parts;
 pub use words::run_word;

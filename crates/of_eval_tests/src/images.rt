@@ -3,7 +3,8 @@ ghost use Rattle.std.specs.Prelude.{◌≤◌};
 
 use crate::running::{bytes_of, ran, shown};
 use of_eval::{
-    mismatch_is_no_body, states_stay_placed, steps_agree, steps_throw_listed, words_throw_listed,
+    frames_hold, images_stand, mismatch_is_no_body, states_stay_placed, steps_agree,
+    steps_throw_listed, words_throw_listed,
 };
 use of_fcodes::FCode;
 use std::alloc::Global;
@@ -156,4 +157,6 @@ fn laws() {
     steps_agree();
     states_stay_placed();
     mismatch_is_no_body();
+    frames_hold();
+    images_stand();
 }

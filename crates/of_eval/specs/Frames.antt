@@ -1,0 +1,150 @@
+-- What parts of a step leave as it was: what is read, with which size of offsets, and the return stack (IEEE 1275-1994,
+-- 5.2.2, 5.3.3.1; Forth 2012, 3.2.3.3).
+use Rattle.std.specs.Prelude.{◌≡◌, ◌⊎◌, ℕ, Bool, true, false, List, [], ◌∷◌, drop, Option, Some, None, Result, Ok, Err}
+use Rattle.std.specs.Prelude.{if◌then◌else◌}
+use Rattle.of_cells.specs.declared.cells.Cell.{Cell}
+use Rattle.of_code.specs.declared.item.Item.{Item}
+use Rattle.of_stacks.specs.declared.throws.Throw.{Throw}
+use Rattle.of_stacks.specs.declared.return_item.Input.{Input}
+use Rattle.of_stacks.specs.declared.return_item.Input.TheVariants as input
+use Rattle.of_stacks.specs.declared.return_item.LoopExit.{LoopExit}
+use Rattle.of_stacks.specs.declared.return_item.Reading.{Reading}
+use Rattle.of_stacks.specs.declared.return_item.ReturnItem.{ReturnItem}
+use Rattle.of_stacks.specs.declared.return_item.ReturnItem.TheVariants.{Source}
+use Rattle.of_stacks.specs.Returns.{top_item}
+use Rattle.of_stacks.specs.Throws.{image_ended}
+use Rattle.of_fcodes.specs.declared.words.ReturnsWord.TheVariants as returns
+use Rattle.of_fcodes.specs.declared.words.StreamWord.TheVariants as stream
+use Rattle.of_fcodes.specs.declared.words.Word.{Word}
+use Rattle.of_fcodes.specs.declared.words.Word.TheVariants as word
+use Rattle.of_fcodes.specs.Finding.{word_with_xt}
+use Rattle.of_fcodes.specs.Lookup.{word_numbered}
+use Rattle.of_memory.specs.Images.{latest_image}
+use Rattle.of_stream.specs.declared.stream.OffsetSize.{OffsetSize}
+use Rattle.of_stream.specs.Decoding.{Token, token_from}
+use Rattle.of_stream.specs.Sizes.{size_behind}
+use Rattle.of_compile.specs.Words.{WordsState}
+use Rattle.of_eval.specs.declared.control.ControlWord.{ControlWord}
+use Rattle.of_eval.specs.declared.control.ControlWord.TheVariants as control
+use Rattle.of_eval.specs.declared.flow.Flow.{Flow}
+use Rattle.of_eval.specs.Control.{Turn, control_entry}
+use Rattle.of_eval.specs.State.{Calls, State}
+use Rattle.of_eval.specs.Executing.{executable, executed}
+use Rattle.of_eval.specs.Steps.{item_done}
+use Rattle.of_eval.specs.Tokens.{token_due}
+
+-- ---- the target of a word of control
+
+-- what a word of control leaves whose target isn't in the image, by what it would leave if it were
+abbrev pub without_target : Result Turn Throw → Result Turn Throw
+without_target (Ok t) = if t.goes then Err image_ended else Ok t
+without_target (Err t) = Err t
+
+-- Where a target counts.
+pub record TargetsCountLast : Type 0 where
+  -- the target of a word of control counts only where control goes there, and after all else
+  pub turns :
+      (w : ControlWord) (e : LoopExit) (s : List Cell) (r : List ReturnItem) →
+      control_entry w false e s r ≡ without_target (control_entry w true e s r)
+  -- what a word leaves whose target isn't in the image it leaves with any
+  pub left :
+      (w : ControlWord) (lands : Bool) (e : LoopExit) (s : List Cell) (r : List ReturnItem) (t : Turn) →
+      control_entry w false e s r ≡ Ok t →
+      control_entry w lands e s r ≡ Ok t
+  -- and what it throws it throws with any, unless that is the fault of the target
+  pub thrown :
+      (w : ControlWord) (lands : Bool) (e : LoopExit) (s : List Cell) (r : List ReturnItem) (t : Throw) →
+      (t ≡ image_ended → ⊥) →
+      control_entry w false e s r ≡ Err t →
+      control_entry w lands e s r ≡ Err t
+  -- that of `do` never counts
+  pub entering :
+      (e : LoopExit) (s : List Cell) (r : List ReturnItem) →
+      control_entry control.Do false e s r ≡ control_entry control.Do true e s r
+
+-- ---- what is read
+
+-- it is read on, or set aside, on top of the return stack, for an image that begins inside it
+abbrev pub KeepsReading : Reading → Flow → Type 0
+KeepsReading r f = (f.reading ≡ r) ⊎ (top_item f.items ≡ Some (Source r))
+
+-- the size of the offsets in the image that is read, if one is
+abbrev pub size_in : Input → Option OffsetSize
+size_in (input.Image size position) = Some size
+size_in (input.Text position) = None
+size_in input.Nothing = None
+
+-- and in one that is set aside
+abbrev pub size_aside : Option ReturnItem → Option OffsetSize
+size_aside (Some (Source r)) = size_in r.input
+size_aside item = None
+
+-- an image is read on, or set aside so, whose offsets have this size
+abbrev pub KeepsSize : OffsetSize → Flow → Type 0
+KeepsSize size f = (size_in f.reading.input ≡ Some size) ⊎ (size_aside (top_item f.items) ≡ Some size)
+
+-- the image ends at `end0` and `end1`
+abbrev pub ends_image : Option Word → Bool
+ends_image (Some (word.Stream stream.End0)) = true
+ends_image (Some (word.Stream stream.End1)) = true
+ends_image w = false
+
+-- ---- the return stack
+
+-- more items, or none, were pushed on these
+abbrev pub PushedOn : List ReturnItem → List ReturnItem → Type 0
+PushedOn before [] = before ≡ []
+PushedOn before (item ∷ r) = (before ≡ item ∷ r) ⊎ PushedOn before r
+
+-- the written word that is executed, which may be found behind an `execute`
+abbrev pub written_at : Option ℕ → Option Word
+written_at None = None
+written_at (Some xt) = word_with_xt xt
+
+abbrev pub behind_execute : Option Word → Option Word → Option Word
+behind_execute (Some (word.Returns returns.Execute)) inner = inner
+behind_execute w inner = w
+
+-- the written word that runs at last where the word of an execution token is executed, if it is a written one; what
+-- `catch` runs, runs within it
+unfoldable pub last_run : WordsState → List Cell → ℕ → Option Word
+last_run w [] xt = behind_execute (written_at (executable w xt)) None
+last_run w (x ∷ cells) xt = behind_execute (written_at (executable w xt)) (last_run w cells x.0)
+
+-- `r>`, `unloop` and `exit` drop an item
+abbrev pub drops_item : Option Word → Bool
+drops_item (Some (word.Returns returns.FromReturn)) = true
+drops_item (Some (word.Returns returns.Unloop)) = true
+drops_item (Some (word.Returns returns.Exit)) = true
+drops_item w = false
+
+-- ---- the law
+
+-- What parts of a step leave as it was, over any code of definitions.
+pub record FramesHold (S : Type 0) : Type 0 where
+  -- Executing a word goes on in what is read, or begins an image inside it.
+  pub words_read_on :
+      (c : Calls S) (cells : List Cell) (xt : ℕ) (s : State S) →
+      KeepsReading s.flow.reading (executed c cells xt s).state.flow
+  -- So does an item of a definition.
+  pub items_read_on :
+      (c : Calls S) (i : Item) (s : State S) → KeepsReading s.flow.reading (item_done c i s).state.flow
+  -- The token at which the reading of an image stands, interpreted or compiled, keeps the size of offsets that is read
+  -- on with behind it, unless it ends the image.
+  pub tokens_keep_size :
+      (c : Calls S) (x : Token) (next : ℕ) (size : OffsetSize) (position : ℕ) (s : State S) →
+      ends_image (word_numbered x.code.0) ≡ false →
+      token_from (latest_image s.parts.memory) position size ≡ Some (x, next) →
+      KeepsSize (size_behind x.code.0 size) (token_due c (input.Image size position) s).state.flow
+  -- And that is the size that it was read with, unless it is `offset16`.
+  pub size_kept : (code : ℕ) (size : OffsetSize) → (code ≡ 0xcc → ⊥) → size_behind code size ≡ size
+  -- Executing a word only pushes on the return stack, unless the word that runs at last drops an item.
+  pub words_only_push :
+      (c : Calls S) (cells : List Cell) (xt : ℕ) (s : State S) →
+      drops_item (last_run s.words cells xt) ≡ false →
+      PushedOn s.flow.items (executed c cells xt s).state.flow.items
+  -- And such a word drops one item, the top.
+  pub words_drop_one :
+      (c : Calls S) (cells : List Cell) (xt : ℕ) (s : State S) →
+      PushedOn s.flow.items (executed c cells xt s).state.flow.items
+      ⊎ ((executed c cells xt s).state.flow.items ≡ drop 1 s.flow.items)
