@@ -18,7 +18,10 @@ const BAD_START: Refusal = Refusal::BadStart(StreamFault::BadStart(0xff));
 #[test]
 fn images_are_refused(rt: HostRuntime) -> Result<(), Fail> {
     let erased = [0xffu8; 16];
-    assert_eq!(rt; run_script(rt.alloc(), &erased, &[], &[], &[], 9).err(), Some(BAD_START));
+    assert_eq!(rt;
+        run_script(rt.alloc(), &erased, &[], &[], &[], 9).err(),
+        Some(BAD_START)
+    );
     let long = vec![in rt.alloc(); 0xf0u8; LONGEST_IMAGE + 1]?;
     let refusal = run_script(rt.alloc(), &long, &[], &[], &[], 9).err();
     assert_eq!(rt; refusal, Some(Refusal::ImageTooLong));

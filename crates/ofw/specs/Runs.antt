@@ -120,7 +120,7 @@ PrintsRun file limit old new e =
 abbrev pub PrintsPart : List ℕ → ℕ → Option (List ℕ) → Option (List ℕ) → Type 0
 PrintsPart file limit old new = Keeps old new
     ⊎ ((m : MachineState Coding) × ((e : End) × RunsFile file limit m e)
-        × AppendsPart old new m.eval.parts.console.text)
+    × AppendsPart old new m.eval.parts.console.text)
 
 -- an image's faults: what the monitor refuses it for, or why it has no listing
 abbrev pub FaultsImage : List ℕ → Fault → Type 0
