@@ -3,6 +3,7 @@
 -- Executed: executing a word, one word at a time, and following its defers.
 -- Endings: what calls on definitions leave of the whole state.
 -- Settled: the end of a step, item by item.
+-- Runs: runs, step by step.
 -- Strings: strings that are compiled.
 -- Squares, SquareWords, SquareTokens: the law `steps_agree`, from what a part leaves up to a step.
 -- Placed, PlacedParts, PlacedWords, PlacedTokens: the law `states_stay_placed`, from what stays placed up to a step.
@@ -16,6 +17,7 @@ pub mod Raised
 pub mod Executed
 pub mod Endings
 pub mod Settled
+pub mod Runs
 pub mod Strings
 pub mod Squares
 pub mod SquareWords

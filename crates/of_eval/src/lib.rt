@@ -11,6 +11,7 @@ mod flow;
 mod heap;
 mod laws;
 mod loading;
+mod often;
 mod parts;
 mod printing;
 mod reading;
@@ -21,11 +22,9 @@ mod tokens;
 mod views;
 mod words;
 
-pub use console::Console;
 pub use eval::Eval;
 pub use laws::{
     frames_hold, images_stand, mismatch_is_no_body, states_stay_placed, steps_agree,
     steps_throw_listed, words_throw_listed,
 };
-pub use parts::Parts;
-pub use words::run_word;
+pub use steps::Pause;

@@ -3,21 +3,23 @@ ghost use Rattle.std.specs.Prelude.{◌≡◌, true};
 
 use hex::decode;
 use of_code::ListCode;
-use of_eval::Eval;
-use std::alloc::Global;
+use of_eval::{Eval, Pause};
+use std::alloc::{AllocError, Global};
 use std::test::Fail;
 
-/// Makes so many steps at most, and answers how many were made.
+/// Makes so many steps at most, the first by itself, and answers how many were made.
 fn run(eval: &mut Eval<ListCode>, limit: u64) -> Result<u64, Fail>
     requires ready { eval.old.flow.is_running ≡ true → eval.old.parts.console.ready ≡ true }
 {
-    for made in 0..limit {
-        if !eval.is_running() {
-            return Ok(made);
-        }
-        eval.step()?;
+    if limit == 0 || !eval.is_running() {
+        return Ok(0);
     }
-    Ok(limit)
+    eval.step()?;
+    let (made, pause) = eval.run(limit - 1);
+    if pause == Pause::NoMemory {
+        return Err(AllocError.into());
+    }
+    Ok(made + 1)
 }
 
 /// A new evaluator after an image has run for so many steps at most, and how many it made.
