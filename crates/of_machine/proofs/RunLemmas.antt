@@ -1,7 +1,8 @@
 -- Runs, turn by turn, over cells and over structure.
-use Rattle.std.proofs.Common.{◌≡◌, ℕ, zero, suc, ◌+◌, Bool, true, false, List, [], length, Option, Some, None, refl, ap}
-use Rattle.std.proofs.Common.{◌∙◌, add-one, nat_lt, nat_le, arith, Result, Ok, Err}
-use Rattle.std.specs.Prelude.{codes, if◌then◌else◌}
+use Rattle.std.proofs.Common.{◌≡◌, ◌⊎◌, inl, inr, ℕ, zero, suc, ◌+◌, Bool, true, false, List, [], length, Option}
+use Rattle.std.proofs.Common.{Some, None, refl}
+use Rattle.std.proofs.Common.{ap, sym, subst, ◌∙◌, add-one, nat_lt, nat_le, arith, Result, Ok, Err}
+use Rattle.std.specs.Prelude.{codes, if◌then◌else◌, option_and_then, ◌<◌, ◌≤◌, ◌^◌, ◌-◌, ◌&&◌}
 use Rattle.std.proofs.lemmas.Bool.Decides.{nat_tests}
 use Rattle.of_memory.specs.DataSpace.{DataSpace, fresh}
 use Rattle.of_memory.specs.Growth.{image_fits, image_pushed}
@@ -10,14 +11,15 @@ use Rattle.of_stream.specs.Image.{header_fault}
 use Rattle.of_compile.specs.Board.{Definitions, flat_of}
 use Rattle.of_compile.specs.Coding.{Coding}
 use Rattle.of_eval.specs.State.{State, flat_calls}
+use Rattle.of_eval.specs.Steps.{stepped, steps_from}
 use Rattle.of_eval.specs.Loading.{begun, first_state}
 use Rattle.of_eval.specs.Board.{StepsAgree, board_calls, flat_state, no_definitions}
 use Rattle.of_eval.specs.Placed.{AllPlaced, StatesStayPlaced}
-use Rattle.of_machine.specs.declared.answers.Progress.TheVariants.{Done}
 use Rattle.of_machine.specs.declared.answers.Refusal.{Refusal}
-use Rattle.of_machine.specs.States.{MachineState, Steps, can_step, flat_machine, idle, image_refusal, load_refusal}
-use Rattle.of_machine.specs.States.{moved, or_next, start_refusal}
-use Rattle.of_machine.specs.Runs.{Feed, RunsAgree, after, beginning, next}
+use Rattle.of_machine.specs.declared.answers.End.TheVariants.{LimitReached, Done}
+use Rattle.of_machine.specs.States.{HasMoved, MachineState, can_step, flat_machine, idle, image_refusal, is_running}
+use Rattle.of_machine.specs.States.{load_refusal, loaded, moved, or_next, start_refusal}
+use Rattle.of_machine.specs.Runs.{Feed, RunsAgree, RunsTo, States, after, beginning, next}
 
 -- ---- what is refused
 
@@ -48,21 +50,51 @@ slot_refusal image = slot_refusal_by image (nat_lt 0x40000 (length image)) refl
 abbrev pub feed_from : MachineState Coding → Feed Coding
 feed_from m = record { machine = m; lines = []; answers = []; calls = [] }
 
--- a run that makes no turn has begun
-pub run_begins : (f : Feed Coding) → f ≡ after flat_calls 0 f
-unfolding after
-run_begins f = refl
+abbrev at : State Coding → ℕ → MachineState Coding
+at s n = record { eval = s; steps = n }
 
--- a run goes on by a step
-pub run_goes_on : (n : ℕ) (f : Feed Coding) (m new : MachineState Coding) →
-    feed_from m ≡ after flat_calls n f → m.steps ≡ n → Steps Done m new
-    → (feed_from new ≡ after flat_calls (n + 1) f) × (new.steps ≡ n + 1)
-unfolding after next
-run_goes_on n f m new e counted went =
-    let can : can_step (feed_from m).machine ≡ true = went.0 in (
-      rw (add-one, ← e, can) (ap feed_from went.1),
-      ap (λ (t : MachineState Coding). t.steps) went.1 ∙ ap (λ k. k + 1) counted,
-    )
+some_same : {A : Type 0} {x y : A} → ◌≡◌ {A = Option A} (Some x) (Some y) → x ≡ y
+some_same e = cc
+
+-- one step more, where something runs
+turn_made : (n : ℕ) (s t : State Coding) (b : Bool) → s.flow.is_running ≡ b → n < 2 ^ 64 - 1
+    → ◌≡◌ {A = Option (State Coding)} (if b then Some (stepped flat_calls s) else None) (Some t)
+    → feed_from (at t (n + 1)) ≡ next flat_calls (feed_from (at s n))
+unfolding next
+turn_made n s t true e less h =
+    let counts : nat_lt n (2 ^ 64 - 1) ≡ true = grind (arith, nat_tests) in
+    let can : can_step (at s n) ≡ true = ap (λ b. b && nat_lt n (2 ^ 64 - 1)) e ∙ counts in
+    ap (λ u. feed_from (at u (n + 1))) (sym (some_same h))
+    ∙ ap (λ b. if b then feed_from (moved flat_calls (at s n)) else feed_from (at s n)) (sym can)
+turn_made n s t false e less h = cc
+
+-- one step more, after those before
+turn_after : (n : ℕ) (g : Feed Coding) (o : Option (State Coding)) (t : State Coding) →
+    ((u : State Coding) → o ≡ Some u → feed_from (at u n) ≡ g) → n < 2 ^ 64 - 1
+    → option_and_then (λ (s : State Coding). if s.flow.is_running then Some (stepped flat_calls s) else None) o ≡ Some t
+    → feed_from (at t (n + 1)) ≡ next flat_calls g
+turn_after n g None t before less h = cc
+turn_after n g (Some u) t before less h =
+    turn_made n u t u.flow.is_running refl less h ∙ ap (next flat_calls) (before u refl)
+
+-- so many steps are as many turns
+pub turns_made : (n : ℕ) (s t : State Coding) → n < 2 ^ 64 → steps_from flat_calls n s ≡ Some t
+    → feed_from (at t n) ≡ after flat_calls n (feed_from (at s 0))
+unfolding steps_from after
+turns_made zero s t few h = ap (λ u. feed_from (at u 0)) (sym (some_same h))
+turns_made (suc n) s t few h =
+    let made = turn_after n (after flat_calls n (feed_from (at s 0))) (steps_from flat_calls n s) t
+    (λ u e. turns_made n s u (omega arith) e) (omega arith) h in
+    rw add-one at made
+
+-- nothing runs, or a run stops at its limit
+stopped : (m : MachineState Coding) (limit : ℕ) → limit < 2 ^ 64 → m.steps ≤ limit → is_running m ≡ true
+    → (m.steps ≡ limit) ⊎ (can_step m ≡ false) → m.steps ≡ limit
+stopped m limit small few runs (inl e) = e
+stopped m limit small few runs (inr e) =
+    let counted : nat_lt m.steps (2 ^ 64 - 1) ≡ false =
+    ap (λ b. b && nat_lt m.steps (2 ^ 64 - 1)) (sym runs) ∙ e in
+    grind (arith, nat_tests)
 
 -- ---- over structure
 
@@ -118,3 +150,30 @@ runs_agree agree stay image lines answers calls n =
     ap (λ (g : Feed Coding). (after flat_calls n g).machine) from
     ∙ ap (λ (g : Feed Coding). g.machine)
     (feeds_agree n f agree stay (begun_placed image pushed first stay stay.first))
+
+-- a run as `run_script` makes it, and its end
+ends : (b : Bool) (image : List ℕ) (limit : ℕ) (m : MachineState Coding) → is_running m ≡ b
+    → m ≡ flat_machine (States image [] [] [] m.steps) → m.steps ≤ limit → limit < 2 ^ 64
+    → (m.steps ≡ limit) ⊎ (can_step m ≡ false)
+    → RunsTo image [] [] [] limit m (if b then LimitReached else Done)
+ends true image limit m runs same few small why = (same, runs, stopped m limit small few runs why)
+ends false image limit m runs same few small why = (same, runs, few)
+
+pub run_ends : RunsAgree → (image : List ℕ) (limit : ℕ) (start m : MachineState Coding)
+    → start ≡ loaded (flat_machine (idle no_definitions)) image → limit < 2 ^ 64 → m.steps ≤ start.steps + limit
+    → HasMoved start m → (m.steps ≡ start.steps + limit) ⊎ (can_step m ≡ false)
+    → RunsTo image [] [] [] limit m (if is_running m then LimitReached else Done)
+run_ends agree image limit start m e small few moved why =
+    let first = loaded (flat_machine (idle no_definitions)) image in
+    let none : start.steps ≡ 0 = ap (λ (s : MachineState Coding). s.steps) e in
+    let within : m.steps ≤ limit = omega (arith, none) in
+    let at_limit : start.steps + limit ≡ limit = omega (arith, none) in
+    let reached : (m.steps ≡ limit) ⊎ (can_step m ≡ false) =
+    subst (λ k. (m.steps ≡ k) ⊎ (can_step m ≡ false)) at_limit why in
+    let went = subst (λ (s : MachineState Coding). HasMoved s m) e moved in
+    let whole : m.steps - 0 ≡ m.steps = omega arith in
+    let counted = subst (λ k. steps_from flat_calls k first.eval ≡ Some m.eval) whole went.1 in
+    let turns = turns_made m.steps first.eval m.eval (omega arith) counted in
+    let same : m ≡ flat_machine (States image [] [] [] m.steps) =
+    ap (λ (f : Feed Coding). f.machine) turns ∙ agree image [] [] [] m.steps in
+    ends (is_running m) image limit m refl same within small reached

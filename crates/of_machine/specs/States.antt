@@ -1,6 +1,6 @@
 -- The machine's states, and what each of its calls makes of them. They are the same whether the code of definitions is
 -- structured bodies or their cells.
-use Rattle.std.specs.Prelude.{◌≡◌, ◌⊎◌, ℕ, ◌+◌, ◌-◌, ◌^◌, Bool, true, false, List, length, Option, Some, None}
+use Rattle.std.specs.Prelude.{◌≡◌, ◌≤◌, ◌⊎◌, ℕ, ◌+◌, ◌-◌, ◌^◌, Bool, true, false, List, length, Option, Some, None}
 use Rattle.std.specs.Prelude.{nat_lt, ◌&&◌, if◌then◌else◌, codes}
 use Rattle.std.specs.Str.{bytes_eq}
 use Rattle.of_stream.specs.declared.fault.StreamFault.{StreamFault}
@@ -9,7 +9,7 @@ use Rattle.of_memory.specs.Growth.{image_fits, image_pushed}
 use Rattle.of_compile.specs.Coding.{Coding}
 use Rattle.of_compile.specs.Board.{Definitions}
 use Rattle.of_eval.specs.State.{Calls, State, flat_calls}
-use Rattle.of_eval.specs.Steps.{due_grows, stepped}
+use Rattle.of_eval.specs.Steps.{due_grows, stepped, steps_from}
 use Rattle.of_eval.specs.Loading.{begun, first_state}
 use Rattle.of_eval.specs.Board.{flat_state}
 use Rattle.of_machine.specs.declared.answers.Progress.{Progress}
@@ -54,6 +54,10 @@ Steps Ended old new = (can_step old ≡ false) × (new ≡ old)
 -- something grows by the token or item that comes next
 abbrev pub MayGrow : MachineState Coding → Type 0
 MayGrow m = due_grows flat_calls m.eval.flow.next m.eval ≡ true
+
+-- as many steps were made as were counted
+abbrev pub HasMoved : MachineState Coding → MachineState Coding → Type 0
+HasMoved old new = (old.steps ≤ new.steps) × (steps_from flat_calls (new.steps - old.steps) old.eval ≡ Some new.eval)
 
 -- ---- loading
 

@@ -1,11 +1,11 @@
-ghost use Rattle.std.specs.Prelude.{◌≡◌, [], true, IfOk, IfErr, OnOk, OnErr, None, Some};
+ghost use Rattle.std.specs.Prelude.{◌≡◌, ◌≤◌, ◌+◌, ◌⊎◌, [], false, true, IfOk, IfErr, OnOk, OnErr, None, Some};
 ghost use Rattle.of_eval.specs.Board.{no_definitions};
 ghost use Rattle.of_machine.specs.States.{MayGrow, Refuses, Steps, flat_machine, idle, image_refusal, loaded};
-ghost use Rattle.of_machine.specs.States.{load_refusal};
+ghost use Rattle.of_machine.specs.States.{HasMoved, can_step, load_refusal};
 
 use crate::answers::{Progress, Refusal};
 use of_code::CodeStore;
-use of_eval::Eval;
+use of_eval::{Eval, Pause};
 use of_memory::MemFault;
 use of_stream::{Stream, open};
 use std::alloc::{AllocError, Global};
@@ -93,6 +93,24 @@ impl<C: CodeStore> Machine<C> {
         self.eval.step()?;
         self.steps += 1;
         Ok(Progress::Done)
+    }
+
+    /// Makes steps while one can be made, at most `limit`, as `step` does.
+    ///
+    /// An error is for memory alone: the steps before stand, and the next one may grow.
+    pub fn run(&mut self, limit: u64) -> Result<(), AllocError>
+        ensures few { self.new.steps ≤ self.old.steps + limit }
+        ensures steps { HasMoved self.old self.new }
+        ensures ok { OnOk result ((self.new.steps ≡ self.old.steps + limit) ⊎ (can_step self.new ≡ false)) }
+        ensures grows { OnErr result (MayGrow self.new) }
+    {
+        let countable = u64::MAX - self.steps;
+        let (made, pause) = self.eval.run(limit.min(countable));
+        self.steps += made;
+        match pause {
+            Pause::LimitReached | Pause::Idle => Ok(()),
+            Pause::NoMemory => Err(AllocError),
+        }
     }
 
     /// Makes an idle machine ready to run an image for the package at a path: the image is copied

@@ -2,7 +2,7 @@ ghost use Rattle.std.specs.Prelude.{◌≡◌, [], IfOk, IfErr, OnOk, None, map}
 ghost use Rattle.of_machine.specs.States.{image_refusal, Refuses};
 ghost use Rattle.of_machine.specs.Runs.{RunsTo};
 
-use crate::answers::{Answer, ClientCall, End, Progress, Refusal};
+use crate::answers::{Answer, ClientCall, End, Refusal};
 use crate::laws::runs_agree;
 use crate::machine::{Machine, check_image};
 use of_code::ListCode;
@@ -17,7 +17,7 @@ pub type ScriptMachine = Machine<ListCode>;
 /// The machine that it gives back is the abstract machine after as many steps as were made. The
 /// end is Done where nothing runs any more, else LimitReached. Refused are ImageTooLong over
 /// 256 KiB, then BadStart where the header can't be read, and NoMemory, which gives no machine.
-#[tactic(auto, using(crate::proofs::RunLemmas::run_begins, crate::proofs::RunLemmas::slot_refusal))]
+#[tactic(auto, using(crate::proofs::RunLemmas::slot_refusal))]
 pub fn run_script(
     alloc: Global,
     image: &[u8],
@@ -41,12 +41,8 @@ pub fn run_script(
         return Err(Refusal::NoMemory);
     };
     machine.load(image, "/slot")?;
-    for _ in 0..limit {
-        match machine.step() {
-            Ok(Progress::Done) => {}
-            Ok(Progress::Ended) => break,
-            Err(_) => return Err(Refusal::NoMemory),
-        }
+    if machine.run(limit).is_err() {
+        return Err(Refusal::NoMemory);
     }
     let end = if machine.is_running() {
         End::LimitReached

@@ -63,6 +63,9 @@ fn steps(rt: HostRuntime) -> Result<(), Fail> {
     assert_eq!(rt; machine.depth(), 2);
     assert_eq!(rt; machine.step()?, Progress::Done);
     assert_eq!(rt; machine.stack(), [Cell(2)].as_slice());
+    machine.run(2)?;
+    assert_eq!(rt; machine.stack(), [Cell(5)].as_slice());
+    assert_eq!(rt; machine.steps(), 3);
     Ok(())
 }
 
