@@ -10,6 +10,6 @@ mod splitting;
 
 pub use arithmetic::calculate;
 pub use arranging::arrange;
-pub use comparing::{compare, is_below, is_equal, is_less, is_zero};
+pub use comparing::compare;
 pub use laws::calculations_throw_listed;
 pub use splitting::split;
