@@ -9,8 +9,6 @@ use std::alloc::Global;
 use std::io::{Error, ErrorKind, Read, Result, Write};
 use std::test::Fail;
 
-const FIVE: &[u8] = b"f108020a0000000da7a81e9d00";
-
 /// A reader that gives up to seven bytes a read, and fails at a read, counted from 0.
 #[derive(Drop)]
 struct Paper<'a> {
@@ -83,153 +81,76 @@ fn blank_screen(alloc: Global, fails_at: u32) -> Screen {
     }
 }
 
-/// A file, a limit, the read and the write that fail, and then what goes out, what is said and
-/// the status.
-type Case = (
-    &'static [u8],
-    u64,
-    u32,
-    u32,
-    &'static str,
-    &'static str,
-    Status,
-);
+/// A text without the newline at its end.
+fn without_newline(text: &[u8]) -> &[u8] {
+    text.strip_suffix(b"\n").unwrap_or(text)
+}
 
-const CASES: [Case; 10] = [
-    (FIVE, 9, 99, 99, "5 ", "", Status::Done),
-    (
-        b" f1 08 020a\n0000000d a7a81e9d00\n",
-        9,
-        99,
-        99,
-        "5 ",
-        "",
-        Status::Done,
-    ),
-    (FIVE, 4, 99, 99, "5 ", "", Status::LimitReached),
-    (FIVE, 0, 99, 99, "", "", Status::LimitReached),
-    (
-        b"ffffffffffffffff",
-        9,
-        99,
-        99,
-        "",
-        "ofw: bad start byte ff\n",
-        Status::Fault,
-    ),
-    (
-        b"f108",
-        9,
-        99,
-        99,
-        "",
-        "ofw: image shorter than its header\n",
-        Status::Fault,
-    ),
-    (
-        b"f1\n08 zz",
-        9,
-        99,
-        99,
-        "",
-        "ofw: line 2: 'z' is no hexadecimal digit\n",
-        Status::Fault,
-    ),
-    (
-        b"f10",
-        9,
-        99,
-        99,
-        "",
-        "ofw: an odd number of hexadecimal digits\n",
-        Status::Fault,
-    ),
-    (
-        FIVE,
-        9,
-        2,
-        99,
-        "",
-        "ofw: the image can't be read\n",
-        Status::Fault,
-    ),
-    (
-        FIVE,
-        9,
-        99,
-        1,
-        "5",
-        "ofw: the output can't be written\n",
-        Status::Fault,
-    ),
-];
+/// Runs an image with a limit, or lists it where the limit is empty, and gives the number of the
+/// status.
+fn code_of(
+    alloc: Global,
+    limit: &str,
+    file: &mut Paper<'_>,
+    out: &mut Screen,
+    errors: &mut Screen,
+) -> std::result::Result<u8, Fail> {
+    let status = if limit.is_empty() {
+        detok(alloc, file, out, errors)
+    } else {
+        run(alloc, file, limit.parse::<u64>()?, out, errors)
+    };
+    Ok(status.code())
+}
+
+/// Cases, each ended by `;`: the limit of a run, or nothing for a listing, the read and the write
+/// that fail, the number of the status, what is said, what goes out and the file.
+const CASES: &str = "\
+9|99|99|0||5 |f108020a0000000da7a81e9d00;
+9|99|99|0||5 | f1 08 020a
+0000000d a7a81e9d00
+;
+4|99|99|3||5 |f108020a0000000da7a81e9d00;
+0|99|99|3|||f108020a0000000da7a81e9d00;
+9|99|99|1|ofw: bad start byte ff||ffffffffffffffff;
+9|99|99|1|ofw: image shorter than its header||f108;
+9|99|99|1|ofw: line 2: 'z' is no hexadecimal digit||f1
+08 zz;
+9|99|99|1|ofw: an odd number of hexadecimal digits||f10;
+9|2|99|1|ofw: the image can't be read||f108020a0000000da7a81e9d00;
+9|99|1|1|ofw: the output can't be written|5|f108020a0000000da7a81e9d00;
+|99|999|0||000000: f108020a0000000d  start1
+000008: a7  2
+000009: a8  3
+00000a: 1e  +
+00000b: 9d  .
+00000c: 00  end0|f108020a0000000da7a81e9d00;
+|99|999|1|ofw: image ended in the token at 000009||f10800a700000009a7;
+|99|999|1|ofw: an odd number of hexadecimal digits||f108
+x;
+|99|2|1|ofw: the output can't be written|00|f108020a0000000da7a81e9d00";
 
 #[test]
-fn statuses(rt: HostRuntime) -> Result<()> {
-    for (text, limit, read, write, printed, said, status) in CASES {
+fn statuses(rt: HostRuntime) -> std::result::Result<(), Fail> {
+    for case in CASES.split(";\n") {
+        let mut fields = case.split('|');
+        let limit = fields.next().unwrap_or("");
+        let read = fields.next().unwrap_or("").parse::<u32>()?;
+        let mut out = blank_screen(rt.alloc(), fields.next().unwrap_or("").parse::<u32>()?);
+        let mut errors = blank_screen(rt.alloc(), 999);
+        let wanted = fields.next().unwrap_or("").parse::<u8>()?;
+        let said = fields.next().unwrap_or("");
+        let printed = fields.next().unwrap_or("");
+        let text = fields.next().unwrap_or("").as_bytes();
         let mut file = Paper {
             text,
             reads: 0,
             fails_at: read,
         };
-        let mut out = blank_screen(rt.alloc(), write);
-        let mut errors = blank_screen(rt.alloc(), 999);
-        assert_eq!(rt;
-            run(rt.alloc(), &mut file, limit, &mut out, &mut errors),
-            status
-        );
-        assert_eq!(rt; out.text.as_slice(), printed.as_bytes());
-        assert_eq!(rt; errors.text.as_slice(), said.as_bytes());
-    }
-    Ok(())
-}
-
-/// A file, the write that fails, and then what goes out, what is said and the status.
-const LISTINGS: [(&[u8], u32, &str, &str, Status); 4] = [
-    (
-        FIVE,
-        999,
-        "000000: f108020a0000000d  start1\n000008: a7  2\n000009: a8  3\n\
-         00000a: 1e  +\n00000b: 9d  .\n00000c: 00  end0\n",
-        "",
-        Status::Done,
-    ),
-    (
-        b"f10800a700000009a7",
-        999,
-        "",
-        "ofw: image ended in the token at 000009\n",
-        Status::Fault,
-    ),
-    (
-        b"f108\nx",
-        999,
-        "",
-        "ofw: an odd number of hexadecimal digits\n",
-        Status::Fault,
-    ),
-    (
-        FIVE,
-        2,
-        "00",
-        "ofw: the output can't be written\n",
-        Status::Fault,
-    ),
-];
-
-#[test]
-fn listings(rt: HostRuntime) -> Result<()> {
-    for (text, write, printed, said, status) in LISTINGS {
-        let mut file = Paper {
-            text,
-            reads: 0,
-            fails_at: 999,
-        };
-        let mut out = blank_screen(rt.alloc(), write);
-        let mut errors = blank_screen(rt.alloc(), 999);
-        assert_eq!(rt; detok(rt.alloc(), &mut file, &mut out, &mut errors), status);
-        assert_eq!(rt; out.text.as_slice(), printed.as_bytes());
-        assert_eq!(rt; errors.text.as_slice(), said.as_bytes());
+        let code = code_of(rt.alloc(), limit, &mut file, &mut out, &mut errors)?;
+        assert_eq!(rt; code, wanted, "{case}");
+        assert_eq!(rt; without_newline(&out.text), printed.as_bytes(), "{case}");
+        assert_eq!(rt; without_newline(&errors.text), said.as_bytes(), "{case}");
     }
     Ok(())
 }
@@ -247,73 +168,51 @@ fn endless_file(rt: HostRuntime) {
 }
 
 #[test]
-fn codes(rt: HostRuntime) {
+fn reports(rt: HostRuntime) {
     let mut errors = blank_screen(rt.alloc(), 999);
-    assert_eq!(rt; report(Fault::NoMemory, &mut errors), Status::NoMemory);
+    assert_eq!(rt; report(Fault::NoMemory, &mut errors).code(), 5);
     assert_eq!(rt; errors.text.as_slice(), b"ofw: no memory\n".as_slice());
     assert_eq!(rt; report(Fault::ArgumentNotText, &mut errors).code(), 2);
-    for (status, code) in [
-        (Status::Done, 0),
-        (Status::Fault, 1),
-        (Status::Usage, 2),
-        (Status::LimitReached, 3),
-        (Status::NoMemory, 5),
-    ] {
-        assert_eq!(rt; status.code(), code);
-    }
 }
 
-/// Words of a command line, and what they ask for: the image, and for a run the limit.
-const LINES: [(&[&str], Option<(&str, Option<u64>)>); 14] = [
-    (&["ofw", "run", "a.hex"], Some(("a.hex", Some(1_000_000)))),
-    (
-        &["ofw", "run", "a.hex", "--limit", "0"],
-        Some(("a.hex", Some(0))),
-    ),
-    (
-        &["ofw", "run", "a.hex", "--limit", "1000000000"],
-        Some(("a.hex", Some(1_000_000_000))),
-    ),
-    (&["ofw", "run", "a.hex", "--limit", "1000000001"], None),
-    (&["ofw", "run", "a.hex", "--steps", "5"], None),
-    (&["ofw", "detok", "a.hex"], Some(("a.hex", None))),
-    (&["ofw", "detok", "a.hex", "--limit", "5"], None),
-    (&["ofw", "walk", "a.hex"], None),
-    (
-        &["ofw", "run", "a.hex", "--limit=7"],
-        Some(("a.hex", Some(7))),
-    ),
-    (
-        &["ofw", "run", "a.hex", "--limit", "7", "--limit", "8"],
-        None,
-    ),
-    (&["ofw", "run", "a.hex", "b.hex"], None),
-    (&["ofw", "run", "-a.hex"], None),
-    (
-        &["ofw", "run", "./-a.hex"],
-        Some(("./-a.hex", Some(1_000_000))),
-    ),
-    (&["ofw"], None),
-];
+/// Words of a command line, and behind `:` what they ask for, if anything: the image, and for a
+/// run the limit.
+const LINES: &str = "\
+ofw run a.hex:a.hex 1000000
+ofw run a.hex --limit 0:a.hex 0
+ofw run a.hex --limit 1000000000:a.hex 1000000000
+ofw run a.hex --limit 1000000001:
+ofw run a.hex --steps 5:
+ofw detok a.hex:a.hex
+ofw detok a.hex --limit 5:
+ofw walk a.hex:
+ofw run a.hex --limit=7:a.hex 7
+ofw run a.hex --limit 7 --limit 8:
+ofw run a.hex b.hex:
+ofw run -a.hex:
+ofw run ./-a.hex:./-a.hex 1000000
+ofw:";
+
+/// What the words of a line ask for, as it stands behind `:`.
+fn asked(alloc: Global, line: &[String]) -> std::result::Result<String, Fail> {
+    match parse(alloc, line) {
+        Ok(Some(Request::Run { image, limit })) => Ok(format!(in alloc; "{image} {limit}")?),
+        Ok(Some(Request::Detok { image })) => Ok(String::from_str(alloc, image)?),
+        _ => Ok(String::new(alloc)),
+    }
+}
 
 #[test]
 fn arguments(rt: HostRuntime) -> std::result::Result<(), Fail> {
     lines_ask();
-    for (words, wanted) in LINES {
+    for case in LINES.lines() {
+        let (words, wanted) = case.split_once(':').unwrap_or(("", ""));
         let mut line = Vec::new(rt.alloc());
-        for word in words {
+        for word in words.split(' ') {
             line.push(String::from_str(rt.alloc(), word)?)?;
         }
-        let asked = match parse(rt.alloc(), &line) {
-            Ok(Some(Request::Run { image, limit })) => Some((image, Some(limit))),
-            Ok(Some(Request::Detok { image })) => Some((image, None)),
-            _ => None,
-        };
-        assert_eq!(rt; asked.is_some(), wanted.is_some());
-        if let (Some(asked), Some(wanted)) = (asked, wanted) {
-            assert_eq!(rt; asked.0, wanted.0);
-            assert_eq!(rt; asked.1, wanted.1);
-        }
+        let asked = asked(rt.alloc(), &line)?;
+        assert_eq!(rt; asked.as_str(), wanted, "{case}");
     }
     Ok(())
 }
