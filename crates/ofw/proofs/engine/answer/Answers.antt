@@ -1,0 +1,8 @@
+use Rattle.std.proofs.Common.{rules}
+use Rattle.ofw.proofs.engine.answer.Goals as goal
+
+pub returns-in-Run : goal.returns-in-Run
+returns-in-Run g c = search rules
+
+pub returns-in-Detok : goal.returns-in-Detok
+returns-in-Detok g c = search rules
