@@ -6,3 +6,6 @@ pub returns : goal.returns
 returns g c =
     listing_given_up (g.R.Read.remaining c.args.image.now) _ _ _ _ c.in-Err.fault (search rules)
     c.deref.ensures.value c.in_ok-text.ensures.ok c.in-Err.ensures.err
+
+pub returns-in-Ok : goal.returns-in-Ok
+returns-in-Ok g c = search rules
