@@ -1,0 +1,12 @@
+//! Property values as arrays of bytes: how they are encoded at `here`, joined and decoded.
+#![tactic(auto)]
+
+mod arrays;
+mod decoding;
+mod encoding;
+mod fault;
+
+pub use arrays::{Array, join};
+pub use decoding::{decode_int, decode_phys, decode_string};
+pub use encoding::{encode_bytes, encode_int, encode_phys, encode_string};
+pub use fault::PropFault;
