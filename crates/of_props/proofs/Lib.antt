@@ -1,2 +1,5 @@
 mod Readable
 mod Put
+mod Encoded
+mod ReadingBack
+mod StringsBack

@@ -1,3 +1,4 @@
 pub mod Arrays
 pub mod Encoding
 pub mod Decoding
+pub mod RoundTrips

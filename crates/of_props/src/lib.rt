@@ -5,8 +5,12 @@ mod arrays;
 mod decoding;
 mod encoding;
 mod fault;
+mod laws;
+#[cfg(test)]
+mod tests;
 
 pub use arrays::{Array, join};
 pub use decoding::{decode_int, decode_phys, decode_string};
 pub use encoding::{encode_bytes, encode_int, encode_phys, encode_string};
 pub use fault::PropFault;
+pub use laws::{bytes_read_back, cells_read_back, ints_read_back, strings_read_back};
