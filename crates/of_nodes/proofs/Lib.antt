@@ -1,2 +1,5 @@
 mod Named
 mod Stored
+mod Rooted
+mod Changed
+mod First

@@ -1,8 +1,8 @@
 -- Entries as clauses see them: each under its name as bytes.
 use Rattle.std.proofs.Common.{◌≡◌, ℕ, Bool, true, false, List, [], ◌∷◌, map, refl, ap, Vec, Global}
 use Rattle.indexmap.specs.IndexMap.{insert_entry}
-use Rattle.std.specs.Map.{lookup}
-use Rattle.of_nodes.specs.Properties.{named, with_entry, value_in, same_name}
+use Rattle.std.specs.Map.{lookup, remove_entry}
+use Rattle.of_nodes.specs.Properties.{named, without, with_entry, value_in, same_name}
 
 abbrev pub same_key : Vec ℕ Global → Vec ℕ Global → Bool
 same_key x y = same_name x.items y.items
@@ -23,6 +23,18 @@ module _ {V : Type 0} where
       → lookup (λ (k : Vec ℕ Global). same_name name k.items) (e ∷ es) ≡ value_in (map named (e ∷ es)) name
   value_step true e es name h ih = rw h refl
   value_step false e es name h ih = rw h ih
+
+  without_step : (b : Bool) (e : Vec ℕ Global × V) (es : List (Vec ℕ Global × V)) (name : List ℕ)
+      → same_name name e.0.items ≡ b
+      → map named (remove_entry (λ (k : Vec ℕ Global). same_name name k.items) es) ≡ without (map named es) name
+      → map named (remove_entry (λ (k : Vec ℕ Global). same_name name k.items) (e ∷ es)) ≡ without (map named (e ∷ es)) name
+  without_step true e es name h ih = rw h refl
+  without_step false e es name h ih = rw h (ap (λ r. named e ∷ r) ih)
+
+  pub without_named : (es : List (Vec ℕ Global × V)) (name : List ℕ)
+      → map named (remove_entry (λ (k : Vec ℕ Global). same_name name k.items) es) ≡ without (map named es) name
+  without_named [] name = refl
+  without_named (e ∷ es) name = without_step (same_name name e.0.items) e es name refl (without_named es name)
 
   pub value_named : (es : List (Vec ℕ Global × V)) (name : List ℕ) → lookup (λ (k : Vec ℕ Global). same_name name k.items) es ≡ value_in (map named es) name
   value_named [] name = refl

@@ -1,15 +1,12 @@
 -- What was put into the property region.
-use Rattle.std.proofs.Common.{◌≡◌, ℕ, ◌+◌, ◌<◌, ◌≤◌, ◌^◌, nat_le, Bool, true, false, List, length, Result, Ok, Err, IsErr}
-use Rattle.std.proofs.Common.{if◌then◌else◌, is_none, refl, arith}
+use Rattle.std.proofs.Common.{◌≡◌, ℕ, ◌+◌, ◌<◌, ◌≤◌, ◌^◌, nat_le, Bool, true, false, List, length, Result, Ok, Err}
+use Rattle.std.proofs.Common.{if◌then◌else◌, refl, arith}
 use Rattle.std.proofs.lemmas.Bool.Decides.{nat_tests}
 use Rattle.of_memory.specs.Regions.{property_limit}
 use Rattle.of_memory.specs.DataSpace.{DataSpace}
 use Rattle.of_memory.specs.Growth.{aligned, named_put, property_put, value_put, with_name}
 use Rattle.of_memory.specs.declared.fault.MemFault.{MemFault}
 use Rattle.of_memory.specs.declared.fault.MemFault.TheVariants.{Full}
-use Rattle.of_nodes.specs.Properties.{property_set, set_to, value_in, value_stored, with_entry}
-use Rattle.of_nodes.specs.declared.properties.Span.{Span}
-use Rattle.of_nodes.specs.declared.fault.NodeFault.TheVariants.{PropertyFull}
 
 le_true : (a b : ℕ) → nat_le a b ≡ true → a ≤ b
 le_true a b e = grind (arith, nat_tests)
@@ -35,6 +32,12 @@ value_fits :
 value_fits value (Ok x) y e = let z = named_ok x.0 (property_put x.1 value) y e in put_fits x.1 value z.0 z.1
 value_fits value (Err f) y e = cc
 
+first_ok :
+    (value : List ℕ) (r : Result (ℕ × DataSpace) MemFault) (y : ℕ × ℕ × DataSpace) → value_put value r ≡ Ok y
+    → (z : ℕ × DataSpace) × (r ≡ Ok z)
+first_ok value (Ok x) y e = (x, refl)
+first_ok value (Err f) y e = cc
+
 pub put_small :
     (m after : DataSpace) (xs : List ℕ) (a : ℕ) → property_put m xs ≡ Ok (a, after) → length xs < 2 ^ 32
 put_small m after xs a e = put_fits m xs (a, after) e
@@ -44,37 +47,9 @@ pub named_small :
     → length value < 2 ^ 32
 named_small m after name value b a e = value_fits value (property_put m name) (b, a, after) e
 
-pub named_stored :
+pub name_small :
     (m after : DataSpace) (name value : List ℕ) (b a : ℕ) → named_put m name value ≡ Ok (b, a, after)
-    → value_stored m true name value ≡ Ok (a, after)
-named_stored m after name value b a e = rw e refl
+    → length name < 2 ^ 32
+name_small m after name value b a e = let z = first_ok value (property_put m name) (b, a, after) e in put_fits m name z.0 z.1
 
-pub named_unstored :
-    (m : DataSpace) (name value : List ℕ) (f : MemFault) → named_put m name value ≡ Err f
-    → IsErr (value_stored m true name value)
-named_unstored m name value f e = rw e refl
-
-pub value_unstored :
-    (m : DataSpace) (value : List ℕ) (f : MemFault) → property_put m value ≡ Err f → IsErr (property_put m value)
-value_unstored m value f e = rw e refl
-
-pub ruleset stores = (put_small, named_small, named_stored, named_unstored, value_unstored)
-
--- setting a property
-pub set_stored :
-    (m after : DataSpace) (ps : List (List ℕ × Span)) (name value : List ℕ) (t : Bool) (x : Span)
-    → t ≡ is_none (value_in ps name) → value_stored m t name value ≡ Ok (x.address.0, after) → x.length.0 ≡ length value
-    → property_set m ps name value ≡ Ok (with_entry ps name x, after)
-set_stored m after ps name value t x e f g = rw (← e, f, ← g) refl
-
-unset : (ps : List (List ℕ × Span)) (name : List ℕ) (n : ℕ) (r : Result (ℕ × DataSpace) MemFault) → IsErr r
-    → set_to ps name n r ≡ Err PropertyFull
-unset ps name n (Ok x) e = cc
-unset ps name n (Err f) e = refl
-
-pub set_unstored :
-    (m : DataSpace) (ps : List (List ℕ × Span)) (name value : List ℕ) (t : Bool)
-    → t ≡ is_none (value_in ps name) → IsErr (value_stored m t name value) → property_set m ps name value ≡ Err PropertyFull
-set_unstored m ps name value t e f = rw (← e) (unset ps name (length value) (value_stored m t name value) f)
-
-pub ruleset sets = (set_stored, set_unstored)
+pub ruleset stores = (put_small, named_small, name_small)

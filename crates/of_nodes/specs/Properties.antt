@@ -1,11 +1,12 @@
 -- Properties in the order of insertion, each with the place of its value (IEEE 1275-1994, 3.2.2.1).
-use Rattle.std.specs.Prelude.{ℕ, Bool, true, false, List, [], ◌∷◌, length, Option, Some, None, Result, Ok, Err}
-use Rattle.std.specs.Prelude.{if◌then◌else◌, nat_eq, is_none}
+use Rattle.std.specs.Prelude.{ℕ, Bool, List, [], ◌∷◌, length, Option, Some, None, Result, Ok, Err}
+use Rattle.std.specs.Prelude.{if◌then◌else◌, nat_eq}
 use Rattle.std.specs.Cmp.Lexicographic.{pointwise}
 use Rattle.std.specs.Global.{Vec}
 use Rattle.of_memory.specs.DataSpace.{DataSpace}
 use Rattle.of_memory.specs.Growth.{named_put, property_put}
 use Rattle.of_memory.specs.declared.fault.MemFault.{MemFault}
+use Rattle.of_nodes.specs.declared.properties.Property.{Property}
 use Rattle.of_nodes.specs.declared.properties.Span.{Span}
 use Rattle.of_nodes.specs.declared.fault.NodeFault.{NodeFault}
 use Rattle.of_nodes.specs.declared.fault.NodeFault.TheVariants.{PropertyFull}
@@ -28,29 +29,38 @@ abbrev pub value_in : {V : Type 0} → List (List ℕ × V) → List ℕ → Opt
 value_in [] name = None
 value_in (e ∷ es) name = if same_name name e.0 then Some e.1 else value_in es name
 
--- the address of a value that was put behind its name, and what that left
-abbrev pub value_of : Result (ℕ × ℕ × DataSpace) MemFault → Result (ℕ × DataSpace) MemFault
-value_of (Ok x) = Ok (x.1, x.2)
-value_of (Err fault) = Err fault
-
--- what putting a value, and before it the name of a new property, answers and leaves
-abbrev pub value_stored : DataSpace → Bool → List ℕ → List ℕ → Result (ℕ × DataSpace) MemFault
-value_stored m true name value = value_of (named_put m name value)
-value_stored m false name value = property_put m value
-
 -- n bytes from an address on
 abbrev pub span : ℕ → ℕ → Span
 span a n = record { address = record { 0 = a }; length = record { 0 = n } }
 
--- the properties with a value of n bytes that was put, where it was
+-- the places of a new property's name of k bytes and of its value of n, and what putting them left
+abbrev pub new_property : ℕ → ℕ → Result (ℕ × ℕ × DataSpace) MemFault → Result (Property × DataSpace) NodeFault
+new_property k n (Ok x) = Ok (record { name = span x.0 k; value = span x.1 n }, x.2)
+new_property k n (Err fault) = Err PropertyFull
+
+-- a property with another value of n bytes, and what putting that left
+abbrev pub with_value : Property → ℕ → Result (ℕ × DataSpace) MemFault → Result (Property × DataSpace) NodeFault
+with_value p n (Ok x) = Ok (record p { value = span x.0 n }, x.1)
+with_value p n (Err fault) = Err PropertyFull
+
+-- what putting a value, and before it the name of a property that isn't there, gives and leaves
+abbrev pub stored : DataSpace → Option Property → List ℕ → List ℕ → Result (Property × DataSpace) NodeFault
+stored m None name value = new_property (length name) (length value) (named_put m name value)
+stored m (Some p) name value = with_value p (length value) (property_put m value)
+
+-- the properties with one that was put, and what that left
 abbrev pub set_to :
-    List (List ℕ × Span) → List ℕ → ℕ → Result (ℕ × DataSpace) MemFault
-    → Result (List (List ℕ × Span) × DataSpace) NodeFault
-set_to ps name n (Ok x) = Ok (with_entry ps name (span x.0 n), x.1)
-set_to ps name n (Err fault) = Err PropertyFull
+    List (List ℕ × Property) → List ℕ → Result (Property × DataSpace) NodeFault
+    → Result (List (List ℕ × Property) × DataSpace) NodeFault
+set_to ps name (Ok x) = Ok (with_entry ps name x.0, x.1)
+set_to ps name (Err fault) = Err fault
 
 -- what setting a property leaves
 abbrev pub property_set :
-    DataSpace → List (List ℕ × Span) → List ℕ → List ℕ → Result (List (List ℕ × Span) × DataSpace) NodeFault
-property_set m ps name value =
-    set_to ps name (length value) (value_stored m (is_none (value_in ps name)) name value)
+    DataSpace → List (List ℕ × Property) → List ℕ → List ℕ → Result (List (List ℕ × Property) × DataSpace) NodeFault
+property_set m ps name value = set_to ps name (stored m (value_in ps name) name value)
+
+-- the entries without the one of the name
+abbrev pub without : {V : Type 0} → List (List ℕ × V) → List ℕ → List (List ℕ × V)
+without [] name = []
+without (e ∷ es) name = if same_name name e.0 then es else e ∷ without es name

@@ -17,6 +17,10 @@ pub enum NodeFault {
     #[error("no room for the property")]
     PropertyFull,
 
+    /// There are 1,024 nodes.
+    #[error("too many nodes")]
+    TooManyNodes,
+
     /// A growth was refused.
     #[error("out of memory")]
     NoMemory,

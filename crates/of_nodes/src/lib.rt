@@ -3,10 +3,14 @@
 
 mod fault;
 mod names;
+mod phandles;
 mod properties;
 #[cfg(test)]
 mod tests;
+mod tree;
 
 pub use fault::NodeFault;
 pub use names::is_name;
-pub use properties::{Properties, Span};
+pub use phandles::Phandle;
+pub use properties::{Properties, Property, Span};
+pub use tree::{Node, Tree};

@@ -1,8 +1,8 @@
-ghost use Rattle.std.specs.Prelude.{◌≡◌, ◌<◌, [], length, map, true, false};
+ghost use Rattle.std.specs.Prelude.{◌≡◌, ◌<◌, [], length, map, None};
 ghost use Rattle.indexmap.specs.IndexMap.{spare};
-ghost use Rattle.of_nodes.specs.Properties.{named, property_set, value_in, value_stored, with_entry};
 ghost use Rattle.of_memory.specs.Growth.{property_put};
-ghost use Rattle.of_nodes.specs.Outcomes.{Sets, Stores};
+ghost use Rattle.of_nodes.specs.Properties.{named, property_set, stored, value_in, with_entry, with_value, without};
+ghost use Rattle.of_nodes.specs.Outcomes.{Answers, Sets};
 
 use crate::fault::NodeFault;
 use indexmap::IndexMap;
@@ -20,63 +20,85 @@ pub struct Span {
     pub length: Cell,
 }
 
+/// A property: where its name lies, and where its value does.
+#[derive(Clone, Copy, Debug, PartialEq, Eq)]
+pub struct Property {
+    /// The bytes of the name.
+    pub name: Span,
+    /// The bytes of the value.
+    pub value: Span,
+}
+
 /// The properties of a node, in the order of insertion.
 #[derive(Drop)]
 pub struct Properties {
-    entries: IndexMap<Vec<u8>, Span>,
+    entries: IndexMap<Vec<u8>, Property>,
 }
 
 // Clauses see each name as bytes, with its value's place.
 impl Model for Properties {
     ghost use Rattle.std.specs.Prelude.{ℕ, List, map};
-    ghost use Rattle.of_nodes.specs.declared.properties.Span.{Span};
+    ghost use Rattle.of_nodes.specs.declared.properties.Property.{Property};
 
-    ghost Value = { List (List ℕ × Span) };
+    ghost Value = { List (List ℕ × Property) };
 
     ghost view = { λ p. map (λ e. (e.0.items, e.1)) p.entries.entries };
 }
 
 /// Puts the name and the value of a new property into the property region.
 #[tactic(auto, using(crate::proofs::Stored::stores))]
-fn store_named(memory: &mut Memory, name: &[u8], value: &[u8]) -> Result<Span, NodeFault>
-    ensures { Stores result memory.old memory.new (value_stored memory.old true name.now value.now) (length value.now) }
+fn store_named(memory: &mut Memory, name: &[u8], value: &[u8]) -> Result<Property, NodeFault>
+    ensures { Answers result memory.old memory.new (stored memory.old None name.now value.now) }
 {
     match memory.put_named(name, value) {
-        Ok(addresses) => Ok(Span {
-            address: addresses.1,
-            length: Cell(value.len() as u32),
+        Ok(addresses) => Ok(Property {
+            name: Span {
+                address: addresses.0,
+                length: Cell(name.len() as u32),
+            },
+            value: Span {
+                address: addresses.1,
+                length: Cell(value.len() as u32),
+            },
         }),
         Err(_) => Err(NodeFault::PropertyFull),
     }
 }
 
-/// Puts the value of a property that is there into the property region.
+/// Puts another value of a property into the property region.
 #[tactic(auto, using(crate::proofs::Stored::stores))]
-fn store_value(memory: &mut Memory, value: &[u8]) -> Result<Span, NodeFault>
-    ensures { Stores result memory.old memory.new (property_put memory.old value.now) (length value.now) }
+fn store_value(memory: &mut Memory, old: Property, value: &[u8]) -> Result<Property, NodeFault>
+    ensures { Answers result memory.old memory.new (with_value old (length value.now) (property_put memory.old value.now)) }
 {
     match memory.put_property(value) {
-        Ok(address) => Ok(Span {
-            address,
-            length: Cell(value.len() as u32),
+        Ok(address) => Ok(Property {
+            name: old.name,
+            value: Span {
+                address,
+                length: Cell(value.len() as u32),
+            },
         }),
         Err(_) => Err(NodeFault::PropertyFull),
     }
 }
 
-/// Puts a value, and before it the name of a new property, into the property region.
-fn store(memory: &mut Memory, is_new: bool, name: &[u8], value: &[u8]) -> Result<Span, NodeFault>
-    ensures { Stores result memory.old memory.new (value_stored memory.old is_new name.now value.now) (length value.now) }
+/// Puts a value, and before it the name of a property that isn't there, into the property region.
+fn store(
+    memory: &mut Memory,
+    found: Option<Property>,
+    name: &[u8],
+    value: &[u8],
+) -> Result<Property, NodeFault>
+    ensures { Answers result memory.old memory.new (stored memory.old found name.now value.now) }
 {
-    if is_new {
-        store_named(memory, name, value)
-    } else {
-        store_value(memory, value)
+    match found {
+        Some(old) => store_value(memory, old, value),
+        None => store_named(memory, name, value),
     }
 }
 
 /// Sets an entry for which there is room.
-fn insert(entries: &mut IndexMap<Vec<u8>, Span>, name: Vec<u8>, value: Span)
+fn insert(entries: &mut IndexMap<Vec<u8>, Property>, name: Vec<u8>, value: Property)
     requires { 0 < spare entries.old }
     ensures { map named entries.new.entries ≡ with_entry (map named entries.old.entries) name.items value }
 {
@@ -96,8 +118,8 @@ impl Properties {
         }
     }
 
-    /// Where the value of the property lies.
-    pub fn get(&self, name: &[u8]) -> Option<Span>
+    /// The property of the name, if there is one.
+    pub fn get(&self, name: &[u8]) -> Option<Property>
         ensures { result ≡ value_in self.now name.now }
     {
         self.entries.get(name).copied()
@@ -107,7 +129,6 @@ impl Properties {
     /// property is new. A property that is there keeps its place.
     ///
     /// PropertyFull, if they don't fit there; or NoMemory. Then nothing changes, in memory either.
-    #[tactic(auto, using(crate::proofs::Stored::sets))]
     pub fn set(
         &mut self,
         alloc: Global,
@@ -118,11 +139,18 @@ impl Properties {
         ensures { let after = property_set memory.old self.old name.now value.now in
             Sets result (self.old, memory.old) (self.new, memory.new) after }
     {
-        let is_new = self.get(name).is_none();
+        let found = self.get(name);
         let key = Vec::from_slice(alloc, name)?;
         self.entries.reserve(1)?;
-        let span = store(memory, is_new, name, value)?;
-        insert(&mut self.entries, key, span);
+        let property = store(memory, found, name, value)?;
+        insert(&mut self.entries, key, property);
         Ok(())
+    }
+
+    /// Takes the property of the name out, if there is one. The others keep their order.
+    pub fn remove(&mut self, name: &[u8])
+        ensures { self.new ≡ without self.old name.now }
+    {
+        let _ = self.entries.shift_remove(name);
     }
 }

@@ -1,14 +1,19 @@
-use crate::{NodeFault, Properties, Span, is_name};
+use crate::{Properties, Property, Span, is_name};
 use of_cells::Cell;
 use of_memory::Memory;
 use std::test::Fail;
 
 /// A span by its two numbers.
-fn span(address: u32, length: u32) -> Option<Span> {
-    Some(Span {
+fn span(address: u32, length: u32) -> Span {
+    Span {
         address: Cell(address),
         length: Cell(length),
-    })
+    }
+}
+
+/// A property by the places of its name and of its value.
+fn places(name: Span, value: Span) -> Option<Property> {
+    Some(Property { name, value })
 }
 
 #[test]
@@ -16,10 +21,18 @@ fn a_replaced_property_puts_its_value_alone(rt: HostRuntime) -> Result<(), Fail>
     let mut memory = Memory::new(rt.alloc())?;
     let mut properties = Properties::new(rt.alloc());
     properties.set(rt.alloc(), &mut memory, b"name", b"board\0")?;
-    assert_eq!(rt; properties.get(b"name"), span(0x20_0014, 6));
+    assert_eq!(rt;
+        properties.get(b"name"),
+        places(span(0x20_0010, 4), span(0x20_0014, 6))
+    );
     properties.set(rt.alloc(), &mut memory, b"name", b"card\0")?;
-    assert_eq!(rt; properties.get(b"name"), span(0x20_001c, 5));
+    assert_eq!(rt;
+        properties.get(b"name"),
+        places(span(0x20_0010, 4), span(0x20_001c, 5))
+    );
     assert_eq!(rt; properties.get(b"Name"), None);
+    properties.remove(b"name");
+    assert_eq!(rt; properties.get(b"name"), None);
     Ok(())
 }
 
@@ -30,4 +43,26 @@ fn names(rt: HostRuntime) {
     assert_eq!(rt; is_name(b""), false);
     assert_eq!(rt; is_name(b"0123456789012345678901234567890"), true);
     assert_eq!(rt; is_name(b"01234567890123456789012345678901"), false);
+}
+
+#[test]
+fn the_tree_at_first(rt: HostRuntime) -> Result<(), Fail> {
+    let mut memory = Memory::new(rt.alloc())?;
+    let mut tree = Tree::new(rt.alloc(), &mut memory)?;
+    let free = memory.put_property(b"")?;
+    assert_eq!(rt; free, Cell(0x20_0038));
+    let slot = Phandle::of(2);
+    assert_eq!(rt; tree.child(Phandle::of(0)), Ok(Some(Phandle::of(1))));
+    assert_eq!(rt; tree.peer(Phandle::of(1)), Ok(Some(slot)));
+    assert_eq!(rt; tree.parent(slot), Ok(Some(Phandle::of(0))));
+    let card = tree.add_node(slot)?;
+    assert_eq!(rt; card, Phandle(Cell(0xd000_000c)));
+    tree.set_property(&mut memory, card, b"reg", b"1234")?;
+    let place = places(span(0x20_0038, 3), span(0x20_003c, 4));
+    assert_eq!(rt; tree.property(card, b"reg"), Ok(place));
+    tree.delete_property(card, b"reg")?;
+    assert_eq!(rt; tree.property(card, b"reg"), Ok(None));
+    let refused = tree.set_property(&mut memory, card, b"a/b", b"");
+    assert_eq!(rt; refused, Err(NodeFault::BadName));
+    Ok(())
 }

@@ -1,0 +1,103 @@
+-- A node that was found by its phandle, read and written.
+use Rattle.std.proofs.Common.{◌≡◌, ℕ, ◌<◌, suc, zero, Bool, true, List, [], ◌∷◌, length, get_or, set, Some, Result, Ok, Err}
+use Rattle.std.proofs.Common.{inl, inr, if◌then◌else◌, refl, ap, sym, ◌∙◌, arith}
+use Rattle.of_memory.specs.DataSpace.{DataSpace}
+use Rattle.of_nodes.specs.declared.tree.Node.{Node}
+use Rattle.of_nodes.specs.declared.phandles.Phandle.{Phandle}
+use Rattle.of_nodes.specs.declared.properties.Property.{Property}
+use Rattle.of_nodes.specs.declared.fault.NodeFault.{NodeFault}
+use Rattle.of_nodes.specs.declared.fault.NodeFault.TheVariants.{BadName}
+use Rattle.of_nodes.specs.Names.{is_name}
+use Rattle.of_nodes.specs.Outcomes.{Sets}
+use Rattle.of_nodes.specs.Properties.{property_set, value_in, without}
+use Rattle.of_nodes.specs.Nodes.{AreNodes, deleted_at, number_of, properties_in, property_at, property_deleted}
+use Rattle.of_nodes.specs.Nodes.{property_found, set_at, set_in, tree_property_set, with_properties}
+use Rattle.of_nodes.proofs.Rooted.{changed, properties_read, with_properties_is}
+
+-- node i was found by its phandle, and m was read there
+pub record IsFound (ns old : List Node) (i count : ℕ) (ph : Phandle) (m : Node) : Type 0 where
+  pub same : ns ≡ old
+  pub many : count ≡ length ns
+  pub number : Some i ≡ number_of count ph
+  pub within : i < length ns
+  pub node : m ≡ get_or ns i m
+
+pub changed_at :
+    (ns : List Node) (i : ℕ) (m : Node) (ps : List (List ℕ × Property)) → AreNodes ns → i < length ns → m ≡ get_or ns i m
+    → AreNodes (set ns i (record m { properties = ps }))
+changed_at ns i m ps h within read = rw (with_properties_is ns i m ps within read) (changed ns i ps h)
+
+number_is :
+    (ns old : List Node) (i count : ℕ) (ph : Phandle) (m : Node) → IsFound ns old i count ph m
+    → number_of (length old) ph ≡ Some i
+number_is ns old i count ph m f =
+    let many : count ≡ length old = f.many ∙ ap length f.same in
+    ap (λ (k : ℕ). number_of k ph) (sym many) ∙ sym f.number
+
+properties_is :
+    (ns old : List Node) (i count : ℕ) (ph : Phandle) (m : Node) → IsFound ns old i count ph m
+    → properties_in old i ≡ m.properties
+properties_is ns old i count ph m f =
+    ap (λ (l : List Node). properties_in l i) (sym f.same) ∙ sym (properties_read ns i m f.within f.node)
+
+written_is :
+    (ns old : List Node) (i count : ℕ) (ph : Phandle) (m : Node) (ps : List (List ℕ × Property))
+    → IsFound ns old i count ph m → with_properties old i ps ≡ set ns i (record m { properties = ps })
+written_is ns old i count ph m ps f =
+    ap (λ (l : List Node). with_properties l i ps) (sym f.same) ∙ sym (with_properties_is ns i m ps f.within f.node)
+
+pub found_is :
+    (ns old : List Node) (i count : ℕ) (ph : Phandle) (m : Node) (name : List ℕ) → IsFound ns old i count ph m
+    → property_found old ph name ≡ Ok (value_in m.properties name)
+found_is ns old i count ph m name f =
+    ap (property_at old name) (number_is ns old i count ph m f)
+    ∙ ap (λ (ps : List (List ℕ × Property)). Ok (value_in ps name)) (properties_is ns old i count ph m f)
+
+pub deleted_is :
+    (ns old : List Node) (i count : ℕ) (ph : Phandle) (m : Node) (name : List ℕ) (ps : List (List ℕ × Property))
+    → IsFound ns old i count ph m → ps ≡ without m.properties name
+    → property_deleted old ph name ≡ Ok (tt, set ns i (record m { properties = ps }))
+deleted_is ns old i count ph m name ps f e =
+    let removed : without (properties_in old i) name ≡ ps =
+    ap (λ (qs : List (List ℕ × Property)). without qs name) (properties_is ns old i count ph m f) ∙ sym e in
+    ap (deleted_at old name) (number_is ns old i count ph m f)
+    ∙ ap (λ (l : List Node). Ok (tt, l))
+    (ap (λ (qs : List (List ℕ × Property)). with_properties old i qs) removed ∙ written_is ns old i count ph m ps f)
+
+set_same : (ns : List Node) (i : ℕ) (m : Node) → i < length ns → m ≡ get_or ns i m → set ns i m ≡ ns
+set_same [] i m l e = absurd (omega arith)
+set_same (n ∷ ns) zero m l e = ap (λ (x : Node). x ∷ ns) e
+set_same (n ∷ ns) (suc i) m l e = ap (λ (xs : List Node). n ∷ xs) (set_same ns i m (omega arith) e)
+
+named_if : (t : Bool) (r : Result (List Node × DataSpace) NodeFault) → t ≡ true → (if t then r else Err BadName) ≡ r
+named_if t r e = rw e refl
+
+-- what the tree is set to is what the node is
+after_is :
+    (ns old : List Node) (i count : ℕ) (ph : Phandle) (m : Node) (s : DataSpace) (name value : List ℕ)
+    → IsFound ns old i count ph m → is_name name ≡ true
+    → tree_property_set s old ph name value ≡ set_in old i (property_set s m.properties name value)
+after_is ns old i count ph m s name value f good =
+    ap (set_at s old name value) (number_is ns old i count ph m f)
+    ∙ (named_if (is_name name) (set_in old i (property_set s (properties_in old i) name value)) good
+    ∙ ap (λ (ps : List (List ℕ × Property)). set_in old i (property_set s ps name value))
+    (properties_is ns old i count ph m f))
+
+pub set_is :
+    (r : Result (Unit {0}) NodeFault) (ns old : List Node) (i count : ℕ) (ph : Phandle) (m : Node) (s t : DataSpace)
+    (name value : List ℕ) (ps : List (List ℕ × Property)) → IsFound ns old i count ph m → is_name name ≡ true
+    → Sets r (m.properties, s) (ps, t) (property_set s m.properties name value)
+    → Sets r (old, s) (set ns i (record m { properties = ps }), t) (tree_property_set s old ph name value)
+set_is (Ok x) ns old i count ph m s t name value ps f good h =
+    after_is ns old i count ph m s name value f good
+    ∙ (ap (set_in old i) h ∙ ap (λ (l : List Node). Ok (l, t)) (written_is ns old i count ph m ps f))
+set_is (Err e) ns old i count ph m s t name value ps f good h =
+    let same : ps ≡ m.properties = ap (λ (x : List (List ℕ × Property) × DataSpace). x.0) h.0 in
+    let space : t ≡ s = ap (λ (x : List (List ℕ × Property) × DataSpace). x.1) h.0 in
+    let nodes : set ns i (record m { properties = ps }) ≡ old =
+    ap (λ (qs : List (List ℕ × Property)). set ns i (record m { properties = qs })) same
+    ∙ (set_same ns i m f.within f.node ∙ f.same) in
+    let after = after_is ns old i count ph m s name value f good in
+    let pair : ◌≡◌ {A = List Node × DataSpace} (set ns i (record m { properties = ps }), t) (old, s) =
+    ap (λ (l : List Node). (l, t)) nodes ∙ ap (λ (u : DataSpace). (old, u)) space in
+    (pair, elim h.1 [ inl z ↦ inl z | inr z ↦ inr (after ∙ ap (set_in old i) z) ])

@@ -1,0 +1,60 @@
+-- Lists of nodes.
+use Rattle.std.proofs.Common.{◌≡◌, ℕ, ◌+◌, ◌<◌, max, zero, suc, List, [], ◌∷◌, ◌++◌, length, get_or, set, refl, ap, arith, length-append}
+use Rattle.of_nodes.specs.declared.tree.Node.{Node}
+use Rattle.of_nodes.specs.declared.properties.Property.{Property}
+use Rattle.of_nodes.specs.Nodes.{AreNodes, AreRooted, most_nodes, parent_in, properties_in, with_properties}
+
+rooted_push : (k : ℕ) (ns : List Node) (n : Node) → AreRooted k ns → n.parent < max 1 (k + length ns) → AreRooted k (ns ++ n ∷ [])
+rooted_push k [] n h l = (omega arith, tt)
+rooted_push k (m ∷ ns) n h l = (h.0, rooted_push (suc k) ns n h.1 (omega arith))
+
+pub added : (ns : List Node) (n : Node) → AreNodes ns → n.parent < max 1 (length ns) → length ns < most_nodes → AreNodes (ns ++ n ∷ [])
+added ns n h l few = record {
+  rooted = rooted_push 0 ns n h.rooted (omega arith);
+  few = rw length-append (omega arith);
+}
+
+rooted_same : (k : ℕ) (ns : List Node) (i : ℕ) (ps : List (List ℕ × Property)) → AreRooted k ns → AreRooted k (with_properties ns i ps)
+rooted_same k [] i ps h = h
+rooted_same k (n ∷ ns) zero ps h = h
+rooted_same k (n ∷ ns) (suc i) ps h = (h.0, rooted_same (suc k) ns i ps h.1)
+
+pub length-with_properties : (ns : List Node) (i : ℕ) (ps : List (List ℕ × Property)) → length (with_properties ns i ps) ≡ length ns
+length-with_properties [] i ps = refl
+length-with_properties (n ∷ ns) zero ps = refl
+length-with_properties (n ∷ ns) (suc i) ps = ap suc (length-with_properties ns i ps)
+
+pub changed : (ns : List Node) (i : ℕ) (ps : List (List ℕ × Property)) → AreNodes ns → AreNodes (with_properties ns i ps)
+changed ns i ps h = record {
+  rooted = rooted_same 0 ns i ps h.rooted;
+  few = rw (length-with_properties ns i ps) h.few;
+}
+
+-- a node that was read and written
+pub with_properties_is :
+    (ns : List Node) (i : ℕ) (m : Node) (ps : List (List ℕ × Property)) → i < length ns → m ≡ get_or ns i m
+    → set ns i (record m { properties = ps }) ≡ with_properties ns i ps
+with_properties_is [] i m ps l e = absurd (omega arith)
+with_properties_is (n ∷ ns) zero m ps l e = rw e refl
+with_properties_is (n ∷ ns) (suc i) m ps l e = ap (λ r. n ∷ r) (with_properties_is ns i m ps (omega arith) e)
+
+pub properties_read :
+    (ns : List Node) (i : ℕ) (m : Node) → i < length ns → m ≡ get_or ns i m → m.properties ≡ properties_in ns i
+properties_read [] i m l e = absurd (omega arith)
+properties_read (n ∷ ns) zero m l e = ap (λ (x : Node). x.properties) e
+properties_read (n ∷ ns) (suc i) m l e = properties_read ns i m (omega arith) e
+
+pub parent_read : (ns : List Node) (i : ℕ) (n : Node) → i < length ns → n ≡ get_or ns i n → n.parent ≡ parent_in ns i
+parent_read [] i n l e = absurd (omega arith)
+parent_read (m ∷ ns) zero n l e = ap (λ (x : Node). x.parent) e
+parent_read (m ∷ ns) (suc i) n l e = parent_read ns i n (omega arith) e
+
+-- a node's parent stands before it
+parent_before : (k : ℕ) (ns : List Node) (i : ℕ) → AreRooted k ns → i < length ns → parent_in ns i < max 1 (k + i)
+parent_before k [] i h l = absurd (omega arith)
+parent_before k (n ∷ ns) zero h l = omega (arith, h.0)
+parent_before k (n ∷ ns) (suc i) h l =
+    let r : parent_in ns i < max 1 (suc k + i) = parent_before (suc k) ns i h.1 (omega arith) in omega arith
+
+pub parent_small : (ns : List Node) (i : ℕ) → AreNodes ns → i < length ns → parent_in ns i < most_nodes
+parent_small ns i h l = let r = parent_before 0 ns i h.rooted l in omega (arith, r, h.few)

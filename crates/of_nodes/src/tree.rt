@@ -1,0 +1,236 @@
+ghost use Rattle.std.specs.Prelude.{◌≡◌, ◌<◌, ◌+◌, ◌⊎◌, max, length, drop, Ok, Err, IfSome, IfOk, IfErr, OnOk};
+ghost use Rattle.of_nodes.specs.Nodes.{child_from, child_found, first_tree, most_nodes, named_child, node_added};
+ghost use Rattle.of_nodes.specs.Nodes.{parent_found, parent_in, peer_found, property_deleted, property_found, tree_property_set};
+ghost use Rattle.of_nodes.specs.Outcomes.{Adds, Answers, Sets};
+
+use crate::fault::NodeFault;
+use crate::names::is_name;
+use crate::phandles::Phandle;
+use crate::properties::{Properties, Property};
+use of_memory::Memory;
+use std::alloc::Global;
+use std::marker::Model;
+
+/// The most nodes that are ever made.
+const MOST_NODES: usize = 1024;
+
+/// A node of the device tree (IEEE 1275-1994, 3.2.1).
+#[derive(Drop)]
+pub struct Node {
+    /// The number of the node above it; the root's is its own.
+    pub parent: usize,
+    /// Its properties.
+    pub properties: Properties,
+}
+
+/// The nodes of a device tree by their numbers, the root first.
+#[derive(Drop)]
+pub struct Tree {
+    nodes: Vec<Node>,
+    alloc: Global,
+}
+
+impl Model for Tree {
+    ghost use Rattle.std.specs.Prelude.{List};
+    ghost use Rattle.of_nodes.specs.declared.tree.Node.{Node};
+    ghost use Rattle.of_nodes.specs.Nodes.{AreNodes};
+
+    ghost Value = { List Node };
+
+    ghost view = { λ t. t.nodes.items };
+
+    ghost invariant = { λ t. AreNodes t.nodes.items };
+}
+
+/// The first node from a number on, the root left out, that has the parent.
+fn next_child(nodes: &[Node], from: usize, parent: usize) -> Option<usize>
+    ensures value { result ≡ child_from from (drop from nodes.now) parent }
+    ensures within { IfSome result (λ i. i < length nodes.now) }
+{
+    for i in from..nodes.len() {
+        if nodes[i].parent == parent {
+            return Some(i);
+        }
+    }
+    None
+}
+
+/// The number of the node above one.
+#[tactic(auto, using(crate::proofs::Rooted::parent_read))]
+fn parent_number(nodes: &[Node], number: usize) -> usize
+    requires { number < length nodes.now }
+    ensures { result ≡ parent_in nodes.now number }
+{
+    nodes[number].parent
+}
+
+impl Tree {
+    /// Makes a node with a name.
+    #[tactic(auto, using(crate::proofs::Rooted::added, crate::proofs::First::named))]
+    fn add_named(
+        &mut self,
+        memory: &mut Memory,
+        parent: usize,
+        value: &[u8],
+    ) -> Result<(), NodeFault>
+        requires parent { parent < max 1 (length self.old) }
+        requires few { length self.old < most_nodes }
+        ensures made { OnOk result (named_child self.old memory.old parent value.now ≡ Ok (self.new, memory.new)) }
+        ensures refused { IfErr result (λ e. (e ≡ NodeFault.NoMemory)
+            ⊎ (named_child self.old memory.old parent value.now ≡ Err e)) }
+        ensures len { OnOk result (length self.new ≡ length self.old + 1) }
+    {
+        let mut properties = Properties::new(self.alloc);
+        if let Err(fault) = properties.set(self.alloc, memory, b"name", value) {
+            return Err(fault);
+        }
+        self.nodes.push(Node { parent, properties })?;
+        Ok(())
+    }
+
+    /// The tree at first: `/`, which has the name `board`, and its children `/packages` and `/slot`.
+    ///
+    /// PropertyFull, if the names don't fit into the property region; or NoMemory. Then there is no
+    /// tree, and the region has the names that were put so far.
+    #[tactic(auto, using(crate::proofs::First::firsts))]
+    pub fn new(alloc: Global, memory: &mut Memory) -> Result<Tree, NodeFault>
+        ensures made { IfOk result (λ t. first_tree memory.old ≡ Ok (t, memory.new)) }
+        ensures refused { IfErr result (λ e. (e ≡ NodeFault.NoMemory) ⊎ (first_tree memory.old ≡ Err e)) }
+    {
+        let nodes = Vec::new(alloc);
+        let mut tree = Tree { nodes, alloc };
+        if let Err(fault) = tree.add_named(memory, 0, b"board\0") {
+            return Err(fault);
+        }
+        if let Err(fault) = tree.add_named(memory, 0, b"packages\0") {
+            return Err(fault);
+        }
+        if let Err(fault) = tree.add_named(memory, 0, b"slot\0") {
+            return Err(fault);
+        }
+        Ok(tree)
+    }
+
+    /// The node above a node; the root has none.
+    ///
+    /// NoNode, if there is no such node.
+    #[tactic(auto, using(crate::proofs::Rooted::parent_small))]
+    pub fn parent(&self, node: Phandle) -> Result<Option<Phandle>, NodeFault>
+        ensures { result ≡ parent_found self.now node }
+    {
+        let Some(number) = node.number(self.nodes.len()) else {
+            return Err(NodeFault::NoNode);
+        };
+        if number == 0 {
+            return Ok(None);
+        }
+        Ok(Some(Phandle::of(parent_number(&self.nodes, number))))
+    }
+
+    /// The oldest child of a node, if it has one (IEEE 1275-1994, annex A, `child`).
+    ///
+    /// NoNode, if there is no such node.
+    pub fn child(&self, node: Phandle) -> Result<Option<Phandle>, NodeFault>
+        ensures { result ≡ child_found self.now node }
+    {
+        let Some(number) = node.number(self.nodes.len()) else {
+            return Err(NodeFault::NoNode);
+        };
+        match next_child(&self.nodes, 1, number) {
+            Some(child) => Ok(Some(Phandle::of(child))),
+            None => Ok(None),
+        }
+    }
+
+    /// The next younger child of the same parent, if there is one (IEEE 1275-1994, annex A, `peer`); the
+    /// root has none.
+    ///
+    /// NoNode, if there is no such node.
+    pub fn peer(&self, node: Phandle) -> Result<Option<Phandle>, NodeFault>
+        ensures { result ≡ peer_found self.now node }
+    {
+        let Some(number) = node.number(self.nodes.len()) else {
+            return Err(NodeFault::NoNode);
+        };
+        if number == 0 {
+            return Ok(None);
+        }
+        let parent = parent_number(&self.nodes, number);
+        match next_child(&self.nodes, number + 1, parent) {
+            Some(peer) => Ok(Some(Phandle::of(peer))),
+            None => Ok(None),
+        }
+    }
+
+    /// Makes a node without properties, the last child of its parent.
+    ///
+    /// NoNode, if the parent is none; TooManyNodes, if there are 1,024; or NoMemory. Then nothing changes.
+    #[tactic(auto, using(crate::proofs::Rooted::added))]
+    pub fn add_node(&mut self, parent: Phandle) -> Result<Phandle, NodeFault>
+        ensures { Adds result self.old self.new (node_added self.old parent) }
+    {
+        let count = self.nodes.len();
+        let Some(parent) = parent.number(count) else {
+            return Err(NodeFault::NoNode);
+        };
+        if count >= MOST_NODES {
+            return Err(NodeFault::TooManyNodes);
+        }
+        let properties = Properties::new(self.alloc);
+        self.nodes.push(Node { parent, properties })?;
+        Ok(Phandle::of(count))
+    }
+
+    /// The property of a node, if it has one of the name.
+    ///
+    /// NoNode, if there is no such node.
+    pub fn property(&self, node: Phandle, name: &[u8]) -> Result<Option<Property>, NodeFault>
+        ensures { result ≡ property_found self.now node name.now }
+    {
+        let Some(number) = node.number(self.nodes.len()) else {
+            return Err(NodeFault::NoNode);
+        };
+        Ok(self.nodes[number].properties.get(name))
+    }
+
+    /// Sets a property of a node to a value (IEEE 1275-1994, annex A, `property`), which is copied into
+    /// the property region, after its name if the property is new. A property that is there keeps its
+    /// place.
+    ///
+    /// NoNode, if there is no such node; BadName, if the name isn't good; PropertyFull, if the bytes
+    /// don't fit; or NoMemory. Then nothing changes, in memory either.
+    pub fn set_property(
+        &mut self,
+        memory: &mut Memory,
+        node: Phandle,
+        name: &[u8],
+        value: &[u8],
+    ) -> Result<(), NodeFault>
+        ensures { let after = tree_property_set memory.old self.old node name.now value.now in
+            Sets result (self.old, memory.old) (self.new, memory.new) after }
+    {
+        let Some(number) = node.number(self.nodes.len()) else {
+            return Err(NodeFault::NoNode);
+        };
+        if !is_name(name) {
+            return Err(NodeFault::BadName);
+        }
+        let node = &mut self.nodes[number];
+        node.properties.set(self.alloc, memory, name, value)
+    }
+
+    /// Takes a property out of a node, if it has one of the name (IEEE 1275-1994, annex A,
+    /// `delete-property`). The others keep their order.
+    ///
+    /// NoNode, if there is no such node; then nothing changes.
+    pub fn delete_property(&mut self, node: Phandle, name: &[u8]) -> Result<(), NodeFault>
+        ensures { Answers result self.old self.new (property_deleted self.old node name.now) }
+    {
+        let Some(number) = node.number(self.nodes.len()) else {
+            return Err(NodeFault::NoNode);
+        };
+        let node = &mut self.nodes[number];
+        node.properties.remove(name);
+        Ok(())
+    }
+}
