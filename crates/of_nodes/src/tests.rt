@@ -1,4 +1,4 @@
-use crate::{Properties, Property, Span, is_name};
+use crate::{NodeFault, Phandle, Properties, Property, Span, Tree, is_name};
 use of_cells::Cell;
 use of_memory::Memory;
 use std::test::Fail;
