@@ -9,8 +9,8 @@ use Rattle.of_nodes.specs.declared.fault.NodeFault.{NodeFault}
 use Rattle.of_nodes.specs.declared.fault.NodeFault.TheVariants.{BadName}
 use Rattle.of_nodes.specs.Names.{is_name}
 use Rattle.of_nodes.specs.Outcomes.{Sets}
-use Rattle.of_nodes.specs.Properties.{property_set, value_in, without}
-use Rattle.of_nodes.specs.Nodes.{AreNodes, deleted_at, number_of, properties_in, property_at, property_deleted}
+use Rattle.of_nodes.specs.Properties.{property_set, value_in, value_next, without}
+use Rattle.of_nodes.specs.Nodes.{AreNodes, next_at, next_found, deleted_at, number_of, properties_in, property_at, property_deleted}
 use Rattle.of_nodes.specs.Nodes.{property_found, set_at, set_in, tree_property_set, with_properties}
 use Rattle.of_nodes.proofs.Rooted.{changed, properties_read, with_properties_is}
 
@@ -52,6 +52,13 @@ pub found_is :
 found_is ns old i count ph m name f =
     ap (property_at old name) (number_is ns old i count ph m f)
     ∙ ap (λ (ps : List (List ℕ × Property)). Ok (value_in ps name)) (properties_is ns old i count ph m f)
+
+pub next_is :
+    (ns old : List Node) (i count : ℕ) (ph : Phandle) (m : Node) (name : List ℕ) → IsFound ns old i count ph m
+    → next_found old ph name ≡ Ok (value_next m.properties name)
+next_is ns old i count ph m name f =
+    ap (next_at old name) (number_is ns old i count ph m f)
+    ∙ ap (λ (ps : List (List ℕ × Property)). Ok (value_next ps name)) (properties_is ns old i count ph m f)
 
 pub deleted_is :
     (ns old : List Node) (i count : ℕ) (ph : Phandle) (m : Node) (name : List ℕ) (ps : List (List ℕ × Property))

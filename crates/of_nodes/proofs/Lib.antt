@@ -3,3 +3,4 @@ mod Stored
 mod Rooted
 mod Changed
 mod First
+mod Order

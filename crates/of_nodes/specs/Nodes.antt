@@ -8,7 +8,7 @@ use Rattle.of_nodes.specs.declared.phandles.Phandle.{Phandle}
 use Rattle.of_nodes.specs.declared.fault.NodeFault.{NodeFault}
 use Rattle.of_nodes.specs.declared.fault.NodeFault.TheVariants.{BadName, NoNode, TooManyNodes}
 use Rattle.of_nodes.specs.Names.{is_name}
-use Rattle.of_nodes.specs.Properties.{property_set, value_in, without}
+use Rattle.of_nodes.specs.Properties.{property_set, value_in, value_next, without}
 
 -- the most nodes that are ever made
 abbrev pub most_nodes : ℕ
@@ -73,6 +73,14 @@ property_at ns name (Some i) = Ok (value_in (properties_in ns i) name)
 
 abbrev pub property_found : List Node → Phandle → List ℕ → Result (Option Property) NodeFault
 property_found ns ph name = property_at ns name (number_of (length ns) ph)
+
+-- the property behind that of the name, or the first where the name is empty, of the node with a phandle
+abbrev pub next_at : List Node → List ℕ → Option ℕ → Result (Option Property) NodeFault
+next_at ns name None = Err NoNode
+next_at ns name (Some i) = Ok (value_next (properties_in ns i) name)
+
+abbrev pub next_found : List Node → Phandle → List ℕ → Result (Option Property) NodeFault
+next_found ns ph name = next_at ns name (number_of (length ns) ph)
 
 -- the nodes with what was set at node i
 abbrev pub set_in :

@@ -1,5 +1,5 @@
 -- Properties in the order of insertion, each with the place of its value (IEEE 1275-1994, 3.2.2.1).
-use Rattle.std.specs.Prelude.{ℕ, Bool, List, [], ◌∷◌, length, Option, Some, None, Result, Ok, Err}
+use Rattle.std.specs.Prelude.{ℕ, zero, suc, ◌==◌, Bool, List, [], ◌∷◌, length, Option, Some, None, Result, Ok, Err}
 use Rattle.std.specs.Prelude.{if◌then◌else◌, nat_eq}
 use Rattle.std.specs.Cmp.Lexicographic.{pointwise}
 use Rattle.std.specs.Global.{Vec}
@@ -64,3 +64,18 @@ property_set m ps name value = set_to ps name (stored m (value_in ps name) name 
 abbrev pub without : {V : Type 0} → List (List ℕ × V) → List ℕ → List (List ℕ × V)
 without [] name = []
 without (e ∷ es) name = if same_name name e.0 then es else e ∷ without es name
+
+-- the value of the i-th entry, if there are so many
+abbrev pub value_at : {V : Type 0} → List (List ℕ × V) → ℕ → Option V
+value_at [] i = None
+value_at (e ∷ es) zero = Some e.1
+value_at (e ∷ es) (suc i) = value_at es i
+
+-- the value of the entry behind the one of the name
+abbrev pub value_behind : {V : Type 0} → List (List ℕ × V) → List ℕ → Option V
+value_behind [] name = None
+value_behind (e ∷ es) name = if same_name name e.0 then value_at es 0 else value_behind es name
+
+-- the value of the first entry where the name is empty, else of the entry behind the one of the name
+abbrev pub value_next : {V : Type 0} → List (List ℕ × V) → List ℕ → Option V
+value_next es name = if length name == 0 then value_at es 0 else value_behind es name

@@ -1,7 +1,7 @@
-ghost use Rattle.std.specs.Prelude.{◌≡◌, ◌<◌, [], length, map, None};
+ghost use Rattle.std.specs.Prelude.{◌≡◌, ◌<◌, [], ◌+◌, ◌^◌, length, map, None, IfSome, MatchOption};
 ghost use Rattle.indexmap.specs.IndexMap.{spare};
 ghost use Rattle.of_memory.specs.Growth.{property_put};
-ghost use Rattle.of_nodes.specs.Properties.{named, property_set, stored, value_in, with_entry, with_value, without};
+ghost use Rattle.of_nodes.specs.Properties.{named, property_set, stored, value_at, value_behind, value_in, value_next, with_entry, with_value, without};
 ghost use Rattle.of_nodes.specs.Outcomes.{Answers, Sets};
 
 use crate::fault::NodeFault;
@@ -123,6 +123,37 @@ impl Properties {
         ensures { result ≡ value_in self.now name.now }
     {
         self.entries.get(name).copied()
+    }
+
+    /// The property at a place in the order.
+    fn at(&self, index: usize) -> Option<Property>
+        ensures { result ≡ value_at self.now index }
+    {
+        match self.entries.get_index(index) {
+            Some(entry) => Some(*entry.1),
+            None => None,
+        }
+    }
+
+    /// Where the property of the name stands in the order.
+    fn place_of(&self, name: &[u8]) -> Option<usize>
+        ensures value { let next = value_behind self.now name.now in
+            MatchOption result (next ≡ None) (λ i. next ≡ value_at self.now (i + 1)) }
+        ensures small { IfSome result (λ i. i < 2 ^ 63) }
+    {
+        let _ = self.entries.len();
+        self.entries.get_index_of(name)
+    }
+
+    /// The property behind that of the name, or the first where the name is empty, if there is one.
+    pub fn next(&self, name: &[u8]) -> Option<Property>
+        ensures { result ≡ value_next self.now name.now }
+    {
+        if name.len() == 0 {
+            return self.at(0);
+        }
+        let index = self.place_of(name)?;
+        self.at(index + 1)
     }
 
     /// Sets a property to a value, which is copied into the property region, after its name if the

@@ -31,6 +31,11 @@ fn a_replaced_property_puts_its_value_alone(rt: HostRuntime) -> Result<(), Fail>
         places(span(0x20_0010, 4), span(0x20_001c, 5))
     );
     assert_eq!(rt; properties.get(b"Name"), None);
+    properties.set(rt.alloc(), &mut memory, b"reg", b"")?;
+    let second = places(span(0x20_0024, 3), span(0x20_0028, 0));
+    assert_eq!(rt; properties.next(b""), properties.get(b"name"));
+    assert_eq!(rt; properties.next(b"name"), second);
+    assert_eq!(rt; properties.next(b"reg"), None);
     properties.remove(b"name");
     assert_eq!(rt; properties.get(b"name"), None);
     Ok(())
@@ -60,6 +65,7 @@ fn the_tree_at_first(rt: HostRuntime) -> Result<(), Fail> {
     tree.set_property(&mut memory, card, b"reg", b"1234")?;
     let place = places(span(0x20_0038, 3), span(0x20_003c, 4));
     assert_eq!(rt; tree.property(card, b"reg"), Ok(place));
+    assert_eq!(rt; tree.next_property(card, b""), Ok(place));
     tree.delete_property(card, b"reg")?;
     assert_eq!(rt; tree.property(card, b"reg"), Ok(None));
     let refused = tree.set_property(&mut memory, card, b"a/b", b"");

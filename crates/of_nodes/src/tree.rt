@@ -1,5 +1,5 @@
 ghost use Rattle.std.specs.Prelude.{◌≡◌, ◌<◌, ◌+◌, ◌⊎◌, max, length, drop, Ok, Err, IfSome, IfOk, IfErr, OnOk};
-ghost use Rattle.of_nodes.specs.Nodes.{child_from, child_found, first_tree, most_nodes, named_child, node_added};
+ghost use Rattle.of_nodes.specs.Nodes.{child_from, child_found, first_tree, most_nodes, named_child, next_found, node_added};
 ghost use Rattle.of_nodes.specs.Nodes.{parent_found, parent_in, peer_found, property_deleted, property_found, tree_property_set};
 ghost use Rattle.of_nodes.specs.Outcomes.{Adds, Answers, Sets};
 
@@ -191,6 +191,19 @@ impl Tree {
             return Err(NodeFault::NoNode);
         };
         Ok(self.nodes[number].properties.get(name))
+    }
+
+    /// The property of a node behind that of the name, or its first where the name is empty, if there is
+    /// one (IEEE 1275-1994, annex A, `next-property`).
+    ///
+    /// NoNode, if there is no such node.
+    pub fn next_property(&self, node: Phandle, name: &[u8]) -> Result<Option<Property>, NodeFault>
+        ensures { result ≡ next_found self.now node name.now }
+    {
+        let Some(number) = node.number(self.nodes.len()) else {
+            return Err(NodeFault::NoNode);
+        };
+        Ok(self.nodes[number].properties.next(name))
     }
 
     /// Sets a property of a node to a value (IEEE 1275-1994, annex A, `property`), which is copied into
