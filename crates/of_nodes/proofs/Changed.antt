@@ -1,5 +1,6 @@
 -- A node that was found by its phandle, read and written.
-use Rattle.std.proofs.Common.{◌≡◌, ℕ, ◌<◌, suc, zero, Bool, true, List, [], ◌∷◌, length, get_or, set, Some, Result, Ok, Err}
+use Rattle.std.proofs.Common.{◌≡◌, ℕ, ◌<◌, suc, zero, Bool, true, List, [], ◌∷◌, length, get_or, set, Some, Result}
+use Rattle.std.proofs.Common.{Ok, Err}
 use Rattle.std.proofs.Common.{inl, inr, if◌then◌else◌, refl, ap, sym, ◌∙◌, arith}
 use Rattle.of_memory.specs.DataSpace.{DataSpace}
 use Rattle.of_nodes.specs.declared.tree.Node.{Node}
@@ -10,7 +11,8 @@ use Rattle.of_nodes.specs.declared.fault.NodeFault.TheVariants.{BadName}
 use Rattle.of_nodes.specs.Names.{is_name}
 use Rattle.of_nodes.specs.Outcomes.{Sets}
 use Rattle.of_nodes.specs.Properties.{property_set, value_in, value_next, without}
-use Rattle.of_nodes.specs.Nodes.{AreNodes, next_at, next_found, deleted_at, number_of, properties_in, property_at, property_deleted}
+use Rattle.of_nodes.specs.Nodes.{AreNodes, next_at, next_found, deleted_at, number_of, properties_in, property_at}
+use Rattle.of_nodes.specs.Nodes.{property_deleted}
 use Rattle.of_nodes.specs.Nodes.{property_found, set_at, set_in, tree_property_set, with_properties}
 use Rattle.of_nodes.proofs.Rooted.{changed, properties_read, with_properties_is}
 
@@ -23,7 +25,8 @@ pub record IsFound (ns old : List Node) (i count : ℕ) (ph : Phandle) (m : Node
   pub node : m ≡ get_or ns i m
 
 pub changed_at :
-    (ns : List Node) (i : ℕ) (m : Node) (ps : List (List ℕ × Property)) → AreNodes ns → i < length ns → m ≡ get_or ns i m
+    (ns : List Node) (i : ℕ) (m : Node) (ps : List (List ℕ × Property)) → AreNodes ns → i < length ns
+    → m ≡ get_or ns i m
     → AreNodes (set ns i (record m { properties = ps }))
 changed_at ns i m ps h within read = rw (with_properties_is ns i m ps within read) (changed ns i ps h)
 

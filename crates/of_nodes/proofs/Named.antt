@@ -8,17 +8,20 @@ abbrev pub same_key : Vec ℕ Global → Vec ℕ Global → Bool
 same_key x y = same_name x.items y.items
 
 module _ {V : Type 0} where
-  entry_step : (b : Bool) (e : Vec ℕ Global × V) (es : List (Vec ℕ Global × V)) (k : Vec ℕ Global) (v : V) → same_key k e.0 ≡ b
+  entry_step : (b : Bool) (e : Vec ℕ Global × V) (es : List (Vec ℕ Global × V)) (k : Vec ℕ Global) (v : V)
+      → same_key k e.0 ≡ b
       → map named (insert_entry same_key es k v) ≡ with_entry (map named es) k.items v
       → map named (insert_entry same_key (e ∷ es) k v) ≡ with_entry (map named (e ∷ es)) k.items v
   entry_step true e es k v h ih = rw h refl
   entry_step false e es k v h ih = rw h (ap (λ r. named e ∷ r) ih)
 
-  pub entries_named : (es : List (Vec ℕ Global × V)) (k : Vec ℕ Global) (v : V) → map named (insert_entry same_key es k v) ≡ with_entry (map named es) k.items v
+  pub entries_named : (es : List (Vec ℕ Global × V)) (k : Vec ℕ Global) (v : V)
+      → map named (insert_entry same_key es k v) ≡ with_entry (map named es) k.items v
   entries_named [] k v = refl
   entries_named (e ∷ es) k v = entry_step (same_key k e.0) e es k v refl (entries_named es k v)
 
-  value_step : (b : Bool) (e : Vec ℕ Global × V) (es : List (Vec ℕ Global × V)) (name : List ℕ) → same_name name e.0.items ≡ b
+  value_step : (b : Bool) (e : Vec ℕ Global × V) (es : List (Vec ℕ Global × V)) (name : List ℕ)
+      → same_name name e.0.items ≡ b
       → lookup (λ (k : Vec ℕ Global). same_name name k.items) es ≡ value_in (map named es) name
       → lookup (λ (k : Vec ℕ Global). same_name name k.items) (e ∷ es) ≡ value_in (map named (e ∷ es)) name
   value_step true e es name h ih = rw h refl
@@ -27,7 +30,8 @@ module _ {V : Type 0} where
   without_step : (b : Bool) (e : Vec ℕ Global × V) (es : List (Vec ℕ Global × V)) (name : List ℕ)
       → same_name name e.0.items ≡ b
       → map named (remove_entry (λ (k : Vec ℕ Global). same_name name k.items) es) ≡ without (map named es) name
-      → map named (remove_entry (λ (k : Vec ℕ Global). same_name name k.items) (e ∷ es)) ≡ without (map named (e ∷ es)) name
+      → map named (remove_entry (λ (k : Vec ℕ Global). same_name name k.items) (e ∷ es))
+      ≡ without (map named (e ∷ es)) name
   without_step true e es name h ih = rw h refl
   without_step false e es name h ih = rw h (ap (λ r. named e ∷ r) ih)
 
@@ -36,6 +40,7 @@ module _ {V : Type 0} where
   without_named [] name = refl
   without_named (e ∷ es) name = without_step (same_name name e.0.items) e es name refl (without_named es name)
 
-  pub value_named : (es : List (Vec ℕ Global × V)) (name : List ℕ) → lookup (λ (k : Vec ℕ Global). same_name name k.items) es ≡ value_in (map named es) name
+  pub value_named : (es : List (Vec ℕ Global × V)) (name : List ℕ)
+      → lookup (λ (k : Vec ℕ Global). same_name name k.items) es ≡ value_in (map named es) name
   value_named [] name = refl
   value_named (e ∷ es) name = value_step (same_name name e.0.items) e es name refl (value_named es name)

@@ -1,30 +1,36 @@
 -- Lists of nodes.
-use Rattle.std.proofs.Common.{◌≡◌, ℕ, ◌+◌, ◌<◌, max, zero, suc, List, [], ◌∷◌, ◌++◌, length, get_or, set, refl, ap, arith, length-append}
+use Rattle.std.proofs.Common.{◌≡◌, ℕ, ◌+◌, ◌<◌, max, zero, suc, List, [], ◌∷◌, ◌++◌, length, get_or, set, refl, ap}
+use Rattle.std.proofs.Common.{arith, length-append}
 use Rattle.of_nodes.specs.declared.tree.Node.{Node}
 use Rattle.of_nodes.specs.declared.properties.Property.{Property}
 use Rattle.of_nodes.specs.Nodes.{AreNodes, AreRooted, most_nodes, parent_in, properties_in, with_properties}
 
-rooted_push : (k : ℕ) (ns : List Node) (n : Node) → AreRooted k ns → n.parent < max 1 (k + length ns) → AreRooted k (ns ++ n ∷ [])
+rooted_push : (k : ℕ) (ns : List Node) (n : Node) → AreRooted k ns → n.parent < max 1 (k + length ns)
+    → AreRooted k (ns ++ n ∷ [])
 rooted_push k [] n h l = (omega arith, tt)
 rooted_push k (m ∷ ns) n h l = (h.0, rooted_push (suc k) ns n h.1 (omega arith))
 
-pub added : (ns : List Node) (n : Node) → AreNodes ns → n.parent < max 1 (length ns) → length ns < most_nodes → AreNodes (ns ++ n ∷ [])
+pub added : (ns : List Node) (n : Node) → AreNodes ns → n.parent < max 1 (length ns) → length ns < most_nodes
+    → AreNodes (ns ++ n ∷ [])
 added ns n h l few = record {
   rooted = rooted_push 0 ns n h.rooted (omega arith);
   few = rw length-append (omega arith);
 }
 
-rooted_same : (k : ℕ) (ns : List Node) (i : ℕ) (ps : List (List ℕ × Property)) → AreRooted k ns → AreRooted k (with_properties ns i ps)
+rooted_same : (k : ℕ) (ns : List Node) (i : ℕ) (ps : List (List ℕ × Property)) → AreRooted k ns
+    → AreRooted k (with_properties ns i ps)
 rooted_same k [] i ps h = h
 rooted_same k (n ∷ ns) zero ps h = h
 rooted_same k (n ∷ ns) (suc i) ps h = (h.0, rooted_same (suc k) ns i ps h.1)
 
-pub length-with_properties : (ns : List Node) (i : ℕ) (ps : List (List ℕ × Property)) → length (with_properties ns i ps) ≡ length ns
+pub length-with_properties : (ns : List Node) (i : ℕ) (ps : List (List ℕ × Property))
+    → length (with_properties ns i ps) ≡ length ns
 length-with_properties [] i ps = refl
 length-with_properties (n ∷ ns) zero ps = refl
 length-with_properties (n ∷ ns) (suc i) ps = ap suc (length-with_properties ns i ps)
 
-pub changed : (ns : List Node) (i : ℕ) (ps : List (List ℕ × Property)) → AreNodes ns → AreNodes (with_properties ns i ps)
+pub changed : (ns : List Node) (i : ℕ) (ps : List (List ℕ × Property)) → AreNodes ns
+    → AreNodes (with_properties ns i ps)
 changed ns i ps h = record {
   rooted = rooted_same 0 ns i ps h.rooted;
   few = rw (length-with_properties ns i ps) h.few;

@@ -11,7 +11,8 @@ use Rattle.of_memory.specs.declared.fault.MemFault.TheVariants.{Full}
 le_true : (a b : ℕ) → nat_le a b ≡ true → a ≤ b
 le_true a b e = grind (arith, nat_tests)
 
-if_put : (t : Bool) (x y : ℕ × DataSpace) → ◌≡◌ {A = Result (ℕ × DataSpace) MemFault} (if t then Ok x else Err Full) (Ok y) → t ≡ true
+if_put : (t : Bool) (x y : ℕ × DataSpace)
+    → ◌≡◌ {A = Result (ℕ × DataSpace) MemFault} (if t then Ok x else Err Full) (Ok y) → t ≡ true
 if_put true x y e = refl
 if_put false x y e = cc
 
@@ -50,6 +51,8 @@ named_small m after name value b a e = value_fits value (property_put m name) (b
 pub name_small :
     (m after : DataSpace) (name value : List ℕ) (b a : ℕ) → named_put m name value ≡ Ok (b, a, after)
     → length name < 2 ^ 32
-name_small m after name value b a e = let z = first_ok value (property_put m name) (b, a, after) e in put_fits m name z.0 z.1
+name_small m after name value b a e =
+    let z = first_ok value (property_put m name) (b, a, after) e in
+    put_fits m name z.0 z.1
 
 pub ruleset stores = (put_small, named_small, name_small)

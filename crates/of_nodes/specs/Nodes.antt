@@ -1,6 +1,7 @@
 -- Nodes by number, the root first (IEEE 1275-1994, 3.2.1).
 use Rattle.std.specs.Prelude.{ℕ, ◌<◌, ◌≤◌, ◌+◌, ◌*◌, ◌-◌, ◌/◌, ◌%◌, ◌&&◌, ◌==◌, nat_le, nat_lt, zero, suc, max}
-use Rattle.std.specs.Prelude.{List, [], ◌∷◌, ◌++◌, length, drop, Option, Some, None, Result, Ok, Err, if◌then◌else◌, codes}
+use Rattle.std.specs.Prelude.{List, [], ◌∷◌, ◌++◌, length, drop, Option, Some, None, Result, Ok, Err, if◌then◌else◌}
+use Rattle.std.specs.Prelude.{codes}
 use Rattle.of_memory.specs.DataSpace.{DataSpace}
 use Rattle.of_nodes.specs.declared.tree.Node.{Node}
 use Rattle.of_nodes.specs.declared.properties.Property.{Property}

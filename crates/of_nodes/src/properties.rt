@@ -1,7 +1,8 @@
 ghost use Rattle.std.specs.Prelude.{◌≡◌, ◌<◌, [], ◌+◌, ◌^◌, length, map, None, IfSome, MatchOption};
 ghost use Rattle.indexmap.specs.IndexMap.{spare};
 ghost use Rattle.of_memory.specs.Growth.{property_put};
-ghost use Rattle.of_nodes.specs.Properties.{named, property_set, stored, value_at, value_behind, value_in, value_next, with_entry, with_value, without};
+ghost use Rattle.of_nodes.specs.Properties.{named, property_set, stored, value_at, value_behind, value_in};
+ghost use Rattle.of_nodes.specs.Properties.{value_next, with_entry, with_value, without};
 ghost use Rattle.of_nodes.specs.Outcomes.{Answers, Sets};
 
 use crate::fault::NodeFault;
@@ -68,7 +69,8 @@ fn store_named(memory: &mut Memory, name: &[u8], value: &[u8]) -> Result<Propert
 /// Puts another value of a property into the property region.
 #[tactic(auto, using(crate::proofs::Stored::stores))]
 fn store_value(memory: &mut Memory, old: Property, value: &[u8]) -> Result<Property, NodeFault>
-    ensures { Answers result memory.old memory.new (with_value old (length value.now) (property_put memory.old value.now)) }
+    ensures { Answers result memory.old memory.new
+        (with_value old (length value.now) (property_put memory.old value.now)) }
 {
     match memory.put_property(value) {
         Ok(address) => Ok(Property {

@@ -1,6 +1,8 @@
 ghost use Rattle.std.specs.Prelude.{◌≡◌, ◌<◌, ◌+◌, ◌⊎◌, max, length, drop, Ok, Err, IfSome, IfOk, IfErr, OnOk};
-ghost use Rattle.of_nodes.specs.Nodes.{child_from, child_found, first_tree, most_nodes, named_child, next_found, node_added};
-ghost use Rattle.of_nodes.specs.Nodes.{parent_found, parent_in, peer_found, property_deleted, property_found, tree_property_set};
+ghost use Rattle.of_nodes.specs.Nodes.{child_from, child_found, first_tree, most_nodes, named_child, next_found};
+ghost use Rattle.of_nodes.specs.Nodes.{node_added};
+ghost use Rattle.of_nodes.specs.Nodes.{parent_found, parent_in, peer_found, property_deleted, property_found};
+ghost use Rattle.of_nodes.specs.Nodes.{tree_property_set};
 ghost use Rattle.of_nodes.specs.Outcomes.{Adds, Answers, Sets};
 
 use crate::fault::NodeFault;

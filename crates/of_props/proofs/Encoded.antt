@@ -91,7 +91,8 @@ two_put :
 two_put join m xs ys sound fits =
     let fault = no_fault m m.here (length xs + length ys) sound.here_from (omega arith) in
     let both = join.behind m m.here xs ys sound fault in
-    let bytes : (put (put m xs) ys).bytes ≡ (written m m.here (xs ++ ys)).bytes = ap (λ (s : DataSpace). s.bytes) both in
+    let bytes : (put (put m xs) ys).bytes ≡ (written m m.here (xs ++ ys)).bytes =
+    ap (λ (s : DataSpace). s.bytes) both in
     rw bytes (put_bytes join m (xs ++ ys) sound (rw length-append (omega arith)))
 
 -- two arrays as one

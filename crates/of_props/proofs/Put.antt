@@ -63,13 +63,15 @@ copied_is m a n tail = rw (read_is m a n) (each (are_readable m a n))
 copy_array_if :
     (r : Bool) (m after : DataSpace) (xs : List ℕ) (b : Cell)
     → ◌≡◌ {A = Result (ℕ × DataSpace) MemFault} (if r then appended m xs else Err Address) (Ok (b.0, after))
-    → ◌≡◌ {A = Result (Array × DataSpace) PropFault} (if r then encoded m xs else Err Unreadable) (Ok (up_to_here after b, after))
+    → ◌≡◌ {A = Result (Array × DataSpace) PropFault} (if r then encoded m xs else Err Unreadable)
+    (Ok (up_to_here after b, after))
 copy_array_if true m after xs b e = put_array m after xs b e
 copy_array_if false m after xs b e = cc
 
 copy_below_if :
     (r : Bool) (m after : DataSpace) (xs : List ℕ) (b : ℕ)
-    → ◌≡◌ {A = Result (ℕ × DataSpace) MemFault} (if r then appended m xs else Err Address) (Ok (b, after)) → b ≤ after.here
+    → ◌≡◌ {A = Result (ℕ × DataSpace) MemFault} (if r then appended m xs else Err Address) (Ok (b, after))
+    → b ≤ after.here
 copy_below_if true m after xs b e = put_below m after xs b e
 copy_below_if false m after xs b e = cc
 

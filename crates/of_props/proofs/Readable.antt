@@ -38,7 +38,8 @@ byte_fault m a n =
       | inr some ↦ rw (some_test n some, one_divides a) (tested (are_readable m a n))
     ]
 
-unless_if : {A : Type 0} (r : Bool) (x : A) → unless (if r then None else Some Address) x ≡ (if r then Ok x else Err Address)
+unless_if : {A : Type 0} (r : Bool) (x : A)
+    → unless (if r then None else Some Address) x ≡ (if r then Ok x else Err Address)
 unless_if true x = refl
 unless_if false x = refl
 
@@ -52,24 +53,28 @@ as_ok : (r : Bool) (x y : List ℕ) → ◌≡◌ {A = Result (List ℕ) MemFaul
 as_ok true x y e = let h : x ≡ y = cc in rw h refl
 as_ok false x y e = cc
 
-as_err : (r : Bool) (x : List ℕ) (f : MemFault) → ◌≡◌ {A = Result (List ℕ) MemFault} (if r then Ok x else Err Address) (Err f)
+as_err : (r : Bool) (x : List ℕ) (f : MemFault)
+    → ◌≡◌ {A = Result (List ℕ) MemFault} (if r then Ok x else Err Address) (Err f)
     → ◌≡◌ {A = Result (List ℕ) PropFault} (if r then Ok x else Err Unreadable) (Err Unreadable)
 as_err true x f e = cc
 as_err false x f e = refl
 
-pub read_ok : (m : DataSpace) (p : Array) (xs : List ℕ) → read_bytes m p.address.0 p.length.0 ≡ Ok xs → bytes_of m p ≡ Ok xs
+pub read_ok : (m : DataSpace) (p : Array) (xs : List ℕ) → read_bytes m p.address.0 p.length.0 ≡ Ok xs
+    → bytes_of m p ≡ Ok xs
 read_ok m p xs e =
     let a = p.address.0 in
     let n = p.length.0 in
     as_ok (are_readable m a n) (bytes_from m a n) xs (sym (read_is m a n) ∙ e)
 
-pub read_err : (m : DataSpace) (p : Array) (f : MemFault) → read_bytes m p.address.0 p.length.0 ≡ Err f → bytes_of m p ≡ Err Unreadable
+pub read_err : (m : DataSpace) (p : Array) (f : MemFault) → read_bytes m p.address.0 p.length.0 ≡ Err f
+    → bytes_of m p ≡ Err Unreadable
 read_err m p f e =
     let a = p.address.0 in
     let n = p.length.0 in
     as_err (are_readable m a n) (bytes_from m a n) f (sym (read_is m a n) ∙ e)
 
-is_taken : (r : Bool) (x y : List ℕ) → ◌≡◌ {A = Result (List ℕ) MemFault} (if r then Ok x else Err Address) (Ok y) → x ≡ y
+is_taken : (r : Bool) (x y : List ℕ)
+    → ◌≡◌ {A = Result (List ℕ) MemFault} (if r then Ok x else Err Address) (Ok y) → x ≡ y
 is_taken true x y e = cc
 is_taken false x y e = cc
 

@@ -78,7 +78,8 @@ head_cell c cs h = h 0 c (omega arith)
 tail_cells : (c : Cell) (cs : List Cell) → AreCells (c ∷ cs) → AreCells cs
 tail_cells c cs h k d l = h (suc k) d (omega arith)
 
-cells_back : (cells : List Cell) (ys : List ℕ) → AreCells cells → cells_in (length cells) (phys_bytes cells ++ ys) ≡ cells
+cells_back : (cells : List Cell) (ys : List ℕ) → AreCells cells
+    → cells_in (length cells) (phys_bytes cells ++ ys) ≡ cells
 cells_back [] ys h = refl
 cells_back (c ∷ cs) ys h =
     let value : big_number 4 (big_bytes 4 c.0 ++ (phys_bytes cs ++ ys)) ≡ c.0 =

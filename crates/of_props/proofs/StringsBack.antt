@@ -52,12 +52,14 @@ record IsCopied (m after : DataSpace) (a n : Cell) (p : Array) : Type 0 where
   encoded_is : encoded m (bytes_from m a.0 n.0 ++ 0 ∷ []) ≡ Ok (p, after)
 
 copied_if :
-    (t : Bool) (e : Result (Array × DataSpace) PropFault) (x : Array × DataSpace) → (if t then e else Err Address) ≡ Ok x
+    (t : Bool) (e : Result (Array × DataSpace) PropFault) (x : Array × DataSpace)
+    → (if t then e else Err Address) ≡ Ok x
     → (t ≡ true) × (e ≡ Ok x)
 copied_if true e x h = (refl, h)
 copied_if false e x h = cc
 
-is_copied : (m after : DataSpace) (a n : Cell) (p : Array) → string_encoded m a n ≡ Ok (p, after) → IsCopied m after a n p
+is_copied : (m after : DataSpace) (a n : Cell) (p : Array) → string_encoded m a n ≡ Ok (p, after)
+    → IsCopied m after a n p
 is_copied m after a n p e =
     let both = copied_if (are_readable m a.0 n.0) (encoded m (bytes_from m a.0 n.0 ++ 0 ∷ [])) (p, after) e in
     record { readable = both.0; encoded_is = both.1 }
@@ -142,6 +144,7 @@ strings_read_back join placed = record { alone = alone; first = first; same = sa
         let all : length xs ≡ length s + 1 = length-append s (0 ∷ []) in
         let whole : bytes_from after m.here (length xs) ≡ xs =
         rw is.after_is (put_bytes join m xs sound is.fits) in
-        let part = first_part (drop (place_of m.here) after.bytes) s (0 ∷ []) n.0 (length xs) many (omega arith) whole in
+        let part =
+        first_part (drop (place_of m.here) after.bytes) s (0 ∷ []) n.0 (length xs) many (omega arith) whole in
         let readable = data_open after m.here n.0 sound.here_from (omega (arith, is.fits)) in
         rw is.array_is (bytes_if (are_readable after m.here n.0) (bytes_from after m.here n.0) s Address readable part)

@@ -11,7 +11,8 @@ use Rattle.of_props.specs.declared.fault.PropFault.{PropFault}
 use Rattle.of_props.specs.declared.fault.PropFault.TheVariants.{Short}
 
 -- what an array decodes to by its bytes, if they can all be read
-abbrev pub decoded : {A : Type 0} → Result (List ℕ) PropFault → (List ℕ → Result (A × Array) PropFault) → Result (A × Array) PropFault
+abbrev pub decoded : {A : Type 0} → Result (List ℕ) PropFault → (List ℕ → Result (A × Array) PropFault)
+    → Result (A × Array) PropFault
 decoded (Ok xs) f = f xs
 decoded (Err fault) f = Err fault
 

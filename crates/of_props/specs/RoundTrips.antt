@@ -22,7 +22,8 @@ of_joined (Err fault) f = Err fault
 -- bytes that were encoded are those of their array
 abbrev pub BytesReadBack : Type 0
 BytesReadBack =
-    (m after : DataSpace) (xs : List ℕ) (p : Array) → IsSound m → encoded m xs ≡ Ok (p, after) → bytes_of after p ≡ Ok xs
+    (m after : DataSpace) (xs : List ℕ) (p : Array) → IsSound m → encoded m xs ≡ Ok (p, after)
+    → bytes_of after p ≡ Ok xs
 
 -- a number that was encoded, alone or joined with what was encoded behind it
 pub record IntsReadBack : Type 0 where

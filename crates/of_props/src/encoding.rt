@@ -1,7 +1,8 @@
 ghost use Rattle.std.specs.Prelude.{◌≡◌, ◌+◌, ◌*◌, ◌≤◌, ◌++◌, length};
 ghost use Rattle.byteorder.specs.Endian.{big_bytes};
 ghost use Rattle.arrayvec.specs.ArrayVec.{array_vec_len};
-ghost use Rattle.of_props.specs.Encoding.{Answers, encoded, copy_encoded, up_to_here, bytes_encoded, int_encoded, phys_bytes, phys_encoded};
+ghost use Rattle.of_props.specs.Encoding.{Answers, encoded, copy_encoded, up_to_here, bytes_encoded, int_encoded};
+ghost use Rattle.of_props.specs.Encoding.{phys_bytes, phys_encoded};
 ghost use Rattle.of_props.specs.Encoding.{string_encoded};
 
 use crate::arrays::Array;

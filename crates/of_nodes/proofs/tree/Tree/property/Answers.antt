@@ -14,4 +14,5 @@ returns c =
       within = omega (arith, c.len.ensures, c.self.inside.nodes.ok, c.in-Some.ensures.within);
       node = c.index.ensures;
     } in
-    ap Ok c.get.ensures ∙ sym (found_is ns c.args.self.now c.in-Some.number c.len.result c.args.node m c.args.name.now found)
+    ap Ok c.get.ensures
+    ∙ sym (found_is ns c.args.self.now c.in-Some.number c.len.result c.args.node m c.args.name.now found)

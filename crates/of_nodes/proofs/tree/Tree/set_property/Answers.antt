@@ -21,5 +21,6 @@ returns c =
       node = c.index_mut-node.ensures.value;
     } in
     let good : is_name c.args.name.now ≡ true = search rules in
-    set_is c.set.result ns c.args.self.now c.in-Some.number c.len.result c.args.node m c.args.memory.now c.set.new.memory
+    set_is c.set.result ns c.args.self.now c.in-Some.number c.len.result c.args.node m c.args.memory.now
+    c.set.new.memory
     c.args.name.now c.args.value.now c.set.new.self found good c.set.ensures
