@@ -3,18 +3,22 @@ use Rattle.std.proofs.Common.{◌≡◌, ℕ, ◌<◌, suc, zero, Bool, true, Li
 use Rattle.std.proofs.Common.{Ok, Err}
 use Rattle.std.proofs.Common.{inl, inr, if◌then◌else◌, refl, ap, sym, ◌∙◌, arith}
 use Rattle.of_memory.specs.DataSpace.{DataSpace}
+use Rattle.of_cells.specs.declared.cells.Cell.{Cell}
 use Rattle.of_nodes.specs.declared.tree.Node.{Node}
 use Rattle.of_nodes.specs.declared.phandles.Phandle.{Phandle}
 use Rattle.of_nodes.specs.declared.properties.Property.{Property}
 use Rattle.of_nodes.specs.declared.fault.NodeFault.{NodeFault}
 use Rattle.of_nodes.specs.declared.fault.NodeFault.TheVariants.{BadName}
+use Rattle.of_nodes.specs.Methods.{is_method_name, method_in, with_method}
 use Rattle.of_nodes.specs.Names.{is_name}
 use Rattle.of_nodes.specs.Outcomes.{Sets}
 use Rattle.of_nodes.specs.Properties.{property_set, value_in, value_next, without}
 use Rattle.of_nodes.specs.Nodes.{AreNodes, next_at, next_found, deleted_at, number_of, properties_in, property_at}
-use Rattle.of_nodes.specs.Nodes.{property_deleted}
+use Rattle.of_nodes.specs.Nodes.{added_at, method_added, method_at, method_found, methods_in, property_deleted}
+use Rattle.of_nodes.specs.Nodes.{with_methods}
 use Rattle.of_nodes.specs.Nodes.{property_found, set_at, set_in, tree_property_set, with_properties}
-use Rattle.of_nodes.proofs.Rooted.{changed, properties_read, with_properties_is}
+use Rattle.of_nodes.proofs.Rooted.{changed, changed_methods, methods_read, properties_read, with_methods_is}
+use Rattle.of_nodes.proofs.Rooted.{with_properties_is}
 
 -- node i was found by its phandle, and m was read there
 pub record IsFound (ns old : List Node) (i count : ℕ) (ph : Phandle) (m : Node) : Type 0 where
@@ -111,3 +115,62 @@ set_is (Err e) ns old i count ph m s t name value ps f good h =
     let pair : ◌≡◌ {A = List Node × DataSpace} (set ns i (record m { properties = ps }), t) (old, s) =
     ap (λ (l : List Node). (l, t)) nodes ∙ ap (λ (u : DataSpace). (old, u)) space in
     (pair, elim h.1 [ inl z ↦ inl z | inr z ↦ inr (after ∙ ap (set_in old i) z) ])
+
+pub methods_at :
+    (ns : List Node) (i : ℕ) (m : Node) (ms : List (List ℕ × Cell)) → AreNodes ns → i < length ns
+    → m ≡ get_or ns i m
+    → AreNodes (set ns i (record m { methods = ms }))
+methods_at ns i m ms h within read = rw (with_methods_is ns i m ms within read) (changed_methods ns i ms h)
+
+methods_is :
+    (ns old : List Node) (i count : ℕ) (ph : Phandle) (m : Node) → IsFound ns old i count ph m
+    → methods_in old i ≡ m.methods
+methods_is ns old i count ph m f =
+    ap (λ (l : List Node). methods_in l i) (sym f.same) ∙ sym (methods_read ns i m f.within f.node)
+
+methods_written :
+    (ns old : List Node) (i count : ℕ) (ph : Phandle) (m : Node) (ms : List (List ℕ × Cell))
+    → IsFound ns old i count ph m → with_methods old i ms ≡ set ns i (record m { methods = ms })
+methods_written ns old i count ph m ms f =
+    ap (λ (l : List Node). with_methods l i ms) (sym f.same) ∙ sym (with_methods_is ns i m ms f.within f.node)
+
+pub method_is :
+    (ns old : List Node) (i count : ℕ) (ph : Phandle) (m : Node) (name : List ℕ) → IsFound ns old i count ph m
+    → method_found old ph name ≡ Ok (method_in m.methods name)
+method_is ns old i count ph m name f =
+    ap (method_at old name) (number_is ns old i count ph m f)
+    ∙ ap (λ (ms : List (List ℕ × Cell)). Ok (method_in ms name)) (methods_is ns old i count ph m f)
+
+good_if : (t : Bool) (r : Result (List Node) NodeFault) → t ≡ true → (if t then r else Err BadName) ≡ r
+good_if t r e = rw e refl
+
+methods_after :
+    (ns old : List Node) (i count : ℕ) (ph : Phandle) (m : Node) (name : List ℕ) (xt : Cell)
+    → IsFound ns old i count ph m → is_method_name name ≡ true
+    → method_added old ph name xt ≡ Ok (set ns i (record m { methods = with_method m.methods name xt }))
+methods_after ns old i count ph m name xt f good =
+    ap (added_at old name xt) (number_is ns old i count ph m f)
+    ∙ (good_if (is_method_name name) (Ok (with_methods old i (with_method (methods_in old i) name xt))) good
+    ∙ (ap (λ (ms : List (List ℕ × Cell)). Ok (with_methods old i (with_method ms name xt)))
+    (methods_is ns old i count ph m f)
+    ∙ ap Ok (methods_written ns old i count ph m (with_method m.methods name xt) f)))
+
+never : (ms : List (List ℕ × Cell)) (e : NodeFault)
+    → ◌≡◌ {A = Result (List (List ℕ × Cell)) NodeFault} (Ok ms) (Err e) → ⊥
+never ms e h = cc
+
+pub added_is :
+    (r : Result (Unit {0}) NodeFault) (ns old : List Node) (i count : ℕ) (ph : Phandle) (m : Node)
+    (name : List ℕ) (xt : Cell) (ms : List (List ℕ × Cell)) → IsFound ns old i count ph m
+    → is_method_name name ≡ true
+    → Sets r m.methods ms (Ok (with_method m.methods name xt))
+    → Sets r old (set ns i (record m { methods = ms })) (method_added old ph name xt)
+added_is (Ok x) ns old i count ph m name xt ms f good h =
+    let same : with_method m.methods name xt ≡ ms = cc in
+    methods_after ns old i count ph m name xt f good
+    ∙ ap (λ (l : List (List ℕ × Cell)). Ok (set ns i (record m { methods = l }))) same
+added_is (Err e) ns old i count ph m name xt ms f good h =
+    let nodes : set ns i (record m { methods = ms }) ≡ old =
+    ap (λ (l : List (List ℕ × Cell)). set ns i (record m { methods = l })) h.0
+    ∙ (set_same ns i m f.within f.node ∙ f.same) in
+    (nodes, elim h.1 [ inl z ↦ inl z | inr z ↦ absurd (never (with_method m.methods name xt) e z) ])

@@ -11,7 +11,7 @@ use Rattle.of_nodes.specs.Nodes.{first_tree, named_child, then_child, with_node}
 pub named_made :
     (ns : List Node) (m after : DataSpace) (parent : ℕ) (value : List ℕ) (ps : List (List ℕ × Property))
     → property_set m [] (codes "name") value ≡ Ok (ps, after)
-    → named_child ns m parent value ≡ Ok (ns ++ record { parent = parent; properties = ps } ∷ [], after)
+    → named_child ns m parent value ≡ Ok (ns ++ record { parent = parent; properties = ps; methods = [] } ∷ [], after)
 named_made ns m after parent value ps e = ap (with_node ns parent) e
 
 pub named_refused :

@@ -1,9 +1,11 @@
 -- Lists of nodes.
 use Rattle.std.proofs.Common.{◌≡◌, ℕ, ◌+◌, ◌<◌, max, zero, suc, List, [], ◌∷◌, ◌++◌, length, get_or, set, refl, ap}
 use Rattle.std.proofs.Common.{arith, length-append}
+use Rattle.of_cells.specs.declared.cells.Cell.{Cell}
 use Rattle.of_nodes.specs.declared.tree.Node.{Node}
 use Rattle.of_nodes.specs.declared.properties.Property.{Property}
-use Rattle.of_nodes.specs.Nodes.{AreNodes, AreRooted, most_nodes, parent_in, properties_in, with_properties}
+use Rattle.of_nodes.specs.Nodes.{AreNodes, AreRooted, methods_in, most_nodes, parent_in, properties_in, with_methods}
+use Rattle.of_nodes.specs.Nodes.{with_properties}
 
 rooted_push : (k : ℕ) (ns : List Node) (n : Node) → AreRooted k ns → n.parent < max 1 (k + length ns)
     → AreRooted k (ns ++ n ∷ [])
@@ -49,6 +51,38 @@ pub properties_read :
 properties_read [] i m l e = absurd (omega arith)
 properties_read (n ∷ ns) zero m l e = ap (λ (x : Node). x.properties) e
 properties_read (n ∷ ns) (suc i) m l e = properties_read ns i m (omega arith) e
+
+rooted_methods : (k : ℕ) (ns : List Node) (i : ℕ) (ms : List (List ℕ × Cell)) → AreRooted k ns
+    → AreRooted k (with_methods ns i ms)
+rooted_methods k [] i ms h = h
+rooted_methods k (n ∷ ns) zero ms h = h
+rooted_methods k (n ∷ ns) (suc i) ms h = (h.0, rooted_methods (suc k) ns i ms h.1)
+
+pub length-with_methods : (ns : List Node) (i : ℕ) (ms : List (List ℕ × Cell))
+    → length (with_methods ns i ms) ≡ length ns
+length-with_methods [] i ms = refl
+length-with_methods (n ∷ ns) zero ms = refl
+length-with_methods (n ∷ ns) (suc i) ms = ap suc (length-with_methods ns i ms)
+
+pub changed_methods : (ns : List Node) (i : ℕ) (ms : List (List ℕ × Cell)) → AreNodes ns
+    → AreNodes (with_methods ns i ms)
+changed_methods ns i ms h = record {
+  rooted = rooted_methods 0 ns i ms h.rooted;
+  few = rw (length-with_methods ns i ms) h.few;
+}
+
+pub with_methods_is :
+    (ns : List Node) (i : ℕ) (m : Node) (ms : List (List ℕ × Cell)) → i < length ns → m ≡ get_or ns i m
+    → set ns i (record m { methods = ms }) ≡ with_methods ns i ms
+with_methods_is [] i m ms l e = absurd (omega arith)
+with_methods_is (n ∷ ns) zero m ms l e = rw e refl
+with_methods_is (n ∷ ns) (suc i) m ms l e = ap (λ r. n ∷ r) (with_methods_is ns i m ms (omega arith) e)
+
+pub methods_read :
+    (ns : List Node) (i : ℕ) (m : Node) → i < length ns → m ≡ get_or ns i m → m.methods ≡ methods_in ns i
+methods_read [] i m l e = absurd (omega arith)
+methods_read (n ∷ ns) zero m l e = ap (λ (x : Node). x.methods) e
+methods_read (n ∷ ns) (suc i) m l e = methods_read ns i m (omega arith) e
 
 pub parent_read : (ns : List Node) (i : ℕ) (n : Node) → i < length ns → n ≡ get_or ns i n → n.parent ≡ parent_in ns i
 parent_read [] i n l e = absurd (omega arith)

@@ -1,4 +1,5 @@
 pub mod Names
 pub mod Properties
+pub mod Methods
 pub mod Outcomes
 pub mod Nodes

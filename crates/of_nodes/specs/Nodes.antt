@@ -3,11 +3,13 @@ use Rattle.std.specs.Prelude.{ℕ, ◌<◌, ◌≤◌, ◌+◌, ◌*◌, ◌-◌
 use Rattle.std.specs.Prelude.{List, [], ◌∷◌, ◌++◌, length, drop, Option, Some, None, Result, Ok, Err, if◌then◌else◌}
 use Rattle.std.specs.Prelude.{codes}
 use Rattle.of_memory.specs.DataSpace.{DataSpace}
+use Rattle.of_cells.specs.declared.cells.Cell.{Cell}
 use Rattle.of_nodes.specs.declared.tree.Node.{Node}
 use Rattle.of_nodes.specs.declared.properties.Property.{Property}
 use Rattle.of_nodes.specs.declared.phandles.Phandle.{Phandle}
 use Rattle.of_nodes.specs.declared.fault.NodeFault.{NodeFault}
 use Rattle.of_nodes.specs.declared.fault.NodeFault.TheVariants.{BadName, NoNode, TooManyNodes}
+use Rattle.of_nodes.specs.Methods.{is_method_name, method_in, with_method}
 use Rattle.of_nodes.specs.Names.{is_name}
 use Rattle.of_nodes.specs.Properties.{property_set, value_in, value_next, without}
 
@@ -41,9 +43,9 @@ pub record AreNodes (ns : List Node) : Type 0 where
   pub rooted : AreRooted 0 ns
   pub few : length ns ≤ most_nodes
 
--- a node without properties
+-- a node without properties and methods
 abbrev pub new_node : ℕ → Node
-new_node parent = record { parent = parent; properties = [] }
+new_node parent = record { parent = parent; properties = []; methods = [] }
 
 -- the phandle of a node made as the last child of one with a number, and the nodes then
 abbrev pub added_to : List Node → Option ℕ → Result (Phandle × List Node) NodeFault
@@ -107,10 +109,39 @@ deleted_at ns name (Some i) = Ok (tt, with_properties ns i (without (properties_
 abbrev pub property_deleted : List Node → Phandle → List ℕ → Result (Unit {0} × List Node) NodeFault
 property_deleted ns ph name = deleted_at ns name (number_of (length ns) ph)
 
+-- the methods of node i
+abbrev pub methods_in : List Node → ℕ → List (List ℕ × Cell)
+methods_in [] i = []
+methods_in (n ∷ ns) zero = n.methods
+methods_in (n ∷ ns) (suc i) = methods_in ns i
+
+-- the nodes with other methods of node i
+abbrev pub with_methods : List Node → ℕ → List (List ℕ × Cell) → List Node
+with_methods [] i ms = []
+with_methods (n ∷ ns) zero ms = record n { methods = ms } ∷ ns
+with_methods (n ∷ ns) (suc i) ms = n ∷ with_methods ns i ms
+
+-- the method of the name of the node with a phandle
+abbrev pub method_at : List Node → List ℕ → Option ℕ → Result (Option Cell) NodeFault
+method_at ns name None = Err NoNode
+method_at ns name (Some i) = Ok (method_in (methods_in ns i) name)
+
+abbrev pub method_found : List Node → Phandle → List ℕ → Result (Option Cell) NodeFault
+method_found ns ph name = method_at ns name (number_of (length ns) ph)
+
+-- what making a word a method of the node with a phandle leaves
+abbrev pub added_at : List Node → List ℕ → Cell → Option ℕ → Result (List Node) NodeFault
+added_at ns name xt None = Err NoNode
+added_at ns name xt (Some i) =
+    if is_method_name name then Ok (with_methods ns i (with_method (methods_in ns i) name xt)) else Err BadName
+
+abbrev pub method_added : List Node → Phandle → List ℕ → Cell → Result (List Node) NodeFault
+method_added ns ph name xt = added_at ns name xt (number_of (length ns) ph)
+
 -- the nodes with one more, which has these properties, and what making these left
 abbrev pub with_node :
     List Node → ℕ → Result (List (List ℕ × Property) × DataSpace) NodeFault → Result (List Node × DataSpace) NodeFault
-with_node ns parent (Ok x) = Ok (ns ++ record { parent = parent; properties = x.0 } ∷ [], x.1)
+with_node ns parent (Ok x) = Ok (ns ++ record (new_node parent) { properties = x.0 } ∷ [], x.1)
 with_node ns parent (Err fault) = Err fault
 
 -- the nodes with one more, whose property `name` is the value

@@ -1,7 +1,8 @@
-//! The device tree: nodes with properties in the order of insertion.
+//! The device tree: nodes with properties and methods.
 #![tactic(auto)]
 
 mod fault;
+mod methods;
 mod names;
 mod phandles;
 mod properties;
@@ -10,6 +11,7 @@ mod tests;
 mod tree;
 
 pub use fault::NodeFault;
+pub use methods::Methods;
 pub use names::is_name;
 pub use phandles::Phandle;
 pub use properties::{Properties, Property, Span};

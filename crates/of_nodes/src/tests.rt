@@ -1,4 +1,4 @@
-use crate::{NodeFault, Phandle, Properties, Property, Span, Tree, is_name};
+use crate::{Methods, NodeFault, Phandle, Properties, Property, Span, Tree, is_name};
 use of_cells::Cell;
 use of_memory::Memory;
 use std::test::Fail;
@@ -70,5 +70,32 @@ fn the_tree_at_first(rt: HostRuntime) -> Result<(), Fail> {
     assert_eq!(rt; tree.property(card, b"reg"), Ok(None));
     let refused = tree.set_property(&mut memory, card, b"a/b", b"");
     assert_eq!(rt; refused, Err(NodeFault::BadName));
+    Ok(())
+}
+
+#[test]
+fn a_newer_method_takes_the_place_of_its_name(rt: HostRuntime) -> Result<(), Fail> {
+    let mut memory = Memory::new(rt.alloc())?;
+    let mut tree = Tree::new(rt.alloc(), &mut memory)?;
+    let slot = Phandle::of(2);
+    tree.add_method(slot, b"Open", Cell(0xc000_0000))?;
+    tree.add_method(slot, b"OPEN", Cell(0xc000_0004))?;
+    assert_eq!(rt; tree.method(slot, b"open"), Ok(Some(Cell(0xc000_0004))));
+    assert_eq!(rt; tree.method(slot, b""), Ok(None));
+    let refused = tree.add_method(slot, b"", Cell(0xc000_0008));
+    assert_eq!(rt; refused, Err(NodeFault::BadName));
+    assert_eq!(rt;
+        tree.method(Phandle(Cell(0)), b"open"),
+        Err(NodeFault::NoNode)
+    );
+    Ok(())
+}
+
+#[test]
+fn methods_are_kept_in_lower_case(rt: HostRuntime) -> Result<(), Fail> {
+    let mut methods = Methods::new(rt.alloc());
+    methods.set(rt.alloc(), b"C@", Cell(0xc000_0000))?;
+    assert_eq!(rt; methods.get(b"c@"), Some(Cell(0xc000_0000)));
+    assert_eq!(rt; methods.get(b"w@"), None);
     Ok(())
 }

@@ -1,14 +1,16 @@
 ghost use Rattle.std.specs.Prelude.{◌≡◌, ◌<◌, ◌+◌, ◌⊎◌, max, length, drop, Ok, Err, IfSome, IfOk, IfErr, OnOk};
 ghost use Rattle.of_nodes.specs.Nodes.{child_from, child_found, first_tree, most_nodes, named_child, next_found};
-ghost use Rattle.of_nodes.specs.Nodes.{node_added};
+ghost use Rattle.of_nodes.specs.Nodes.{method_added, method_found, node_added};
 ghost use Rattle.of_nodes.specs.Nodes.{parent_found, parent_in, peer_found, property_deleted, property_found};
 ghost use Rattle.of_nodes.specs.Nodes.{tree_property_set};
 ghost use Rattle.of_nodes.specs.Outcomes.{Adds, Answers, Sets};
 
 use crate::fault::NodeFault;
+use crate::methods::{Methods, is_method_name};
 use crate::names::is_name;
 use crate::phandles::Phandle;
 use crate::properties::{Properties, Property};
+use of_cells::Cell;
 use of_memory::Memory;
 use std::alloc::Global;
 use std::marker::Model;
@@ -23,6 +25,8 @@ pub struct Node {
     pub parent: usize,
     /// Its properties.
     pub properties: Properties,
+    /// Its methods.
+    pub methods: Methods,
 }
 
 /// The nodes of a device tree by their numbers, the root first.
@@ -86,7 +90,12 @@ impl Tree {
         if let Err(fault) = properties.set(self.alloc, memory, b"name", value) {
             return Err(fault);
         }
-        self.nodes.push(Node { parent, properties })?;
+        let methods = Methods::new(self.alloc);
+        self.nodes.push(Node {
+            parent,
+            properties,
+            methods,
+        })?;
         Ok(())
     }
 
@@ -164,7 +173,7 @@ impl Tree {
         }
     }
 
-    /// Makes a node without properties, the last child of its parent.
+    /// Makes a node without properties and methods, the last child of its parent.
     ///
     /// NoNode, if the parent is none; TooManyNodes, if there are 1,024; or NoMemory. Then nothing changes.
     #[tactic(auto, using(crate::proofs::Rooted::added))]
@@ -179,7 +188,12 @@ impl Tree {
             return Err(NodeFault::TooManyNodes);
         }
         let properties = Properties::new(self.alloc);
-        self.nodes.push(Node { parent, properties })?;
+        let methods = Methods::new(self.alloc);
+        self.nodes.push(Node {
+            parent,
+            properties,
+            methods,
+        })?;
         Ok(Phandle::of(count))
     }
 
@@ -247,5 +261,35 @@ impl Tree {
         let node = &mut self.nodes[number];
         node.properties.remove(name);
         Ok(())
+    }
+
+    /// The execution token of the method of a node, if it has one of the name, whatever the case of ASCII
+    /// letters (IEEE 1275-1994, annex A, `find-method`).
+    ///
+    /// NoNode, if there is no such node.
+    pub fn method(&self, node: Phandle, name: &[u8]) -> Result<Option<Cell>, NodeFault>
+        ensures { result ≡ method_found self.now node name.now }
+    {
+        let Some(number) = node.number(self.nodes.len()) else {
+            return Err(NodeFault::NoNode);
+        };
+        Ok(self.nodes[number].methods.get(name))
+    }
+
+    /// Makes a word the method of a name of a node. A name that is there keeps its place.
+    ///
+    /// NoNode, if there is no such node; BadName, if the name doesn't have 1 to 31 bytes; or NoMemory.
+    /// Then nothing changes.
+    pub fn add_method(&mut self, node: Phandle, name: &[u8], xt: Cell) -> Result<(), NodeFault>
+        ensures { Sets result self.old self.new (method_added self.old node name.now xt) }
+    {
+        let Some(number) = node.number(self.nodes.len()) else {
+            return Err(NodeFault::NoNode);
+        };
+        if !is_method_name(name) {
+            return Err(NodeFault::BadName);
+        }
+        let node = &mut self.nodes[number];
+        node.methods.set(self.alloc, name, xt)
     }
 }

@@ -1,0 +1,90 @@
+ghost use Rattle.std.specs.Prelude.{◌≡◌, ◌≤◌, [], length, map, Ok};
+ghost use Rattle.std.specs.Char.{to_ascii_lowercase};
+ghost use Rattle.of_nodes.specs.Methods.{is_method_name, lower, method_in, with_method};
+ghost use Rattle.of_nodes.specs.Outcomes.{Sets};
+ghost use Rattle.of_nodes.specs.Properties.{value_in};
+
+use crate::fault::NodeFault;
+use arrayvec::ArrayVec;
+use indexmap::IndexMap;
+use of_cells::Cell;
+use std::alloc::Global;
+use std::marker::Model;
+
+/// The most bytes of a method's name.
+const LONGEST: usize = 31;
+
+/// The methods of a node by their names in lower case, in the order in which the names were first given.
+#[derive(Drop)]
+pub struct Methods {
+    entries: IndexMap<Vec<u8>, Cell>,
+}
+
+// Clauses see each name as bytes, with its word's execution token.
+impl Model for Methods {
+    ghost use Rattle.std.specs.Prelude.{ℕ, List, map};
+    ghost use Rattle.of_cells.specs.declared.cells.Cell.{Cell};
+
+    ghost Value = { List (List ℕ × Cell) };
+
+    ghost view = { λ m. map (λ e. (e.0.items, e.1)) m.entries.entries };
+}
+
+/// Whether a text has the length of a method's name, 1 to 31 bytes.
+pub(crate) fn is_method_name(text: &[u8]) -> bool
+    ensures { result ≡ is_method_name text.now }
+{
+    1 <= text.len() && text.len() <= LONGEST
+}
+
+/// A name with its ASCII letters in lower case.
+fn key_of(name: &[u8]) -> ArrayVec<u8, 31>
+    requires { length name.now ≤ 31 }
+    ensures { result.items ≡ lower name.now }
+{
+    let mut key = ArrayVec::new();
+    for byte in name {
+        key.push(byte.to_ascii_lowercase());
+    }
+    key
+}
+
+impl Methods {
+    /// No methods.
+    pub fn new(alloc: Global) -> Methods
+        ensures { result ≡ [] }
+    {
+        Methods {
+            entries: IndexMap::new(alloc),
+        }
+    }
+
+    /// The word that is kept under a name in lower case, if there is one.
+    fn kept(&self, key: &[u8]) -> Option<Cell>
+        ensures { result ≡ value_in self.now key.now }
+    {
+        self.entries.get(key).copied()
+    }
+
+    /// The execution token of the method of the name, if there is one.
+    pub fn get(&self, name: &[u8]) -> Option<Cell>
+        ensures { result ≡ method_in self.now name.now }
+    {
+        if !is_method_name(name) {
+            return None;
+        }
+        let key = key_of(name);
+        self.kept(key.as_slice())
+    }
+
+    /// Makes a word the method of the name. A name that is there keeps its place.
+    ///
+    /// NoMemory; then nothing changes.
+    pub fn set(&mut self, alloc: Global, name: &[u8], xt: Cell) -> Result<(), NodeFault>
+        ensures { Sets result self.old self.new (Ok (with_method self.old name.now xt)) }
+    {
+        let key = name.to_ascii_lowercase(alloc)?;
+        self.entries.insert(key, xt)?;
+        Ok(())
+    }
+}
