@@ -10,7 +10,7 @@ use Rattle.of_nodes.specs.declared.properties.Property.{Property}
 use Rattle.of_nodes.specs.declared.fault.NodeFault.{NodeFault}
 use Rattle.of_nodes.specs.declared.fault.NodeFault.TheVariants.{BadName}
 use Rattle.of_nodes.specs.Methods.{is_method_name, method_in, with_method}
-use Rattle.of_nodes.specs.Names.{is_name}
+use Rattle.of_nodes.specs.Names.{may_hold}
 use Rattle.of_nodes.specs.Outcomes.{Sets}
 use Rattle.of_nodes.specs.Properties.{property_set, value_in, value_next, without}
 use Rattle.of_nodes.specs.Nodes.{AreNodes, next_at, next_found, deleted_at, number_of, properties_in, property_at}
@@ -89,17 +89,17 @@ named_if t r e = rw e refl
 -- what the tree is set to is what the node is
 after_is :
     (ns old : List Node) (i count : ℕ) (ph : Phandle) (m : Node) (s : DataSpace) (name value : List ℕ)
-    → IsFound ns old i count ph m → is_name name ≡ true
+    → IsFound ns old i count ph m → may_hold name value ≡ true
     → tree_property_set s old ph name value ≡ set_in old i (property_set s m.properties name value)
 after_is ns old i count ph m s name value f good =
     ap (set_at s old name value) (number_is ns old i count ph m f)
-    ∙ (named_if (is_name name) (set_in old i (property_set s (properties_in old i) name value)) good
+    ∙ (named_if (may_hold name value) (set_in old i (property_set s (properties_in old i) name value)) good
     ∙ ap (λ (ps : List (List ℕ × Property)). set_in old i (property_set s ps name value))
     (properties_is ns old i count ph m f))
 
 pub set_is :
     (r : Result (Unit {0}) NodeFault) (ns old : List Node) (i count : ℕ) (ph : Phandle) (m : Node) (s t : DataSpace)
-    (name value : List ℕ) (ps : List (List ℕ × Property)) → IsFound ns old i count ph m → is_name name ≡ true
+    (name value : List ℕ) (ps : List (List ℕ × Property)) → IsFound ns old i count ph m → may_hold name value ≡ true
     → Sets r (m.properties, s) (ps, t) (property_set s m.properties name value)
     → Sets r (old, s) (set ns i (record m { properties = ps }), t) (tree_property_set s old ph name value)
 set_is (Ok x) ns old i count ph m s t name value ps f good h =

@@ -4,3 +4,4 @@ mod Rooted
 mod Changed
 mod First
 mod Order
+mod Placed

@@ -98,3 +98,6 @@ parent_before k (n ∷ ns) (suc i) h l =
 
 pub parent_small : (ns : List Node) (i : ℕ) → AreNodes ns → i < length ns → parent_in ns i < most_nodes
 parent_small ns i h l = let r = parent_before 0 ns i h.rooted l in omega (arith, r, h.few)
+
+pub parent_within : (ns : List Node) (i : ℕ) → AreNodes ns → i < length ns → parent_in ns i < length ns
+parent_within ns i h l = let r = parent_before 0 ns i h.rooted l in omega (arith, r)

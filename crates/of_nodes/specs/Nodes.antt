@@ -10,7 +10,7 @@ use Rattle.of_nodes.specs.declared.phandles.Phandle.{Phandle}
 use Rattle.of_nodes.specs.declared.fault.NodeFault.{NodeFault}
 use Rattle.of_nodes.specs.declared.fault.NodeFault.TheVariants.{BadName, NoNode, TooManyNodes}
 use Rattle.of_nodes.specs.Methods.{is_method_name, method_in, with_method}
-use Rattle.of_nodes.specs.Names.{is_name}
+use Rattle.of_nodes.specs.Names.{may_hold}
 use Rattle.of_nodes.specs.Properties.{property_set, value_in, value_next, without}
 
 -- the most nodes that are ever made
@@ -95,7 +95,7 @@ set_in ns i (Err fault) = Err fault
 abbrev pub set_at : DataSpace → List Node → List ℕ → List ℕ → Option ℕ → Result (List Node × DataSpace) NodeFault
 set_at m ns name value None = Err NoNode
 set_at m ns name value (Some i) =
-    if is_name name then set_in ns i (property_set m (properties_in ns i) name value) else Err BadName
+    if may_hold name value then set_in ns i (property_set m (properties_in ns i) name value) else Err BadName
 
 abbrev pub tree_property_set :
     DataSpace → List Node → Phandle → List ℕ → List ℕ → Result (List Node × DataSpace) NodeFault

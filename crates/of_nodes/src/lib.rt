@@ -1,9 +1,11 @@
 //! The device tree: nodes with properties and methods.
 #![tactic(auto)]
 
+mod components;
 mod fault;
 mod methods;
 mod names;
+mod paths;
 mod phandles;
 mod properties;
 #[cfg(test)]

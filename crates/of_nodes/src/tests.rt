@@ -99,3 +99,31 @@ fn methods_are_kept_in_lower_case(rt: HostRuntime) -> Result<(), Fail> {
     assert_eq!(rt; methods.get(b"w@"), None);
     Ok(())
 }
+
+#[test]
+fn a_path_has_the_unit_addresses(rt: HostRuntime) -> Result<(), Fail> {
+    let mut memory = Memory::new(rt.alloc())?;
+    let mut tree = Tree::new(rt.alloc(), &mut memory)?;
+    let card = tree.add_node(Phandle::of(2))?;
+    tree.set_property(&mut memory, card, b"name", b"card\0")?;
+    let reg = b"\x00\x00\x00\x01\xAB\xC0\x00\x00\x00\x00\x01\x00";
+    tree.set_property(&mut memory, card, b"reg", reg)?;
+    let path = tree.path_of(&memory, card)?;
+    assert_eq!(rt; path.as_slice(), b"/slot/card@1,abc00000".as_slice());
+    Ok(())
+}
+
+#[test]
+fn a_node_keeps_its_good_name(rt: HostRuntime) -> Result<(), Fail> {
+    let mut memory = Memory::new(rt.alloc())?;
+    let mut tree = Tree::new(rt.alloc(), &mut memory)?;
+    let slot = Phandle::of(2);
+    let before = tree.property(slot, b"name")?;
+    let refused = tree.set_property(&mut memory, slot, b"name", b"a/b\0");
+    assert_eq!(rt; refused, Err(NodeFault::BadName));
+    let refused = tree.set_property(&mut memory, slot, b"name", b"ab");
+    assert_eq!(rt; refused, Err(NodeFault::BadName));
+    assert_eq!(rt; tree.property(slot, b"name"), Ok(before));
+    assert_eq!(rt; memory.put_property(b""), Ok(Cell(0x20_0038)));
+    Ok(())
+}

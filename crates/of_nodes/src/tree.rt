@@ -3,11 +3,13 @@ ghost use Rattle.of_nodes.specs.Nodes.{child_from, child_found, first_tree, most
 ghost use Rattle.of_nodes.specs.Nodes.{method_added, method_found, node_added};
 ghost use Rattle.of_nodes.specs.Nodes.{parent_found, parent_in, peer_found, property_deleted, property_found};
 ghost use Rattle.of_nodes.specs.Nodes.{tree_property_set};
+ghost use Rattle.of_nodes.specs.Paths.{path_found};
 ghost use Rattle.of_nodes.specs.Outcomes.{Adds, Answers, Sets};
 
 use crate::fault::NodeFault;
 use crate::methods::{Methods, is_method_name};
-use crate::names::is_name;
+use crate::names::may_hold;
+use crate::paths::push_path;
 use crate::phandles::Phandle;
 use crate::properties::{Properties, Property};
 use of_cells::Cell;
@@ -63,7 +65,7 @@ fn next_child(nodes: &[Node], from: usize, parent: usize) -> Option<usize>
 
 /// The number of the node above one.
 #[tactic(auto, using(crate::proofs::Rooted::parent_read))]
-fn parent_number(nodes: &[Node], number: usize) -> usize
+pub(crate) fn parent_number(nodes: &[Node], number: usize) -> usize
     requires { number < length nodes.now }
     ensures { result ≡ parent_in nodes.now number }
 {
@@ -226,8 +228,9 @@ impl Tree {
     /// the property region, after its name if the property is new. A property that is there keeps its
     /// place.
     ///
-    /// NoNode, if there is no such node; BadName, if the name isn't good; PropertyFull, if the bytes
-    /// don't fit; or NoMemory. Then nothing changes, in memory either.
+    /// NoNode, if there is no such node; BadName, if the name isn't good, or it is `name` and the value
+    /// isn't a good name and one zero byte; PropertyFull, if the bytes don't fit; or NoMemory. Then
+    /// nothing changes, in memory either.
     pub fn set_property(
         &mut self,
         memory: &mut Memory,
@@ -241,7 +244,7 @@ impl Tree {
         let Some(number) = node.number(self.nodes.len()) else {
             return Err(NodeFault::NoNode);
         };
-        if !is_name(name) {
+        if !may_hold(name, value) {
             return Err(NodeFault::BadName);
         }
         let node = &mut self.nodes[number];
@@ -291,5 +294,25 @@ impl Tree {
         }
         let node = &mut self.nodes[number];
         node.methods.set(self.alloc, name, xt)
+    }
+
+    /// The path of a node: `/` and, from the root's child on down, the components with `/` between. A
+    /// component is the node's name, and `@` and its unit address if it has one (IEEE 1275-1994, 3.2.1.1).
+    ///
+    /// NoNode, if there is no such node; or NoMemory.
+    pub fn path_of(&self, memory: &Memory, node: Phandle) -> Result<Vec<u8>, NodeFault>
+        ensures found { IfOk result (λ path. path_found memory.now self.now node ≡ Ok path.items) }
+        ensures refused { IfErr result (λ e. (e ≡ NodeFault.NoMemory)
+            ⊎ (path_found memory.now self.now node ≡ Err e)) }
+    {
+        let Some(number) = node.number(self.nodes.len()) else {
+            return Err(NodeFault::NoNode);
+        };
+        let mut path = Vec::new(self.alloc);
+        if number == 0 {
+            path.push(b'/')?;
+        }
+        push_path(memory, &self.nodes, number, number, &mut path)?;
+        Ok(path)
     }
 }

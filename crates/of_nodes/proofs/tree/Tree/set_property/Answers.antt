@@ -1,5 +1,5 @@
 use Rattle.std.proofs.Common.{◌≡◌, true, rules, arith}
-use Rattle.of_nodes.specs.Names.{is_name}
+use Rattle.of_nodes.specs.Names.{may_hold}
 use Rattle.of_nodes.proofs.Changed.{IsFound, changed_at, set_is}
 use Rattle.of_nodes.proofs.tree.Tree.set_property.Goals as goal
 
@@ -20,7 +20,7 @@ returns c =
       within = omega (arith, c.len.ensures, c.self.inside.nodes.ok, c.in-Some.ensures.within);
       node = c.index_mut-node.ensures.value;
     } in
-    let good : is_name c.args.name.now ≡ true = search rules in
+    let good : may_hold c.args.name.now c.args.value.now ≡ true = search rules in
     set_is c.set.result ns c.args.self.now c.in-Some.number c.len.result c.args.node m c.args.memory.now
     c.set.new.memory
     c.args.name.now c.args.value.now c.set.new.self found good c.set.ensures

@@ -1,0 +1,38 @@
+-- The path of a node (IEEE 1275-1994, 3.2.1.1).
+use Rattle.std.specs.Prelude.{ℕ, zero, suc, ◌==◌, List, [], ◌∷◌, ◌++◌, length, Option, Some, None, Result, Ok, Err}
+use Rattle.std.specs.Prelude.{if◌then◌else◌}
+use Rattle.of_memory.specs.DataSpace.{DataSpace}
+use Rattle.of_nodes.specs.declared.tree.Node.{Node}
+use Rattle.of_nodes.specs.declared.phandles.Phandle.{Phandle}
+use Rattle.of_nodes.specs.declared.fault.NodeFault.{NodeFault}
+use Rattle.of_nodes.specs.declared.fault.NodeFault.TheVariants.{NoNode}
+use Rattle.of_nodes.specs.Components.{component}
+use Rattle.of_nodes.specs.Nodes.{new_node, number_of, parent_in}
+
+-- node i
+abbrev pub node_in : List Node → ℕ → Node
+node_in [] i = new_node 0
+node_in (n ∷ ns) zero = n
+node_in (n ∷ ns) (suc i) = node_in ns i
+
+-- how node i stands in a path
+abbrev pub component_in : DataSpace → List Node → ℕ → List ℕ
+component_in m ns i = component m (node_in ns (parent_in ns i)) (node_in ns i)
+
+-- the components from the root down to node i, which is at most k levels below it, each behind a `/`
+abbrev pub components_to : DataSpace → List Node → ℕ → ℕ → List ℕ
+components_to m ns zero i = []
+components_to m ns (suc k) i =
+    if i == 0 then [] else components_to m ns k (parent_in ns i) ++ 47 ∷ component_in m ns i
+
+-- the path of node i: it has fewer than i nodes above it but the root, since a parent is older than its children
+abbrev pub path_in : DataSpace → List Node → ℕ → List ℕ
+path_in m ns i = if i == 0 then 47 ∷ [] else components_to m ns i i
+
+-- the path of the node with a phandle
+abbrev pub path_at : DataSpace → List Node → Option ℕ → Result (List ℕ) NodeFault
+path_at m ns None = Err NoNode
+path_at m ns (Some i) = Ok (path_in m ns i)
+
+abbrev pub path_found : DataSpace → List Node → Phandle → Result (List ℕ) NodeFault
+path_found m ns ph = path_at m ns (number_of (length ns) ph)
