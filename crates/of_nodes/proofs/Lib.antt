@@ -5,3 +5,5 @@ mod Changed
 mod First
 mod Order
 mod Placed
+mod Split
+mod Walked

@@ -7,15 +7,20 @@ use Rattle.of_nodes.specs.declared.properties.Property.{Property}
 use Rattle.of_nodes.specs.Nodes.{AreNodes, AreRooted, methods_in, most_nodes, parent_in, properties_in, with_methods}
 use Rattle.of_nodes.specs.Nodes.{with_properties}
 
-rooted_push : (k : ℕ) (ns : List Node) (n : Node) → AreRooted k ns → n.parent < max 1 (k + length ns)
+pub rooted_push : (k : ℕ) (ns : List Node) (n : Node) → AreRooted k ns → n.parent < max 1 (k + length ns)
     → AreRooted k (ns ++ n ∷ [])
 rooted_push k [] n h l = (omega arith, tt)
 rooted_push k (m ∷ ns) n h l = (h.0, rooted_push (suc k) ns n h.1 (omega arith))
+
+pub rooted_more :
+    (ns : List Node) (n : Node) → AreRooted 0 ns → n.parent < max 1 (length ns) → AreRooted 0 (ns ++ n ∷ [])
+rooted_more ns n h l = rooted_push 0 ns n h (omega (arith, l))
 
 pub added : (ns : List Node) (n : Node) → AreNodes ns → n.parent < max 1 (length ns) → length ns < most_nodes
     → AreNodes (ns ++ n ∷ [])
 added ns n h l few = record {
   rooted = rooted_push 0 ns n h.rooted (omega arith);
+  three = rw length-append (let t = h.three in omega (arith, t));
   few = rw length-append (omega arith);
 }
 
@@ -35,6 +40,7 @@ pub changed : (ns : List Node) (i : ℕ) (ps : List (List ℕ × Property)) → 
     → AreNodes (with_properties ns i ps)
 changed ns i ps h = record {
   rooted = rooted_same 0 ns i ps h.rooted;
+  three = rw (length-with_properties ns i ps) h.three;
   few = rw (length-with_properties ns i ps) h.few;
 }
 
@@ -68,6 +74,7 @@ pub changed_methods : (ns : List Node) (i : ℕ) (ms : List (List ℕ × Cell)) 
     → AreNodes (with_methods ns i ms)
 changed_methods ns i ms h = record {
   rooted = rooted_methods 0 ns i ms h.rooted;
+  three = rw (length-with_methods ns i ms) h.three;
   few = rw (length-with_methods ns i ms) h.few;
 }
 

@@ -5,3 +5,5 @@ pub mod Outcomes
 pub mod Components
 pub mod Nodes
 pub mod Paths
+pub mod Texts
+pub mod Lookup

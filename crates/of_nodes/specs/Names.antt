@@ -1,5 +1,6 @@
 -- Names of nodes and of properties (IEEE 1275-1994, 3.2.1.1 and 3.2.2.1.1).
-use Rattle.std.specs.Prelude.{ℕ, Bool, ◌-◌, ◌&&◌, ◌||◌, not, nat_eq, nat_le, ◌==◌, codes, List, length, slice_index, take}
+use Rattle.std.specs.Prelude.{ℕ, Bool, ◌-◌, ◌&&◌, ◌||◌, not, nat_eq, nat_le, ◌==◌, codes, List, length}
+use Rattle.std.specs.Prelude.{slice_index, take}
 use Rattle.std.specs.Cmp.Lexicographic.{pointwise}
 use Rattle.std.specs.List.{list_all}
 

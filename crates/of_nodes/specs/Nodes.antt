@@ -38,9 +38,10 @@ abbrev pub AreRooted : ℕ → List Node → Type 0
 AreRooted i [] = Unit {0}
 AreRooted i (n ∷ ns) = (n.parent < max 1 i) × AreRooted (suc i) ns
 
--- the nodes of a tree
+-- the nodes of a tree, which are at least the first three
 pub record AreNodes (ns : List Node) : Type 0 where
   pub rooted : AreRooted 0 ns
+  pub three : 3 ≤ length ns
   pub few : length ns ≤ most_nodes
 
 -- a node without properties and methods

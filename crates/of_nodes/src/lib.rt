@@ -3,6 +3,7 @@
 
 mod components;
 mod fault;
+mod lookup;
 mod methods;
 mod names;
 mod paths;

@@ -51,7 +51,7 @@ fn key_of(name: &[u8]) -> ArrayVec<u8, 31>
 
 impl Methods {
     /// No methods.
-    pub fn new(alloc: Global) -> Methods
+    pub(crate) fn new(alloc: Global) -> Methods
         ensures { result ≡ [] }
     {
         Methods {
@@ -67,7 +67,7 @@ impl Methods {
     }
 
     /// The execution token of the method of the name, if there is one.
-    pub fn get(&self, name: &[u8]) -> Option<Cell>
+    pub(crate) fn get(&self, name: &[u8]) -> Option<Cell>
         ensures { result ≡ method_in self.now name.now }
     {
         if !is_method_name(name) {
@@ -80,7 +80,7 @@ impl Methods {
     /// Makes a word the method of the name. A name that is there keeps its place.
     ///
     /// NoMemory; then nothing changes.
-    pub fn set(&mut self, alloc: Global, name: &[u8], xt: Cell) -> Result<(), NodeFault>
+    pub(crate) fn set(&mut self, alloc: Global, name: &[u8], xt: Cell) -> Result<(), NodeFault>
         ensures { Sets result self.old self.new (Ok (with_method self.old name.now xt)) }
     {
         let key = name.to_ascii_lowercase(alloc)?;

@@ -1,4 +1,4 @@
-use crate::{Methods, NodeFault, Phandle, Properties, Property, Span, Tree, is_name};
+use crate::{NodeFault, Phandle, Properties, Property, Span, Tree, is_name};
 use of_cells::Cell;
 use of_memory::Memory;
 use std::test::Fail;
@@ -14,6 +14,144 @@ fn span(address: u32, length: u32) -> Span {
 /// A property by the places of its name and of its value.
 fn places(name: Span, value: Span) -> Option<Property> {
     Some(Property { name, value })
+}
+
+/// A phandle in hexadecimal, or none for `-`.
+fn phandle(word: Option<&str>) -> Result<Option<Phandle>, Fail> {
+    match word {
+        Some("-") | None => Ok(None),
+        Some(digits) => Ok(Some(Phandle(Cell(u32::from_str_radix(digits, 16)?)))),
+    }
+}
+
+/// Cells in hexadecimal, joined by commas, as bytes.
+fn cells(rt: &HostRuntime, word: &str) -> Result<Vec<u8>, Fail> {
+    let mut bytes = Vec::new(rt.alloc());
+    for digits in word.split(',') {
+        let cell = u32::from_str_radix(digits, 16)?;
+        bytes.extend_from_slice(&cell.to_be_bytes())?;
+    }
+    Ok(bytes)
+}
+
+/// Makes a node by its parent, its name and its `reg`, each `-` where there is none.
+fn make_node(
+    rt: &HostRuntime,
+    tree: &mut Tree,
+    memory: &mut Memory,
+    line: &str,
+) -> Result<(), Fail> {
+    let mut words = line.split_whitespace();
+    let Some(parent) = phandle(words.next())? else {
+        return Ok(());
+    };
+    let node = tree.add_node(parent)?;
+    let name = words.next().unwrap_or("-");
+    if name != "-" {
+        let mut value = Vec::from_slice(rt.alloc(), name.as_bytes())?;
+        value.push(0)?;
+        tree.set_property(memory, node, b"name", value.as_slice())?;
+    }
+    let reg = words.next().unwrap_or("-");
+    if reg != "-" {
+        tree.set_property(memory, node, b"reg", cells(rt, reg)?.as_slice())?;
+    }
+    Ok(())
+}
+
+/// The nodes d000000c on: parent, name, `reg`.
+const NODES: &str = "\
+d0000008 card 1,0,100
+d0000008 card 2,a0,100
+d0000008 disk -
+d0000008 disk -
+d0000014 part 3
+d0000018 part -
+d0000004 - -
+d0000004 p -
+d0000004 p -
+";
+
+/// Paths and their nodes.
+const PATHS: &str = "\
+/ d0000000
+/slot d0000008
+/slot/card d000000c
+/slot/card@1,0 d000000c
+/slot/card@2,a0 d0000010
+/slot/@2,a0 d0000010
+/slot/card@ -
+/slot/card@02,a0 -
+/slot/disk@1,0 -
+/slot/card@2,a0:1,x d0000010
+/slot:9600,8/disk:a d0000014
+/slot/disk/part d000001c
+/slot//part -
+/slot/ -
+//slot -
+slot -
+/SLOT -
+/packages/ d0000024
+/packages/p d0000028
+/packages/: d0000024
+";
+
+/// Paths below `/packages` and their nodes.
+const PACKAGES: &str = "\
+p d000002c
+p:x d000002c
+/ -
+/p -
+packages -
+";
+
+/// Nodes and their paths.
+const NODE_PATHS: &str = "\
+d0000000 /
+d0000010 /slot/card@2,a0
+d0000018 /slot/disk
+d000001c /slot/disk/part
+d0000024 /packages/
+d000002c /packages/p
+";
+
+#[test]
+fn nodes_by_their_paths(rt: HostRuntime) -> Result<(), Fail> {
+    let mut memory = Memory::new(rt.alloc())?;
+    let mut tree = Tree::new(rt.alloc(), &mut memory)?;
+    for line in NODES.lines() {
+        make_node(&rt, &mut tree, &mut memory, line)?;
+    }
+    for line in PATHS.lines() {
+        let mut words = line.split_whitespace();
+        let path = words.next().unwrap_or("");
+        let wanted = phandle(words.next())?;
+        assert_eq!(rt; tree.find(&memory, path.as_bytes()), wanted, "{line}");
+    }
+    for line in PACKAGES.lines() {
+        let mut words = line.split_whitespace();
+        let path = words.next().unwrap_or("");
+        let wanted = phandle(words.next())?;
+        assert_eq!(rt;
+            tree.find_package(&memory, path.as_bytes()),
+            wanted,
+            "{line}"
+        );
+    }
+    assert_eq!(rt; tree.find_package(&memory, b""), Some(Phandle::of(1)));
+    for line in NODE_PATHS.lines() {
+        let mut words = line.split_whitespace();
+        let Some(node) = phandle(words.next())? else {
+            continue;
+        };
+        let path = tree.path_of(&memory, node)?;
+        assert_eq!(rt;
+            path.as_slice(),
+            words.next().unwrap_or("").as_bytes(),
+            "{line}"
+        );
+    }
+    Ok(())
 }
 
 #[test]
@@ -88,15 +226,6 @@ fn a_newer_method_takes_the_place_of_its_name(rt: HostRuntime) -> Result<(), Fai
         tree.method(Phandle(Cell(0)), b"open"),
         Err(NodeFault::NoNode)
     );
-    Ok(())
-}
-
-#[test]
-fn methods_are_kept_in_lower_case(rt: HostRuntime) -> Result<(), Fail> {
-    let mut methods = Methods::new(rt.alloc());
-    methods.set(rt.alloc(), b"C@", Cell(0xc000_0000))?;
-    assert_eq!(rt; methods.get(b"c@"), Some(Cell(0xc000_0000)));
-    assert_eq!(rt; methods.get(b"w@"), None);
     Ok(())
 }
 

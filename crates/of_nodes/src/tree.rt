@@ -1,12 +1,13 @@
 ghost use Rattle.std.specs.Prelude.{◌≡◌, ◌<◌, ◌+◌, ◌⊎◌, max, length, drop, Ok, Err, IfSome, IfOk, IfErr, OnOk};
-ghost use Rattle.of_nodes.specs.Nodes.{child_from, child_found, first_tree, most_nodes, named_child, next_found};
-ghost use Rattle.of_nodes.specs.Nodes.{method_added, method_found, node_added};
-ghost use Rattle.of_nodes.specs.Nodes.{parent_found, parent_in, peer_found, property_deleted, property_found};
-ghost use Rattle.of_nodes.specs.Nodes.{tree_property_set};
+ghost use Rattle.of_nodes.specs.Nodes.{AreRooted, child_from, child_found, first_tree, method_added, method_found};
+ghost use Rattle.of_nodes.specs.Nodes.{named_child, next_found, node_added, parent_found, parent_in, peer_found};
+ghost use Rattle.of_nodes.specs.Nodes.{property_deleted, property_found, tree_property_set};
+ghost use Rattle.of_nodes.specs.Lookup.{found, package_found};
 ghost use Rattle.of_nodes.specs.Paths.{path_found};
 ghost use Rattle.of_nodes.specs.Outcomes.{Adds, Answers, Sets};
 
 use crate::fault::NodeFault;
+use crate::lookup::{Age, found_below};
 use crate::methods::{Methods, is_method_name};
 use crate::names::may_hold;
 use crate::paths::push_path;
@@ -19,6 +20,12 @@ use std::marker::Model;
 
 /// The most nodes that are ever made.
 const MOST_NODES: usize = 1024;
+
+/// The number of `/`.
+const ROOT: usize = 0;
+
+/// The number of `/packages`.
+const PACKAGES: usize = 1;
 
 /// A node of the device tree (IEEE 1275-1994, 3.2.1).
 #[derive(Drop)]
@@ -72,35 +79,38 @@ pub(crate) fn parent_number(nodes: &[Node], number: usize) -> usize
     nodes[number].parent
 }
 
-impl Tree {
-    /// Makes a node with a name.
-    #[tactic(auto, using(crate::proofs::Rooted::added, crate::proofs::First::named))]
-    fn add_named(
-        &mut self,
-        memory: &mut Memory,
-        parent: usize,
-        value: &[u8],
-    ) -> Result<(), NodeFault>
-        requires parent { parent < max 1 (length self.old) }
-        requires few { length self.old < most_nodes }
-        ensures made { OnOk result (named_child self.old memory.old parent value.now ≡ Ok (self.new, memory.new)) }
-        ensures refused { IfErr result (λ e. (e ≡ NodeFault.NoMemory)
-            ⊎ (named_child self.old memory.old parent value.now ≡ Err e)) }
-        ensures len { OnOk result (length self.new ≡ length self.old + 1) }
-    {
-        let mut properties = Properties::new(self.alloc);
-        if let Err(fault) = properties.set(self.alloc, memory, b"name", value) {
-            return Err(fault);
-        }
-        let methods = Methods::new(self.alloc);
-        self.nodes.push(Node {
-            parent,
-            properties,
-            methods,
-        })?;
-        Ok(())
+/// Makes a node with a name.
+#[tactic(auto, using(crate::proofs::Rooted::rooted_more, crate::proofs::First::named))]
+fn push_named(
+    nodes: &mut Vec<Node>,
+    alloc: Global,
+    memory: &mut Memory,
+    parent: usize,
+    value: &[u8],
+) -> Result<(), NodeFault>
+    requires parent { parent < max 1 (length nodes.old.items) }
+    requires rooted { AreRooted 0 nodes.old.items }
+    ensures made { OnOk result
+        (named_child nodes.old.items memory.old parent value.now ≡ Ok (nodes.new.items, memory.new)) }
+    ensures refused { IfErr result (λ e. (e ≡ NodeFault.NoMemory)
+        ⊎ (named_child nodes.old.items memory.old parent value.now ≡ Err e)) }
+    ensures len { OnOk result (length nodes.new.items ≡ length nodes.old.items + 1) }
+    ensures still_rooted { OnOk result (AreRooted 0 nodes.new.items) }
+{
+    let mut properties = Properties::new(alloc);
+    if let Err(fault) = properties.set(alloc, memory, b"name", value) {
+        return Err(fault);
     }
+    let methods = Methods::new(alloc);
+    nodes.push(Node {
+        parent,
+        properties,
+        methods,
+    })?;
+    Ok(())
+}
 
+impl Tree {
     /// The tree at first: `/`, which has the name `board`, and its children `/packages` and `/slot`.
     ///
     /// PropertyFull, if the names don't fit into the property region; or NoMemory. Then there is no
@@ -110,18 +120,17 @@ impl Tree {
         ensures made { IfOk result (λ t. first_tree memory.old ≡ Ok (t, memory.new)) }
         ensures refused { IfErr result (λ e. (e ≡ NodeFault.NoMemory) ⊎ (first_tree memory.old ≡ Err e)) }
     {
-        let nodes = Vec::new(alloc);
-        let mut tree = Tree { nodes, alloc };
-        if let Err(fault) = tree.add_named(memory, 0, b"board\0") {
+        let mut nodes = Vec::new(alloc);
+        if let Err(fault) = push_named(&mut nodes, alloc, memory, 0, b"board\0") {
             return Err(fault);
         }
-        if let Err(fault) = tree.add_named(memory, 0, b"packages\0") {
+        if let Err(fault) = push_named(&mut nodes, alloc, memory, 0, b"packages\0") {
             return Err(fault);
         }
-        if let Err(fault) = tree.add_named(memory, 0, b"slot\0") {
+        if let Err(fault) = push_named(&mut nodes, alloc, memory, 0, b"slot\0") {
             return Err(fault);
         }
-        Ok(tree)
+        Ok(Tree { nodes, alloc })
     }
 
     /// The node above a node; the root has none.
@@ -314,5 +323,32 @@ impl Tree {
         }
         push_path(memory, &self.nodes, number, number, &mut path)?;
         Ok(path)
+    }
+
+    /// The node of a path, if there is one (IEEE 1275-1994, 4.3.1). The path begins with `/`; each component
+    /// is `name`, `name@unit` or `@unit`, perhaps with `:` and arguments behind, and stands for the oldest
+    /// child that it fits.
+    pub fn find(&self, memory: &Memory, path: &[u8]) -> Option<Phandle>
+        ensures { result ≡ found memory.now self.now path.now }
+    {
+        if path.len() == 0 || path[0] != b'/' {
+            return None;
+        }
+        match found_below(memory, &self.nodes, Age::Oldest, ROOT, &path[1..]) {
+            Some(number) => Some(Phandle::of(number)),
+            None => None,
+        }
+    }
+
+    /// The node of a path below `/packages`, if there is one (IEEE 1275-1994, annex A, `find-package`). The
+    /// path doesn't begin with `/`, and the empty one is that of `/packages`; each component stands for the
+    /// newest child that it fits, as in [`Tree::find`].
+    pub fn find_package(&self, memory: &Memory, path: &[u8]) -> Option<Phandle>
+        ensures { result ≡ package_found memory.now self.now path.now }
+    {
+        match found_below(memory, &self.nodes, Age::Newest, PACKAGES, path) {
+            Some(number) => Some(Phandle::of(number)),
+            None => None,
+        }
     }
 }
