@@ -7,3 +7,4 @@ mod Order
 mod Placed
 mod Split
 mod Walked
+mod Shown

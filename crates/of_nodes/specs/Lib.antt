@@ -7,3 +7,4 @@ pub mod Nodes
 pub mod Paths
 pub mod Texts
 pub mod Lookup
+pub mod Tree

@@ -3,6 +3,7 @@
 
 mod components;
 mod fault;
+mod laws;
 mod lookup;
 mod methods;
 mod names;
@@ -14,6 +15,7 @@ mod tests;
 mod tree;
 
 pub use fault::NodeFault;
+pub use laws::tree_is_shown;
 pub use methods::Methods;
 pub use names::is_name;
 pub use phandles::Phandle;

@@ -256,3 +256,33 @@ fn a_node_keeps_its_good_name(rt: HostRuntime) -> Result<(), Fail> {
     assert_eq!(rt; memory.put_property(b""), Ok(Cell(0x20_0038)));
     Ok(())
 }
+
+#[test]
+fn the_property_region_is_filled_to_its_last_byte(rt: HostRuntime) -> Result<(), Fail> {
+    let mut memory = Memory::new(rt.alloc())?;
+    let mut tree = Tree::new(rt.alloc(), &mut memory)?;
+    let slot = Phandle::of(2);
+    let mut value = cells(&rt, "1")?;
+    value.resize("131013".parse()?, 1)?;
+    let refused = tree.set_property(&mut memory, slot, b"a", value.as_slice());
+    assert_eq!(rt; refused, Err(NodeFault::PropertyFull));
+    value.truncate("131012".parse()?);
+    tree.set_property(&mut memory, slot, b"a", value.as_slice())?;
+    assert_eq!(rt; memory.read8(Cell(0x21_ffff)), Ok(1));
+    let refused = tree.set_property(&mut memory, slot, b"b", b"");
+    assert_eq!(rt; refused, Err(NodeFault::PropertyFull));
+    Ok(())
+}
+
+#[test]
+fn nodes_are_1024(rt: HostRuntime) -> Result<(), Fail> {
+    let mut memory = Memory::new(rt.alloc())?;
+    let mut tree = Tree::new(rt.alloc(), &mut memory)?;
+    for _ in 3..1024 {
+        tree.add_node(Phandle::of(0))?;
+    }
+    let refused = tree.add_node(Phandle::of(0));
+    assert_eq!(rt; refused, Err(NodeFault::TooManyNodes));
+    assert_eq!(rt; tree.peer(Phandle::of(1023)), Ok(None));
+    Ok(())
+}
