@@ -8,3 +8,5 @@ mod Placed
 mod Split
 mod Walked
 mod Shown
+mod Fitting
+mod Ways

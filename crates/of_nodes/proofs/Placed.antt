@@ -12,7 +12,7 @@ node_read [] i n l e = absurd (omega arith)
 node_read (m ∷ ns) zero n l e = e
 node_read (m ∷ ns) (suc i) n l e = node_read ns i n (omega arith) e
 
-nonzero : (i : ℕ) → 0 < i → (i == 0) ≡ false
+pub nonzero : (i : ℕ) → 0 < i → (i == 0) ≡ false
 nonzero i h = grind (arith, nat_tests)
 
 -- a path that ends is that of the node above and one more component

@@ -1,5 +1,5 @@
 -- Lists of nodes.
-use Rattle.std.proofs.Common.{◌≡◌, ℕ, ◌+◌, ◌<◌, max, zero, suc, List, [], ◌∷◌, ◌++◌, length, get_or, set, refl, ap}
+use Rattle.std.proofs.Common.{◌≡◌, ℕ, ◌+◌, ◌<◌, ◌≤◌, max, zero, suc, List, [], ◌∷◌, ◌++◌, length, get_or, set, refl, ap}
 use Rattle.std.proofs.Common.{arith, length-append}
 use Rattle.of_cells.specs.declared.cells.Cell.{Cell}
 use Rattle.of_nodes.specs.declared.tree.Node.{Node}
@@ -108,3 +108,6 @@ parent_small ns i h l = let r = parent_before 0 ns i h.rooted l in omega (arith,
 
 pub parent_within : (ns : List Node) (i : ℕ) → AreNodes ns → i < length ns → parent_in ns i < length ns
 parent_within ns i h l = let r = parent_before 0 ns i h.rooted l in omega (arith, r)
+
+pub parent_older : (ns : List Node) (i : ℕ) → AreNodes ns → i < length ns → 1 ≤ i → parent_in ns i < i
+parent_older ns i h l one = let r = parent_before 0 ns i h.rooted l in omega (arith, r, one)

@@ -17,7 +17,7 @@ split_step :
 split_step true x xs h ih = rw h refl
 split_step false x xs h ih = rw h (ap (with_byte x) ih)
 
-split_is : (xs : List ℕ) → split xs ≡ before 47 xs ∷ rest_of (behind 47 xs)
+pub split_is : (xs : List ℕ) → split xs ≡ before 47 xs ∷ rest_of (behind 47 xs)
 split_is [] = refl
 split_is (x ∷ xs) = split_step (x == 47) x xs refl (split_is xs)
 

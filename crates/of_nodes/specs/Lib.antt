@@ -8,3 +8,4 @@ pub mod Paths
 pub mod Texts
 pub mod Lookup
 pub mod Tree
+pub mod Ways

@@ -1,9 +1,17 @@
 //! What the calls over the nodes say of the tree.
 ghost use Rattle.of_nodes.specs.Tree.{TreeIsShown};
+ghost use Rattle.of_nodes.specs.Ways.{PathsFind};
 
 /// The parent of a node is the one round it in the tree, its child the first of its children, and its peer
 /// the sibling behind it.
 #[tactic(auto, using(crate::proofs::Shown::tree_is_shown))]
 pub fn tree_is_shown()
     ensures { TreeIsShown }
+{}
+
+/// The path of the root finds the root. So does that of a node below one whose path finds it, unless its
+/// component fits an older sibling.
+#[tactic(auto, using(crate::proofs::Ways::paths_find))]
+pub fn paths_find()
+    ensures { PathsFind }
 {}

@@ -1,4 +1,6 @@
-use crate::{NodeFault, Phandle, Properties, Property, Span, Tree, is_name};
+use crate::{
+    NodeFault, Phandle, Properties, Property, Span, Tree, is_name, paths_find, tree_is_shown,
+};
 use of_cells::Cell;
 use of_memory::Memory;
 use std::test::Fail;
@@ -117,6 +119,8 @@ d000002c /packages/p
 
 #[test]
 fn nodes_by_their_paths(rt: HostRuntime) -> Result<(), Fail> {
+    paths_find();
+    tree_is_shown();
     let mut memory = Memory::new(rt.alloc())?;
     let mut tree = Tree::new(rt.alloc(), &mut memory)?;
     for line in NODES.lines() {
@@ -284,5 +288,23 @@ fn nodes_are_1024(rt: HostRuntime) -> Result<(), Fail> {
     let refused = tree.add_node(Phandle::of(0));
     assert_eq!(rt; refused, Err(NodeFault::TooManyNodes));
     assert_eq!(rt; tree.peer(Phandle::of(1023)), Ok(None));
+    Ok(())
+}
+
+// To be run with one allocation after another refused.
+#[test]
+fn a_refused_growth_changes_nothing(rt: HostRuntime) -> Result<(), Fail> {
+    let mut memory = Memory::new(rt.alloc())?;
+    let mut tree = Tree::new(rt.alloc(), &mut memory)?;
+    let slot = Phandle::of(2);
+    if let Err(fault) = tree.set_property(&mut memory, slot, b"reg", b"1234") {
+        assert_eq!(rt; fault, NodeFault::NoMemory);
+        assert_eq!(rt; tree.property(slot, b"reg"), Ok(None));
+        assert_eq!(rt; memory.put_property(b""), Ok(Cell(0x20_0038)));
+    }
+    if let Err(fault) = tree.add_node(slot) {
+        assert_eq!(rt; fault, NodeFault::NoMemory);
+        assert_eq!(rt; tree.child(slot), Ok(None));
+    }
     Ok(())
 }
