@@ -10,3 +10,4 @@ mod Walked
 mod Shown
 mod Fitting
 mod Ways
+mod Standing

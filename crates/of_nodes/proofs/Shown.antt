@@ -7,7 +7,7 @@ use Rattle.of_nodes.specs.declared.tree.Node.{Node}
 use Rattle.of_nodes.specs.Nodes.{AreNodes, AreRooted, child_at, child_from, first_phandle, methods_in}
 use Rattle.of_nodes.specs.Nodes.{number_of, parent_at, parent_in, peer_at, phandle_in, phandle_of}
 use Rattle.of_nodes.specs.Nodes.{properties_in}
-use Rattle.of_nodes.specs.Tree.{AreShown, IsShown, Nobody, TreeIsShown, below, oldest}
+use Rattle.of_nodes.specs.Tree.{AreShown, IsShown, Nobody, below, oldest, tree_of}
 
 -- the oldest of the nodes with a parent is the first that the calls find
 oldest_step :
@@ -36,14 +36,14 @@ number_is k count l =
     rw (test_false k, distance, whole, quarter, test_true k count l) refl
 
 -- node k, with those after it
-record IsAt (full : List Node) (k : ℕ) (n : Node) (ns : List Node) : Type 0 where
+pub record IsAt (full : List Node) (k : ℕ) (n : Node) (ns : List Node) : Type 0 where
   pub parent : parent_in full k ≡ n.parent
   pub properties : n.properties ≡ properties_in full k
   pub methods : n.methods ≡ methods_in full k
   pub rest : drop (suc k) full ≡ ns
   pub within : k < length full
 
-is_at : (full : List Node) (k : ℕ) (n : Node) (ns : List Node) → drop k full ≡ n ∷ ns → IsAt full k n ns
+pub is_at : (full : List Node) (k : ℕ) (n : Node) (ns : List Node) → drop k full ≡ n ∷ ns → IsAt full k n ns
 is_at [] zero n ns h = cc
 is_at [] (suc k) n ns h = cc
 is_at (m ∷ full) zero n ns h =
@@ -91,7 +91,7 @@ younger (n ∷ ns) i h =
 nonzero : (i : ℕ) → 1 ≤ i → (i == 0) ≡ false
 nonzero i h = grind (arith, nat_tests)
 
-equal : (a b : ℕ) → (a == b) ≡ true → a ≡ b
+pub equal : (a b : ℕ) → (a == b) ≡ true → a ≡ b
 equal a b h = grind (arith, nat_tests)
 
 shown_node :
@@ -131,9 +131,9 @@ shown_below full p k (n ∷ ns) h d one =
     below_step (n.parent == p) full p k n ns h at one refl (shown_below full k (suc k) ns h at.rest more)
     (shown_below full p (suc k) ns h at.rest more)
 
-pub tree_is_shown : TreeIsShown
-tree_is_shown [] h = tt
-tree_is_shown (n ∷ ns) h =
+pub shown : (ns : List Node) → AreNodes ns → AreShown ns None (tree_of ns)
+shown [] h = tt
+shown (n ∷ ns) h =
     let number : number_of (length (n ∷ ns)) (phandle_of 0) ≡ Some 0 = number_is 0 (length (n ∷ ns)) (omega arith) in
     let root : IsShown (n ∷ ns) None 0 n.properties n.methods (below 0 1 ns) Nobody =
     record {

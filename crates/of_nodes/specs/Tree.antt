@@ -1,5 +1,6 @@
 -- The device tree as what it is: nodes with properties, methods and children (IEEE 1275-1994, 3.2.1).
-use Rattle.std.specs.Prelude.{ℕ, suc, ◌≡◌, ◌==◌, List, [], ◌∷◌, Option, Some, None, Ok, if◌then◌else◌}
+use Rattle.std.specs.Prelude.{ℕ, suc, ◌≡◌, ◌<◌, ◌==◌, ◌⊎◌, List, [], ◌∷◌, length, Option, Some, None, Ok}
+use Rattle.std.specs.Prelude.{if◌then◌else◌}
 use Rattle.of_cells.specs.declared.cells.Cell.{Cell}
 use Rattle.of_nodes.specs.declared.properties.Property.{Property}
 use Rattle.of_nodes.specs.declared.tree.Node.{Node}
@@ -44,6 +45,13 @@ AreShown ns above Nobody = Unit {0}
 AreShown ns above (Sibling i properties methods children younger) =
     IsShown ns above i properties methods children younger × AreShown ns (Some i) children × AreShown ns above younger
 
--- `parent`, `child` and `peer` give the enclosing node, the first child and the next sibling in the tree
-abbrev pub TreeIsShown : Type 0
-TreeIsShown = (ns : List Node) → AreNodes ns → AreShown ns None (tree_of ns)
+-- node i is one of some siblings, or below one
+abbrev pub Stands : ℕ → Siblings → Type 0
+Stands i Nobody = ⊥
+Stands i (Sibling j properties methods children younger) = (i ≡ j) ⊎ Stands i children ⊎ Stands i younger
+
+-- Each node stands in the tree, and `parent`, `child` and `peer` give the node round it, the first of its children
+-- and the sibling behind it.
+pub record TreeIsShown : Type 0 where
+  pub whole : (ns : List Node) (i : ℕ) → AreNodes ns → i < length ns → Stands i (tree_of ns)
+  pub shown : (ns : List Node) → AreNodes ns → AreShown ns None (tree_of ns)

@@ -2,9 +2,9 @@
 ghost use Rattle.of_nodes.specs.Tree.{TreeIsShown};
 ghost use Rattle.of_nodes.specs.Ways.{PathsFind};
 
-/// The parent of a node is the one round it in the tree, its child the first of its children, and its peer
-/// the sibling behind it.
-#[tactic(auto, using(crate::proofs::Shown::tree_is_shown))]
+/// Each node stands in the tree; its parent is the one round it there, its child the first of its children,
+/// and its peer the sibling behind it.
+#[tactic(auto, using(crate::proofs::Standing::tree_is_shown))]
 pub fn tree_is_shown()
     ensures { TreeIsShown }
 {}
