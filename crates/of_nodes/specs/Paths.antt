@@ -6,7 +6,7 @@ use Rattle.of_nodes.specs.declared.tree.Node.{Node}
 use Rattle.of_nodes.specs.declared.phandles.Phandle.{Phandle}
 use Rattle.of_nodes.specs.declared.fault.NodeFault.{NodeFault}
 use Rattle.of_nodes.specs.declared.fault.NodeFault.TheVariants.{NoNode}
-use Rattle.of_nodes.specs.Components.{component}
+use Rattle.of_nodes.specs.Components.{address_cells, component}
 use Rattle.of_nodes.specs.Nodes.{new_node, number_of, parent_in}
 
 -- node i
@@ -36,3 +36,11 @@ path_at m ns (Some i) = Ok (path_in m ns i)
 
 abbrev pub path_found : DataSpace → List Node → Phandle → Result (List ℕ) NodeFault
 path_found m ns ph = path_at m ns (number_of (length ns) ph)
+
+-- how many cells the addresses below the node with a phandle have
+abbrev pub cells_at : DataSpace → List Node → Option ℕ → Result ℕ NodeFault
+cells_at m ns None = Err NoNode
+cells_at m ns (Some i) = Ok (address_cells m (node_in ns i))
+
+abbrev pub cells_found : DataSpace → List Node → Phandle → Result ℕ NodeFault
+cells_found m ns ph = cells_at m ns (number_of (length ns) ph)

@@ -243,6 +243,10 @@ fn a_path_has_the_unit_addresses(rt: HostRuntime) -> Result<(), Fail> {
     tree.set_property(&mut memory, card, b"reg", reg)?;
     let path = tree.path_of(&memory, card)?;
     assert_eq!(rt; path.as_slice(), b"/slot/card@1,abc00000".as_slice());
+    let slot = Phandle::of(2);
+    tree.set_property(&mut memory, slot, b"#address-cells", b"\0\0\0\x03")?;
+    assert_eq!(rt; tree.address_cells(&memory, slot), Ok(3));
+    assert_eq!(rt; tree.address_cells(&memory, card), Ok(2));
     Ok(())
 }
 

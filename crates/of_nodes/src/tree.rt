@@ -1,16 +1,17 @@
-ghost use Rattle.std.specs.Prelude.{◌≡◌, ◌<◌, ◌+◌, ◌⊎◌, max, length, drop, Ok, Err, IfSome, IfOk, IfErr, OnOk};
+ghost use Rattle.std.specs.Prelude.{◌≡◌, ◌<◌, ◌≤◌, ◌+◌, ◌⊎◌, max, length, drop, Ok, Err, IfSome, IfOk, IfErr, OnOk};
 ghost use Rattle.of_nodes.specs.Nodes.{AreRooted, child_from, child_found, first_tree, method_added, method_found};
 ghost use Rattle.of_nodes.specs.Nodes.{named_child, next_found, node_added, parent_found, parent_in, peer_found};
 ghost use Rattle.of_nodes.specs.Nodes.{property_deleted, property_found, tree_property_set};
 ghost use Rattle.of_nodes.specs.Lookup.{found, package_found};
-ghost use Rattle.of_nodes.specs.Paths.{path_found};
+ghost use Rattle.of_nodes.specs.Paths.{cells_found, path_found};
 ghost use Rattle.of_nodes.specs.Outcomes.{Adds, Answers, Sets};
 
+use crate::components::address_cells;
 use crate::fault::NodeFault;
 use crate::lookup::{Age, found_below};
 use crate::methods::{Methods, is_method_name};
 use crate::names::may_hold;
-use crate::paths::push_path;
+use crate::paths::{node_at, push_path};
 use crate::phandles::Phandle;
 use crate::properties::{Properties, Property};
 use of_cells::Cell;
@@ -350,5 +351,19 @@ impl Tree {
             Some(number) => Some(Phandle::of(number)),
             None => None,
         }
+    }
+
+    /// How many cells the addresses of a node's children have: its `#address-cells` if that is 4 bytes that
+    /// hold 1 to 4, else 2 (IEEE 1275-1994, annex A, `#address-cells`).
+    ///
+    /// NoNode, if there is no such node.
+    pub fn address_cells(&self, memory: &Memory, node: Phandle) -> Result<usize, NodeFault>
+        ensures value { result ≡ cells_found memory.now self.now node }
+        ensures few { IfOk result (λ count. count ≤ 4) }
+    {
+        let Some(number) = node.number(self.nodes.len()) else {
+            return Err(NodeFault::NoNode);
+        };
+        Ok(address_cells(memory, node_at(&self.nodes, number)))
     }
 }
