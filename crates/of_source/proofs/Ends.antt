@@ -1,0 +1,45 @@
+-- What stands at the end of a list, latest first.
+use Rattle.std.proofs.Common.{◌≡◌, ◌≤◌, ℕ, List, [], ◌∷◌, ◌++◌, length, get_or, nat_eq, if◌then◌else◌, refl, ap, sym}
+use Rattle.std.proofs.Common.{◌∙◌, zero, suc, arith}
+use Rattle.std.proofs.lemmas.List.{reverse-append}
+use Rattle.std.specs.Prelude.{reverse}
+use Rattle.std.proofs.lemmas.Bool.Decides.{nat_tests}
+use Rattle.of_source.specs.declared.nesting.Frame.{Frame}
+use Rattle.of_source.specs.Nesting.{last_or, earliest_of}
+
+last_or_last : (d : ℕ) (xs : List ℕ) (x : ℕ) → last_or d (xs ++ x ∷ []) ≡ x
+last_or_last d [] x = refl
+last_or_last d (y ∷ ys) x = last_or_last y ys x
+
+pub last_or_reverse : (d e : ℕ) (xs : List ℕ) → 1 ≤ length xs → last_or d (reverse xs) ≡ get_or xs 0 e
+last_or_reverse d e [] h = absurd (omega arith)
+last_or_reverse d e (x ∷ xs) h = ap (last_or d) (reverse-append (x ∷ []) xs) ∙ last_or_last d (reverse xs) x
+
+earliest_last : (line : ℕ) (fs : List Frame) (f : Frame)
+    → earliest_of line (fs ++ f ∷ []) ≡ (if nat_eq f.beneath 0 then f.line else line)
+earliest_last line [] f = refl
+earliest_last line (g ∷ []) f = refl
+earliest_last line (g ∷ h ∷ gs) f = earliest_last line (h ∷ gs) f
+
+pub earliest_reverse : (line : ℕ) (e : Frame) (fs : List Frame) → 1 ≤ length fs
+    → earliest_of line (reverse fs) ≡ (if nat_eq (get_or fs 0 e).beneath 0 then (get_or fs 0 e).line else line)
+earliest_reverse line e [] h = absurd (omega arith)
+earliest_reverse line e (f ∷ fs) h = ap (earliest_of line) (reverse-append (f ∷ []) fs)
+    ∙ earliest_last line (reverse fs) f
+
+pub earliest_first : (line : ℕ) (e : Frame) (fs : List Frame) → 1 ≤ length fs → (get_or fs 0 e).beneath ≡ 0
+    → (get_or fs 0 e).line ≡ earliest_of line (reverse fs)
+earliest_first line e fs h z =
+    sym (earliest_reverse line e fs h ∙ at_zero (get_or fs 0 e).beneath (get_or fs 0 e).line line z)
+  where
+    at_zero : (n a b : ℕ) → n ≡ 0 → (if nat_eq n 0 then a else b) ≡ a
+    at_zero zero a b h = refl
+    at_zero (suc n) a b h = cc
+
+pub earliest_later : (line : ℕ) (e : Frame) (fs : List Frame) → 1 ≤ length fs → ((get_or fs 0 e).beneath ≡ 0 → ⊥)
+    → line ≡ earliest_of line (reverse fs)
+earliest_later line e fs h z =
+    sym (earliest_reverse line e fs h ∙ above (get_or fs 0 e).beneath (get_or fs 0 e).line line z)
+  where
+    above : (n a b : ℕ) → (n ≡ 0 → ⊥) → (if nat_eq n 0 then a else b) ≡ b
+    above n a b h = grind (arith, nat_tests)

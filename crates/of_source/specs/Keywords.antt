@@ -1,0 +1,123 @@
+-- The words of a source that are no names of tokens (IEEE 1275-1994, 5.3 and annex C).
+use Rattle.std.specs.Prelude.{ℕ, Bool, true, false, List, [], ◌∷◌, codes, Option, Some, None, if◌then◌else◌}
+use Rattle.std.specs.Borrow.{Bor}
+use Rattle.std.specs.Str.{str_eq_ignore_ascii_case}
+use Rattle.of_fcodes.specs.declared.codes.FCode.{FCode}
+use Rattle.of_fcodes.specs.declared.words.Word.{Word}
+use Rattle.of_fcodes.specs.declared.words.Word.TheVariants as word
+use Rattle.of_fcodes.specs.Lookup.{number_named, word_numbered}
+use Rattle.of_source.specs.declared.keyword.Maker.TheVariants.{Named, External, Unnamed}
+use Rattle.of_source.specs.declared.keyword.Radix.TheVariants.{Hexadecimal, Decimal}
+use Rattle.of_source.specs.declared.keyword.Quote.TheVariants.{Bytes, Plain, Printed}
+use Rattle.of_source.specs.declared.keyword.Keyword.{Keyword}
+use Rattle.of_source.specs.declared.keyword.Keyword.TheVariants.{Finish, Comment, LineComment, Headers, Radix, NumberIn}
+use Rattle.of_source.specs.declared.keyword.Keyword.TheVariants.{Character, Text, Colon, Semicolon, Defining, Recurse}
+use Rattle.of_source.specs.declared.keyword.Keyword.TheVariants.{Naming, Offset16, One, Two, If, Else, Then, Begin}
+use Rattle.of_source.specs.declared.keyword.Keyword.TheVariants.{Back, Repeat, Do, Loop, Leave, Case, Of, EndOf}
+use Rattle.of_source.specs.declared.keyword.Keyword.TheVariants.{EndCase}
+
+-- an FCode by its number
+abbrev pub fcode : ℕ → FCode
+fcode n = record { 0 = n }
+
+abbrev pub Row : Type 0
+Row = List ℕ × Keyword
+
+abbrev pub row : List ℕ → Keyword → Row
+row name k = (name, k)
+
+unfoldable pub text_rows : List Row
+text_rows =
+    row (codes "fcode-end") Finish ∷
+    row (codes "(") Comment ∷
+    row (codes "\\") LineComment ∷
+    row (codes "headers") (Headers Named) ∷
+    row (codes "external") (Headers External) ∷
+    row (codes "headerless") (Headers Unnamed) ∷
+    row (codes "hex") (Radix Hexadecimal) ∷
+    row (codes "decimal") (Radix Decimal) ∷
+    row (codes "h#") (NumberIn Hexadecimal) ∷
+    row (codes "d#") (NumberIn Decimal) ∷
+    row (codes "char") Character ∷
+    row (codes "[char]") Character ∷
+    row (codes "\"") (Text Bytes) ∷
+    row (codes "s\"") (Text Plain) ∷
+    row (codes ".\"") (Text Printed) ∷
+    row (codes ":") Colon ∷
+    row (codes ";") Semicolon ∷
+    row (codes "value") (Defining (fcode 0x0b8)) ∷
+    row (codes "variable") (Defining (fcode 0x0b9)) ∷
+    row (codes "constant") (Defining (fcode 0x0ba)) ∷
+    row (codes "create") (Defining (fcode 0x0bb)) ∷
+    row (codes "defer") (Defining (fcode 0x0bc)) ∷
+    row (codes "buffer:") (Defining (fcode 0x0bd)) ∷
+    row (codes "field") (Defining (fcode 0x0be)) ∷
+    row (codes "recurse") Recurse ∷
+    row (codes "'") (Naming (fcode 0x011)) ∷
+    row (codes "[']") (Naming (fcode 0x011)) ∷
+    row (codes "to") (Naming (fcode 0x0c3)) ∷
+    row (codes "offset16") Offset16 ∷
+    []
+
+unfoldable pub control_rows : List Row
+control_rows =
+    row (codes "1+") (Two (fcode 0x0a6) (fcode 0x01e)) ∷
+    row (codes "1-") (Two (fcode 0x0a6) (fcode 0x01f)) ∷
+    row (codes "2+") (Two (fcode 0x0a7) (fcode 0x01e)) ∷
+    row (codes "2-") (Two (fcode 0x0a7) (fcode 0x01f)) ∷
+    row (codes "true") (One (fcode 0x0a4)) ∷
+    row (codes "false") (One (fcode 0x0a5)) ∷
+    row (codes "struct") (One (fcode 0x0a5)) ∷
+    row (codes "space") (Two (fcode 0x0a9) (fcode 0x08f)) ∷
+    row (codes "erase") (Two (fcode 0x0a5) (fcode 0x079)) ∷
+    row (codes "<<") (One (fcode 0x027)) ∷
+    row (codes ">>") (One (fcode 0x028)) ∷
+    row (codes "not") (One (fcode 0x026)) ∷
+    row (codes "if") If ∷
+    row (codes "while") If ∷
+    row (codes "else") Else ∷
+    row (codes "then") Then ∷
+    row (codes "begin") Begin ∷
+    row (codes "until") (Back true) ∷
+    row (codes "again") (Back false) ∷
+    row (codes "repeat") Repeat ∷
+    row (codes "?do") (Do true) ∷
+    row (codes "do") (Do false) ∷
+    row (codes "+loop") (Loop true) ∷
+    row (codes "loop") (Loop false) ∷
+    row (codes "leave") Leave ∷
+    row (codes "case") Case ∷
+    row (codes "of") Of ∷
+    row (codes "endof") EndOf ∷
+    row (codes "endcase") EndCase ∷
+    []
+
+abbrev pub keyword_in : List Row → List ℕ → Option Keyword
+keyword_in [] name = None
+keyword_in (r ∷ rows) name = if str_eq_ignore_ascii_case r.0 name then Some r.1 else keyword_in rows name
+
+abbrev pub or_in : Option Keyword → Option Keyword → Option Keyword
+or_in (Some k) other = Some k
+or_in None other = other
+
+-- the keyword of this name, whatever the case of its letters
+unfoldable pub keyword_named : List ℕ → Option Keyword
+keyword_named name = or_in (keyword_in text_rows name) (keyword_in control_rows name)
+
+-- a row as it stands in the tables of the code
+abbrev pub row_shown : (Bor (List ℕ) × Keyword) → Row
+row_shown r = (r.0.now, r.1)
+
+-- tokens that act on the image have names that no source uses
+abbrev pub is_ordinary : Option Word → Bool
+is_ordinary None = false
+is_ordinary (Some (word.Stream w)) = false
+is_ordinary (Some _) = true
+
+abbrev pub if_ordinary : Option ℕ → Option FCode
+if_ordinary None = None
+if_ordinary (Some n) = if is_ordinary (word_numbered n) then Some (fcode n) else None
+
+-- the FCode of an ordinary word
+unfoldable pub ordinary_named : List ℕ → Option FCode
+ordinary_named name = if_ordinary (number_named name)

@@ -1,0 +1,101 @@
+-- What stands open at a word: the lines of branches, and parts, both latest first. A part knows how many branches were
+-- open before it.
+use Rattle.std.specs.Prelude.{ℕ, Bool, true, false, ◌&&◌, List, [], ◌∷◌, length, drop, Option, Some, None, nat_eq}
+use Rattle.std.specs.Prelude.{nat_lt, if◌then◌else◌}
+use Rattle.std.specs.List.{list_any, list_all}
+use Rattle.of_source.specs.declared.nesting.Part.{Part}
+use Rattle.of_source.specs.declared.nesting.Frame.{Frame}
+use Rattle.of_source.specs.declared.nesting.Part.TheVariants.{Definition, Begin, Do, Case, Of}
+
+pub record Nesting : Type 0 where
+  pub branches : List ℕ
+  pub parts : List Frame
+
+-- nothing is open
+abbrev pub nothing_open : Nesting
+nothing_open = record { branches = []; parts = [] }
+
+abbrev pub is_same : Part → Part → Bool
+is_same Definition Definition = true
+is_same Begin Begin = true
+is_same Do Do = true
+is_same Case Case = true
+is_same Of Of = true
+is_same _ _ = false
+
+-- how many branches the innermost part may not close
+abbrev pub floor : List Frame → ℕ
+floor [] = 0
+floor (f ∷ fs) = f.beneath
+
+-- a branch opens
+abbrev pub with_branch : ℕ → Nesting → Nesting
+with_branch line n = record { branches = line ∷ n.branches; parts = n.parts }
+
+-- a part opens
+abbrev pub with_part : Part → ℕ → Nesting → Nesting
+with_part p line n =
+    record { branches = n.branches; parts = record { part = p; line = line; beneath = length n.branches } ∷ n.parts }
+
+-- the latest branch closes, if it opened in the innermost part
+abbrev pub without_branch : Nesting → Option Nesting
+without_branch n = if nat_lt (floor n.parts) (length n.branches)
+    then Some (record { branches = drop 1 n.branches; parts = n.parts }) else None
+
+-- whether a part left no branch open
+abbrev pub is_even : Nesting → Bool
+is_even n = nat_eq (floor n.parts) (length n.branches)
+
+-- whether the innermost part is of this kind
+abbrev pub is_in : Part → List Frame → Bool
+is_in p [] = false
+is_in p (f ∷ fs) = is_same f.part p
+
+-- the innermost part, of this kind, closes; branches that it opened stay open in the part around it
+abbrev pub without_begin : Nesting → Option Nesting
+without_begin n = if is_in Begin n.parts then Some (record { branches = n.branches; parts = drop 1 n.parts }) else None
+
+-- the innermost part, of this kind, closes, where it left no branch open
+abbrev pub without_part : Part → Nesting → Option Nesting
+without_part p n = if is_in p n.parts && is_even n then Some (record { branches = n.branches; parts = drop 1 n.parts })
+    else None
+
+-- whether a definition is open
+abbrev pub in_definition : List Frame → Bool
+in_definition fs = list_any (λ f. is_same f.part Definition) fs
+
+-- whether a loop is open in the same definition, or outside all
+abbrev pub in_loop : List Frame → Bool
+in_loop [] = false
+in_loop (f ∷ fs) = if is_same f.part Do then true else if is_same f.part Definition then false else in_loop fs
+
+-- whether this is a place for `of`: directly in a case
+abbrev pub on_case : Nesting → Bool
+on_case n = is_in Case n.parts && is_even n
+
+-- whether all that is open are definitions
+abbrev pub all_definitions : List Frame → Bool
+all_definitions fs = list_all (λ f. is_same f.part Definition) fs
+
+-- whether no control structure is open
+abbrev pub is_straight : Nesting → Bool
+is_straight n = nat_eq (length n.branches) 0 && all_definitions n.parts
+
+-- the last of a list
+abbrev pub last_or : ℕ → List ℕ → ℕ
+last_or d [] = d
+last_or d (x ∷ xs) = last_or x xs
+
+-- the line of the earliest part, if it opened before each open branch; else this one
+abbrev pub earliest_of : ℕ → List Frame → ℕ
+earliest_of line [] = line
+earliest_of line (f ∷ []) = if nat_eq f.beneath 0 then f.line else line
+earliest_of line (f ∷ g ∷ fs) = earliest_of line (g ∷ fs)
+
+-- the line of the first opener that is still open, or this one
+abbrev pub first_open : ℕ → Nesting → ℕ
+first_open line n = earliest_of (last_or line n.branches) n.parts
+
+-- whether nothing is open
+abbrev pub is_closed : Nesting → Bool
+is_closed n = nat_eq (length n.branches) 0 && nat_eq (length n.parts) 0

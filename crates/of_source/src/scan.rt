@@ -1,0 +1,272 @@
+ghost use Rattle.of_source.specs.Scan.{is_blank, word_length, bytes_found, up_to, behind_blank, line_end, byte_of};
+ghost use Rattle.of_source.specs.Scan.{pairs, bytes_before, group, quoted_string};
+ghost use Rattle.of_format.specs.Digits.{digit_value};
+ghost use Rattle.std.specs.Prelude.{◌≡◌, ℕ, List, false, if◌then◌else◌, ◌+◌, ◌<◌, ◌≤◌, ◌^◌, [], length, take, drop};
+ghost use Rattle.std.specs.Prelude.{take_while, not, option_map, Option, Some, None, IfSome, IfNone, IfOk, OnOk};
+
+use of_format::digit;
+use std::alloc::{AllocError, Global};
+use std::marker::Model;
+
+/// What is left of a text, and the line that it begins on.
+#[derive(Drop)]
+pub struct Rest<'a> {
+    text: &'a [u8],
+    line: usize,
+}
+
+// Clauses see the line and the bytes.
+impl<'a> Model for Rest<'a> {
+    ghost use Rattle.std.specs.Prelude.{◌+◌, ◌<◌, ◌^◌, length};
+    ghost use Rattle.of_source.specs.Scan.{Rest as Left};
+
+    ghost Value = { Left };
+
+    ghost view = { λ r. record { line = r.line; text = r.text.now } };
+
+    ghost invariant = { λ r. r.line + length r.text.now < 2 ^ 64 };
+}
+
+/// Whether a byte separates words.
+#[inline]
+fn is_blank(byte: u8) -> bool
+    ensures { result ≡ is_blank byte }
+{
+    byte <= b' '
+}
+
+/// How many bytes the word has that a text begins with.
+fn word_length(text: &[u8]) -> usize
+    ensures { result ≡ word_length text.now }
+{
+    text.iter().take_while(|byte| !is_blank(**byte)).count()
+}
+
+impl<'a> Rest<'a> {
+    ghost use Rattle.of_source.specs.Scan.{rest_at, line_behind, at_word, word_at, next_word, plain_string};
+    ghost use Rattle.of_source.specs.Scan.{quoted_string, line_end};
+
+    /// A whole text.
+    pub fn new(text: &'a [u8]) -> Self
+        ensures { result ≡ rest_at 1 text.now }
+    {
+        Rest { text, line: 1 }
+    }
+
+    /// The line that it begins on.
+    pub fn line(&self) -> usize
+        ensures { result ≡ self.now.line }
+    {
+        self.line
+    }
+
+    /// The bytes.
+    pub fn text(&self) -> &'a [u8]
+        ensures { result.now ≡ self.now.text }
+    {
+        self.text
+    }
+
+    /// Goes to the next byte that is no blank.
+    pub fn skip_blanks(&mut self)
+        ensures { self.new ≡ at_word self.old.line self.old.text }
+    {
+        while let [byte, text @ ..] = self.text {
+            if !is_blank(*byte) {
+                return;
+            }
+            if *byte == b'\n' {
+                self.line += 1;
+            }
+            self.text = text;
+        }
+    }
+
+    /// The next word, and past it; none at the end.
+    pub fn word(&mut self) -> Option<&'a [u8]>
+        ensures some { IfSome result (λ word. next_word self.old ≡ Some (word.now, self.new)) }
+        ensures none { IfNone result (next_word self.old ≡ None) }
+        ensures byte { IfSome result (λ word. 0 < length word.now) }
+    {
+        self.skip_blanks();
+        let length = word_length(self.text);
+        if length == 0 {
+            return None;
+        }
+        let (word, text) = self.text.split_at(length);
+        self.text = text;
+        Some(word)
+    }
+
+    /// Past the string up to this byte, which it gives; none where the byte isn't on the line.
+    pub fn string(&mut self, end: u8) -> Option<&'a [u8]>
+        ensures some { IfSome result (λ bytes. plain_string end self.old.text ≡ Some (bytes.now, self.new.text)) }
+        ensures line { self.new.line ≡ self.old.line }
+        ensures none { IfNone result ((plain_string end self.old.text ≡ None) × (self.new ≡ self.old)) }
+    {
+        let (bytes, rest) = up_to(behind_blank(self.text), end)?;
+        self.text = rest;
+        Some(bytes)
+    }
+
+    /// Past a comment up to `)`, if its end is on the line.
+    pub fn skip_comment(&mut self) -> bool
+        ensures past { option_map (λ r. rest_at self.old.line r.1) (plain_string 41 self.old.text)
+            ≡ (if result then Some self.new else None) }
+        ensures same { result ≡ false → self.new ≡ self.old }
+    {
+        match up_to(behind_blank(self.text), b')') {
+            Some((_, rest)) => {
+                self.text = rest;
+                true
+            }
+            None => false,
+        }
+    }
+
+    /// To the end of the line.
+    pub fn skip_line(&mut self)
+        ensures { self.new ≡ rest_at self.old.line (line_end self.old.text) }
+    {
+        self.text = line_end(self.text);
+    }
+
+    /// Past the string of a word `"`, in which `"(hh hh)` gives bytes; none where its end isn't on the line.
+    pub fn quoted_string(&mut self, alloc: Global) -> Result<Option<Vec<u8>>, AllocError>
+        ensures found { IfOk result (λ r. option_map (λ bytes. (bytes.items, self.new.text)) r
+            ≡ quoted_string self.old.text) }
+        ensures line { OnOk result (self.new.line ≡ self.old.line) }
+    {
+        match quoted(alloc, self.text)? {
+            Some((bytes, rest)) => {
+                self.text = rest;
+                Ok(Some(bytes))
+            }
+            None => Ok(None),
+        }
+    }
+}
+
+/// The bytes up to this one, and what follows it; none where it isn't on the line.
+fn up_to(text: &[u8], end: u8) -> Option<(&[u8], &[u8])>
+    ensures found { option_map bytes_found result ≡ up_to end text.now }
+    ensures shorter { IfSome result (λ r. length r.1.now < length text.now) }
+{
+    for (i, byte) in text.iter().enumerate() {
+        if *byte == end {
+            return Some((&text[..i], &text[i + 1..]));
+        }
+        if *byte == b'\n' {
+            return None;
+        }
+    }
+    None
+}
+
+/// Behind the byte that separates a word from its string.
+fn behind_blank(text: &[u8]) -> &[u8]
+    ensures rest { result.now ≡ behind_blank text.now }
+    ensures shorter { length result.now ≤ length text.now }
+{
+    match text {
+        [] | [b'\n', ..] => text,
+        [_, rest @ ..] => rest,
+    }
+}
+
+/// From the end of the line on.
+fn line_end(mut text: &[u8]) -> &[u8]
+    ensures rest { result.now ≡ line_end text.entry.now }
+    ensures shorter { length result.now ≤ length text.entry.now }
+{
+    while let [byte, rest @ ..] = text {
+        if *byte == b'\n' {
+            return text;
+        }
+        text = rest;
+    }
+    text
+}
+
+/// The byte that two digits say.
+fn byte_of(high: u8, low: u8) -> Option<u8>
+    ensures { result ≡ byte_of (digit_value 16 high) (digit_value 16 low) }
+{
+    let high = digit(u32::from(high), 16)?;
+    let low = digit(u32::from(low), 16)?;
+    if high < 16 && low < 16 {
+        Some((high * 16 + low) as u8)
+    } else {
+        None
+    }
+}
+
+/// Appends the bytes that pairs of digits say up to `)`, and gives what follows.
+fn read_pairs<'a>(out: &mut Vec<u8>, mut text: &'a [u8]) -> Result<Option<&'a [u8]>, AllocError>
+    ensures found { IfOk result (λ r. option_map (λ rest. (out.new.items, rest.now)) r
+        ≡ bytes_before out.old.items (pairs text.entry.now)) }
+    ensures shorter { IfOk result (λ r. IfSome r (λ rest. length rest.now < length text.entry.now)) }
+{
+    while let [a, b, rest @ ..] = text {
+        if *a == b')' {
+            return Ok(Some(&text[1..]));
+        }
+        if *a == b'\n' {
+            return Ok(None);
+        }
+        if is_blank(*a) {
+            text = &text[1..];
+            continue;
+        }
+        let Some(byte) = byte_of(*a, *b) else {
+            return Ok(None);
+        };
+        out.push(byte)?;
+        text = rest;
+    }
+    match text {
+        [b')'] => Ok(Some(&text[1..])),
+        _ => Ok(None),
+    }
+}
+
+/// The bytes of a group, and what follows it.
+fn group<'a>(alloc: Global, text: &'a [u8]) -> Result<Option<(Vec<u8>, &'a [u8])>, AllocError>
+    ensures found { IfOk result (λ r. option_map (λ g. (g.0.items, g.1.now)) r ≡ group text.now) }
+    ensures shorter { IfOk result (λ r. IfSome r (λ g. length g.1.now < length text.now)) }
+{
+    match text {
+        [b'(', text @ ..] => {
+            let mut out = Vec::new(alloc);
+            match read_pairs(&mut out, text)? {
+                Some(rest) => Ok(Some((out, rest))),
+                None => Ok(None),
+            }
+        }
+        _ => Ok(None),
+    }
+}
+
+/// The string of a word `"`, and what follows it.
+#[tactic(auto, using(crate::proofs::Scanning::quoted_more, crate::proofs::Scanning::quoted_end, crate::proofs::Scanning::quoted_none, crate::proofs::Scanning::quoted_cut, crate::proofs::Scanning::bytes_before_nil))]
+fn quoted<'a>(alloc: Global, text: &'a [u8]) -> Result<Option<(Vec<u8>, &'a [u8])>, AllocError>
+    ensures found { IfOk result (λ r. option_map (λ g. (g.0.items, g.1.now)) r ≡ quoted_string text.now) }
+    ensures shorter { IfOk result (λ r. IfSome r (λ g. length g.1.now ≤ length text.now)) }
+{
+    let mut out = Vec::new(alloc);
+    let mut rest = behind_blank(text);
+    for _ in 0..text.len() {
+        let Some((bytes, behind)) = up_to(rest, b'"') else {
+            return Ok(None);
+        };
+        out.extend_from_slice(bytes)?;
+        match group(alloc, behind)? {
+            Some((more, after)) => {
+                out.extend_from_slice(&more)?;
+                rest = after;
+            }
+            None => return Ok(Some((out, behind))),
+        }
+    }
+    Ok(None)
+}

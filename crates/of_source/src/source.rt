@@ -1,0 +1,194 @@
+ghost use Rattle.std.specs.Prelude.{◌≡◌, ◌+◌, ◌<◌, ◌≤◌, ◌^◌, length, Ok, IfOk, IfErr};
+ghost use Rattle.of_source.specs.Numbers.{number_in};
+ghost use Rattle.of_source.specs.Radix.{base_of};
+ghost use Rattle.of_source.specs.Scan.{last_line, last_line_from};
+ghost use Rattle.of_source.specs.Parsing.{beyond, beyond_shown, misplaced, misplaced_number, is_closer, words, trailed};
+ghost use Rattle.of_source.specs.Parsing.{parsed, IsRefused};
+
+use crate::fault::SourceFault;
+use crate::item::Item;
+use crate::keyword::{Keyword, Radix};
+use crate::number::{Number, number_in};
+use crate::parser::{Parser, is_same_name};
+use crate::scan::Rest;
+use crate::words::keyword_named;
+use of_stream::OffsetSize;
+use std::alloc::Global;
+use std::marker::Model;
+
+/// A source: what its words are, and the offset size that its image begins with.
+#[derive(Drop)]
+pub struct Source {
+    size: OffsetSize,
+    items: Vec<Item>,
+}
+
+impl Model for Source {
+    ghost use Rattle.std.specs.Prelude.{map};
+    ghost use Rattle.of_source.specs.Items.{Source as Said, item_shown};
+
+    ghost Value = { Said };
+
+    ghost view = { λ s. record { size = s.size; items = map item_shown s.items.items } };
+}
+
+impl Source {
+    ghost use Rattle.std.specs.Prelude.{map};
+    ghost use Rattle.of_source.specs.Items.{item_shown};
+
+    /// The offset size that its image begins with.
+    pub fn size(&self) -> OffsetSize
+        ensures { result ≡ self.now.size }
+    {
+        self.size
+    }
+
+    /// Its items.
+    pub fn items(&self) -> &[Item]
+        ensures { map item_shown result.now ≡ self.now.items }
+    {
+        self.items.as_slice()
+    }
+}
+
+/// What stands behind comments.
+#[derive(Drop)]
+pub enum Beyond<'a> {
+    /// A word, and what follows it.
+    Word(&'a [u8], Rest<'a>),
+    /// The end.
+    Nothing,
+    /// A comment on this line whose end isn't there.
+    Bad(usize),
+}
+
+/// The line of the last byte of a text.
+#[tactic(auto, using(crate::proofs::Whole::last_short))]
+fn last_line(text: &[u8]) -> usize
+    ensures { result ≡ last_line text.now }
+{
+    let mut line = 1;
+    let mut rest = text;
+    while let [byte, _, ..] = rest {
+        if *byte == b'\n' {
+            line += 1;
+        }
+        rest = &rest[1..];
+    }
+    line
+}
+
+/// Past at most so many comments.
+fn past_comments(mut rest: Rest<'_>, most: usize) -> Beyond<'_>
+    ensures { beyond_shown result ≡ beyond most rest.entry }
+{
+    for _ in 0..most {
+        let Some(word) = rest.word() else {
+            return Beyond::Nothing;
+        };
+        if is_same_name(b"(", word) {
+            if !rest.skip_comment() {
+                return Beyond::Bad(rest.line());
+            }
+            continue;
+        }
+        if is_same_name(b"\\", word) {
+            rest.skip_line();
+            continue;
+        }
+        return Beyond::Word(word, rest);
+    }
+    Beyond::Nothing
+}
+
+/// Whether a keyword closes something.
+fn is_closer(keyword: Keyword) -> bool
+    ensures { result ≡ is_closer keyword }
+{
+    matches!(
+        keyword,
+        Keyword::Semicolon
+            | Keyword::Else
+            | Keyword::Then
+            | Keyword::Back(_)
+            | Keyword::Repeat
+            | Keyword::Loop(_)
+            | Keyword::Leave
+            | Keyword::Of
+            | Keyword::EndOf
+            | Keyword::EndCase
+    )
+}
+
+/// What a number gives that stands where none can.
+fn misplaced_number(line: usize, radix: Radix, word: &[u8]) -> SourceFault
+    ensures { result ≡ misplaced_number line (number_in (base_of radix) word.now) }
+{
+    match number_in(word, radix.base()) {
+        Number::OutOfRange => SourceFault::BadNumber(line),
+        Number::Value(_) | Number::NoNumber => SourceFault::Unknown(line),
+    }
+}
+
+/// What a word gives that stands where none of its kind can.
+fn misplaced(line: usize, radix: Radix, word: &[u8]) -> SourceFault
+    ensures { result ≡ misplaced line (base_of radix) word.now }
+{
+    if let Some(keyword) = keyword_named(word) {
+        if is_closer(keyword) {
+            return SourceFault::Unclosed(line);
+        }
+    }
+    misplaced_number(line, radix, word)
+}
+
+/// The source of these items, where comments alone follow it.
+fn trailed(size: OffsetSize, parser: Parser<'_>, most: usize) -> Result<Source, SourceFault>
+    ensures ok { IfOk result (λ s. trailed size parser.entry (beyond most parser.entry.rest) ≡ Ok s) }
+    ensures err { IfErr result (λ f. trailed size parser.entry (beyond most parser.entry.rest) ≡ Err f) }
+{
+    let (rest, radix, items) = parser.into_parts();
+    match past_comments(rest, most) {
+        Beyond::Nothing => Ok(Source { size, items }),
+        Beyond::Bad(line) => Err(SourceFault::Unknown(line)),
+        Beyond::Word(word, rest) => Err(misplaced(rest.line(), radix, word)),
+    }
+}
+
+/// The words of a source.
+#[tactic(auto, using(crate::proofs::Whole::words_more, crate::proofs::Whole::words_end, crate::proofs::Whole::words_cut, crate::proofs::Whole::words_refused, crate::proofs::Whole::is_refused))]
+fn words(mut parser: Parser<'_>, text: &[u8], size: OffsetSize) -> Result<Source, SourceFault>
+    ensures ok { IfOk result (λ s. words text.now size (length text.now) parser.entry ≡ Ok s) }
+    ensures err { IfErr result (λ f. IsRefused (words text.now size (length text.now) parser.entry) f) }
+{
+    let last = last_line(text);
+    for _ in 0..text.len() {
+        match parser.next(last) {
+            Ok(true) => {}
+            Ok(false) => return trailed(size, parser, text.len()),
+            Err(fault) => return Err(fault),
+        }
+    }
+    Err(parser.ended(last))
+}
+
+/// The source that a text of FCode source words says (IEEE 1275-1994, 5.3 and annex C).
+#[tactic(auto, unfolding(crate::specs::Parsing::parsed), using(crate::proofs::Whole::is_refused))]
+pub fn parse(alloc: Global, text: &[u8]) -> Result<Source, SourceFault>
+    ensures ok { IfOk result (λ s. parsed text.now ≡ Ok s) }
+    ensures err { IfErr result (λ f. IsRefused (parsed text.now) f) }
+{
+    match past_comments(Rest::new(text), text.len()) {
+        Beyond::Nothing => Err(SourceFault::Unclosed(last_line(text))),
+        Beyond::Bad(line) => Err(SourceFault::Unknown(line)),
+        Beyond::Word(word, rest) => {
+            if is_same_name(b"fcode-version2", word) {
+                return words(Parser::new(alloc, rest), text, OffsetSize::Two);
+            }
+            if is_same_name(b"fcode-version1", word) {
+                return words(Parser::new(alloc, rest), text, OffsetSize::One);
+            }
+            Err(misplaced(rest.line(), Radix::Hexadecimal, word))
+        }
+    }
+}

@@ -1,0 +1,161 @@
+ghost use Rattle.std.specs.Prelude.{◌≡◌, ◌++◌, map, Some, None};
+ghost use Rattle.std.specs.Option.{option_map};
+ghost use Rattle.std.specs.Str.{str_eq_ignore_ascii_case};
+ghost use Rattle.of_source.specs.Keywords.{text_rows, control_rows, row_shown, keyword_in, keyword_named, is_ordinary};
+ghost use Rattle.of_source.specs.Keywords.{ordinary_named};
+
+use crate::keyword::{Keyword, Maker, Quote, Radix};
+use of_fcodes::{FCode, Word, fcode_of, word_of};
+
+/// A word of a source, and what it does.
+type Row = (&'static str, Keyword);
+
+/// Words of texts, names and numbers.
+#[rattlefmt::skip]
+static TEXT_ROWS: [Row; 29] = [
+    ("fcode-end",  Keyword::Finish),
+    ("(",          Keyword::Comment),
+    ("\\",         Keyword::LineComment),
+    ("headers",    Keyword::Headers(Maker::Named)),
+    ("external",   Keyword::Headers(Maker::External)),
+    ("headerless", Keyword::Headers(Maker::Unnamed)),
+    ("hex",        Keyword::Radix(Radix::Hexadecimal)),
+    ("decimal",    Keyword::Radix(Radix::Decimal)),
+    ("h#",         Keyword::NumberIn(Radix::Hexadecimal)),
+    ("d#",         Keyword::NumberIn(Radix::Decimal)),
+    ("char",       Keyword::Character),
+    ("[char]",     Keyword::Character),
+    ("\"",         Keyword::Text(Quote::Bytes)),
+    ("s\"",        Keyword::Text(Quote::Plain)),
+    (".\"",        Keyword::Text(Quote::Printed)),
+    (":",          Keyword::Colon),
+    (";",          Keyword::Semicolon),
+    ("value",      Keyword::Defining(FCode(0x0b8))),
+    ("variable",   Keyword::Defining(FCode(0x0b9))),
+    ("constant",   Keyword::Defining(FCode(0x0ba))),
+    ("create",     Keyword::Defining(FCode(0x0bb))),
+    ("defer",      Keyword::Defining(FCode(0x0bc))),
+    ("buffer:",    Keyword::Defining(FCode(0x0bd))),
+    ("field",      Keyword::Defining(FCode(0x0be))),
+    ("recurse",    Keyword::Recurse),
+    ("'",          Keyword::Naming(FCode(0x011))),
+    ("[']",        Keyword::Naming(FCode(0x011))),
+    ("to",         Keyword::Naming(FCode(0x0c3))),
+    ("offset16",   Keyword::Offset16),
+];
+
+/// Words that stand for tokens, and control structures.
+#[rattlefmt::skip]
+static CONTROL_ROWS: [Row; 29] = [
+    ("1+",      Keyword::Two(FCode(0x0a6), FCode(0x01e))),
+    ("1-",      Keyword::Two(FCode(0x0a6), FCode(0x01f))),
+    ("2+",      Keyword::Two(FCode(0x0a7), FCode(0x01e))),
+    ("2-",      Keyword::Two(FCode(0x0a7), FCode(0x01f))),
+    ("true",    Keyword::One(FCode(0x0a4))),
+    ("false",   Keyword::One(FCode(0x0a5))),
+    ("struct",  Keyword::One(FCode(0x0a5))),
+    ("space",   Keyword::Two(FCode(0x0a9), FCode(0x08f))),
+    ("erase",   Keyword::Two(FCode(0x0a5), FCode(0x079))),
+    ("<<",      Keyword::One(FCode(0x027))),
+    (">>",      Keyword::One(FCode(0x028))),
+    ("not",     Keyword::One(FCode(0x026))),
+    ("if",      Keyword::If),
+    ("while",   Keyword::If),
+    ("else",    Keyword::Else),
+    ("then",    Keyword::Then),
+    ("begin",   Keyword::Begin),
+    ("until",   Keyword::Back(true)),
+    ("again",   Keyword::Back(false)),
+    ("repeat",  Keyword::Repeat),
+    ("?do",     Keyword::Do(true)),
+    ("do",      Keyword::Do(false)),
+    ("+loop",   Keyword::Loop(true)),
+    ("loop",    Keyword::Loop(false)),
+    ("leave",   Keyword::Leave),
+    ("case",    Keyword::Case),
+    ("of",      Keyword::Of),
+    ("endof",   Keyword::EndOf),
+    ("endcase", Keyword::EndCase),
+];
+
+/// The first rows.
+fn text_words() -> &'static [Row]
+    ensures { map row_shown result.now ≡ text_rows }
+{
+    &TEXT_ROWS
+}
+
+/// The other rows.
+fn control_words() -> &'static [Row]
+    ensures { map row_shown result.now ≡ control_rows }
+{
+    &CONTROL_ROWS
+}
+
+/// Whether two names differ at most in the case of their letters.
+fn is_same_name(name: &str, other: &[u8]) -> bool
+    ensures { result ≡ str_eq_ignore_ascii_case name.now other.now }
+{
+    name.as_bytes().eq_ignore_ascii_case(other)
+}
+
+/// The keyword of a name among these rows, whatever the case of its letters.
+fn keyword_in(mut rows: &[Row], name: &[u8]) -> Option<Keyword>
+    ensures { result ≡ keyword_in (map row_shown rows.entry.now) name.now }
+{
+    while let [row, rest @ ..] = rows {
+        if is_same_name(row.0, name) {
+            return Some(row.1);
+        }
+        rows = rest;
+    }
+    None
+}
+
+/// The keyword of a name among the first rows.
+fn text_keyword(name: &[u8]) -> Option<Keyword>
+    ensures { result ≡ keyword_in text_rows name.now }
+{
+    keyword_in(text_words(), name)
+}
+
+/// The keyword of a name among the other rows.
+fn control_keyword(name: &[u8]) -> Option<Keyword>
+    ensures { result ≡ keyword_in control_rows name.now }
+{
+    keyword_in(control_words(), name)
+}
+
+/// The keyword of a name, whatever the case of its letters.
+#[tactic(auto, unfolding(crate::specs::Keywords::keyword_named))]
+pub fn keyword_named(name: &[u8]) -> Option<Keyword>
+    ensures { result ≡ keyword_named name.now }
+{
+    match text_keyword(name) {
+        Some(keyword) => Some(keyword),
+        None => control_keyword(name),
+    }
+}
+
+/// Whether a word is none that acts on the image.
+fn is_ordinary(word: Option<Word>) -> bool
+    ensures { result ≡ is_ordinary word }
+{
+    match word {
+        None | Some(Word::Stream(_)) => false,
+        Some(_) => true,
+    }
+}
+
+/// The FCode of an ordinary word, whatever the case of its letters.
+#[tactic(auto, unfolding(crate::specs::Keywords::ordinary_named))]
+pub fn ordinary_named(name: &[u8]) -> Option<FCode>
+    ensures { result ≡ ordinary_named name.now }
+{
+    let code = fcode_of(name)?;
+    if is_ordinary(word_of(code)) {
+        Some(code)
+    } else {
+        None
+    }
+}
