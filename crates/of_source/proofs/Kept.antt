@@ -30,11 +30,12 @@ use Rattle.of_source.specs.Nesting.{Nesting, is_same, floor, is_in, without_bran
 use Rattle.of_source.specs.Nesting.{with_branch, with_part, in_definition, in_loop, on_case, is_straight, is_closed}
 use Rattle.of_source.specs.Shapes.{Shape, nothing, floor_of, around_part, around_of, is_even, closing, opens, run}
 use Rattle.of_source.specs.Shapes.{shape_of}
-use Rattle.of_source.specs.Parsing.{State, Step, Goes, Ends, Fails, Own, giving, opening, reading_on, with_next}
+use Rattle.of_source.specs.Names.{Own, own_in}
+use Rattle.of_source.specs.Parsing.{State, Step, Goes, Ends, Fails, giving, opening, reading_on, with_next}
 use Rattle.of_source.specs.Parsing.{with_name, name_found, with_string, if_open, if_ends, number_or_bad}
 use Rattle.of_source.specs.Parsing.{number_word_step, number_items, number_token, comment_step, with_code, recurse_step}
 use Rattle.of_source.specs.Parsing.{text_step, keyword_step, ordinary_step, listed_step, own_step, word_step, next_step}
-use Rattle.of_source.specs.Parsing.{own_in, code_named, then_without_branch, then_with_branch, opened_if, Beyond, Word}
+use Rattle.of_source.specs.Parsing.{code_named, then_without_branch, then_with_branch, opened_if, Beyond, Word}
 use Rattle.of_source.specs.Parsing.{Nothing, Bad, trailed, beyond, stepped, words, begun, beginning, misplaced, parsed}
 
 abbrev pub Inv : State → Type 0

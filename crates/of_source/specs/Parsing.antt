@@ -21,7 +21,7 @@ use Rattle.of_source.specs.Radix.{base_of}
 use Rattle.of_source.specs.declared.nesting.Part.TheVariants as part
 use Rattle.of_source.specs.declared.source.Beyond.{Beyond as HeldBeyond}
 use Rattle.of_source.specs.declared.source.Beyond.TheVariants as held
-use Rattle.of_source.specs.declared.own.Own.{Own as HeldOwn}
+use Rattle.of_source.specs.Names.{Own, own_in}
 use Rattle.of_source.specs.Scan.{Rest, rest_at, next_word, last_line, Found, quoted_string, plain_string, line_end}
 use Rattle.of_source.specs.declared.number.Number.{Number}
 use Rattle.of_source.specs.declared.number.Number.TheVariants.{Value, OutOfRange, NoNumber}
@@ -31,14 +31,6 @@ use Rattle.of_source.specs.Items.{Item, Source, own_code, call, literal, string,
 use Rattle.of_source.specs.Items as item
 use Rattle.of_source.specs.Nesting.{Nesting, nothing_open, with_branch, with_part, without_branch, without_begin}
 use Rattle.of_source.specs.Nesting.{without_part, in_definition, in_loop, on_case, is_straight, is_closed, first_open}
-
--- a definition by its name
-pub record Own : Type 0 where
-  pub name : List ℕ
-  pub number : ℕ
-
-abbrev pub own_shown : HeldOwn → Own
-own_shown d = record { name = d.name.now; number = d.number }
 
 -- what is known at a word
 pub record State : Type 0 where
@@ -91,11 +83,6 @@ abbrev pub defined : State → State
 defined s = record s { known = known_with s.open_one s.known; open_one = None }
 
 -- ---- names
-
--- the number of the latest definition of this name, whatever the case of its letters
-abbrev pub own_in : List Own → List ℕ → Option ℕ
-own_in [] name = None
-own_in (d ∷ ds) name = if str_eq_ignore_ascii_case d.name name then Some d.number else own_in ds name
 
 abbrev pub named_code : Option ℕ → Option FCode → Option FCode
 named_code (Some k) ordinary = Some (own_code k)

@@ -1,10 +1,10 @@
 ghost use Rattle.std.specs.Prelude.{◌≡◌, ◌++◌, map, Some, None};
 ghost use Rattle.std.specs.Option.{option_map};
-ghost use Rattle.std.specs.Str.{str_eq_ignore_ascii_case};
 ghost use Rattle.of_source.specs.Keywords.{text_rows, control_rows, row_shown, keyword_in, keyword_named, is_ordinary};
 ghost use Rattle.of_source.specs.Keywords.{ordinary_named};
 
 use crate::keyword::{Keyword, Maker, Quote, Radix};
+use crate::names::is_same_name;
 use of_fcodes::{FCode, Word, fcode_of, word_of};
 
 /// A word of a source, and what it does.
@@ -92,19 +92,12 @@ fn control_words() -> &'static [Row]
     &CONTROL_ROWS
 }
 
-/// Whether two names differ at most in the case of their letters.
-fn is_same_name(name: &str, other: &[u8]) -> bool
-    ensures { result ≡ str_eq_ignore_ascii_case name.now other.now }
-{
-    name.as_bytes().eq_ignore_ascii_case(other)
-}
-
 /// The keyword of a name among these rows, whatever the case of its letters.
 fn keyword_in(mut rows: &[Row], name: &[u8]) -> Option<Keyword>
     ensures { result ≡ keyword_in (map row_shown rows.entry.now) name.now }
 {
     while let [row, rest @ ..] = rows {
-        if is_same_name(row.0, name) {
+        if is_same_name(row.0.as_bytes(), name) {
             return Some(row.1);
         }
         rows = rest;

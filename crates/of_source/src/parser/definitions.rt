@@ -1,0 +1,127 @@
+// Definitions and their names (IEEE 1275-1994, 5.3.3.1; Forth 2012, 3.3.1.2).
+ghost use Rattle.std.specs.Prelude.{◌≡◌, ◌∷◌, [], Err, IfErr, IfOk, length, Ok, OnOk};
+ghost use Rattle.of_source.specs.Items as item;
+ghost use Rattle.of_source.specs.declared.keyword.Keyword.TheVariants as keyword;
+
+use super::Parser;
+use crate::fault::SourceFault;
+use crate::item::{Item, Name};
+use crate::names::Own;
+use crate::nesting::Part;
+use of_fcodes::FCode;
+use std::alloc::AllocError;
+
+impl<'a> Parser<'a> {
+    ghost use Rattle.of_source.specs.Items.{making, own_code};
+    ghost use Rattle.of_source.specs.Parsing.{name_read, giving, defined, keyword_step, Steps, knowing, defining};
+
+    /// The name of a definition, of at most 31 bytes.
+    fn name(&mut self, last: usize) -> Result<&'a [u8], SourceFault>
+        ensures ok { IfOk result (λ name. name_read last self.old ≡ Ok (name.now, self.new)) }
+        ensures err { IfErr result (λ f. name_read last self.old ≡ Err f) }
+    {
+        let fault = self.ended(last);
+        let Some(word) = self.rest.word() else {
+            return Err(fault);
+        };
+        if word.len() > 31 {
+            return Err(SourceFault::TooLong(self.rest.line()));
+        }
+        Ok(word)
+    }
+
+    /// The token that gives the next definition its number.
+    fn give_maker(&mut self, name: &[u8]) -> Result<(), AllocError>
+        ensures { OnOk result (self.new
+            ≡ giving (item.Plain (making self.old.maker name.now (own_code (length self.old.known))) ∷ []) self.old) }
+    {
+        let name = name.to_vec(self.alloc)?;
+        let item = Item::Define(self.maker, name, self.known.count());
+        self.give(item)
+    }
+
+    /// A defining word other than `:`.
+    #[tactic(auto, using(crate::proofs::Refusals::refused))]
+    pub(super) fn defining_word(&mut self, code: FCode, last: usize) -> Result<bool, SourceFault>
+        ensures { Steps (keyword_step last (keyword.Defining code) self.old) self.new result }
+    {
+        if self.nesting.in_definition() {
+            return self.unknown();
+        }
+        let name = self.name(last)?;
+        self.give_maker(name)?;
+        self.call(Name::Listed(code))?;
+        self.know(name)?;
+        Ok(true)
+    }
+
+    /// A definition that can be named from here on.
+    fn know(&mut self, name: &'a [u8]) -> Result<(), AllocError>
+        ensures { OnOk result (self.new ≡ knowing name.now self.old) }
+    {
+        let number = self.known.count();
+        self.known.add(Own { name, number })?;
+        Ok(())
+    }
+
+    /// `:`.
+    #[tactic(auto, using(crate::proofs::Refusals::refused))]
+    pub(super) fn colon_word(&mut self, last: usize) -> Result<bool, SourceFault>
+        ensures { Steps (keyword_step last keyword.Colon self.old) self.new result }
+    {
+        if self.nesting.in_definition() {
+            return self.unknown();
+        }
+        let line = self.rest.line();
+        self.nesting.open_part(Part::Definition, line)?;
+        let name = self.name(last)?;
+        self.give_maker(name)?;
+        self.give(Item::Colon)?;
+        self.open_definition(name);
+        Ok(true)
+    }
+
+    /// A definition that is open.
+    fn open_definition(&mut self, name: &'a [u8])
+        ensures { self.new ≡ defining name.now self.old }
+    {
+        let number = self.known.count();
+        self.open_one = Some(Own { name, number });
+    }
+
+    /// The open definition is closed, and can be named.
+    fn define(&mut self) -> Result<(), AllocError>
+        ensures { OnOk result (self.new ≡ defined self.old) }
+    {
+        if let Some(own) = self.open_one {
+            self.known.add(own)?;
+        }
+        self.open_one = None;
+        Ok(())
+    }
+
+    /// `;`.
+    pub(super) fn semicolon_word(&mut self) -> Result<bool, SourceFault>
+        ensures { Steps (keyword_step 0 keyword.Semicolon self.old) self.new result }
+    {
+        if !self.nesting.close_part(Part::Definition) {
+            return self.unclosed();
+        }
+        self.give(Item::Semicolon)?;
+        self.define()?;
+        Ok(true)
+    }
+
+    /// `recurse`.
+    pub(super) fn recurse_word(&mut self) -> Result<bool, SourceFault>
+        ensures { Steps (keyword_step 0 keyword.Recurse self.old) self.new result }
+    {
+        match self.open_one {
+            Some(own) => {
+                self.call(Name::Own(own.number))?;
+                Ok(true)
+            }
+            None => self.unknown(),
+        }
+    }
+}
