@@ -35,7 +35,8 @@ use Rattle.of_source.specs.Parsing.{State, Step, Goes, Ends, Fails, giving, open
 use Rattle.of_source.specs.Parsing.{with_name, name_found, with_string, if_open, if_ends, number_or_bad}
 use Rattle.of_source.specs.Parsing.{number_word_step, number_items, number_token, comment_step, with_code, recurse_step}
 use Rattle.of_source.specs.Parsing.{text_step, keyword_step, ordinary_step, listed_step, own_step, word_step, next_step}
-use Rattle.of_source.specs.Parsing.{code_named, then_without_branch, then_with_branch, opened_if, Beyond, Word}
+use Rattle.of_source.specs.Nesting.{then_without_branch, then_with_branch, opened_if}
+use Rattle.of_source.specs.Parsing.{code_named, Beyond, Word}
 use Rattle.of_source.specs.Parsing.{Nothing, Bad, trailed, beyond, stepped, words, begun, beginning, misplaced, parsed}
 
 abbrev pub Inv : State → Type 0

@@ -99,3 +99,19 @@ first_open line n = earliest_of (last_or line n.branches) n.parts
 -- whether nothing is open
 abbrev pub is_closed : Nesting → Bool
 is_closed n = nat_eq (length n.branches) 0 && nat_eq (length n.parts) 0
+
+-- ---- words that do two of these, one after the other
+
+-- `repeat` closes a branch behind its `begin`
+abbrev pub then_without_branch : Option Nesting → Option Nesting
+then_without_branch None = None
+then_without_branch (Some n) = without_branch n
+
+-- `else` opens a branch behind the one that it closes
+abbrev pub then_with_branch : ℕ → Option Nesting → Option Nesting
+then_with_branch line None = None
+then_with_branch line (Some n) = Some (with_branch line n)
+
+-- what is open, where a word may stand there
+abbrev pub opened_if : Bool → Nesting → Option Nesting
+opened_if b n = if b then Some n else None

@@ -30,7 +30,8 @@ use Rattle.of_source.specs.Keywords.{keyword_named, ordinary_named}
 use Rattle.of_source.specs.Items.{Item, Source, own_code, call, literal, string, naming, making, bare}
 use Rattle.of_source.specs.Items as item
 use Rattle.of_source.specs.Nesting.{Nesting, nothing_open, with_branch, with_part, without_branch, without_begin}
-use Rattle.of_source.specs.Nesting.{without_part, in_definition, in_loop, on_case, is_straight, is_closed, first_open}
+use Rattle.of_source.specs.Nesting.{without_part, then_without_branch, then_with_branch, opened_if, in_definition}
+use Rattle.of_source.specs.Nesting.{in_loop, on_case, is_straight, is_closed, first_open}
 
 -- what is known at a word
 pub record State : Type 0 where
@@ -211,18 +212,6 @@ if_open (Some n) more s = Goes (giving more (opening n s))
 abbrev pub if_ends : Option Nesting → State → Step
 if_ends None s = Fails (Unclosed s.rest.line)
 if_ends (Some n) s = Goes (defined (giving (item.Semicolon ∷ []) (opening n s)))
-
--- after the first, the second
-abbrev pub then_without_branch : Option Nesting → Option Nesting
-then_without_branch None = None
-then_without_branch (Some n) = without_branch n
-
-abbrev pub then_with_branch : ℕ → Option Nesting → Option Nesting
-then_with_branch line None = None
-then_with_branch line (Some n) = Some (with_branch line n)
-
-abbrev pub opened_if : Bool → Nesting → Option Nesting
-opened_if b n = if b then Some n else None
 
 -- ---- one word
 

@@ -1,4 +1,4 @@
-ghost use Rattle.std.specs.Prelude.{◌≡◌, [], ◌&&◌, nat_eq, OnOk, Some, None, if◌then◌else◌, length, reverse};
+ghost use Rattle.std.specs.Prelude.{◌≡◌, [], ◌&&◌, nat_eq, IfOk, OnOk, Some, None, if◌then◌else◌, length, reverse};
 ghost use Rattle.of_source.specs.Nesting.{is_same, in_loop, in_definition, all_definitions, last_or, earliest_of};
 
 use std::alloc::{AllocError, Global};
@@ -62,7 +62,8 @@ fn is_same(part: Part, other: Part) -> bool
 }
 
 impl Nesting {
-    ghost use Rattle.of_source.specs.Nesting.{nothing_open, with_branch, with_part, without_branch, without_begin};
+    ghost use Rattle.of_source.specs.Nesting.{nothing_open, with_branch, with_part, without_branch, then_with_branch};
+    ghost use Rattle.of_source.specs.Nesting.{without_begin};
     ghost use Rattle.of_source.specs.Nesting.{without_part, is_even, is_in, on_case, floor, is_straight, is_closed};
     ghost use Rattle.of_source.specs.Nesting.{first_open};
 
@@ -133,6 +134,18 @@ impl Nesting {
         }
         let _ = self.branches.pop();
         true
+    }
+
+    /// The latest branch closes, if it opened in the innermost part, and then another opens on this line.
+    pub fn exchange_branch(&mut self, line: usize) -> Result<bool, AllocError>
+        ensures { IfOk result (λ closed. then_with_branch line (without_branch self.old)
+            ≡ (if closed then Some self.new else None)) }
+    {
+        if !self.close_branch() {
+            return Ok(false);
+        }
+        self.open_branch(line)?;
+        Ok(true)
     }
 
     /// The innermost part closes, if it is one with `begin`; branches that it opened stay open.

@@ -23,11 +23,10 @@ impl Parser<'_> {
     pub(super) fn else_word(&mut self) -> Result<bool, SourceFault>
         ensures { Steps (keyword_step 0 keyword.Else self.old) self.new result }
     {
-        if !self.nesting.close_branch() {
+        let line = self.rest.line();
+        if !self.nesting.exchange_branch(line)? {
             return self.unclosed();
         }
-        let line = self.rest.line();
-        self.nesting.open_branch(line)?;
         self.give(Item::Else(line))?;
         Ok(true)
     }
