@@ -8,8 +8,10 @@ use Rattle.of_stream.specs.declared.stream.OffsetSize.TheVariants as size
 use Rattle.of_source.specs.declared.fault.SourceFault.{SourceFault}
 use Rattle.of_source.specs.Items.{Source}
 use Rattle.of_source.specs.Scan.{Rest, rest_at, at_word, word_at, next_word, Found, plain_string, line_end, last_line}
-use Rattle.of_source.specs.Parsing.{State, Step, Goes, Ends, Fails, ended, next_step, Beyond, Word, Nothing, Bad}
-use Rattle.of_source.specs.Parsing.{is_word, skipped_comment, beyond_word, beyond, stepped, words, beginning}
+use Rattle.of_source.specs.Steps.{State, Step, Goes, Ends, Fails, ended, next_step}
+use Rattle.of_source.specs.Parsing.{Beyond, Word, Nothing, Bad}
+use Rattle.of_source.specs.Steps.{beginning}
+use Rattle.of_source.specs.Parsing.{is_word, skipped_comment, beyond_word, beyond, stepped, words}
 use Rattle.of_source.specs.Parsing.{parsed}
 use Rattle.of_source.specs.Order.{behind_word, behind_words, outcome_at, IsDecided, BeginsWith, FirstWordDecides}
 use Rattle.of_source.proofs.Shrinking.{Shrinks, shrinks, FoundWithin, NextWithin, next_word-within, plain-within}

@@ -31,13 +31,15 @@ use Rattle.of_source.specs.Nesting.{with_branch, with_part, in_definition, in_lo
 use Rattle.of_source.specs.Shapes.{Shape, nothing, floor_of, around_part, around_of, is_even, closing, opens, run}
 use Rattle.of_source.specs.Shapes.{shape_of}
 use Rattle.of_source.specs.Names.{Own, own_in}
-use Rattle.of_source.specs.Parsing.{State, Step, Goes, Ends, Fails, giving, opening, reading_on, with_next}
-use Rattle.of_source.specs.Parsing.{with_name, name_found, with_string, if_open, if_ends, number_or_bad}
-use Rattle.of_source.specs.Parsing.{number_word_step, number_items, number_token, comment_step, with_code, recurse_step}
-use Rattle.of_source.specs.Parsing.{text_step, keyword_step, ordinary_step, listed_step, own_step, word_step, next_step}
+use Rattle.of_source.specs.Steps.{State, Step, Goes, Ends, Fails, giving, opening, reading_on, with_next}
+use Rattle.of_source.specs.Steps.{with_name, name_found, with_string, if_open, if_ends, number_or_bad}
+use Rattle.of_source.specs.Steps.{number_word_step, number_items, number_token, comment_step, with_code, recurse_step}
+use Rattle.of_source.specs.Steps.{text_step, keyword_step, ordinary_step, listed_step, own_step, word_step, next_step}
 use Rattle.of_source.specs.Nesting.{then_without_branch, then_with_branch, opened_if}
-use Rattle.of_source.specs.Parsing.{code_named, Beyond, Word}
-use Rattle.of_source.specs.Parsing.{Nothing, Bad, trailed, beyond, stepped, words, begun, beginning, misplaced, parsed}
+use Rattle.of_source.specs.Steps.{code_named}
+use Rattle.of_source.specs.Parsing.{Beyond, Word}
+use Rattle.of_source.specs.Steps.{beginning}
+use Rattle.of_source.specs.Parsing.{Nothing, Bad, trailed, beyond, stepped, words, begun, misplaced, parsed}
 
 abbrev pub Inv : State → Type 0
 Inv s = run s.items nothing ≡ Some (shape_of s.nesting)

@@ -23,10 +23,10 @@ use Rattle.of_source.specs.Radix.{base_of}
 use Rattle.of_source.specs.Scan.{Rest, rest_at, is_blank, line_behind, at_word, word_length, next_word, Found}
 use Rattle.of_source.specs.Scan.{byte_before, up_to, behind_blank, byte_of, before_found, pairs, group, bytes_before}
 use Rattle.of_source.specs.Scan.{grouped, and_grouped, quoted, quoted_string, plain_string, line_end}
-use Rattle.of_source.specs.Parsing.{State, Step, Goes, Ends, Fails, opening, reading_on, with_next, with_name}
-use Rattle.of_source.specs.Parsing.{name_found, with_string, if_open, if_ends, number_or_bad, number_word_step}
-use Rattle.of_source.specs.Parsing.{comment_step, with_code, recurse_step, text_step, keyword_step, ordinary_step}
-use Rattle.of_source.specs.Parsing.{listed_step, own_step, word_step, next_step, code_named}
+use Rattle.of_source.specs.Steps.{State, Step, Goes, Ends, Fails, opening, reading_on, with_next, with_name}
+use Rattle.of_source.specs.Steps.{name_found, with_string, if_open, if_ends, number_or_bad, number_word_step}
+use Rattle.of_source.specs.Steps.{comment_step, with_code, recurse_step, text_step, keyword_step, ordinary_step}
+use Rattle.of_source.specs.Steps.{listed_step, own_step, word_step, next_step, code_named}
 
 -- ---- words and strings
 

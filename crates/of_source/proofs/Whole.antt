@@ -7,8 +7,10 @@ use Rattle.of_source.specs.declared.fault.SourceFault.{SourceFault}
 use Rattle.of_source.specs.declared.fault.SourceFault.TheVariants.{Unclosed, Unknown, BadNumber, TooLong, NoMemory}
 use Rattle.of_source.specs.Scan.{Rest, Found, rest_at, next_word, plain_string, line_end, last_line, last_line_from}
 use Rattle.of_source.specs.Items.{Source}
-use Rattle.of_source.specs.Parsing.{State, Goes, Ends, Fails, Steps, Beyond, beyond, skipped_comment, is_word}
-use Rattle.of_source.specs.Parsing.{next_step, words, trailed, ended, IsRefused}
+use Rattle.of_source.specs.Steps.{State, Goes, Ends, Fails, Steps}
+use Rattle.of_source.specs.Parsing.{Beyond, beyond, skipped_comment, is_word}
+use Rattle.of_source.specs.Steps.{next_step, ended}
+use Rattle.of_source.specs.Parsing.{words, trailed, IsRefused}
 
 pub last_short : (line : ℕ) (text : List ℕ) → length text < 2 → line ≡ last_line_from line text
 last_short line [] h = refl

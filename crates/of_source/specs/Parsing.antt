@@ -1,284 +1,23 @@
--- What a text of source words says, word by word.
-use Rattle.std.specs.Prelude.{◌≡◌, ℕ, zero, suc, ◌+◌, Bool, true, false, List, [], ◌∷◌, ◌++◌, length, slice_index}
-use Rattle.std.specs.Prelude.{codes, Option, Some, None, Result, Ok, Err, nat_eq, nat_lt, nat_le, if◌then◌else◌}
+-- What a whole text of source words says: its words one after the other, between comments.
+use Rattle.std.specs.Prelude.{◌≡◌, ℕ, zero, suc, Bool, true, false, List, length}
+use Rattle.std.specs.Prelude.{codes, Option, Some, None, Result, Ok, Err, if◌then◌else◌}
 use Rattle.std.specs.Str.{str_eq_ignore_ascii_case}
-use Rattle.of_cells.specs.declared.cells.Cell.{Cell}
-use Rattle.of_fcodes.specs.declared.codes.FCode.{FCode}
 use Rattle.of_stream.specs.declared.stream.OffsetSize.{OffsetSize}
 use Rattle.of_stream.specs.declared.stream.OffsetSize.TheVariants as size
-use Rattle.of_stream.specs.Decoding.{Token}
 use Rattle.of_source.specs.declared.fault.SourceFault.{SourceFault}
 use Rattle.of_source.specs.declared.fault.SourceFault.TheVariants.{Unclosed, Unknown, BadNumber, TooLong, NoMemory}
-use Rattle.of_source.specs.declared.keyword.Maker.{Maker}
-use Rattle.of_source.specs.declared.keyword.Maker.TheVariants.{Named}
-use Rattle.of_source.specs.declared.keyword.Quote.{Quote}
-use Rattle.of_source.specs.declared.keyword.Quote.TheVariants as quote
 use Rattle.of_source.specs.declared.keyword.Keyword.{Keyword}
 use Rattle.of_source.specs.declared.keyword.Keyword.TheVariants as keyword
-use Rattle.of_source.specs.declared.keyword.Radix.{Radix}
-use Rattle.of_source.specs.declared.keyword.Radix.TheVariants.{Hexadecimal}
 use Rattle.of_source.specs.Radix.{base_of}
-use Rattle.of_source.specs.declared.nesting.Part.TheVariants as part
 use Rattle.of_source.specs.declared.source.Beyond.{Beyond as HeldBeyond}
 use Rattle.of_source.specs.declared.source.Beyond.TheVariants as held
-use Rattle.of_source.specs.Names.{Own, own_in}
-use Rattle.of_source.specs.Scan.{Rest, rest_at, next_word, last_line, Found, quoted_string, plain_string, line_end}
+use Rattle.of_source.specs.Scan.{Rest, rest_at, next_word, last_line, Found, plain_string, line_end}
 use Rattle.of_source.specs.declared.number.Number.{Number}
 use Rattle.of_source.specs.declared.number.Number.TheVariants.{Value, OutOfRange, NoNumber}
 use Rattle.of_source.specs.Numbers.{number_in}
-use Rattle.of_source.specs.Keywords.{keyword_named, ordinary_named}
-use Rattle.of_source.specs.Items.{Item, Source, own_code, call, literal, string, naming, making, bare}
-use Rattle.of_source.specs.Items as item
-use Rattle.of_source.specs.Nesting.{Nesting, nothing_open, with_branch, with_part, without_branch, without_begin}
-use Rattle.of_source.specs.Nesting.{without_part, then_without_branch, then_with_branch, opened_if, in_definition}
-use Rattle.of_source.specs.Nesting.{in_loop, on_case, is_straight, is_closed, first_open}
-
--- what is known at a word
-pub record State : Type 0 where
-  pub rest : Rest
-  pub radix : Radix
-  pub maker : Maker
-  pub known : List Own  -- the definitions that can be named, latest first
-  pub open_one : Option Own  -- the definition that is open
-  pub nesting : Nesting
-  pub items : List Item
-
--- a word's part in a source: what is known behind it, the end of the source, or a fault
-pub data Step : Type 0 where
-  Goes : State → Step
-  Ends : State → Step
-  Fails : SourceFault → Step
-
--- with more items
-abbrev pub giving : List Item → State → State
-giving more s = record s { items = s.items ++ more }
-
--- with other structures open
-abbrev pub opening : Nesting → State → State
-opening n s = record s { nesting = n }
-
--- behind what was read
-abbrev pub reading_on : Rest → State → State
-reading_on r s = record s { rest = r }
-
-abbrev pub with_radix : Radix → State → State
-with_radix base s = record s { radix = base }
-
-abbrev pub with_maker : Maker → State → State
-with_maker m s = record s { maker = m }
-
--- with a definition that can be named from here on
-abbrev pub knowing : List ℕ → State → State
-knowing name s = record s { known = record { name = name; number = length s.known } ∷ s.known }
-
--- with a definition that is open
-abbrev pub defining : List ℕ → State → State
-defining name s = record s { open_one = Some (record { name = name; number = length s.known }) }
-
-abbrev pub known_with : Option Own → List Own → List Own
-known_with None known = known
-known_with (Some d) known = d ∷ known
-
--- the open definition is closed, and can be named from here on
-abbrev pub defined : State → State
-defined s = record s { known = known_with s.open_one s.known; open_one = None }
-
--- ---- names
-
-abbrev pub named_code : Option ℕ → Option FCode → Option FCode
-named_code (Some k) ordinary = Some (own_code k)
-named_code None ordinary = ordinary
-
--- the FCode that a name stands for
-abbrev pub code_named : List Own → List ℕ → Option FCode
-code_named known name = named_code (own_in known name) (ordinary_named name)
-
--- ---- tokens of numbers
-
--- the cells -1 to 3 have FCodes of their own
-abbrev pub number_token : Cell → Token
-number_token x = if nat_eq x.0 0xffffffff then bare 0x0a4 else if nat_le x.0 3 then bare (0x0a5 + x.0) else literal x
-
-abbrev pub number_items : Cell → List Item
-number_items x = item.Plain (number_token x) ∷ []
-
--- ---- words that read on
-
--- the fault of a text that ends too early: the line of the first opener left open, or the last line
-abbrev pub ended : ℕ → State → SourceFault
-ended last s = Unclosed (first_open last s.nesting)
-
--- with the next word, which must be there
-abbrev pub with_next : SourceFault → Option (List ℕ × Rest) → (List ℕ → Rest → Step) → Step
-with_next f None go = Fails f
-with_next f (Some w) go = go w.0 w.1
-
--- the name of a definition, of at most 31 bytes
-abbrev pub name_if : List ℕ → Rest → State → Result (List ℕ × State) SourceFault
-name_if name r s = if nat_lt 31 (length name) then Err (TooLong r.line) else Ok (name, reading_on r s)
-
-abbrev pub name_found : ℕ → State → Option (List ℕ × Rest) → Result (List ℕ × State) SourceFault
-name_found last s None = Err (ended last s)
-name_found last s (Some w) = name_if w.0 w.1 s
-
-abbrev pub name_read : ℕ → State → Result (List ℕ × State) SourceFault
-name_read last s = name_found last s (next_word s.rest)
-
-abbrev pub with_name : Result (List ℕ × State) SourceFault → (List ℕ → State → Step) → Step
-with_name (Err f) go = Fails f
-with_name (Ok r) go = go r.0 r.1
-
-abbrev pub with_code : ℕ → Option FCode → (FCode → Step) → Step
-with_code line None go = Fails (Unknown line)
-with_code line (Some c) go = go c
-
--- `'`, `[']` or `to` with the word that follows
-abbrev pub naming_step : ℕ → FCode → State → Step
-naming_step last t s =
-    with_next (ended last s) (next_word s.rest)
-    (λ name r. with_code r.line (code_named s.known name)
-    (λ c. Goes (giving (item.Plain (naming t c) ∷ []) (reading_on r s))))
-
-abbrev pub number_or_bad : ℕ → Number → (Cell → Step) → Step
-number_or_bad line (Value x) go = go x
-number_or_bad line OutOfRange go = Fails (BadNumber line)
-number_or_bad line NoNumber go = Fails (BadNumber line)
-
--- `h#` or `d#`, on this line
-abbrev pub number_step : Radix → State → Step
-number_step base s =
-    with_next (BadNumber s.rest.line) (next_word s.rest)
-    (λ word r. number_or_bad s.rest.line (number_in (base_of base) word)
-    (λ x. Goes (giving (number_items x) (reading_on r s))))
-
-abbrev pub character_step : ℕ → State → Step
-character_step last s =
-    with_next (ended last s) (next_word s.rest)
-    (λ word r. Goes (giving (number_items (record { 0 = slice_index word 0 })) (reading_on r s)))
-
--- a string that was found, of at most 255 bytes
-abbrev pub with_string : State → Found → (List ℕ → State → Step) → Step
-with_string s None go = Fails (Unknown s.rest.line)
-with_string s (Some r) go =
-    if nat_lt 255 (length r.0) then Fails (TooLong s.rest.line) else go r.0 (reading_on (rest_at s.rest.line r.1) s)
-
-abbrev pub text_step : Quote → State → Step
-text_step quote.Bytes s =
-    with_string s (quoted_string s.rest.text) (λ bytes t. Goes (giving (item.Plain (string bytes) ∷ []) t))
-text_step quote.Plain s =
-    with_string s (plain_string 34 s.rest.text) (λ bytes t. Goes (giving (item.Plain (string bytes) ∷ []) t))
-text_step quote.Printed s =
-    with_string s (plain_string 34 s.rest.text)
-    (λ bytes t. Goes (giving (item.Plain (string bytes) ∷ item.Plain (bare 0x090) ∷ []) t))
-
--- a comment has any length
-abbrev pub comment_step : State → Found → Step
-comment_step s None = Fails (Unknown s.rest.line)
-comment_step s (Some r) = Goes (reading_on (rest_at s.rest.line r.1) s)
-
--- ---- definitions
-
--- the items that begin a definition
-abbrev pub making_items : List ℕ → State → Item → List Item
-making_items name s i = item.Plain (making s.maker name (own_code (length s.known))) ∷ i ∷ []
-
--- outside all definitions
-abbrev pub if_outside : State → Step → Step
-if_outside s go = if in_definition s.nesting.parts then Fails (Unknown s.rest.line) else go
-
-abbrev pub defining_step : ℕ → FCode → State → Step
-defining_step last t s =
-    if_outside s (with_name (name_read last s)
-    (λ name r. Goes (knowing name (giving (making_items name s (item.Plain (call t))) r))))
-
--- the definition is open before its name is read
-abbrev pub colon_step : ℕ → State → Step
-colon_step last s =
-    if_outside s (with_name (name_read last (opening (with_part part.Definition s.rest.line s.nesting) s))
-    (λ name r. Goes (defining name (giving (making_items name s item.Colon) r))))
-
-abbrev pub recurse_step : State → Option Own → Step
-recurse_step s None = Fails (Unknown s.rest.line)
-recurse_step s (Some d) = Goes (giving (item.Plain (call (own_code d.number)) ∷ []) s)
-
--- ---- control structures
-
--- these items, where this may be left open
-abbrev pub if_open : Option Nesting → List Item → State → Step
-if_open None more s = Fails (Unclosed s.rest.line)
-if_open (Some n) more s = Goes (giving more (opening n s))
-
--- the same, at the end of a definition
-abbrev pub if_ends : Option Nesting → State → Step
-if_ends None s = Fails (Unclosed s.rest.line)
-if_ends (Some n) s = Goes (defined (giving (item.Semicolon ∷ []) (opening n s)))
-
--- ---- one word
-
--- what a keyword does, on the line that the rest of the text begins with
-abbrev pub keyword_step : ℕ → Keyword → State → Step
-keyword_step last keyword.Finish s =
-    if is_closed s.nesting then Ends s else Fails (Unclosed (first_open 0 s.nesting))
-keyword_step last keyword.Comment s = comment_step s (plain_string 41 s.rest.text)
-keyword_step last keyword.LineComment s = Goes (reading_on (rest_at s.rest.line (line_end s.rest.text)) s)
-keyword_step last (keyword.Headers m) s = Goes (with_maker m s)
-keyword_step last (keyword.Radix base) s = Goes (with_radix base s)
-keyword_step last (keyword.NumberIn base) s = number_step base s
-keyword_step last keyword.Character s = character_step last s
-keyword_step last (keyword.Text q) s = text_step q s
-keyword_step last keyword.Colon s = colon_step last s
-keyword_step last keyword.Semicolon s = if_ends (without_part part.Definition s.nesting) s
-keyword_step last (keyword.Defining t) s = defining_step last t s
-keyword_step last keyword.Recurse s = recurse_step s s.open_one
-keyword_step last (keyword.Naming t) s = naming_step last t s
-keyword_step last keyword.Offset16 s = if is_straight s.nesting then Goes (giving (item.Plain (bare 0x0cc) ∷ []) s)
-    else Fails (Unknown s.rest.line)
-keyword_step last (keyword.One t) s = Goes (giving (item.Plain (call t) ∷ []) s)
-keyword_step last (keyword.Two t u) s = Goes (giving (item.Plain (call t) ∷ item.Plain (call u) ∷ []) s)
-keyword_step last keyword.If s = if_open (Some (with_branch s.rest.line s.nesting)) (item.If s.rest.line ∷ []) s
-keyword_step last keyword.Else s =
-    if_open (then_with_branch s.rest.line (without_branch s.nesting)) (item.Else s.rest.line ∷ []) s
-keyword_step last keyword.Then s = if_open (without_branch s.nesting) (item.Then ∷ []) s
-keyword_step last keyword.Begin s = if_open (Some (with_part part.Begin s.rest.line s.nesting)) (item.Begin ∷ []) s
-keyword_step last (keyword.Back z) s = if_open (without_begin s.nesting) (item.Back z s.rest.line ∷ []) s
-keyword_step last keyword.Repeat s =
-    if_open (then_without_branch (without_begin s.nesting)) (item.Back false s.rest.line ∷ item.Then ∷ []) s
-keyword_step last (keyword.Do q) s =
-    if_open (Some (with_part part.Do s.rest.line s.nesting)) (item.Do q s.rest.line ∷ []) s
-keyword_step last (keyword.Loop q) s = if_open (without_part part.Do s.nesting) (item.Loop q s.rest.line ∷ []) s
-keyword_step last keyword.Leave s = if_open (opened_if (in_loop s.nesting.parts) s.nesting) (item.Leave ∷ []) s
-keyword_step last keyword.Case s = if_open (Some (with_part part.Case s.rest.line s.nesting)) (item.Case ∷ []) s
-keyword_step last keyword.Of s =
-    if_open (opened_if (on_case s.nesting) (with_part part.Of s.rest.line s.nesting)) (item.Of s.rest.line ∷ []) s
-keyword_step last keyword.EndOf s = if_open (without_part part.Of s.nesting) (item.EndOf s.rest.line ∷ []) s
-keyword_step last keyword.EndCase s = if_open (without_part part.Case s.nesting) (item.EndCase ∷ []) s
-
-abbrev pub number_word_step : State → Number → Step
-number_word_step s (Value x) = Goes (giving (number_items x) s)
-number_word_step s OutOfRange = Fails (BadNumber s.rest.line)
-number_word_step s NoNumber = Fails (Unknown s.rest.line)
-
-abbrev pub ordinary_step : List ℕ → State → Option FCode → Step
-ordinary_step word s (Some c) = Goes (giving (item.Plain (call c) ∷ []) s)
-ordinary_step word s None = number_word_step s (number_in (base_of s.radix) word)
-
-abbrev pub listed_step : ℕ → List ℕ → State → Option Keyword → Step
-listed_step last word s (Some k) = keyword_step last k s
-listed_step last word s None = ordinary_step word s (ordinary_named word)
-
-abbrev pub own_step : ℕ → List ℕ → State → Option ℕ → Step
-own_step last word s (Some k) = Goes (giving (item.Plain (call (own_code k)) ∷ []) s)
-own_step last word s None = listed_step last word s (keyword_named word)
-
--- a word: an own name goes before all others
-unfoldable pub word_step : ℕ → List ℕ → State → Step
-word_step last word s = own_step last word s (own_in s.known word)
-
--- the next word of a text
-abbrev pub next_step : ℕ → State → Step
-next_step last s = with_next (ended last s) (next_word s.rest) (λ word r. word_step last word (reading_on r s))
-
--- ---- a whole text
+use Rattle.of_source.specs.Keywords.{keyword_named}
+use Rattle.of_source.specs.Items.{Source}
+use Rattle.of_source.specs.Steps.{State, Step, Goes, Ends, Fails, beginning, ended, next_step}
 
 -- a word where none of its kind can stand
 abbrev pub misplaced_number : ℕ → Number → SourceFault
@@ -300,11 +39,13 @@ is_closer keyword.EndOf = true
 is_closer keyword.EndCase = true
 is_closer _ = false
 
+-- a closer is unclosed, another keyword what it says as a number
 abbrev pub misplaced_keyword : ℕ → ℕ → List ℕ → Option Keyword → SourceFault
 misplaced_keyword line radix word (Some k) =
     if is_closer k then Unclosed line else misplaced_number line (number_in radix word)
 misplaced_keyword line radix word None = misplaced_number line (number_in radix word)
 
+-- what a word gives that stands where none of its kind can
 abbrev pub misplaced : ℕ → ℕ → List ℕ → SourceFault
 misplaced line radix word = misplaced_keyword line radix word (keyword_named word)
 
@@ -314,18 +55,22 @@ pub data Beyond : Type 0 where
   Nothing : Beyond
   Bad : ℕ → Beyond  -- a comment without its end on its line
 
+-- as the code holds it
 abbrev pub beyond_shown : HeldBeyond → Beyond
 beyond_shown (held.Word w r) = Word w.now r
 beyond_shown held.Nothing = Nothing
 beyond_shown (held.Bad l) = Bad l
 
+-- whether a word is this name, whatever the case of its letters
 abbrev pub is_word : List ℕ → List ℕ → Bool
 is_word name word = str_eq_ignore_ascii_case name word
 
+-- on behind a comment, where its end is on its line
 abbrev pub skipped_comment : ℕ → Found → (Rest → Beyond) → Beyond
 skipped_comment line None next = Bad line
 skipped_comment line (Some r) next = next (rest_at line r.1)
 
+-- on behind a word that begins a comment
 abbrev pub beyond_word : Option (List ℕ × Rest) → (Rest → Beyond) → Beyond
 beyond_word None next = Nothing
 beyond_word (Some w) next =
@@ -344,6 +89,7 @@ trailed z s Nothing = Ok (record { size = z; items = s.items })
 trailed z s (Bad line) = Err (Unknown line)
 trailed z s (Word w r) = Err (misplaced r.line (base_of s.radix) w)
 
+-- what a word's step makes of the whole text
 abbrev pub stepped : List ℕ → OffsetSize → Step → (State → Result Source SourceFault) → Result Source SourceFault
 stepped text z (Goes s) next = next s
 stepped text z (Ends s) next = trailed z s (beyond (length text) s.rest)
@@ -354,19 +100,7 @@ abbrev pub words : List ℕ → OffsetSize → ℕ → State → Result Source S
 words text z zero s = Err (ended (last_line text) s)
 words text z (suc n) s = stepped text z (next_step (last_line text) s) (words text z n)
 
--- the state in which a source begins
-abbrev pub beginning : Rest → State
-beginning r = record {
-  rest = r;
-  radix = Hexadecimal;
-  maker = Named;
-  known = [];
-  open_one = None;
-  nesting =
-      nothing_open;
-  items = [];
-}
-
+-- a text whose comments at the beginning were passed
 abbrev pub begun : List ℕ → Beyond → Result Source SourceFault
 begun text Nothing = Err (Unclosed (last_line text))
 begun text (Bad line) = Err (Unknown line)
@@ -387,13 +121,3 @@ IsRefused r (Unclosed l) = r ≡ Err (Unclosed l)
 IsRefused r (Unknown l) = r ≡ Err (Unknown l)
 IsRefused r (BadNumber l) = r ≡ Err (BadNumber l)
 IsRefused r (TooLong l) = r ≡ Err (TooLong l)
-
--- a call took this step from a state to another (and says whether the source goes on), or was refused memory
-abbrev pub Steps : Step → State → Result Bool SourceFault → Type 0
-Steps step new (Ok true) = step ≡ Goes new
-Steps step new (Ok false) = step ≡ Ends new
-Steps step new (Err NoMemory) = Unit {0}
-Steps step new (Err (Unclosed l)) = step ≡ Fails (Unclosed l)
-Steps step new (Err (Unknown l)) = step ≡ Fails (Unknown l)
-Steps step new (Err (BadNumber l)) = step ≡ Fails (BadNumber l)
-Steps step new (Err (TooLong l)) = step ≡ Fails (TooLong l)

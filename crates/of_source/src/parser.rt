@@ -1,7 +1,7 @@
 ghost use Rattle.std.specs.Prelude.{◌≡◌, ◌∷◌, [], Bool, Err, OnOk, true, false, map, option_map, length, IfOk};
 ghost use Rattle.of_source.specs.Items.{item_shown, code_of, call};
 ghost use Rattle.of_source.specs.Items as item;
-ghost use Rattle.of_source.specs.Parsing.{number_token};
+ghost use Rattle.of_source.specs.Steps.{number_token};
 ghost use Rattle.of_source.specs.declared.fault.SourceFault.TheVariants.{Unclosed, Unknown};
 ghost use Rattle.of_source.specs.declared.keyword.Keyword.TheVariants as keyword;
 
@@ -39,7 +39,7 @@ impl<'a> Model for Parser<'a> {
     ghost use Rattle.std.specs.Prelude.{map, option_map};
     ghost use Rattle.of_source.specs.Items.{item_shown};
     ghost use Rattle.of_source.specs.Names.{own_shown};
-    ghost use Rattle.of_source.specs.Parsing.{State};
+    ghost use Rattle.of_source.specs.Steps.{State};
 
     ghost Value = { State };
 
@@ -59,8 +59,8 @@ impl<'a> Parser<'a> {
     ghost use Rattle.of_source.specs.Items as item;
     ghost use Rattle.of_source.specs.Keywords.{keyword_named, ordinary_named};
     ghost use Rattle.of_source.specs.Names.{own_in};
-    ghost use Rattle.of_source.specs.Parsing.{beginning, giving, keyword_step, Steps, ordinary_step, listed_step};
-    ghost use Rattle.of_source.specs.Parsing.{word_step, next_step, ended, number_items};
+    ghost use Rattle.of_source.specs.Steps.{beginning, giving, keyword_step, Steps, ordinary_step, listed_step};
+    ghost use Rattle.of_source.specs.Steps.{word_step, next_step, ended, number_items};
 
     /// The beginning of a source.
     pub fn new(alloc: Global, rest: Rest<'a>) -> Self
@@ -265,7 +265,7 @@ impl<'a> Parser<'a> {
     }
 
     /// A word; an own name goes before all others.
-    #[tactic(auto, unfolding(crate::specs::Parsing::word_step))]
+    #[tactic(auto, unfolding(crate::specs::Steps::word_step))]
     fn word(&mut self, word: &[u8], last: usize) -> Result<bool, SourceFault>
         ensures { Steps (word_step last word.now self.old) self.new result }
     {

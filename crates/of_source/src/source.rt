@@ -174,6 +174,16 @@ fn words(mut parser: Parser<'_>, text: &[u8], size: OffsetSize) -> Result<Source
 }
 
 /// The source that a text of FCode source words says (IEEE 1275-1994, 5.3 and annex C).
+///
+/// It begins with `fcode-version2`, or `fcode-version1` for offsets of 8 bits, and ends with `fcode-end`; before and
+/// behind them stand comments alone. Words are separated by bytes up to 0x20 and found without case, a number in the
+/// text's radix, hexadecimal at first.
+///
+/// The first word that fits nowhere gives the fault, with its line from 1: BadNumber for digits that no cell holds,
+/// and behind `h#` and `d#` for what is no number; TooLong for a name over 31 bytes or a string over 255; Unclosed
+/// for a closer, `of` or `leave` with nothing that it may close or stand in there; else Unknown, as for a string or
+/// comment that doesn't end on its line. At the end Unclosed has the line of the first opener left open, or the last
+/// line where `fcode-end` is missing. NoMemory may stand in place of any.
 #[tactic(auto, unfolding(crate::specs::Parsing::parsed), using(crate::proofs::Whole::is_refused))]
 pub fn parse(alloc: Global, text: &[u8]) -> Result<Source, SourceFault>
     ensures ok { IfOk result (λ s. parsed text.now ≡ Ok s) }

@@ -13,7 +13,7 @@ use std::alloc::AllocError;
 
 impl<'a> Parser<'a> {
     ghost use Rattle.of_source.specs.Items.{making, own_code};
-    ghost use Rattle.of_source.specs.Parsing.{name_read, giving, defined, keyword_step, Steps, knowing, defining};
+    ghost use Rattle.of_source.specs.Steps.{name_read, giving, defined, keyword_step, Steps, knowing, defining};
 
     /// The name of a definition, of at most 31 bytes.
     fn name(&mut self, last: usize) -> Result<&'a [u8], SourceFault>

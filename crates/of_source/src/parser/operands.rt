@@ -19,7 +19,7 @@ use std::alloc::AllocError;
 
 impl Parser<'_> {
     ghost use Rattle.of_source.specs.Items.{code_of, string};
-    ghost use Rattle.of_source.specs.Parsing.{code_named, giving, keyword_step, Steps};
+    ghost use Rattle.of_source.specs.Steps.{code_named, giving, keyword_step, Steps};
 
     /// `h#` or `d#`.
     pub(super) fn number_word(&mut self, radix: Radix) -> Result<bool, SourceFault>

@@ -7,7 +7,7 @@ use crate::item::Item;
 use crate::nesting::Part;
 
 impl Parser<'_> {
-    ghost use Rattle.of_source.specs.Parsing.{keyword_step, Steps};
+    ghost use Rattle.of_source.specs.Steps.{keyword_step, Steps};
 
     /// `if` or `while`.
     pub(super) fn if_word(&mut self) -> Result<bool, SourceFault>
