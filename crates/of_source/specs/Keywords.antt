@@ -20,12 +20,15 @@ use Rattle.of_source.specs.declared.keyword.Keyword.TheVariants.{EndCase}
 abbrev pub fcode : ℕ → FCode
 fcode n = record { 0 = n }
 
+-- a word and what it does
 abbrev pub Row : Type 0
 Row = List ℕ × Keyword
 
+-- one of them
 abbrev pub row : List ℕ → Keyword → Row
 row name k = (name, k)
 
+-- words of texts, names and numbers
 unfoldable pub text_rows : List Row
 text_rows =
     row (codes "fcode-end") Finish ∷
@@ -59,6 +62,7 @@ text_rows =
     row (codes "offset16") Offset16 ∷
     []
 
+-- words that stand for tokens, and control structures
 unfoldable pub control_rows : List Row
 control_rows =
     row (codes "1+") (Two (fcode 0x0a6) (fcode 0x01e)) ∷
@@ -92,10 +96,12 @@ control_rows =
     row (codes "endcase") EndCase ∷
     []
 
+-- the keyword of a name among these rows, whatever the case of its letters
 abbrev pub keyword_in : List Row → List ℕ → Option Keyword
 keyword_in [] name = None
 keyword_in (r ∷ rows) name = if str_eq_ignore_ascii_case r.0 name then Some r.1 else keyword_in rows name
 
+-- the first of two
 abbrev pub or_in : Option Keyword → Option Keyword → Option Keyword
 or_in (Some k) other = Some k
 or_in None other = other
@@ -114,6 +120,7 @@ is_ordinary None = false
 is_ordinary (Some (word.Stream w)) = false
 is_ordinary (Some _) = true
 
+-- an FCode, if its word is an ordinary one
 abbrev pub if_ordinary : Option ℕ → Option FCode
 if_ordinary None = None
 if_ordinary (Some n) = if is_ordinary (word_numbered n) then Some (fcode n) else None

@@ -5,6 +5,7 @@ use Rattle.of_stream.specs.Decoding.{Token}
 use Rattle.of_source.specs.Items.{Item}
 use Rattle.of_source.specs.Items as item
 
+-- a word with what follows it, or a part with its inside and what follows it; at the end nothing
 pub data Nest : Type 0 where
   Stop : Nest
   Plain : Token → Nest → Nest
@@ -52,9 +53,11 @@ pub record Around : Type 0 where
   pub loops : Bool  -- in a loop of the same definition, or outside all
   pub cases : Bool  -- directly in a case
 
+-- outside all parts
 abbrev pub outside : Around
 outside = record { defines = false; loops = false; cases = false }
 
+-- in a part that is neither a definition, a loop nor a case
 abbrev pub in_part : Around → Around
 in_part a = record { defines = a.defines; loops = a.loops; cases = false }
 
@@ -102,19 +105,24 @@ part_of item.Case i item.EndCase r = Case i r
 part_of (item.Of k) i (item.EndOf m) r = Of k i m r
 part_of _ i _ r = i
 
+-- a word before what was read
 abbrev pub after_word : (Nest → Nest) → Inside → Inside
 after_word f x = record { nest = f x.nest; around = x.around }
 
+-- a closer before what was read: an inside begins
 abbrev pub after_closer : Item → Inside → Inside
 after_closer c x = record { nest = Stop; around = (c, x.nest) ∷ x.around }
 
+-- an opener before an inside, with what is around that
 abbrev pub opened_by : Item → Nest → List (Item × Nest) → Inside
 opened_by o i [] = record { nest = i; around = [] }
 opened_by o i (c ∷ cs) = record { nest = part_of o i c.0 c.1; around = cs }
 
+-- an opener before what was read: the inside ends
 abbrev pub after_opener : Item → Inside → Inside
 after_opener o x = opened_by o x.nest x.around
 
+-- items read from their end on
 abbrev pub read_back : List Item → Inside
 read_back [] = record { nest = Stop; around = [] }
 read_back (item.Plain t ∷ is) = after_word (Plain t) (read_back is)

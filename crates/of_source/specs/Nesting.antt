@@ -7,6 +7,7 @@ use Rattle.of_source.specs.declared.nesting.Part.{Part}
 use Rattle.of_source.specs.declared.nesting.Frame.{Frame}
 use Rattle.of_source.specs.declared.nesting.Part.TheVariants.{Definition, Begin, Do, Case, Of}
 
+-- the lines of the branches that are open, and the parts, latest first
 pub record Nesting : Type 0 where
   pub branches : List ℕ
   pub parts : List Frame
@@ -15,6 +16,7 @@ pub record Nesting : Type 0 where
 abbrev pub nothing_open : Nesting
 nothing_open = record { branches = []; parts = [] }
 
+-- whether two parts are of one kind
 abbrev pub is_same : Part → Part → Bool
 is_same Definition Definition = true
 is_same Begin Begin = true

@@ -8,9 +8,11 @@ use Rattle.std.specs.List.{list_all}
 use Rattle.of_format.specs.Digits.{digit_value}
 use Rattle.of_format.specs.Reading.{number_read}
 
+-- whether a byte is a digit in a base
 abbrev pub is_digit : ℕ → ℕ → Bool
 is_digit base c = is_some (digit_value base c)
 
+-- whether a text has digits alone
 abbrev pub all_digits : ℕ → List ℕ → Bool
 all_digits base text = list_all (λ c. is_digit base c) text
 
@@ -23,6 +25,7 @@ abbrev pub unsigned_part : List ℕ → List ℕ
 unsigned_part [] = []
 unsigned_part (b ∷ text) = if b == 45 then text else b ∷ text
 
+-- a number that was read, or digits that no cell holds, or something else
 abbrev pub number_or : Option Cell → Bool → Number
 number_or (Some x) are = Value x
 number_or None are = if are then OutOfRange else NoNumber

@@ -10,6 +10,7 @@ use Rattle.of_source.specs.Parsing.{Word, beyond, is_word}
 use Rattle.of_source.specs.Parsing.{trailed}
 use Rattle.of_source.specs.Parsing.{parsed}
 
+-- on behind a word, where the source goes on
 abbrev pub behind_word : Step → (State → Option State) → Option State
 behind_word (Goes s) next = next s
 behind_word (Ends s) next = None

@@ -9,6 +9,7 @@ pub record Rest : Type 0 where
   pub line : ℕ
   pub text : List ℕ
 
+-- a text that begins on this line
 abbrev pub rest_at : ℕ → List ℕ → Rest
 rest_at line text = record { line = line; text = text }
 
@@ -79,6 +80,7 @@ abbrev pub byte_of : Option ℕ → Option ℕ → Option ℕ
 byte_of (Some high) (Some low) = Some (high * 16 + low)
 byte_of _ _ = None
 
+-- a byte, if there is one, before those that were found
 abbrev pub before_found : Option ℕ → Found → Found
 before_found (Some b) found = byte_before b found
 before_found None found = None
@@ -108,6 +110,7 @@ abbrev pub grouped : List ℕ → List ℕ → Found → (List ℕ → Found) �
 grouped bytes text None next = Some (bytes, text)
 grouped bytes text (Some g) next = bytes_before (bytes ++ g.0) (next g.1)
 
+-- bytes that were found, with the group that may follow them
 abbrev pub and_grouped : Found → (List ℕ → Found) → Found
 and_grouped None next = None
 and_grouped (Some r) next = grouped r.0 r.1 (group r.1) next

@@ -14,13 +14,16 @@ pub record Shape : Type 0 where
   pub count : ℕ
   pub parts : List (Part × ℕ)
 
+-- nothing is open
 abbrev pub nothing : Shape
 nothing = record { count = 0; parts = [] }
 
+-- how many branches the innermost part may not close
 abbrev pub floor_of : List (Part × ℕ) → ℕ
 floor_of [] = 0
 floor_of (p ∷ ps) = p.1
 
+-- where the inside of a part stands
 abbrev pub around_part : Part → Around → Around
 around_part part.Definition a = record { defines = true; loops = false; cases = false }
 around_part part.Begin a = in_part a
@@ -33,10 +36,12 @@ abbrev pub around_of : List (Part × ℕ) → Around
 around_of [] = outside
 around_of (p ∷ ps) = around_part p.0 (around_of ps)
 
+-- what is open, where an item may stand
 abbrev pub when : Bool → Shape → Option Shape
 when true o = Some o
 when false o = None
 
+-- a part opens
 abbrev pub pushed : Part → Shape → Shape
 pushed k o = record { count = o.count; parts = (k, o.count) ∷ o.parts }
 
@@ -48,6 +53,7 @@ is_even part.Do b n = nat_eq b n
 is_even part.Case b n = nat_eq b n
 is_even part.Of b n = nat_eq b n
 
+-- the innermost part closes, where it may
 abbrev pub closing : Part → ℕ → List (Part × ℕ) → Option Shape
 closing k n [] = None
 closing k n (p ∷ ps) = when (is_same p.0 k && is_even k p.1 n) (record { count = n; parts = ps })
@@ -70,6 +76,7 @@ opens (item.Of l) o = when ((around_of o.parts).cases && nat_eq (floor_of o.part
 opens (item.EndOf l) o = closing part.Of o.count o.parts
 opens item.EndCase o = closing part.Case o.count o.parts
 
+-- what is open behind items; none where one of them doesn't fit
 abbrev pub run : List Item → Shape → Option Shape
 run [] o = Some o
 run (i ∷ is) o = option_and_then (run is) (opens i o)

@@ -182,6 +182,7 @@ headerless : t ; external : u ; headers : v ; | two new:\"74#0 : ; external:\"75
 value a variable b constant c | two named:\"61#0 b8 named:\"62#1 b9 named:\"63#2 ba
 create d defer~e | two named:\"64#0 bb named:\"65#1 bc
 buffer: f field g | two named:\"66#0 bd named:\"67#1 be
+5 instance value a | two =5 c0 named:\"61#0 b8
 : Ab 1 ; ab AB aB | two named:\"4162#0 : a6 ; #0 #0 #0
 : f recurse ; | two named:\"66#0 : #0 ;
 : f 1 ; : f f ; f | two named:\"66#0 : a6 ; named:\"66#1 : #0 ; #1
