@@ -27,6 +27,25 @@ pub struct Source {
 impl Model for Source {
     ghost use Rattle.std.specs.Prelude.{map};
     ghost use Rattle.of_source.specs.Items.{Source as Said, item_shown};
+    ghost use Rattle.of_source.specs.Encodable.{IsSound};
+
+    ghost Value = { Said };
+
+    ghost view = { λ s. record { size = s.size; items = map item_shown s.items.items } };
+
+    ghost invariant = { λ s. IsSound (map item_shown s.items.items) };
+}
+
+/// The parts of a source.
+#[derive(Drop)]
+struct Parts {
+    size: OffsetSize,
+    items: Vec<Item>,
+}
+
+impl Model for Parts {
+    ghost use Rattle.std.specs.Prelude.{map};
+    ghost use Rattle.of_source.specs.Items.{Source as Said, item_shown};
 
     ghost Value = { Said };
 
@@ -35,6 +54,7 @@ impl Model for Source {
 
 impl Source {
     ghost use Rattle.std.specs.Prelude.{map};
+    ghost use Rattle.of_source.specs.Encodable.{IsSound};
     ghost use Rattle.of_source.specs.Items.{item_shown};
 
     /// The offset size that its image begins with.
@@ -44,9 +64,10 @@ impl Source {
         self.size
     }
 
-    /// Its items.
+    /// Its items: they are those of a whole nest of words, and their tokens can be written.
     pub fn items(&self) -> &[Item]
-        ensures { map item_shown result.now ≡ self.now.items }
+        ensures items { map item_shown result.now ≡ self.now.items }
+        ensures sound { IsSound self.now.items }
     {
         self.items.as_slice()
     }
@@ -144,13 +165,13 @@ fn misplaced(line: usize, radix: Radix, word: &[u8]) -> SourceFault
 }
 
 /// The source of these items, where comments alone follow it.
-fn trailed(size: OffsetSize, parser: Parser<'_>, most: usize) -> Result<Source, SourceFault>
+fn trailed(size: OffsetSize, parser: Parser<'_>, most: usize) -> Result<Parts, SourceFault>
     ensures ok { IfOk result (λ s. trailed size parser.entry (beyond most parser.entry.rest) ≡ Ok s) }
     ensures err { IfErr result (λ f. trailed size parser.entry (beyond most parser.entry.rest) ≡ Err f) }
 {
     let (rest, radix, items) = parser.into_parts();
     match past_comments(rest, most) {
-        Beyond::Nothing => Ok(Source { size, items }),
+        Beyond::Nothing => Ok(Parts { size, items }),
         Beyond::Bad(line) => Err(SourceFault::Unknown(line)),
         Beyond::Word(word, rest) => Err(misplaced(rest.line(), radix, word)),
     }
@@ -158,7 +179,7 @@ fn trailed(size: OffsetSize, parser: Parser<'_>, most: usize) -> Result<Source, 
 
 /// The words of a source.
 #[tactic(auto, using(crate::proofs::Whole::words_more, crate::proofs::Whole::words_end, crate::proofs::Whole::words_cut, crate::proofs::Whole::words_refused, crate::proofs::Whole::is_refused))]
-fn words(mut parser: Parser<'_>, text: &[u8], size: OffsetSize) -> Result<Source, SourceFault>
+fn words(mut parser: Parser<'_>, text: &[u8], size: OffsetSize) -> Result<Parts, SourceFault>
     ensures ok { IfOk result (λ s. words text.now size (length text.now) parser.entry ≡ Ok s) }
     ensures err { IfErr result (λ f. IsRefused (words text.now size (length text.now) parser.entry) f) }
 {
@@ -173,19 +194,9 @@ fn words(mut parser: Parser<'_>, text: &[u8], size: OffsetSize) -> Result<Source
     Err(parser.ended(last))
 }
 
-/// The source that a text of FCode source words says (IEEE 1275-1994, 5.3 and annex C).
-///
-/// It begins with `fcode-version2`, or `fcode-version1` for offsets of 8 bits, and ends with `fcode-end`; before and
-/// behind them stand comments alone. Words are separated by bytes up to 0x20 and found without case, a number in the
-/// text's radix, hexadecimal at first.
-///
-/// The first word that fits nowhere gives the fault, with its line from 1: BadNumber for digits that no cell holds,
-/// and behind `h#` and `d#` for what is no number; TooLong for a name over 31 bytes or a string over 255; Unclosed
-/// for a closer, `of` or `leave` with nothing that it may close or stand in there; else Unknown, as for a string or
-/// comment that doesn't end on its line. At the end Unclosed has the line of the first opener left open, or the last
-/// line where `fcode-end` is missing. NoMemory may stand in place of any.
+/// The parts of the source that a text says.
 #[tactic(auto, unfolding(crate::specs::Parsing::parsed), using(crate::proofs::Whole::is_refused))]
-pub fn parse(alloc: Global, text: &[u8]) -> Result<Source, SourceFault>
+fn parts_of(alloc: Global, text: &[u8]) -> Result<Parts, SourceFault>
     ensures ok { IfOk result (λ s. parsed text.now ≡ Ok s) }
     ensures err { IfErr result (λ f. IsRefused (parsed text.now) f) }
 {
@@ -201,5 +212,26 @@ pub fn parse(alloc: Global, text: &[u8]) -> Result<Source, SourceFault>
             }
             Err(misplaced(rest.line(), Radix::Hexadecimal, word))
         }
+    }
+}
+
+/// The source that a text of FCode source words says (IEEE 1275-1994, 5.3 and annex C).
+///
+/// It begins with `fcode-version2`, or `fcode-version1` for offsets of 8 bits, and ends with `fcode-end`; before and
+/// behind them stand comments alone. Words are separated by bytes up to 0x20 and found without case, a number in the
+/// text's radix, hexadecimal at first.
+///
+/// The first word that fits nowhere gives the fault, with its line from 1: BadNumber for digits that no cell holds,
+/// and behind `h#` and `d#` for what is no number; TooLong for a name over 31 bytes or a string over 255; Unclosed
+/// for a closer, `of` or `leave` with nothing that it may close or stand in there; else Unknown, as for a string or
+/// comment that doesn't end on its line. At the end Unclosed has the line of the first opener left open, or the last
+/// line where `fcode-end` is missing. NoMemory may stand in place of any.
+pub fn parse(alloc: Global, text: &[u8]) -> Result<Source, SourceFault>
+    ensures ok { IfOk result (λ s. parsed text.now ≡ Ok s) }
+    ensures err { IfErr result (λ f. IsRefused (parsed text.now) f) }
+{
+    match parts_of(alloc, text) {
+        Ok(Parts { size, items }) => Ok(Source { size, items }),
+        Err(fault) => Err(fault),
     }
 }

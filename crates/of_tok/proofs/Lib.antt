@@ -1,0 +1,6 @@
+pub mod Lengths
+pub mod PlaceLemmas
+pub mod LayLemmas
+pub mod WriteLemmas
+pub mod PassLemmas
+pub mod ImageLemmas

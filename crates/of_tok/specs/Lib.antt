@@ -1,0 +1,6 @@
+pub mod Places
+pub mod Tokens
+pub mod Image
+pub mod Layout
+pub mod Pieces
+pub mod Shown

@@ -1,0 +1,17 @@
+//! The tokenizer: the image of a source.
+#![tactic(auto)]
+
+mod fault;
+mod header;
+mod laws;
+mod layout;
+mod piece;
+mod place;
+mod placing;
+mod tokenizer;
+mod writing;
+mod written;
+
+pub use fault::TokFault;
+pub use laws::passes_give_tokens;
+pub use tokenizer::tokenize;

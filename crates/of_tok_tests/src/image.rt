@@ -1,0 +1,124 @@
+//! Sources as lines of text, and their images.
+
+use of_source::parse;
+use of_tok::{passes_give_tokens, tokenize};
+use std::alloc::{AllocError, Global};
+use std::test::Fail;
+
+/// Sources, and behind a bar the bytes of their images.
+const IMAGES: &str = "\
+fcode-version2 headerless : t begin dup while 1- dup 2 <> while repeat then ; 5 t . fcode-end\
+|f108097e00000028b50800b7b14714000fa61f47a73d14000613fff3b2b2c2100000000508009d00
+fcode-version2 \" card\" device-name : add3 3 + ; 2 add3 . fcode-end\
+|f108075c000000211204636172640201b604616464330800b7a81ec2a708009d00
+fcode-version1 headerless : t if 1 else 2 then ; 0 t . fcode-end\
+|fd0806610000001ab50800b71405a61304b2a7b2c2a508009d00
+fcode-version2 headerless : t if 1 else 2 then ; 0 t . fcode-end\
+|f10806640000001cb50800b7140007a6130005b2a7b2c2a508009d00
+";
+
+/// Sources in which `$` ends a line, `@` is a string of 200 bytes and `a_b~3` stands for `a b a b a b`, and behind a bar
+/// the length of their images, or what is wrong with them.
+const OUTCOMES: &str = "\
+fcode-version1 : t if noop~125 then ; fcode-end|144 bytes
+fcode-version1 $ : t $ if noop~126 then ; fcode-end|line 3: offset too long
+fcode-version1 offset16 : t if noop~126 then ; fcode-end|147 bytes
+fcode-version1 begin noop~127 again fcode-end|139 bytes
+fcode-version1 begin $ noop~128 again fcode-end|line 2: offset too long
+fcode-version2 if noop~32764 then fcode-end|32777 bytes
+fcode-version2 if $ noop~32765 then fcode-end|line 1: offset too long
+fcode-version1 $ do $ if noop~126 then loop fcode-end|line 2: offset too long
+fcode-version2 variable_v~2048 fcode-end|12297 bytes
+fcode-version2 variable_v~2049 fcode-end|more than 2048 definitions
+fcode-version2 variable_v~2049 @~1298 fcode-end|more than 2048 definitions
+fcode-version2 @~1297 noop~141 fcode-end|262144 bytes
+fcode-version2 @~1297 noop~142 fcode-end|image over 262144 bytes
+fcode-version1 if @~1298 then fcode-end|image over 262144 bytes
+fcode-version2 $ if fcode-end|line 2: unclosed
+";
+
+/// A string of 200 bytes.
+const STRING: &str = "\
+\" ----------------------------------------------------------------------------------------------------\
+----------------------------------------------------------------------------------------------------\"";
+
+/// A text with its words written out.
+fn written_out(alloc: Global, words: &str) -> Result<String, Fail> {
+    let mut text = String::new(alloc);
+    for word in words.split(' ') {
+        let (phrase, count) = word.split_once('~').unwrap_or((word, "1"));
+        for _ in 0..count.parse::<u32>().unwrap_or(0) {
+            for part in phrase.split('_') {
+                text.push_str(match part {
+                    "$" => "\n",
+                    "@" => STRING,
+                    _ => part,
+                })?;
+                text.push(' ')?;
+            }
+        }
+    }
+    Ok(text)
+}
+
+/// The bytes of an image in hexadecimal digits.
+fn digits(alloc: Global, image: &[u8]) -> Result<String, AllocError> {
+    let mut text = String::new(alloc);
+    for byte in image {
+        text.push_str(&format!(in alloc; "{byte:02x}")?)?;
+    }
+    Ok(text)
+}
+
+/// The image of a source, or what is wrong with it.
+fn image_of(alloc: Global, text: &str) -> Result<Result<Vec<u8>, String>, AllocError> {
+    let source = match parse(alloc, text.as_bytes()) {
+        Ok(source) => source,
+        Err(fault) => return Ok(Err(format!(in alloc; "{fault}")?)),
+    };
+    match tokenize(alloc, &source) {
+        Ok(image) => Ok(Ok(image)),
+        Err(fault) => Ok(Err(format!(in alloc; "{fault}")?)),
+    }
+}
+
+/// The image of a source in hexadecimal digits, or what is wrong with it.
+fn shown(alloc: Global, text: &str) -> Result<String, AllocError> {
+    match image_of(alloc, text)? {
+        Ok(image) => digits(alloc, &image),
+        Err(fault) => Ok(fault),
+    }
+}
+
+/// The length of the image of a source, or what is wrong with it.
+fn outcome(alloc: Global, text: &str) -> Result<String, AllocError> {
+    match image_of(alloc, text)? {
+        Ok(image) => format!(in alloc; "{} bytes", image.len()),
+        Err(fault) => Ok(fault),
+    }
+}
+
+#[test]
+fn images(rt: HostRuntime) -> Result<(), Fail> {
+    for line in IMAGES.lines() {
+        let (source, wanted) = line.split_once('|').unwrap_or(("", ""));
+        assert_eq!(rt; shown(rt.alloc(), source)?.as_str(), wanted, "{source}");
+    }
+    Ok(())
+}
+
+#[test]
+fn outcomes(rt: HostRuntime) -> Result<(), Fail> {
+    for line in OUTCOMES.lines() {
+        let (words, wanted) = line.split_once('|').unwrap_or(("", ""));
+        let text = written_out(rt.alloc(), words)?;
+        assert_eq!(rt; outcome(rt.alloc(), &text)?.as_str(), wanted, "{words}");
+    }
+    Ok(())
+}
+
+#[test]
+fn laws(_rt: HostRuntime) -> Result<(), Fail> {
+    passes_give_tokens();
+    Ok(())
+}
