@@ -4,3 +4,4 @@ pub mod LayLemmas
 pub mod WriteLemmas
 pub mod PassLemmas
 pub mod ImageLemmas
+pub mod OrderLemmas

@@ -13,5 +13,5 @@ mod writing;
 mod written;
 
 pub use fault::TokFault;
-pub use laws::passes_give_tokens;
+pub use laws::{image_has_tokens, passes_give_tokens};
 pub use tokenizer::tokenize;
