@@ -1,6 +1,6 @@
 -- The tokens of a source, one behind another, and read from their bytes.
 use Rattle.std.proofs.Common.{◌≡◌, ℕ, ℤ, pos, ◌+◌, ◌-◌, ◌≤◌, Bool, true, false, List, [], ◌∷◌, ◌++◌, length}
-use Rattle.std.proofs.Common.{Option, Some, None, Result, Ok, Err, nat_eq, nat_lt, if◌then◌else◌, suc, refl, sym, ap}
+use Rattle.std.proofs.Common.{Option, Some, None, Ok, Err, nat_eq, nat_lt, if◌then◌else◌, suc, refl, sym, ap}
 use Rattle.std.proofs.Common.{subst, ◌∙◌, arith, append_assoc}
 use Rattle.std.specs.Option.{option_map, option_or}
 use Rattle.std.proofs.lemmas.Bool.Decides.{nat_tests}
@@ -11,14 +11,13 @@ use Rattle.of_stream.specs.declared.stream.OffsetSize.{OffsetSize}
 use Rattle.of_stream.specs.declared.stream.OffsetSize.TheVariants.{One, Two}
 use Rattle.of_stream.specs.Bytes.{IsEncodable, TokensReadBack, is_offset, offset_bytes, token_bytes}
 use Rattle.of_stream.specs.Decoding.{Token, decoded, token_from}
-use Rattle.of_stream.specs.Sizes.{size_behind, width}
+use Rattle.of_stream.specs.Sizes.{width}
 use Rattle.of_stream.specs.Targets.{target}
-use Rattle.of_source.specs.Encodable.{IsSound, definitions, most_definitions}
+use Rattle.of_source.specs.Encodable.{definitions, most_definitions}
 use Rattle.of_source.specs.Items.{Item, Source, bare}
 use Rattle.of_source.specs.Items as item
-use Rattle.of_source.specs.Nest.{ItemsGiveNest, nest_of}
-use Rattle.of_tok.specs.declared.fault.TokFault.{TokFault}
-use Rattle.of_tok.specs.declared.fault.TokFault.TheVariants.{OffsetTooLong, TooManyWords, ImageTooLong}
+use Rattle.of_source.specs.Nest.{ItemsGiveNest}
+use Rattle.of_tok.specs.declared.fault.TokFault.TheVariants.{TooManyWords, ImageTooLong}
 use Rattle.of_tok.specs.declared.place.Place.{Place}
 use Rattle.of_tok.specs.declared.written.Aim.{Aim}
 use Rattle.of_tok.specs.Image.{AreWritable, IsWritable, bytes_of, first_unfit, header, image_of, most_bytes, tokenized}
@@ -27,7 +26,7 @@ use Rattle.of_tok.specs.Laws.{HasTokens, ImageHasTokens, LeadsFrom}
 use Rattle.of_tok.specs.Layout.{Laid, after, item_laid, laid, starts_after}
 use Rattle.of_tok.specs.Places.{behind, first_place, past, past_offset}
 use Rattle.of_tok.specs.Tokens.{Written, Straight, Aimed, aimed, branch_code, do_code, first, loop_code, offset_of}
-use Rattle.of_tok.specs.Tokens.{size_at, straight, token_of, tokens_of}
+use Rattle.of_tok.specs.Tokens.{size_at, straight, token_of}
 use Rattle.of_tok.proofs.ImageLemmas.{tokens, tokens_writable}
 use Rattle.of_tok.proofs.PassLemmas.{tokens_nested}
 
@@ -49,7 +48,9 @@ straight_behind code p h k = rw (h, k) refl
 aimed_behind : (l code : ℕ) (p : Place) (t : ℕ) → nat_lt code 256 ≡ true → nat_eq code 0x0cc ≡ false
     → behind (token_of (aimed l code p t)) p ≡ past_offset p
 unfolding token_bytes
-aimed_behind l code p t h k = rw (h, k) (sized p.size p.position (offset_of (record { line = l; place = p; code = record { 0 = code }; target = t })))
+aimed_behind l code p t h k =
+    let a : Aim = record { line = l; place = p; code = record { 0 = code }; target = t } in
+    rw (h, k) (sized p.size p.position (offset_of a))
   where
     sized : (z : OffsetSize) (n : ℕ) (by : ℤ)
         → (let q : Place = record { position = n + suc (length (offset_bytes z by)); size = z } in q)
@@ -119,7 +120,7 @@ found back before rest size t h =
     let n : length image - length rest ≡ length (before ++ own) =
     omega (arith, length-append before (own ++ rest), length-append own rest, length-append before own) in
     ap (λ bytes. option_map (λ (r : Token × List ℕ). (r.0, length image - length r.1)) (decoded size bytes))
-      (drop-append_seam before (own ++ rest))
+    (drop-append_seam before (own ++ rest))
     ∙ ap (option_map (λ (r : Token × List ℕ). (r.0, length image - length r.1))) (back.written size t rest h)
     ∙ ap (λ k. Some (t, k)) n
 
@@ -165,9 +166,12 @@ has_tokens back before p (w ∷ ws) l o h u =
     ∙ ap (λ k. Some (token_of w, k)) n in
     let image : List ℕ → List ℕ = λ bytes. before ++ (bytes ++ bytes_of ws) in
     let P : List ℕ → Type 0 = λ bytes. HasTokens (image bytes) p.position p.size (w ∷ ws) in
-    subst P (sym b)
-    (q.position, t, leads p w o.0,
-      subst (λ bytes. HasTokens bytes q.position q.size ws) (append_assoc before own (bytes_of ws)) r)
+    subst P (sym b) (
+      q.position,
+      t,
+      leads p w o.0,
+      subst (λ bytes. HasTokens bytes q.position q.size ws) (append_assoc before own (bytes_of ws)) r,
+    )
 
 -- ---- the image of a source
 
@@ -178,7 +182,7 @@ accepted_is size count ws image h =
   where
     pick : (a b : Bool) (o : Option ℕ) → nat_lt most_definitions count ≡ a → first_unfit ws ≡ o
         → (if a then Err TooManyWords else if b then Err ImageTooLong else
-            unless_unfit o (header size (bytes_of ws) ++ bytes_of ws)) ≡ Ok image
+        unless_unfit o (header size (bytes_of ws) ++ bytes_of ws)) ≡ Ok image
         → (count ≤ most_definitions) × (first_unfit ws ≡ None) × (image ≡ header size (bytes_of ws) ++ bytes_of ws)
     pick true b o s t h = absurd cc
     pick false true o s t h = absurd cc
@@ -192,7 +196,7 @@ unfolding tokenized
 image_has_tokens give back s image h e =
     let a = accepted_is s.size (definitions s.items) (tokens s) image e in
     let o = subst (AreInOrder (first_place s.size)) (tokens_nested give s.size s.items h.nested)
-      (all_in_order s.items (first_place s.size) []) in
+    (all_in_order s.items (first_place s.size) []) in
     let w = tokens_writable s (tokens s) give h a.0 refl in
     subst (λ bytes. HasTokens bytes 8 s.size (tokens s)) (sym a.2)
     (has_tokens back (header s.size (bytes_of (tokens s))) (first_place s.size) (tokens s) refl o w a.1)

@@ -1,5 +1,5 @@
 -- The image of a source has the tokens of its nest, as they are decoded, and their offsets lead where they are to lead.
-use Rattle.std.specs.Prelude.{◌≡◌, ℕ, ◌+◌, pos, List, [], ◌∷◌, length, Some, Ok}
+use Rattle.std.specs.Prelude.{◌≡◌, ℕ, pos, List, [], ◌∷◌, length, Some, Ok}
 use Rattle.of_stream.specs.declared.stream.OffsetSize.{OffsetSize}
 use Rattle.of_stream.specs.Decoding.{token_from}
 use Rattle.of_stream.specs.Image.{header_length}

@@ -17,8 +17,8 @@ fcode-version2 headerless : t if 1 else 2 then ; 0 t . fcode-end\
 |f10806640000001cb50800b7140007a6130005b2a7b2c2a508009d00
 ";
 
-/// Sources in which `$` ends a line, `@` is a string of 200 bytes and `a_b~3` stands for `a b a b a b`, and behind a bar
-/// the length of their images, or what is wrong with them.
+/// Sources in which `$` ends a line, `@` is a string of 200 bytes and `a_b~3` stands for `a b a b a b`, and
+/// behind a bar the length of their images, or what is wrong with them.
 const OUTCOMES: &str = "\
 fcode-version1 : t if noop~125 then ; fcode-end|144 bytes
 fcode-version1 $ : t $ if noop~126 then ; fcode-end|line 3: offset too long
