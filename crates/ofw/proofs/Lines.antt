@@ -17,7 +17,7 @@ use Rattle.clap.specs.Words.{Text}
 use Rattle.clap.specs.declared.builder.value_parser.ValueParser.TheVariants as parser
 use Rattle.clap.proofs.ValueTestLemmas.{Accepts-accepts, accepts-Accepts}
 use Rattle.ofw.specs.CommandLine.{LinesAsk, is_plain, AsksToRun, AsksToList, AsksForLimit, number_in, ofw_app, run_app}
-use Rattle.ofw.specs.CommandLine.{detok_app}
+use Rattle.ofw.specs.CommandLine.{AsksToTokenize, detok_app, tok_app}
 
 -- ---- a word that begins with no hyphen is no option
 
@@ -53,13 +53,16 @@ word_has_no_fault s b rest h e =
     first ∙ second ∙ ap (λ (t : Option Text). option_map_or (λ flags. bundle_fault s.rules again flags h) t [])
     (no_short b rest e)
 
--- ---- the two subcommands
+-- ---- the subcommands
 
 run_shape : Shape
 run_shape = built_leaf (inherited ofw_app.top run_app.top)
 
 detok_shape : Shape
 detok_shape = built_leaf (inherited ofw_app.top detok_app.top)
+
+tok_shape : Shape
+tok_shape = built_leaf (inherited ofw_app.top tok_app.top)
 
 -- what is held of a run behind its image and `--limit`
 with_image : Text → Held
@@ -92,7 +95,7 @@ limit_passes : (image : Text) (b : ℕ) (rest : Text) → (b == 45) ≡ false
     → word_fault run_shape [] false (option (codes "limit")) (b ∷ rest) (with_image image) ≡ []
 limit_passes image b rest e = word_has_no_fault run_shape b rest (with_image image) e
 
--- ---- the three lines
+-- ---- the lines
 
 runs : (program : Text) (b : ℕ) (rest : Text) → (b == 45) ≡ false → AsksToRun program (b ∷ rest)
 unfolding clap_on_literals run_shape
@@ -106,6 +109,11 @@ lists program b rest e = (
   rw (image_met detok_shape b rest e, image_passes detok_shape b rest e)
       refl,
 )
+
+tokenizes : (program : Text) (b : ℕ) (rest : Text) → (b == 45) ≡ false → AsksToTokenize program (b ∷ rest)
+unfolding clap_on_literals tok_shape
+tokenizes program b rest e =
+    (rw (image_met tok_shape b rest e) refl, rw (image_met tok_shape b rest e, image_passes tok_shape b rest e) refl)
 
 -- a number in the range of limits is one of 64 bits
 limit_read : (limit : Text) → is_unsigned_in 0 1000000000 limit ≡ true
@@ -139,7 +147,12 @@ hyphenless b e = go (b == 45) refl e
 
 pub lines_ask : LinesAsk
 lines_ask program [] e = absurd (true≢false (sym e))
-lines_ask program (b ∷ rest) e = (runs program b rest (hyphenless b e), lists program b rest (hyphenless b e), limited)
+lines_ask program (b ∷ rest) e = (
+  runs program b rest (hyphenless b e),
+  lists program b rest (hyphenless b e),
+  tokenizes program b rest (hyphenless b e),
+  limited,
+)
   where
     limited : (limit : Text) → is_plain limit ≡ true → is_unsigned_in 0 1000000000 limit ≡ true
         → AsksForLimit program (b ∷ rest) limit

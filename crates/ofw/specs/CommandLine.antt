@@ -1,7 +1,7 @@
 -- What a command line asks for, in the terms of the parser of command lines: an application has rules
 -- for its words, and a parse gives rows of values that it found.
 use Rattle.std.specs.Prelude.{◌≡◌, ◌==◌, ◌∷◌, [], not, Bool, ℕ, List, false, Option, Some, None, true, codes}
-use Rattle.std.specs.Prelude.{option_and_then, unwrap_or, if◌then◌else◌}
+use Rattle.std.specs.Prelude.{option_map, option_and_then, unwrap_or, if◌then◌else◌}
 use Rattle.std.specs.Str.{bytes_eq}
 use Rattle.std.specs.Str.Parse.{digits_value, without_leading_plus}
 use Rattle.clap.specs.ValueTests.{is_unsigned_in}
@@ -33,6 +33,14 @@ limit_rule = record (new_rule (codes "limit")) {
 abbrev pub run_app : App
 run_app = with_rule (with_rule (new_app (codes "run")) image_rule) limit_rule
 
+-- `SOURCE`
+abbrev pub source_rule : Rule
+source_rule = record (new_rule (codes "source")) { value_names = 1; required = true; action = Some Set }
+
+-- `tok SOURCE`
+abbrev pub tok_app : App
+tok_app = with_rule (new_app (codes "tok")) source_rule
+
 -- `detok IMAGE`
 abbrev pub detok_app : App
 detok_app = with_rule (new_app (codes "detok")) image_rule
@@ -41,9 +49,11 @@ detok_app = with_rule (new_app (codes "detok")) image_rule
 abbrev pub needing_subcommand : App → App
 needing_subcommand a = record a { top = record a.top { subcommand_required = true } }
 
--- `ofw`, with one of the two
+-- `ofw`, with one of the three
 abbrev pub ofw_app : App
-ofw_app = with_subcommand (with_subcommand (needing_subcommand (new_app (codes "ofw"))) run_app.top) detok_app.top
+ofw_app =
+    with_subcommand (with_subcommand (with_subcommand (needing_subcommand (new_app (codes "ofw"))) run_app.top)
+    tok_app.top) detok_app.top
 
 -- the command has this shape, and no argument that all its subcommands share
 abbrev pub IsBuilt : App → Command → Type 0
@@ -51,13 +61,15 @@ IsBuilt a c = (app_of c ≡ a) × ((out-Command c).has_globals ≡ false)
 
 -- ---- what is asked
 
--- the run of the image at a path, for so many steps at most, or its listing
+-- the run of the image at a path, for so many steps at most, or its listing, or the image of the source at a path
 pub data Asked : Type 0 where
   a_run : Text → ℕ → Asked
+  an_image : Text → Asked
   a_listing : Text → Asked
 
 abbrev pub asked : Request → Asked
 asked (request.Run image limit) = a_run image.now limit
+asked (request.Tok source) = an_image source.now
 asked (request.Detok image) = a_listing image.now
 
 -- the number that a text has in decimal digits, where it is one of 64 bits
@@ -77,7 +89,9 @@ asked_as name limit image =
 
 -- what a subcommand asks for, by its name and the rows that were found for it
 abbrev pub asked_by : Text × List Row → Option Asked
-asked_by p = option_and_then (asked_as p.0 (limit_in p.1)) (first_of (codes "image") p.1)
+asked_by p =
+    if bytes_eq p.0 (codes "tok") then option_map an_image (first_of (codes "source") p.1)
+    else option_and_then (asked_as p.0 (limit_in p.1)) (first_of (codes "image") p.1)
 
 -- what a command line asks for, the program's name first
 abbrev pub asks : List Text → Option Asked
@@ -108,8 +122,12 @@ AsksForLimit program image limit =
 abbrev pub AsksToList : Text → Text → Type 0
 AsksToList program image = Asks (program ∷ codes "detok" ∷ image ∷ []) (a_listing image)
 
+-- the image of a source
+abbrev pub AsksToTokenize : Text → Text → Type 0
+AsksToTokenize program source = Asks (program ∷ codes "tok" ∷ source ∷ []) (an_image source)
+
 -- what the lines of the usage text ask for
 abbrev pub LinesAsk : Type 0
 LinesAsk = (program image : Text) → is_plain image ≡ true → AsksToRun program image × AsksToList program image
-    × ((limit : Text) → is_plain limit ≡ true → is_unsigned_in 0 1000000000 limit ≡ true
+    × AsksToTokenize program image × ((limit : Text) → is_plain limit ≡ true → is_unsigned_in 0 1000000000 limit ≡ true
     → AsksForLimit program image limit)

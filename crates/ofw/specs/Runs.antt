@@ -21,7 +21,16 @@ use Rattle.of_machine.specs.States.{MachineState, image_refusal, Refuses}
 use Rattle.of_machine.specs.Runs.{RunsTo}
 use Rattle.clap.specs.declared.error.kind.ErrorKind.{ErrorKind}
 use Rattle.clap.specs.declared.error.kind.ErrorKind.TheVariants as kind
-use Rattle.ofw.specs.CommandLine.{Asked, a_run, a_listing}
+use Rattle.of_source.specs.declared.fault.SourceFault.{SourceFault}
+use Rattle.of_source.specs.declared.fault.SourceFault.TheVariants as source
+use Rattle.of_source.specs.Items.{Source}
+use Rattle.of_source.specs.Parsing.{parsed}
+use Rattle.of_source.specs.Parsing.{IsRefused as IsUnsaid}
+use Rattle.of_tok.specs.declared.fault.TokFault.{TokFault}
+use Rattle.of_tok.specs.declared.fault.TokFault.TheVariants as tok
+use Rattle.of_tok.specs.Image.{tokenized}
+use Rattle.of_tok.specs.Image.{IsRefused as HasNoImage}
+use Rattle.ofw.specs.CommandLine.{Asked, a_run, an_image, a_listing}
 use Rattle.ofw.specs.declared.fault.Fault.{Fault}
 use Rattle.ofw.specs.declared.fault.Fault.TheVariants as fault
 use Rattle.ofw.specs.declared.status.Status.{Status}
@@ -41,6 +50,8 @@ status_of fault.ArgumentNotText = status.Usage
 status_of fault.NoMemory = status.NoMemory
 status_of (fault.Refused refusal.NoMemory) = status.NoMemory
 status_of (fault.Unlisted detok.NoMemory) = status.NoMemory
+status_of (fault.NoSource source.NoMemory) = status.NoMemory
+status_of (fault.NoImage tok.NoMemory) = status.NoMemory
 status_of fault.Unopened = status.Fault
 status_of fault.Unread = status.Fault
 status_of fault.Endless = status.Fault
@@ -52,7 +63,23 @@ status_of (fault.Refused (refusal.BadStart f)) = status.Fault
 status_of (fault.Refused refusal.NoNode) = status.Fault
 status_of (fault.Unlisted (detok.Stream f)) = status.Fault
 status_of (fault.Unlisted (detok.BadLine n)) = status.Fault
+status_of (fault.NoSource (source.Unclosed line)) = status.Fault
+status_of (fault.NoSource (source.Unknown line)) = status.Fault
+status_of (fault.NoSource (source.BadNumber line)) = status.Fault
+status_of (fault.NoSource (source.TooLong line)) = status.Fault
+status_of (fault.NoImage (tok.OffsetTooLong line)) = status.Fault
+status_of (fault.NoImage tok.TooManyWords) = status.Fault
+status_of (fault.NoImage tok.ImageTooLong) = status.Fault
 status_of fault.Unwritten = status.Fault
+
+-- the line of a source that has a fault
+abbrev pub source_line_of : Fault → Option ℕ
+source_line_of (fault.NoSource (source.Unclosed line)) = Some line
+source_line_of (fault.NoSource (source.Unknown line)) = Some line
+source_line_of (fault.NoSource (source.BadNumber line)) = Some line
+source_line_of (fault.NoSource (source.TooLong line)) = Some line
+source_line_of (fault.NoImage (tok.OffsetTooLong line)) = Some line
+source_line_of _ = None
 
 -- the status of a result: that of what was done, or that of the fault
 abbrev pub status_in : {A : Type 0} → (A → Status) → Result A Fault → Status
@@ -183,11 +210,53 @@ abbrev pub ListsWith : List ℕ → Option (List ℕ) → Option (List ℕ) → 
 ListsWith file old new s =
     (r : Result (Unit {0}) Fault) × (status_in (λ _. status.Done) r ≡ s) × Lists file old new r
 
+-- ---- images of sources
+
+-- the image of the source that a file has, in hexadecimal digits and a newline
+abbrev pub TokenizesFile : List ℕ → List ℕ → Type 0
+TokenizesFile file digits =
+    (s : Source) × (parsed file ≡ Ok s)
+    × ((image : List ℕ) × (tokenized s ≡ Ok image) × (digits ≡ encode_lower image ++ 10 ∷ []))
+
+-- nothing was printed, or the first digits of the image
+abbrev pub TokenizesPart : List ℕ → Option (List ℕ) → Option (List ℕ) → Type 0
+TokenizesPart file old new =
+    Keeps old new ⊎ ((digits : List ℕ) × TokenizesFile file digits × AppendsPart old new digits)
+
+-- the image was printed
+abbrev pub TokenizesAll : List ℕ → Option (List ℕ) → Option (List ℕ) → Type 0
+TokenizesAll file old new = (digits : List ℕ) × TokenizesFile file digits × Appends old new digits
+
+-- a source's faults: what is wrong with its text, or why it has no image, or for memory
+abbrev pub FaultsSource : List ℕ → Fault → Type 0
+FaultsSource text f =
+    (f ≡ fault.NoMemory)
+    ⊎ ((p : SourceFault) × (f ≡ fault.NoSource p) × IsUnsaid (parsed text) p)
+    ⊎ ((s : Source) × (parsed text ≡ Ok s) × ((t : TokFault) × (f ≡ fault.NoImage t) × HasNoImage (tokenized s) t))
+
+-- the faults of a source's file: of a read, of its end, of a write or of the source
+abbrev pub FaultsSourceFile : List ℕ → Fault → Type 0
+FaultsSourceFile file f =
+    (f ≡ fault.Unread)
+    ⊎ ((f ≡ fault.Endless) × (16777216 ≤ length file))
+    ⊎ (f ≡ fault.Unwritten)
+    ⊎ FaultsSource file f
+
+abbrev pub Tokenizes : List ℕ → Option (List ℕ) → Option (List ℕ) → Result (Unit {0}) Fault → Type 0
+Tokenizes file old new (Ok _) = TokenizesAll file old new
+Tokenizes file old new (Err f) = TokenizesPart file old new × FaultsSourceFile file f
+
+-- the program ends with this status, done or that of a fault, and printed what belongs to it
+abbrev pub TokenizesWith : List ℕ → Option (List ℕ) → Option (List ℕ) → Status → Type 0
+TokenizesWith file old new s =
+    (r : Result (Unit {0}) Fault) × (status_in (λ _. status.Done) r ≡ s) × Tokenizes file old new r
+
 -- ---- requests
 
 -- what a status says of the output and of the file, where this was asked for
 abbrev pub Answers : Asked → List ℕ → Option (List ℕ) → Option (List ℕ) → Status → Type 0
 Answers (a_run image limit) file old new s = EndsWith file limit old new s
+Answers (an_image source) file old new s = TokenizesWith file old new s
 Answers (a_listing image) file old new s = ListsWith file old new s
 
 -- how the program ends where a command line asks for nothing

@@ -4,7 +4,7 @@ ghost use Rattle.clap.specs.Values.{kind_of};
 ghost use Rattle.std.specs.String.{string_bytes};
 ghost use Rattle.ofw.specs.Runs.{unasked};
 ghost use Rattle.ofw.specs.CommandLine.{IsBuilt, asked, asked_by, asks, detok_app, image_rule, limit_in, limit_rule};
-ghost use Rattle.ofw.specs.CommandLine.{ofw_app, run_app};
+ghost use Rattle.ofw.specs.CommandLine.{ofw_app, run_app, source_rule, tok_app};
 
 use crate::status::Status;
 use clap::error::ErrorKind;
@@ -24,6 +24,11 @@ pub enum Request<'a> {
         /// How many steps the run makes at most.
         limit: u64,
     },
+    /// Make the image of a source.
+    Tok {
+        /// The path of the source.
+        source: &'a str,
+    },
     /// List an image.
     Detok {
         /// The path of the image.
@@ -38,6 +43,17 @@ fn image_argument<'a>(alloc: Global) -> Arg<'a>
     Arg::new(alloc, "image")
         .value_name("IMAGE")
         .help("the image, in hexadecimal")
+        .required(true)
+        .action(ArgAction::Set)
+}
+
+/// The argument that is the path of a source.
+fn source_argument<'a>(alloc: Global) -> Arg<'a>
+    ensures { (rule_of result ≡ source_rule) × (result.global ≡ false) }
+{
+    Arg::new(alloc, "source")
+        .value_name("SOURCE")
+        .help("the source, in words")
         .required(true)
         .action(ArgAction::Set)
 }
@@ -64,6 +80,15 @@ fn run_command<'a>(alloc: Global) -> Result<Command<'a>, AllocError>
         .arg(limit_argument(alloc))
 }
 
+/// `ofw tok SOURCE`
+fn tok_command<'a>(alloc: Global) -> Result<Command<'a>, AllocError>
+    ensures { IfOk result (IsBuilt tok_app) }
+{
+    Command::new(alloc, "tok")
+        .about("Prints the image of a source, in hexadecimal")
+        .arg(source_argument(alloc))
+}
+
 /// `ofw detok IMAGE`
 fn detok_command<'a>(alloc: Global) -> Result<Command<'a>, AllocError>
     ensures { IfOk result (IsBuilt detok_app) }
@@ -81,6 +106,7 @@ fn command<'a>(alloc: Global) -> Result<Command<'a>, AllocError>
         .about("An Open Firmware boot monitor on a simulated board")
         .subcommand_required(true)
         .subcommand(run_command(alloc)?)?
+        .subcommand(tok_command(alloc)?)?
         .subcommand(detok_command(alloc)?)
 }
 
@@ -89,6 +115,13 @@ fn image_path<'a>(matches: &ArgMatches<'a>) -> Option<&'a str>
     ensures { option_map (λ path. path.now) result ≡ first_of (codes "image") (rows_of (found_of matches.now)) }
 {
     matches.get_str("image")
+}
+
+/// The path of the source that a subcommand was given.
+fn source_path<'a>(matches: &ArgMatches<'a>) -> Option<&'a str>
+    ensures { option_map (λ path. path.now) result ≡ first_of (codes "source") (rows_of (found_of matches.now)) }
+{
+    matches.get_str("source")
 }
 
 /// The limit that a subcommand was given, or the one that stands where it is left out.
@@ -102,6 +135,11 @@ fn step_limit(matches: &ArgMatches) -> u64
 fn request_of<'a>(name: &str, matches: &ArgMatches<'a>) -> Option<Request<'a>>
     ensures { option_map asked result ≡ asked_by (name.now, rows_of (found_of matches.now)) }
 {
+    if name == "tok" {
+        return Some(Request::Tok {
+            source: source_path(matches)?,
+        });
+    }
     let image = image_path(matches)?;
     match name {
         "run" => Some(Request::Run {

@@ -1,10 +1,12 @@
-ghost use Rattle.std.specs.Prelude.{◌≡◌};
+ghost use Rattle.std.specs.Prelude.{◌≡◌, option_map};
 ghost use Rattle.ofw.specs.Runs.{start_byte_of};
 
 use crate::status::Status;
 use of_detok::DetokFault;
 use of_machine::Refusal;
+use of_source::SourceFault;
 use of_stream::StreamFault;
+use of_tok::TokFault;
 use thiserror::Error;
 
 /// Why the program can't do what it was asked.
@@ -39,6 +41,12 @@ pub enum Fault {
     /// The image has no listing.
     #[error(transparent)]
     Unlisted(DetokFault),
+    /// A text is no source.
+    #[error(transparent)]
+    NoSource(SourceFault),
+    /// A source has no image.
+    #[error(transparent)]
+    NoImage(TokFault),
     /// A write of the output failed.
     #[error("the output can't be written")]
     Unwritten,
@@ -58,7 +66,7 @@ fn start_byte(fault: StreamFault) -> Option<u8>
 }
 
 impl Fault {
-    ghost use Rattle.ofw.specs.Runs.{bad_start_of, status_of};
+    ghost use Rattle.ofw.specs.Runs.{bad_start_of, source_line_of, status_of};
 
     /// The first byte of the image, where it is the byte that is wrong.
     pub fn bad_start(self) -> Option<u8>
@@ -67,6 +75,20 @@ impl Fault {
         match self {
             Fault::Refused(Refusal::BadStart(fault)) => start_byte(fault),
             Fault::Unlisted(DetokFault::Stream(fault)) => start_byte(fault),
+            _ => None,
+        }
+    }
+
+    /// The line of a source that has this fault, and what is wrong there.
+    pub fn source_line(self) -> Option<(usize, &'static str)>
+        ensures { option_map (λ place. place.0) result ≡ source_line_of self }
+    {
+        match self {
+            Fault::NoSource(SourceFault::Unclosed(line)) => Some((line, "unclosed")),
+            Fault::NoSource(SourceFault::Unknown(line)) => Some((line, "unknown word")),
+            Fault::NoSource(SourceFault::BadNumber(line)) => Some((line, "bad number")),
+            Fault::NoSource(SourceFault::TooLong(line)) => Some((line, "too long")),
+            Fault::NoImage(TokFault::OffsetTooLong(line)) => Some((line, "offset too long")),
             _ => None,
         }
     }
@@ -80,6 +102,8 @@ impl Fault {
             Fault::NoMemory => Status::NoMemory,
             Fault::Refused(Refusal::NoMemory) => Status::NoMemory,
             Fault::Unlisted(DetokFault::NoMemory) => Status::NoMemory,
+            Fault::NoSource(SourceFault::NoMemory) => Status::NoMemory,
+            Fault::NoImage(TokFault::NoMemory) => Status::NoMemory,
             Fault::Unopened => Status::Fault,
             Fault::Unread => Status::Fault,
             Fault::Endless => Status::Fault,
@@ -91,6 +115,8 @@ impl Fault {
             Fault::Refused(Refusal::NoNode) => Status::Fault,
             Fault::Unlisted(DetokFault::Stream(_)) => Status::Fault,
             Fault::Unlisted(DetokFault::BadLine(_)) => Status::Fault,
+            Fault::NoSource(_) => Status::Fault,
+            Fault::NoImage(_) => Status::Fault,
             Fault::Unwritten => Status::Fault,
         }
     }

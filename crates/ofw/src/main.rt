@@ -19,10 +19,11 @@ use std::fs::File;
 use std::process::ExitCode;
 use std::{env, io};
 
-/// Opens the image, and runs it or lists it.
+/// Opens the file, and does with it what was asked for.
 fn answer(rt: &HostRuntime, request: Request) -> Status {
     let path = match request {
         Request::Run { image, .. } => image,
+        Request::Tok { source } => source,
         Request::Detok { image } => image,
     };
     let Ok(mut file) = File::open(rt, path) else {

@@ -62,3 +62,17 @@ pub fn report<E: Write>(fault: Fault, errors: &mut E) -> Status
     let _ = say(fault, errors);
     fault.status()
 }
+
+/// Says on the error output what is wrong with a source, behind its path and the line of the word
+/// that has the fault, and gives the status that belongs to it.
+pub fn report_at<E: Write>(path: &str, fault: Fault, errors: &mut E) -> Status
+    ensures { result ≡ status_of fault }
+{
+    match fault.source_line() {
+        Some((line, wrong)) => {
+            let _ = writeln!(errors, "{path}:{line}: {wrong}");
+            fault.status()
+        }
+        None => report(fault, errors),
+    }
+}

@@ -1,5 +1,5 @@
 use crate::arguments::{Request, parse};
-use crate::engine::{detok, run};
+use crate::engine::{detok, run, tok};
 use crate::fault::Fault;
 use crate::input::MOST_READS;
 use crate::laws::lines_ask;
@@ -86,8 +86,8 @@ fn without_newline(text: &[u8]) -> &[u8] {
     text.strip_suffix(b"\n").unwrap_or(text)
 }
 
-/// Runs an image with a limit, or lists it where the limit is empty, and gives the number of the
-/// status.
+/// Runs an image with a limit, lists it where the limit is empty, or makes the image of a source
+/// where it is `tok`, and gives the number of the status.
 fn code_of(
     alloc: Global,
     limit: &str,
@@ -95,15 +95,15 @@ fn code_of(
     out: &mut Screen,
     errors: &mut Screen,
 ) -> std::result::Result<u8, Fail> {
-    let status = if limit.is_empty() {
-        detok(alloc, file, out, errors)
-    } else {
-        run(alloc, file, limit.parse::<u64>()?, out, errors)
+    let status = match limit {
+        "" => detok(alloc, file, out, errors),
+        "tok" => tok(alloc, "card.fs", file, out, errors),
+        _ => run(alloc, file, limit.parse::<u64>()?, out, errors),
     };
     Ok(status.code())
 }
 
-/// Cases, each ended by `;`: the limit of a run, or nothing for a listing, the read and the write
+/// Cases, each ended by `;`: the limit of a run, nothing for a listing or `tok`, the read and the write
 /// that fail, the number of the status, what is said, what goes out and the file.
 const CASES: &str = "\
 9|99|99|0||5 |f108020a0000000da7a81e9d00;
@@ -128,7 +128,16 @@ const CASES: &str = "\
 |99|999|1|ofw: image ended in the token at 000009||f10800a700000009a7;
 |99|999|1|ofw: an odd number of hexadecimal digits||f108
 x;
-|99|2|1|ofw: the output can't be written|00|f108020a0000000da7a81e9d00";
+|99|2|1|ofw: the output can't be written|00|f108020a0000000da7a81e9d00;
+tok|99|999|0||f108075c000000211204636172640201b604616464330800b7a81ec2a708009d00|fcode-version2
+\" card\" device-name : add3 3 + ; 2 add3 . fcode-end;
+tok|99|999|1|card.fs:2: unknown word||fcode-version2
+zork fcode-end;
+tok|99|999|1|card.fs:3: unclosed||fcode-version2
+5
+then fcode-end;
+tok|2|999|1|ofw: the image can't be read||fcode-version2 fcode-end;
+tok|99|3|1|ofw: the output can't be written|f10|fcode-version2 fcode-end";
 
 #[test]
 fn statuses(rt: HostRuntime) -> std::result::Result<(), Fail> {
@@ -184,6 +193,9 @@ ofw run a.hex --limit 1000000000:a.hex 1000000000
 ofw run a.hex --limit 1000000001:
 ofw run a.hex --steps 5:
 ofw detok a.hex:a.hex
+ofw tok a.fs:a.fs
+ofw tok:
+ofw tok a.fs --limit 5:
 ofw detok a.hex --limit 5:
 ofw walk a.hex:
 ofw run a.hex --limit=7:a.hex 7
@@ -197,6 +209,7 @@ ofw:";
 fn asked(alloc: Global, line: &[String]) -> std::result::Result<String, Fail> {
     match parse(alloc, line) {
         Ok(Some(Request::Run { image, limit })) => Ok(format!(in alloc; "{image} {limit}")?),
+        Ok(Some(Request::Tok { source })) => Ok(String::from_str(alloc, source)?),
         Ok(Some(Request::Detok { image })) => Ok(String::from_str(alloc, image)?),
         _ => Ok(String::new(alloc)),
     }

@@ -6,3 +6,6 @@ returns-in-Run g c = search rules
 
 pub returns-in-Detok : goal.returns-in-Detok
 returns-in-Detok g c = search rules
+
+pub returns-in-Tok : goal.returns-in-Tok
+returns-in-Tok g c = search rules

@@ -1,0 +1,10 @@
+use Rattle.std.proofs.Common.{rules, ap₂, codes, ◌≡◌, ◌∙◌}
+use Rattle.std.proofs.lemmas.Result.{IfOk-weaker}
+use Rattle.clap.specs.Words.{app_of, with_rule, new_app}
+use Rattle.ofw.proofs.arguments.tok_command.Goals as goal
+
+pub returns : goal.returns
+returns c =
+    let new_is : app_of c.about.result ≡ new_app (codes "tok") = search rules in
+    let source = c.source_argument.ensures in
+    IfOk-weaker c.arg.result _ _ (λ r h. (h.shape source.1 ∙ ap₂ with_rule new_is source.0, search rules)) c.arg.ensures
