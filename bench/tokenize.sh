@@ -1,0 +1,45 @@
+#!/usr/bin/env bash
+# Prints how long `ofw tok` takes for sources of 500, 1,000 and 2,000 definitions, each of which calls the one
+# before it, and how many instructions each takes: both grow in proportion. A source without definitions is
+# measured beside them, for the start of the process.
+# usage: bench/tokenize.sh
+set -euo pipefail
+top=$(cd "$(dirname "${BASH_SOURCE[0]}")/.." && pwd)
+program="$top/crates/ofw/out/ofw"
+folder=$(mktemp -d)
+trap 'rm -rf "$folder"' EXIT
+"$top/ofw" tok "$top/examples/card.fs" >/dev/null
+
+now() { date +%s%N; }
+
+# COUNT: a source of so many definitions of eleven words
+source_of() {
+    printf 'fcode-version2\n: word-0 ( n -- n ) 1+ ;\n'
+    for ((i = 1; i < $1; i++)); do
+        printf ': word-%d ( n -- n ) dup if word-%d else 5 + then swap drop ;\n' "$i" "$((i - 1))"
+    done
+    printf 'fcode-end\n'
+}
+
+# FILE: microseconds, the best of 5 runs
+cost() {
+    local best= from took
+    for _ in 1 2 3 4 5; do
+        from=$(now)
+        "$program" tok "$1" >/dev/null
+        took=$((($(now) - from) / 1000))
+        if [ -z "$best" ] || [ "$took" -lt "$best" ]; then best=$took; fi
+    done
+    echo "$best"
+}
+
+# FILE: the instructions of a run, as callgrind counts them
+instructions() {
+    valgrind --tool=callgrind --callgrind-out-file=/dev/null "$program" tok "$1" 2>&1 >/dev/null |
+        sed -n 's/.*Collected : \([0-9]*\).*/\1/p'
+}
+
+for count in 1 500 1000 2000; do
+    source_of "$count" >"$folder/$count.fs"
+    echo "$(cost "$folder/$count.fs") microseconds, $(instructions "$folder/$count.fs") instructions for $count definitions"
+done
