@@ -8,7 +8,7 @@ folder=$(mktemp -d)
 trap 'rm -rf "$folder"' EXIT
 "$top/ofw" detok "$top/examples/empty-program.hex" >/dev/null
 
-now() { date +%s%N; }
+source "$top/bench/timing.sh"
 
 # TOKENS: an image of so many tokens, a quarter each of `1`, `b(lit)`, `bbranch` and `b(")`
 image() {
@@ -20,16 +20,7 @@ image() {
 }
 
 # FILE: microseconds, the best of 5 runs
-cost() {
-    local best= from took
-    for _ in 1 2 3 4 5; do
-        from=$(now)
-        "$top/crates/ofw/out/ofw" detok "$1" >/dev/null
-        took=$((($(now) - from) / 1000))
-        if [ -z "$best" ] || [ "$took" -lt "$best" ]; then best=$took; fi
-    done
-    echo "$best"
-}
+cost() { echo $(($(fastest 5 "$top/crates/ofw/out/ofw" detok "$1") / 1000)); }
 
 echo "$(cost "$top/examples/empty-program.hex") microseconds for an empty image"
 for tokens in 20000 40000 80000; do

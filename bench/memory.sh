@@ -10,17 +10,11 @@ count=${1:-400000000}
 program=$top/crates/of_memory_bench/out/of_memory_bench
 [ -x "$program" ] || (cd "$top/crates/of_memory_bench" && rt run) >/dev/null 2>&1
 
-now() { date +%s%N; }
+source "$top/bench/timing.sh"
 
 # KIND COUNT: picoseconds an access, the best of 3 runs
 cost() {
-    local best= from took
-    for _ in 1 2 3; do
-        from=$(now)
-        "$program" "$1" "$2" >/dev/null
-        took=$((($(now) - from) * 1000 / $2))
-        if [ -z "$best" ] || [ "$took" -lt "$best" ]; then best=$took; fi
-    done
+    local best=$(($(fastest 3 "$program" "$1" "$2") * 1000 / $2))
     printf '%d.%03d' $((best / 1000)) $((best % 1000))
 }
 
@@ -32,18 +26,7 @@ done
 
 # KIND COUNT: nanoseconds that COUNT accesses take beyond those of none, the best of 3 runs
 beyond_none() {
-    local none= all= from took
-    for _ in 1 2 3; do
-        from=$(now)
-        "$program" "$1" 0 >/dev/null
-        took=$(($(now) - from))
-        if [ -z "$none" ] || [ "$took" -lt "$none" ]; then none=$took; fi
-        from=$(now)
-        "$program" "$1" "$2" >/dev/null
-        took=$(($(now) - from))
-        if [ -z "$all" ] || [ "$took" -lt "$all" ]; then all=$took; fi
-    done
-    echo $(((all - none) * 1000 / $2))
+    echo $((($(fastest 3 "$program" "$1" "$2") - $(fastest 3 "$program" "$1" 0)) * 1000 / $2))
 }
 
 n=$((count / 20))

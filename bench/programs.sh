@@ -11,6 +11,8 @@ trap 'rm -rf "$folder"' EXIT
 "$top/ofw" run "$top/examples/empty-program.hex"
 program=$top/crates/ofw/out/ofw
 
+source "$top/bench/timing.sh"
+
 # NAME TOKENS: an image of these tokens
 image() { printf 'f108000000000000\n%s 00\n' "$2" >"$folder/$1"; }
 
@@ -31,21 +33,14 @@ image countdown '10 7fffffff a6 1f 13 fffd'
 
 # NAME LIMIT: the instructions of a run, which its limit ends
 instructions() {
-    { valgrind --tool=callgrind --callgrind-out-file=/dev/null "$program" run "$folder/$1" --limit "$2" 2>&1 >/dev/null ||
-        test $? -eq 3; } | sed -n 's/.*Collected : \([0-9]*\).*/\1/p'
+    { valgrind --tool=callgrind --callgrind-out-file=/dev/null \
+        "$program" run "$folder/$1" --limit "$2" 2>&1 >/dev/null || test $? -eq 3; } |
+        sed -n 's/.*Collected : \([0-9]*\).*/\1/p'
 }
 
 # NAME: thousands of steps a second, the best of 3 runs
 rate() {
-    local best=0 from took made
-    for _ in 1 2 3; do
-        from=$(date +%s%N)
-        "$program" run "$folder/$1" --limit "$steps" >/dev/null || test $? -eq 3
-        took=$(($(date +%s%N) - from))
-        made=$((steps * 1000 / (took / 1000000 + 1) / 1000))
-        if [ "$made" -gt "$best" ]; then best=$made; fi
-    done
-    echo "$best"
+    echo $((steps / ($(fastest 3 "$program" run "$folder/$1" --limit "$steps") / 1000000 + 1)))
 }
 
 for name in nest fib sieve countdown; do

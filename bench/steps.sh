@@ -11,16 +11,9 @@ trap 'rm -f "$image"' EXIT
 printf 'f108066000000012 107fffffff a6 1f 13fffd\n' >"$image"
 "$top/ofw" run "$top/examples/empty-program.hex"
 
-now() { date +%s%N; }
+source "$top/bench/timing.sh"
 
-best=0
-for _ in 1 2 3; do
-    from=$(now)
-    "$top/ofw" run "$image" --limit "$steps" || test $? -eq 3
-    took=$(($(now) - from))
-    rate=$((steps * 1000 / (took / 1000000 + 1) / 1000))
-    [ "$rate" -gt "$best" ] && best=$rate
-done
+best=$((steps / ($(fastest 3 "$top/crates/ofw/out/ofw" run "$image" --limit "$steps") / 1000000 + 1)))
 echo "$((best / 1000)).$(printf %03d $((best % 1000))) million steps a second (the best of 3 runs of $steps steps)"
 
 from=$(now)

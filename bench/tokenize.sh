@@ -10,7 +10,8 @@ folder=$(mktemp -d)
 trap 'rm -rf "$folder"' EXIT
 "$top/ofw" tok "$top/examples/card.fs" >/dev/null
 
-now() { date +%s%N; }
+source "$top/bench/timing.sh"
+source "$top/bench/callgrind.sh"
 
 # COUNT: a source of so many definitions of eleven words
 source_of() {
@@ -22,24 +23,10 @@ source_of() {
 }
 
 # FILE: microseconds, the best of 5 runs
-cost() {
-    local best= from took
-    for _ in 1 2 3 4 5; do
-        from=$(now)
-        "$program" tok "$1" >/dev/null
-        took=$((($(now) - from) / 1000))
-        if [ -z "$best" ] || [ "$took" -lt "$best" ]; then best=$took; fi
-    done
-    echo "$best"
-}
-
-# FILE: the instructions of a run, as callgrind counts them
-instructions() {
-    valgrind --tool=callgrind --callgrind-out-file=/dev/null "$program" tok "$1" 2>&1 >/dev/null |
-        sed -n 's/.*Collected : \([0-9]*\).*/\1/p'
-}
+cost() { echo $(($(fastest 5 "$program" tok "$1") / 1000)); }
 
 for count in 1 500 1000 2000; do
-    source_of "$count" >"$folder/$count.fs"
-    echo "$(cost "$folder/$count.fs") microseconds, $(instructions "$folder/$count.fs") instructions for $count definitions"
+    file=$folder/$count.fs
+    source_of "$count" >"$file"
+    echo "$(cost "$file") microseconds, $(instructions tok "$file") instructions for $count definitions"
 done

@@ -12,12 +12,7 @@ trap 'rm -f "$image"' EXIT
 printf 'f108000000000000 1000000005 47a61e4c25ad72ad6d1e7c7d473646ad7146 13ffed\n' >"$image"
 "$top/ofw" run "$top/examples/empty-program.hex"
 
-best=0
-for _ in 1 2 3; do
-    from=$(date +%s%N)
-    "$top/ofw" run "$image" --limit "$steps" || test $? -eq 3
-    took=$(($(date +%s%N) - from))
-    rate=$((steps * 1000 / (took / 1000000 + 1) / 1000))
-    [ "$rate" -gt "$best" ] && best=$rate
-done
+source "$top/bench/timing.sh"
+
+best=$((steps / ($(fastest 3 "$top/crates/ofw/out/ofw" run "$image" --limit "$steps") / 1000000 + 1)))
 echo "$((best / 1000)).$(printf %03d $((best % 1000))) million steps a second (the best of 3 runs of $steps steps)"

@@ -75,3 +75,6 @@ quoted_none out rest i end lt e =
 
 pub quoted_cut : (out rest : List ℕ) (i end : ℕ) → end ≤ i → None ≡ bytes_before out (quoted (end - i) rest)
 quoted_cut out rest i end le = let n : end - i ≡ 0 = omega arith in rw n refl
+
+-- the ways on in a string with its groups
+pub ruleset pieces = (quoted_more, quoted_end, quoted_none, quoted_cut, bytes_before_nil)

@@ -83,3 +83,6 @@ pub words_refused_by : (text : List ℕ) (z : OffsetSize) (n i last : ℕ) (s t 
 words_refused_by text z n i last s t f lt e h =
     let P : ℕ → Type 0 = λ l. Steps (next_step l s) t (Err f) in
     words_refused text z n i s t f lt (subst P e h)
+
+-- the ways on at a word
+pub ruleset word_by_word = (words_more, words_end, words_cut, words_refused, is_refused)

@@ -248,7 +248,7 @@ fn group<'a>(alloc: Global, text: &'a [u8]) -> Result<Option<(Vec<u8>, &'a [u8])
 }
 
 /// The string of a word `"`, and what follows it.
-#[tactic(auto, using(crate::proofs::Scanning::quoted_more, crate::proofs::Scanning::quoted_end, crate::proofs::Scanning::quoted_none, crate::proofs::Scanning::quoted_cut, crate::proofs::Scanning::bytes_before_nil))]
+#[tactic(auto, using(crate::proofs::Scanning::pieces))]
 fn quoted<'a>(alloc: Global, text: &'a [u8]) -> Result<Option<(Vec<u8>, &'a [u8])>, AllocError>
     ensures found { IfOk result (λ r. option_map (λ g. (g.0.items, g.1.now)) r ≡ quoted_string text.now) }
     ensures shorter { IfOk result (λ r. IfSome r (λ g. length g.1.now ≤ length text.now)) }

@@ -178,7 +178,7 @@ fn trailed(size: OffsetSize, parser: Parser<'_>, most: usize) -> Result<Parts, S
 }
 
 /// The words of a source.
-#[tactic(auto, using(crate::proofs::Whole::words_more, crate::proofs::Whole::words_end, crate::proofs::Whole::words_cut, crate::proofs::Whole::words_refused, crate::proofs::Whole::is_refused))]
+#[tactic(auto, using(crate::proofs::Whole::word_by_word))]
 fn words(mut parser: Parser<'_>, text: &[u8], size: OffsetSize) -> Result<Parts, SourceFault>
     ensures ok { IfOk result (λ s. words text.now size (length text.now) parser.entry ≡ Ok s) }
     ensures err { IfErr result (λ f. IsRefused (words text.now size (length text.now) parser.entry) f) }

@@ -147,6 +147,24 @@ fcode-version2~value~ | Unclosed(2)
 fcode-version2~if '~~ | Unclosed(2)
 fcode-version2 char~~ | Unclosed(2)
 fcode-version2 fcode-end then | Unclosed(1)
+fcode-version2 fcode-end ; | Unclosed(1)
+fcode-version2 fcode-end else | Unclosed(1)
+fcode-version2 fcode-end until | Unclosed(1)
+fcode-version2 fcode-end again | Unclosed(1)
+fcode-version2 fcode-end repeat | Unclosed(1)
+fcode-version2 fcode-end loop | Unclosed(1)
+fcode-version2 fcode-end +loop | Unclosed(1)
+fcode-version2 fcode-end leave | Unclosed(1)
+fcode-version2 fcode-end of | Unclosed(1)
+fcode-version2 fcode-end endof | Unclosed(1)
+fcode-version2 fcode-end endcase | Unclosed(1)
+fcode-version2 fcode-end : | Unknown(1)
+fcode-version2 fcode-end if | Unknown(1)
+fcode-version2 fcode-end while | Unknown(1)
+fcode-version2 fcode-end begin | Unknown(1)
+fcode-version2 fcode-end do | Unknown(1)
+fcode-version2 fcode-end ?do | Unknown(1)
+fcode-version2 fcode-end case | Unknown(1)
 fcode-version2 fcode-end~1 | Unknown(2)
 fcode-version2 fcode-end~100000000 | BadNumber(2)
 fcode-version2 decimal fcode-end 4294967296 | BadNumber(1)
@@ -163,6 +181,7 @@ fn texts(rt: HostRuntime) -> Result<(), Fail> {
 /// Words, numbers, strings, comments and names between `fcode-version2` and `fcode-end`.
 const WORDS: &str = "\
 dup + Swap DROP - | two 47 1e 49 46 1f
+1\t2\x012 | two a6 a7 a7
 -1 0 1 2 3 4 ffffffff | two a4 a5 a6 a7 a8 =4 a4
 -2 80000000 -80000000 1F | two =fffffffe =80000000 =80000000 =1f
 10 decimal 10 4294967295 hex 10 | two =10 =a a4 =10
@@ -175,6 +194,8 @@ space erase << >> not | two a9 8f a5 79 27 28 26
 \" \"( )\" \" \" s\" a\"(41) 1 | Unknown(1)
 \" \"( )\" \" \" s\" \" | two \" \" \"
 \" a\"(4 1)\" | Unknown(1)
+\" a\"(41~42)\" | Unknown(1)
+\" a\"(41\t42)\" | two \"614142
 \" a\"(414)\" | Unknown(1)
 ( a b )1 \\ c d~2 ( e ) 3 | two a6 a7 a8
 offset16 : t offset16 1 if 2 then ; | two cc named:\"74#0 : cc a6 if@1 a7 then ;
