@@ -227,3 +227,6 @@ trailing_more text image count k position l =
     let less : count - k ≡ suc (count - (k + 1)) = omega arith in
     let at : position + 16 * (k + 1) ≡ position + 16 * k + 16 = omega arith in
     rw (less, at, ← drop-drop 16 (position + 16 * k) image) (append_assoc text _ _)
+
+-- the bytes on a line, if it has some
+pub ruleset some_or_none = (some_by, none_by)

@@ -64,7 +64,7 @@ fn read_pairs(out: &mut Vec<u8>, mut text: &[u8]) -> Result<bool, AllocError>
 }
 
 /// Appends the bytes on a line, and says whether it is a line of a listing.
-#[tactic(auto, unfolding(crate::specs::Reading::line_bytes), using(crate::proofs::Loops::some_by, crate::proofs::Loops::none_by))]
+#[tactic(auto, unfolding(crate::specs::Reading::line_bytes), using(crate::proofs::Loops::some_or_none))]
 fn read_line(image: &mut Vec<u8>, line: &[u8]) -> Result<bool, AllocError>
     ensures { IfOk result (λ is_line. option_map (λ bytes. image.old.items ++ bytes)
         (line_bytes (length image.old.items) line.now) ≡ (if is_line then Some image.new.items else None)) }

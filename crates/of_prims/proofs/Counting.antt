@@ -35,3 +35,6 @@ some_counts t true = rw (full_last t.0) refl
 pub full_counts : (b : Bool) → counting (None ∷ fault_if b stack_overflow ∷ []) ≡ fault_if b stack_overflow
 full_counts true = refl
 full_counts false = refl
+
+-- the two together
+pub ruleset counts = (some_counts, full_counts)

@@ -160,7 +160,7 @@ fn store_half(stack: &mut DataStack, memory: &mut Memory) -> Result<(), Throw>
 }
 
 /// ( a -- x y ) the cell at the address on top, and that behind it.
-#[tactic(auto, using(crate::proofs::Counting::some_counts, crate::proofs::Counting::full_counts), unfolding(crate::specs::Memory::memory_entry))]
+#[tactic(auto, using(crate::proofs::Counting::counts), unfolding(crate::specs::Memory::memory_entry))]
 #[inline(never)]
 fn fetch_two(stack: &mut DataStack, memory: &Memory) -> Result<(), Throw>
     ensures { Becomes (memory_entry MemoryWord.FetchTwo stack.old memory.now)
