@@ -176,6 +176,7 @@ fn a_replaced_property_puts_its_value_alone(rt: HostRuntime) -> Result<(), Fail>
     properties.set(rt.alloc(), &mut memory, b"reg", b"")?;
     let second = places(span(0x20_0024, 3), span(0x20_0028, 0));
     assert_eq!(rt; properties.next(b""), properties.get(b"name"));
+    properties.set(rt.alloc(), &mut memory, b"name", b"c\0")?;
     assert_eq!(rt; properties.next(b"name"), second);
     assert_eq!(rt; properties.next(b"reg"), None);
     properties.remove(b"name");

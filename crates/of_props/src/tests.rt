@@ -23,6 +23,7 @@ fn a_number_and_what_follows(rt: HostRuntime) -> Result<(), Fail> {
     assert_eq!(rt; both, array(0x10_0000, 6));
     let decoded = decode_int(&memory, both)?;
     assert_eq!(rt; decoded, (Cell(0x0102_0304), array(0x10_0004, 2)));
+    assert_eq!(rt; memory.read8(Cell(0x10_0000)), Ok(1));
     assert_eq!(rt; decode_int(&memory, other), Err(PropFault::Short));
     Ok(())
 }

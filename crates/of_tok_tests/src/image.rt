@@ -15,6 +15,15 @@ fcode-version1 headerless : t if 1 else 2 then ; 0 t . fcode-end\
 |fd0806610000001ab50800b71405a61304b2a7b2c2a508009d00
 fcode-version2 headerless : t if 1 else 2 then ; 0 t . fcode-end\
 |f10806640000001cb50800b7140007a6130005b2a7b2c2a508009d00
+fcode-version2 3 0 do i . loop fcode-end|f108043200000013a8a5170007199d15fffd00
+fcode-version1 3 0 ?do 1 +loop fcode-end|fd08032300000010a8a51804a616fe00
+fcode-version2 1 case 0 of 2 endof 1 of 3 endof endcase fcode-end\
+|f10806a70000001ca6c4a51c0006a7c6000ba61c0006a8c60003c500
+fcode-version2 begin 0 until fcode-end|f10803670000000eb1a514fffe00
+fcode-version2 begin again fcode-end|f10802c20000000db113ffff00
+fcode-version2 1 0 do leave loop fcode-end|f108039500000012a6a51700061b15fffe00
+fcode-version2 external : a ; fcode-end|f10802ad00000010ca01610800b7c200
+fcode-version1 offset16 if then fcode-end|fd0801950000000ecc140003b200
 ";
 
 /// Sources in which `$` ends a line, `@` is a string of 200 bytes and `a_b~3` stands for `a b a b a b`, and
