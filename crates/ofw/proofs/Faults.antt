@@ -1,28 +1,39 @@
--- What a file whose text has a fault is given up with.
-use Rattle.std.proofs.Common.{◌≡◌, ℕ, List, Option, Some, None, IfSome, Err, subst, inl, inr, ◌∙◌}
+-- What a file that has no image, or whose image or source has a fault, is given up with.
+use Rattle.std.proofs.Common.{◌≡◌, ℕ, List, Option, Some, None, IfSome, Ok, Err, subst, inl, inr, refl, ◌∙◌}
 use Rattle.std.specs.Io.KnownBytes.{Keeps}
+use Rattle.of_detok.specs.declared.fault.DetokFault.{DetokFault}
+use Rattle.of_detok.specs.Listing.{listed, IsRefused}
+use Rattle.of_machine.specs.declared.answers.Refusal.{Refusal}
+use Rattle.of_machine.specs.States.{image_refusal, Refuses}
 use Rattle.ofw.specs.declared.fault.Fault.{Fault}
-use Rattle.ofw.specs.Runs.{FaultsSource, FaultsSourceFile, FaultsText, FaultsFile, Prints, Lists, Tokenizes}
+use Rattle.ofw.specs.declared.fault.Fault.TheVariants as fault
+use Rattle.ofw.specs.Files.{image_in, FaultsReading}
+use Rattle.ofw.specs.Runs.{FaultsSource, FaultsSourceFile, FaultsListing, FaultsRun, Tokenizes}
 
--- a fault of the text that was read is one of the file
-of_file : (file text : List ℕ) (f : Fault) → text ≡ file → FaultsText text f → FaultsFile file f
-of_file file text f same fault = inr (inr (inr (subst (λ t. FaultsText t f) same fault)))
+-- a file that has no image has a fault of a run
+pub run_unread : (known : Option (List ℕ)) (f : Fault) → IfSome known (λ file. FaultsReading file f)
+    → IfSome known (λ file. FaultsRun file f)
+run_unread (Some file) f fault = inr (inl fault)
+run_unread None f fault = fault
 
--- a run whose text has a fault has printed nothing
-pub run_given_up : (known : Option (List ℕ)) (text read : List ℕ) (limit : ℕ) (old new : Option (List ℕ)) (f : Fault)
-    → Keeps old new → read ≡ text → IfSome known (λ bytes. text ≡ bytes) → FaultsText read f
-    → IfSome known (λ file. Prints file limit old new (Err f))
-run_given_up (Some file) text read limit old new f kept all same fault =
-    (inl kept, of_file file read f (all ∙ same) fault)
-run_given_up None text read limit old new f kept all same fault = same
+-- and so has one whose image the monitor refuses
+pub run_refused : (known : Option (List ℕ)) (image : List ℕ) (r : Refusal)
+    → IfSome known (λ file. image_in file ≡ Ok image) → Refuses (image_refusal image) r
+    → IfSome known (λ file. FaultsRun file (fault.Refused r))
+run_refused (Some file) image r has refused = inr (inr (image, has, (r, refl, refused)))
+run_refused None image r has refused = has
 
--- and so has a listing
-pub listing_given_up : (known : Option (List ℕ)) (text read : List ℕ) (old new : Option (List ℕ)) (f : Fault)
-    → Keeps old new → read ≡ text → IfSome known (λ bytes. text ≡ bytes) → FaultsText read f
-    → IfSome known (λ file. Lists file old new (Err f))
-listing_given_up (Some file) text read old new f kept all same fault =
-    (inl kept, of_file file read f (all ∙ same) fault)
-listing_given_up None text read old new f kept all same fault = same
+-- the same of a listing
+pub listing_unread : (known : Option (List ℕ)) (f : Fault) → IfSome known (λ file. FaultsReading file f)
+    → IfSome known (λ file. FaultsListing file f)
+listing_unread (Some file) f fault = inr (inl fault)
+listing_unread None f fault = fault
+
+pub listing_refused : (known : Option (List ℕ)) (image : List ℕ) (d : DetokFault)
+    → IfSome known (λ file. image_in file ≡ Ok image) → IsRefused (listed image) d
+    → IfSome known (λ file. FaultsListing file (fault.Unlisted d))
+listing_refused (Some file) image d has refused = inr (inr (image, has, (d, refl, refused)))
+listing_refused None image d has refused = has
 
 -- a fault of the source that was read is one of the file
 of_source : (file text : List ℕ) (f : Fault) → text ≡ file → FaultsSource text f → FaultsSourceFile file f

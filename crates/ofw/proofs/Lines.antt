@@ -17,7 +17,7 @@ use Rattle.clap.specs.Words.{Text}
 use Rattle.clap.specs.declared.builder.value_parser.ValueParser.TheVariants as parser
 use Rattle.clap.proofs.ValueTestLemmas.{Accepts-accepts, accepts-Accepts}
 use Rattle.ofw.specs.CommandLine.{LinesAsk, is_plain, AsksToRun, AsksToList, AsksForLimit, number_in, ofw_app, run_app}
-use Rattle.ofw.specs.CommandLine.{AsksToTokenize, detok_app, tok_app}
+use Rattle.ofw.specs.CommandLine.{AsksToKeep, AsksToTokenize, detok_app, tok_app}
 
 -- ---- a word that begins with no hyphen is no option
 
@@ -64,19 +64,27 @@ detok_shape = built_leaf (inherited ofw_app.top detok_app.top)
 tok_shape : Shape
 tok_shape = built_leaf (inherited ofw_app.top tok_app.top)
 
--- what is held of a run behind its image and `--limit`
-with_image : Text → Held
-with_image image = record {
+-- what is held behind a path and the name of an option
+with_path : Text → Text → Text → Held
+with_path id name path = record {
   rows = record {
-    id = codes "image";
-    values = image ∷ [];
+    id = id;
+    values = path ∷ [];
     count = None;
     source = Some CommandLine;
     reading = AsWritten;
   } ∷ [];
-  pending = Some (codes "limit", []);
+  pending = Some (name, []);
   skip = 0;
 }
+
+-- of a run behind its image and `--limit`
+with_image : Text → Held
+with_image image = with_path (codes "image") (codes "limit") image
+
+-- of a source behind its path and `--output`
+with_source : Text → Held
+with_source source = with_path (codes "source") (codes "output") source
 
 image_met : (s : Shape) (b : ℕ) (rest : Text) → (b == 45) ≡ false
     → word_met s.rules [] false idle 1 (b ∷ rest) nothing_held ≡ (nothing_held, value)
@@ -90,6 +98,15 @@ limit_met : (image : Text) (b : ℕ) (rest : Text) → (b == 45) ≡ false
     → word_met run_shape.rules [] false (option (codes "limit")) 2 (b ∷ rest) (with_image image)
     ≡ plain_word run_shape.rules (option (codes "limit")) (b ∷ rest) (with_image image)
 limit_met image b rest e = word_is_plain run_shape.rules (option (codes "limit")) 2 b rest (with_image image) e
+
+output_met : (source : Text) (b : ℕ) (rest : Text) → (b == 45) ≡ false
+    → word_met tok_shape.rules [] false (option (codes "output")) 2 (b ∷ rest) (with_source source)
+    ≡ plain_word tok_shape.rules (option (codes "output")) (b ∷ rest) (with_source source)
+output_met source b rest e = word_is_plain tok_shape.rules (option (codes "output")) 2 b rest (with_source source) e
+
+output_passes : (source : Text) (b : ℕ) (rest : Text) → (b == 45) ≡ false
+    → word_fault tok_shape [] false (option (codes "output")) (b ∷ rest) (with_source source) ≡ []
+output_passes source b rest e = word_has_no_fault tok_shape b rest (with_source source) e
 
 limit_passes : (image : Text) (b : ℕ) (rest : Text) → (b == 45) ≡ false
     → word_fault run_shape [] false (option (codes "limit")) (b ∷ rest) (with_image image) ≡ []
@@ -115,6 +132,19 @@ unfolding clap_on_literals tok_shape
 tokenizes program b rest e =
     (rw (image_met tok_shape b rest e) refl, rw (image_met tok_shape b rest e, image_passes tok_shape b rest e) refl)
 
+keeps : (program : Text) (b : ℕ) (rest : Text) (d : ℕ) (name : Text) → (b == 45) ≡ false → (d == 45) ≡ false
+    → AsksToKeep program (b ∷ rest) (d ∷ name)
+unfolding clap_on_literals tok_shape with_source with_path
+keeps program b rest d name e f = (
+  rw (image_met tok_shape b rest e, output_met (b ∷ rest) d name f) refl,
+  rw (
+    image_met tok_shape b rest e,
+    output_met (b ∷ rest) d name f,
+    image_passes tok_shape b rest e,
+    output_passes (b ∷ rest) d name f,
+  ) refl,
+)
+
 -- a number in the range of limits is one of 64 bits
 limit_read : (limit : Text) → is_unsigned_in 0 1000000000 limit ≡ true
     → number_in limit ≡ Some (digits_value 10 (without_leading_plus limit))
@@ -126,7 +156,7 @@ limit_read limit e =
 
 limits : (program : Text) (b : ℕ) (rest : Text) (d : ℕ) (digits : Text) → (b == 45) ≡ false → (d == 45) ≡ false
     → is_unsigned_in 0 1000000000 (d ∷ digits) ≡ true → AsksForLimit program (b ∷ rest) (d ∷ digits)
-unfolding clap_on_literals run_shape with_image
+unfolding clap_on_literals run_shape with_image with_path
 limits program b rest d digits e f number = (
   rw (image_met run_shape b rest e, limit_met (b ∷ rest) d digits f, limit_read (d ∷ digits) number) refl,
   rw (
@@ -151,9 +181,14 @@ lines_ask program (b ∷ rest) e = (
   runs program b rest (hyphenless b e),
   lists program b rest (hyphenless b e),
   tokenizes program b rest (hyphenless b e),
+  kept,
   limited,
 )
   where
+    kept : (output : Text) → is_plain output ≡ true → AsksToKeep program (b ∷ rest) output
+    kept [] f = absurd (true≢false (sym f))
+    kept (d ∷ name) f = keeps program b rest d name (hyphenless b e) (hyphenless d f)
+
     limited : (limit : Text) → is_plain limit ≡ true → is_unsigned_in 0 1000000000 limit ≡ true
         → AsksForLimit program (b ∷ rest) limit
     limited [] f number = absurd (true≢false (sym f))

@@ -37,9 +37,17 @@ run_app = with_rule (with_rule (new_app (codes "run")) image_rule) limit_rule
 abbrev pub source_rule : Rule
 source_rule = record (new_rule (codes "source")) { value_names = 1; required = true; action = Some Set }
 
--- `tok SOURCE`
+-- `--output FILE`
+abbrev pub output_rule : Rule
+output_rule = record (new_rule (codes "output")) {
+  long = Some (codes "output");
+  value_names = 1;
+  action = Some Set;
+}
+
+-- `tok SOURCE [--output FILE]`
 abbrev pub tok_app : App
-tok_app = with_rule (new_app (codes "tok")) source_rule
+tok_app = with_rule (with_rule (new_app (codes "tok")) source_rule) output_rule
 
 -- `detok IMAGE`
 abbrev pub detok_app : App
@@ -49,11 +57,15 @@ detok_app = with_rule (new_app (codes "detok")) image_rule
 abbrev pub needing_subcommand : App → App
 needing_subcommand a = record a { top = record a.top { subcommand_required = true } }
 
+-- the application says its version
+abbrev pub versioned : App → App
+versioned a = record a { top = record a.top { has_version = true } }
+
 -- `ofw`, with one of the three
 abbrev pub ofw_app : App
 ofw_app =
-    with_subcommand (with_subcommand (with_subcommand (needing_subcommand (new_app (codes "ofw"))) run_app.top)
-    tok_app.top) detok_app.top
+    with_subcommand (with_subcommand (with_subcommand (needing_subcommand (versioned (new_app (codes "ofw"))))
+    run_app.top) tok_app.top) detok_app.top
 
 -- the command has this shape, and no argument that all its subcommands share
 abbrev pub IsBuilt : App → Command → Type 0
@@ -61,15 +73,16 @@ IsBuilt a c = (app_of c ≡ a) × ((out-Command c).has_globals ≡ false)
 
 -- ---- what is asked
 
--- the run of the image at a path, for so many steps at most, or its listing, or the image of the source at a path
+-- the run of the image at a path, for so many steps at most, or its listing, or the image of the source at a path,
+-- to be printed or to be written to a file
 pub data Asked : Type 0 where
   a_run : Text → ℕ → Asked
-  an_image : Text → Asked
+  an_image : Text → Option Text → Asked
   a_listing : Text → Asked
 
 abbrev pub asked : Request → Asked
 asked (request.Run image limit) = a_run image.now limit
-asked (request.Tok source) = an_image source.now
+asked (request.Tok source output) = an_image source.now (option_map (λ path. path.now) output)
 asked (request.Detok image) = a_listing image.now
 
 -- the number that a text has in decimal digits, where it is one of 64 bits
@@ -90,7 +103,8 @@ asked_as name limit image =
 -- what a subcommand asks for, by its name and the rows that were found for it
 abbrev pub asked_by : Text × List Row → Option Asked
 asked_by p =
-    if bytes_eq p.0 (codes "tok") then option_map an_image (first_of (codes "source") p.1)
+    if bytes_eq p.0 (codes "tok")
+    then option_map (λ source. an_image source (first_of (codes "output") p.1)) (first_of (codes "source") p.1)
     else option_and_then (asked_as p.0 (limit_in p.1)) (first_of (codes "image") p.1)
 
 -- what a command line asks for, the program's name first
@@ -124,10 +138,17 @@ AsksToList program image = Asks (program ∷ codes "detok" ∷ image ∷ []) (a_
 
 -- the image of a source
 abbrev pub AsksToTokenize : Text → Text → Type 0
-AsksToTokenize program source = Asks (program ∷ codes "tok" ∷ source ∷ []) (an_image source)
+AsksToTokenize program source = Asks (program ∷ codes "tok" ∷ source ∷ []) (an_image source None)
+
+-- the same, written to a file
+abbrev pub AsksToKeep : Text → Text → Text → Type 0
+AsksToKeep program source output =
+    Asks (program ∷ codes "tok" ∷ source ∷ codes "--output" ∷ output ∷ []) (an_image source (Some output))
 
 -- what the lines of the usage text ask for
 abbrev pub LinesAsk : Type 0
 LinesAsk = (program image : Text) → is_plain image ≡ true → AsksToRun program image × AsksToList program image
-    × AsksToTokenize program image × ((limit : Text) → is_plain limit ≡ true → is_unsigned_in 0 1000000000 limit ≡ true
+    × AsksToTokenize program image
+    × ((output : Text) → is_plain output ≡ true → AsksToKeep program image output)
+    × ((limit : Text) → is_plain limit ≡ true → is_unsigned_in 0 1000000000 limit ≡ true
     → AsksForLimit program image limit)

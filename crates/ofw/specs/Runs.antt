@@ -1,12 +1,8 @@
 -- What the program prints of a file's run or listing, and how it ends.
-use Rattle.std.specs.Prelude.{◌≡◌, ◌≤◌, ◌⊎◌, ℕ, zero, suc, ◌+◌, List, [], ◌∷◌, length, take, Option, Result, Ok, Err}
-use Rattle.std.specs.Prelude.{Some, None, ◌++◌, codes}
-use Rattle.std.specs.Prelude.{filter, not, nat_eq, if◌then◌else◌}
-use Rattle.std.specs.Char.{is_ascii_whitespace}
+use Rattle.std.specs.Prelude.{◌≡◌, ◌≤◌, ◌⊎◌, ℕ, List, [], ◌∷◌, length, take, Option, Result, Ok, Err}
+use Rattle.std.specs.Prelude.{Some, None, ◌++◌, codes, ⊤}
 use Rattle.std.specs.Io.KnownBytes.{Keeps, Appends}
-use Rattle.hex.specs.Hex.{decode_of, encode_lower}
-use Rattle.hex.specs.declared.error.FromHexError.{FromHexError}
-use Rattle.hex.specs.declared.error.FromHexError.TheVariants as hex
+use Rattle.hex.specs.Hex.{encode_lower}
 use Rattle.of_detok.specs.declared.fault.DetokFault.{DetokFault}
 use Rattle.of_detok.specs.declared.fault.DetokFault.TheVariants as detok
 use Rattle.of_detok.specs.Listing.{listed, IsRefused}
@@ -31,6 +27,7 @@ use Rattle.of_tok.specs.declared.fault.TokFault.TheVariants as tok
 use Rattle.of_tok.specs.Image.{tokenized}
 use Rattle.of_tok.specs.Image.{IsRefused as HasNoImage}
 use Rattle.ofw.specs.CommandLine.{Asked, a_run, an_image, a_listing}
+use Rattle.ofw.specs.Files.{image_in, FaultsReading, IsUnread}
 use Rattle.ofw.specs.declared.fault.Fault.{Fault}
 use Rattle.ofw.specs.declared.fault.Fault.TheVariants as fault
 use Rattle.ofw.specs.declared.status.Status.{Status}
@@ -52,10 +49,10 @@ status_of (fault.Refused refusal.NoMemory) = status.NoMemory
 status_of (fault.Unlisted detok.NoMemory) = status.NoMemory
 status_of (fault.NoSource source.NoMemory) = status.NoMemory
 status_of (fault.NoImage tok.NoMemory) = status.NoMemory
-status_of fault.Unopened = status.Fault
-status_of fault.Unread = status.Fault
+status_of (fault.Unopened code) = status.Fault
+status_of (fault.Unread code) = status.Fault
 status_of fault.Endless = status.Fault
-status_of (fault.BadDigit line c) = status.Fault
+status_of (fault.BadDigit place byte) = status.Fault
 status_of fault.OddDigits = status.Fault
 status_of (fault.Refused refusal.Busy) = status.Fault
 status_of (fault.Refused refusal.ImageTooLong) = status.Fault
@@ -70,7 +67,7 @@ status_of (fault.NoSource (source.TooLong line)) = status.Fault
 status_of (fault.NoImage (tok.OffsetTooLong line)) = status.Fault
 status_of (fault.NoImage tok.TooManyWords) = status.Fault
 status_of (fault.NoImage tok.ImageTooLong) = status.Fault
-status_of fault.Unwritten = status.Fault
+status_of (fault.Unwritten code) = status.Fault
 
 -- the line of a source that has a fault
 abbrev pub source_line_of : Fault → Option ℕ
@@ -103,36 +100,9 @@ bad_start_of _ = None
 abbrev pub bad_start_text : ℕ → List ℕ
 bad_start_text byte = codes "ofw: bad start byte " ++ encode_lower (byte ∷ []) ++ 10 ∷ []
 
--- a text without its white space
-abbrev pub dense : List ℕ → List ℕ
-dense text = filter (λ b. not (is_ascii_whitespace b)) text
-
--- where the byte stands that is no white space and has so many such bytes before it
-unfoldable pub digit_place : ℕ → List ℕ → ℕ
-digit_place n [] = 0
-digit_place zero (b ∷ text) = if is_ascii_whitespace b then suc (digit_place zero text) else 0
-digit_place (suc n) (b ∷ text) =
-    if is_ascii_whitespace b then suc (digit_place (suc n) text) else suc (digit_place n text)
-
--- the line of a place in a text, from 1
-abbrev pub line_at : List ℕ → ℕ → ℕ
-line_at text place = 1 + length (filter (λ b. nat_eq b 10) (take place text))
-
--- what is wrong with a text of hexadecimal digits
-abbrev pub fault_of : List ℕ → FromHexError → Fault
-fault_of text (hex.InvalidHexCharacter c i) = fault.BadDigit (line_at text (digit_place i text)) c
-fault_of text hex.OddLength = fault.OddDigits
-fault_of text hex.InvalidStringLength = fault.OddDigits
-fault_of text hex.OutOfMemory = fault.NoMemory
-
--- the image of a text, or what is wrong with it
-abbrev pub image_in : List ℕ → Result (List ℕ) FromHexError → Result (List ℕ) Fault
-image_in text (Ok image) = Ok image
-image_in text (Err e) = Err (fault_of text e)
-
--- the run of the image that a file has in hexadecimal
+-- the run of the image that a file has
 abbrev pub RunsFile : List ℕ → ℕ → MachineState Coding → End → Type 0
-RunsFile file limit m e = (image : List ℕ) × (decode_of (dense file) ≡ Ok image) × RunsTo image [] [] [] limit m e
+RunsFile file limit m e = (image : List ℕ) × (image_in file ≡ Ok image) × RunsTo image [] [] [] limit m e
 
 -- known bytes grow by the first of bs
 abbrev pub AppendsPart : Option (List ℕ) → Option (List ℕ) → List ℕ → Type 0
@@ -149,33 +119,23 @@ PrintsPart file limit old new = Keeps old new
     ⊎ ((m : MachineState Coding) × ((e : End) × RunsFile file limit m e)
     × AppendsPart old new m.eval.parts.console.text)
 
--- an image's faults: what the monitor refuses it for, or why it has no listing
-abbrev pub FaultsImage : List ℕ → Fault → Type 0
-FaultsImage image f =
-    ((r : Refusal) × (f ≡ fault.Refused r) × Refuses (image_refusal image) r)
-    ⊎ ((d : DetokFault) × (f ≡ fault.Unlisted d) × IsRefused (listed image) d)
+-- a write failed
+abbrev pub IsUnwritten : Fault → Type 0
+IsUnwritten (fault.Unwritten code) = ⊤
+IsUnwritten _ = ⊥
 
--- the faults of a text's digits, or for memory
-abbrev pub FaultsDigits : List ℕ → Fault → Type 0
-FaultsDigits text f = (f ≡ fault.NoMemory) ⊎ (image_in text (decode_of (dense text)) ≡ Err f)
-
--- a text's faults: of its digits, or of the image that they give
-abbrev pub FaultsText : List ℕ → Fault → Type 0
-FaultsText text f =
-    FaultsDigits text f ⊎ ((image : List ℕ) × (decode_of (dense text) ≡ Ok image) × FaultsImage image f)
-
--- the faults of a file that was opened: of a read, of its end, of a write or of its text
-abbrev pub FaultsFile : List ℕ → Fault → Type 0
-FaultsFile file f =
-    (f ≡ fault.Unread)
-    ⊎ ((f ≡ fault.Endless) × (16777216 ≤ length file))
-    ⊎ (f ≡ fault.Unwritten)
-    ⊎ FaultsText file f
+-- the faults of a run: of reading, of a write, or what the monitor refuses the image for
+abbrev pub FaultsRun : List ℕ → Fault → Type 0
+FaultsRun file f =
+    IsUnwritten f
+    ⊎ FaultsReading file f
+    ⊎ ((image : List ℕ) × (image_in file ≡ Ok image)
+    × ((r : Refusal) × (f ≡ fault.Refused r) × Refuses (image_refusal image) r))
 
 -- what was printed of the run, or of a part of it beside a fault
 abbrev pub Prints : List ℕ → ℕ → Option (List ℕ) → Option (List ℕ) → Result End Fault → Type 0
 Prints file limit old new (Ok e) = PrintsRun file limit old new e
-Prints file limit old new (Err f) = PrintsPart file limit old new × FaultsFile file f
+Prints file limit old new (Err f) = PrintsPart file limit old new × FaultsRun file f
 
 -- the status of a run's end
 abbrev pub end_status : End → Status
@@ -189,9 +149,17 @@ EndsWith file limit old new s =
 
 -- ---- listings
 
--- the listing of the image that a file has in hexadecimal
+-- the listing of the image that a file has
 abbrev pub ListsFile : List ℕ → List ℕ → Type 0
-ListsFile file lines = (image : List ℕ) × (decode_of (dense file) ≡ Ok image) × (listed image ≡ Ok lines)
+ListsFile file lines = (image : List ℕ) × (image_in file ≡ Ok image) × (listed image ≡ Ok lines)
+
+-- the faults of a listing: of reading, of a write, or why the image has none
+abbrev pub FaultsListing : List ℕ → Fault → Type 0
+FaultsListing file f =
+    IsUnwritten f
+    ⊎ FaultsReading file f
+    ⊎ ((image : List ℕ) × (image_in file ≡ Ok image)
+    × ((d : DetokFault) × (f ≡ fault.Unlisted d) × IsRefused (listed image) d))
 
 -- nothing was printed, or the first bytes of the listing
 abbrev pub ListsPart : List ℕ → Option (List ℕ) → Option (List ℕ) → Type 0
@@ -203,7 +171,7 @@ ListsAll file old new = (lines : List ℕ) × ListsFile file lines × Appends ol
 
 abbrev pub Lists : List ℕ → Option (List ℕ) → Option (List ℕ) → Result (Unit {0}) Fault → Type 0
 Lists file old new (Ok _) = ListsAll file old new
-Lists file old new (Err f) = ListsPart file old new × FaultsFile file f
+Lists file old new (Err f) = ListsPart file old new × FaultsListing file f
 
 -- the program ends with this status, done or that of a fault, and printed what belongs to it
 abbrev pub ListsWith : List ℕ → Option (List ℕ) → Option (List ℕ) → Status → Type 0
@@ -212,11 +180,13 @@ ListsWith file old new s =
 
 -- ---- images of sources
 
--- the image of the source that a file has, in hexadecimal digits and a newline
+-- the image of the source that a file has
+abbrev pub HasImage : List ℕ → List ℕ → Type 0
+HasImage file image = (s : Source) × (parsed file ≡ Ok s) × (tokenized s ≡ Ok image)
+
+-- the same, in hexadecimal digits and a newline
 abbrev pub TokenizesFile : List ℕ → List ℕ → Type 0
-TokenizesFile file digits =
-    (s : Source) × (parsed file ≡ Ok s)
-    × ((image : List ℕ) × (tokenized s ≡ Ok image) × (digits ≡ encode_lower image ++ 10 ∷ []))
+TokenizesFile file digits = (image : List ℕ) × HasImage file image × (digits ≡ encode_lower image ++ 10 ∷ [])
 
 -- nothing was printed, or the first digits of the image
 abbrev pub TokenizesPart : List ℕ → Option (List ℕ) → Option (List ℕ) → Type 0
@@ -237,14 +207,24 @@ FaultsSource text f =
 -- the faults of a source's file: of a read, of its end, of a write or of the source
 abbrev pub FaultsSourceFile : List ℕ → Fault → Type 0
 FaultsSourceFile file f =
-    (f ≡ fault.Unread)
+    IsUnread f
     ⊎ ((f ≡ fault.Endless) × (16777216 ≤ length file))
-    ⊎ (f ≡ fault.Unwritten)
+    ⊎ IsUnwritten f
     ⊎ FaultsSource file f
 
 abbrev pub Tokenizes : List ℕ → Option (List ℕ) → Option (List ℕ) → Result (Unit {0}) Fault → Type 0
 Tokenizes file old new (Ok _) = TokenizesAll file old new
 Tokenizes file old new (Err f) = TokenizesPart file old new × FaultsSourceFile file f
+
+-- the status of a fault of a source's file
+abbrev pub FaultsWith : List ℕ → Status → Type 0
+FaultsWith file s = (f : Fault) × (status_of f ≡ s) × FaultsSourceFile file f
+
+-- the bytes were written, or the first of them, and the status says which
+abbrev pub Writes : List ℕ → Option (List ℕ) → Option (List ℕ) → Status → Type 0
+Writes bytes old new status.Done = Appends old new bytes
+Writes bytes old new status.Fault = AppendsPart old new bytes
+Writes bytes old new _ = ⊥
 
 -- the program ends with this status, done or that of a fault, and printed what belongs to it
 abbrev pub TokenizesWith : List ℕ → Option (List ℕ) → Option (List ℕ) → Status → Type 0
@@ -256,11 +236,12 @@ TokenizesWith file old new s =
 -- what a status says of the output and of the file, where this was asked for
 abbrev pub Answers : Asked → List ℕ → Option (List ℕ) → Option (List ℕ) → Status → Type 0
 Answers (a_run image limit) file old new s = EndsWith file limit old new s
-Answers (an_image source) file old new s = TokenizesWith file old new s
+Answers (an_image source output) file old new s = TokenizesWith file old new s
 Answers (a_listing image) file old new s = ListsWith file old new s
 
 -- how the program ends where a command line asks for nothing
 abbrev pub unasked : ErrorKind → Status
 unasked kind.DisplayHelp = status.Done
+unasked kind.DisplayVersion = status.Done
 unasked kind.OutOfMemory = status.NoMemory
 unasked _ = status.Usage

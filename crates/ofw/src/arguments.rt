@@ -4,7 +4,7 @@ ghost use Rattle.clap.specs.Values.{kind_of};
 ghost use Rattle.std.specs.String.{string_bytes};
 ghost use Rattle.ofw.specs.Runs.{unasked};
 ghost use Rattle.ofw.specs.CommandLine.{IsBuilt, asked, asked_by, asks, detok_app, image_rule, limit_in, limit_rule};
-ghost use Rattle.ofw.specs.CommandLine.{ofw_app, run_app, source_rule, tok_app};
+ghost use Rattle.ofw.specs.CommandLine.{ofw_app, output_rule, run_app, source_rule, tok_app};
 
 use crate::status::Status;
 use clap::error::ErrorKind;
@@ -13,6 +13,28 @@ use std::alloc::{AllocError, Global};
 
 /// How many steps a run makes where no limit is given.
 const DEFAULT_LIMIT: u64 = 1_000_000;
+
+/// What the help of `run` ends with.
+const RUN_HELP: &str = "\
+Example: ofw run card.rom --limit 5000
+
+The file is a ROM as it stands where it begins with f0 to f3 or fd, else hexadecimal digits.
+
+Status: 0 done, 1 fault of input or output, 2 usage, 3 limit reached, 5 no memory";
+
+/// What the help of `tok` ends with.
+const TOK_HELP: &str = "\
+Example: ofw tok card.fs --output card.rom
+
+Status: 0 done, 1 fault of input or output, 2 usage, 5 no memory";
+
+/// What the help of `detok` ends with.
+const DETOK_HELP: &str = "\
+Example: ofw detok card.rom
+
+The file is a ROM as it stands where it begins with f0 to f3 or fd, else hexadecimal digits.
+
+Status: 0 done, 1 fault of input or output, 2 usage, 5 no memory";
 
 /// What the arguments ask for.
 #[derive(Clone, Copy, Debug, PartialEq, Eq)]
@@ -28,6 +50,8 @@ pub enum Request<'a> {
     Tok {
         /// The path of the source.
         source: &'a str,
+        /// The path of the file that is to hold the image, where it isn't to be printed.
+        output: Option<&'a str>,
     },
     /// List an image.
     Detok {
@@ -42,7 +66,7 @@ fn image_argument<'a>(alloc: Global) -> Arg<'a>
 {
     Arg::new(alloc, "image")
         .value_name("IMAGE")
-        .help("the image, in hexadecimal")
+        .help("the image: a ROM, or its bytes in hexadecimal digits")
         .required(true)
         .action(ArgAction::Set)
 }
@@ -55,6 +79,17 @@ fn source_argument<'a>(alloc: Global) -> Arg<'a>
         .value_name("SOURCE")
         .help("the source, in words")
         .required(true)
+        .action(ArgAction::Set)
+}
+
+/// `--output FILE`
+fn output_argument<'a>(alloc: Global) -> Arg<'a>
+    ensures { (rule_of result ≡ output_rule) × (result.global ≡ false) }
+{
+    Arg::new(alloc, "output")
+        .long("output")
+        .value_name("FILE")
+        .help("writes the image to this file, as bytes, and prints nothing")
         .action(ArgAction::Set)
 }
 
@@ -76,17 +111,20 @@ fn run_command<'a>(alloc: Global) -> Result<Command<'a>, AllocError>
 {
     Command::new(alloc, "run")
         .about("Runs an image and prints what it prints")
+        .after_help(RUN_HELP)
         .arg(image_argument(alloc))?
         .arg(limit_argument(alloc))
 }
 
-/// `ofw tok SOURCE`
+/// `ofw tok SOURCE [--output FILE]`
 fn tok_command<'a>(alloc: Global) -> Result<Command<'a>, AllocError>
     ensures { IfOk result (IsBuilt tok_app) }
 {
     Command::new(alloc, "tok")
         .about("Prints the image of a source, in hexadecimal")
-        .arg(source_argument(alloc))
+        .after_help(TOK_HELP)
+        .arg(source_argument(alloc))?
+        .arg(output_argument(alloc))
 }
 
 /// `ofw detok IMAGE`
@@ -95,6 +133,7 @@ fn detok_command<'a>(alloc: Global) -> Result<Command<'a>, AllocError>
 {
     Command::new(alloc, "detok")
         .about("Prints the listing of an image, a line for each token")
+        .after_help(DETOK_HELP)
         .arg(image_argument(alloc))
 }
 
@@ -104,6 +143,7 @@ fn command<'a>(alloc: Global) -> Result<Command<'a>, AllocError>
 {
     Command::new(alloc, "ofw")
         .about("An Open Firmware boot monitor on a simulated board")
+        .version("0.1")
         .subcommand_required(true)
         .subcommand(run_command(alloc)?)?
         .subcommand(tok_command(alloc)?)?
@@ -124,6 +164,13 @@ fn source_path<'a>(matches: &ArgMatches<'a>) -> Option<&'a str>
     matches.get_str("source")
 }
 
+/// The path of the file that `--output` names.
+fn output_path<'a>(matches: &ArgMatches<'a>) -> Option<&'a str>
+    ensures { option_map (λ path. path.now) result ≡ first_of (codes "output") (rows_of (found_of matches.now)) }
+{
+    matches.get_str("output")
+}
+
 /// The limit that a subcommand was given, or the one that stands where it is left out.
 fn step_limit(matches: &ArgMatches) -> u64
     ensures { result ≡ limit_in (rows_of (found_of matches.now)) }
@@ -138,6 +185,7 @@ fn request_of<'a>(name: &str, matches: &ArgMatches<'a>) -> Option<Request<'a>>
     if name == "tok" {
         return Some(Request::Tok {
             source: source_path(matches)?,
+            output: output_path(matches),
         });
     }
     let image = image_path(matches)?;
@@ -168,12 +216,12 @@ pub fn parse<'a>(alloc: Global, words: &'a [String]) -> Result<Option<Request<'a
     }
 }
 
-/// How the program ends where a command line asks for nothing: done after a call for help.
+/// How the program ends where a command line asks for nothing: done after a call for help or for the version.
 pub fn status_of(error: &Error) -> Status
     ensures { result ≡ unasked (kind_of error.now) }
 {
     match error.kind() {
-        ErrorKind::DisplayHelp => Status::Done,
+        ErrorKind::DisplayHelp | ErrorKind::DisplayVersion => Status::Done,
         ErrorKind::OutOfMemory => Status::NoMemory,
         _ => Status::Usage,
     }

@@ -1,13 +1,15 @@
 ghost use Rattle.std.specs.Prelude.{◌≡◌, IfOk, IfErr, IfSome};
 ghost use Rattle.ofw.specs.CommandLine.{asked};
-ghost use Rattle.ofw.specs.Runs.{RunsFile, FaultsText, Prints, EndsWith, ListsFile, Lists, ListsWith, Answers};
-ghost use Rattle.ofw.specs.Runs.{FaultsSource, Tokenizes, TokenizesFile, TokenizesWith};
+ghost use Rattle.ofw.specs.Runs.{RunsFile, FaultsRun, Prints, EndsWith, ListsFile, FaultsListing, Lists, ListsWith};
+ghost use Rattle.ofw.specs.Runs.{Answers};
+ghost use Rattle.ofw.specs.Runs.{FaultsSource, FaultsSourceFile, FaultsWith, HasImage, Tokenizes, TokenizesFile};
+ghost use Rattle.ofw.specs.Runs.{TokenizesWith, Writes};
 ghost use Rattle.std.specs.String.{string_bytes};
 
 use crate::arguments::Request;
 use crate::fault::Fault;
-use crate::input::{image_of, read_whole};
-use crate::output::{report, report_at, write_whole};
+use crate::input::{read_image, read_whole};
+use crate::output::{report, write_whole};
 use crate::status::Status;
 use hex::encode;
 use of_detok::listing;
@@ -17,12 +19,13 @@ use of_tok::tokenize;
 use std::alloc::Global;
 use std::io::{Read, Write};
 
-/// Runs the image of a text.
-fn run_text(alloc: Global, text: &[u8], limit: u64) -> Result<(ScriptMachine, End), Fault>
-    ensures ok { IfOk result (λ r. RunsFile text.now limit r.0 r.1) }
-    ensures err { IfErr result (λ f. FaultsText text.now f) }
+/// Runs the image of a file.
+#[tactic(auto, using(crate::proofs::Faults::run_unread, crate::proofs::Faults::run_refused))]
+fn run_file<R: Read>(alloc: Global, file: &mut R, limit: u64) -> Result<(ScriptMachine, End), Fault>
+    ensures ok { IfOk result (λ r. IfSome (R.remaining file.old) (λ bytes. RunsFile bytes limit r.0 r.1)) }
+    ensures err { IfErr result (λ f. IfSome (R.remaining file.old) (λ bytes. FaultsRun bytes f)) }
 {
-    let image = image_of(alloc, text)?;
+    let image = read_image(alloc, file)?;
     match run_script(alloc, &image, &[], &[], &[], limit) {
         Ok(run) => Ok(run),
         Err(refusal) => Err(Fault::Refused(refusal)),
@@ -32,50 +35,52 @@ fn run_text(alloc: Global, text: &[u8], limit: u64) -> Result<(ScriptMachine, En
 /// Runs the image of a file, and prints what the run prints.
 fn print_run<R: Read, W: Write>(
     alloc: Global,
-    image: &mut R,
+    file: &mut R,
     limit: u64,
     out: &mut W,
 ) -> Result<End, Fault>
-    ensures { IfSome (R.remaining image.old) (λ file. Prints file limit (W.contents out.old) (W.contents out.new)
+    ensures { IfSome (R.remaining file.old) (λ bytes. Prints bytes limit (W.contents out.old) (W.contents out.new)
         result) }
 {
-    let text = read_whole(alloc, image)?;
-    match run_text(alloc, &text, limit) {
-        Ok((machine, end)) => {
-            write_whole(out, machine.console())?;
-            Ok(end)
-        }
+    match run_file(alloc, file, limit) {
+        Ok((machine, end)) => match write_whole(out, machine.console()) {
+            Ok(()) => Ok(end),
+            Err(fault) => Err(fault),
+        },
         Err(fault) => Err(fault),
     }
 }
 
-/// Runs an image for at most `limit` steps, prints what the run prints, and gives the status.
+/// Runs the image of a file for at most `limit` steps, prints what the run prints, and gives the status.
 ///
-/// The image is a text of hexadecimal digits. A fault is said on the error output, and before the
-/// run nothing is printed.
+/// The file is the image as it stands where it begins with a start word, 0xF0 to 0xF3 or 0xFD, and
+/// else a text of hexadecimal digits. A fault is said on the error output, with the path of the file,
+/// and before the run nothing is printed.
 pub fn run<R: Read, W: Write, E: Write>(
     alloc: Global,
-    image: &mut R,
+    path: &str,
+    file: &mut R,
     limit: u64,
     out: &mut W,
     errors: &mut E,
 ) -> Status
-    ensures { IfSome (R.remaining image.old) (λ file. EndsWith file limit (W.contents out.old) (W.contents out.new)
+    ensures { IfSome (R.remaining file.old) (λ bytes. EndsWith bytes limit (W.contents out.old) (W.contents out.new)
         result) }
 {
-    match print_run(alloc, image, limit, out) {
+    match print_run(alloc, file, limit, out) {
         Ok(End::Done) => Status::Done,
         Ok(End::LimitReached) => Status::LimitReached,
-        Err(fault) => report(fault, errors),
+        Err(fault) => report(path, fault, errors),
     }
 }
 
-/// The listing of the image of a text.
-fn list_text(alloc: Global, text: &[u8]) -> Result<Vec<u8>, Fault>
-    ensures ok { IfOk result (λ lines. ListsFile text.now lines.items) }
-    ensures err { IfErr result (λ f. FaultsText text.now f) }
+/// The listing of the image of a file.
+#[tactic(auto, using(crate::proofs::Faults::listing_unread, crate::proofs::Faults::listing_refused))]
+fn list_file<R: Read>(alloc: Global, file: &mut R) -> Result<Vec<u8>, Fault>
+    ensures ok { IfOk result (λ lines. IfSome (R.remaining file.old) (λ bytes. ListsFile bytes lines.items)) }
+    ensures err { IfErr result (λ f. IfSome (R.remaining file.old) (λ bytes. FaultsListing bytes f)) }
 {
-    let image = image_of(alloc, text)?;
+    let image = read_image(alloc, file)?;
     match listing(alloc, &image) {
         Ok(lines) => Ok(lines),
         Err(fault) => Err(Fault::Unlisted(fault)),
@@ -83,53 +88,98 @@ fn list_text(alloc: Global, text: &[u8]) -> Result<Vec<u8>, Fault>
 }
 
 /// Lists the image of a file, and prints the listing.
-fn print_listing<R: Read, W: Write>(alloc: Global, image: &mut R, out: &mut W) -> Result<(), Fault>
-    ensures { IfSome (R.remaining image.old) (λ file. Lists file (W.contents out.old) (W.contents out.new) result) }
+fn print_listing<R: Read, W: Write>(alloc: Global, file: &mut R, out: &mut W) -> Result<(), Fault>
+    ensures { IfSome (R.remaining file.old) (λ bytes. Lists bytes (W.contents out.old) (W.contents out.new) result) }
 {
-    let text = read_whole(alloc, image)?;
-    match list_text(alloc, &text) {
+    match list_file(alloc, file) {
         Ok(lines) => write_whole(out, &lines),
         Err(fault) => Err(fault),
     }
 }
 
-/// Prints the listing of an image, and gives the status.
+/// Prints the listing of the image of a file, and gives the status.
 ///
-/// The image is a text of hexadecimal digits. A fault is said on the error output, and before the
-/// listing nothing is printed.
+/// The file is read as for `run`. A fault is said on the error output, with the path of the file, and
+/// before the listing nothing is printed.
 pub fn detok<R: Read, W: Write, E: Write>(
     alloc: Global,
-    image: &mut R,
+    path: &str,
+    file: &mut R,
     out: &mut W,
     errors: &mut E,
 ) -> Status
-    ensures { IfSome (R.remaining image.old) (λ file. ListsWith file (W.contents out.old) (W.contents out.new) result) }
+    ensures { IfSome (R.remaining file.old) (λ bytes. ListsWith bytes (W.contents out.old) (W.contents out.new) result) }
 {
-    match print_listing(alloc, image, out) {
+    match print_listing(alloc, file, out) {
         Ok(()) => Status::Done,
-        Err(fault) => report(fault, errors),
+        Err(fault) => report(path, fault, errors),
     }
 }
 
-/// The image of the source of a text, in hexadecimal digits and a newline.
-fn tokenize_text(alloc: Global, text: &[u8]) -> Result<String, Fault>
-    ensures ok { IfOk result (λ digits. TokenizesFile text.now (string_bytes digits)) }
+/// The image of a source.
+fn image_of(alloc: Global, text: &[u8]) -> Result<Vec<u8>, Fault>
+    ensures ok { IfOk result (λ image. HasImage text.now image.items) }
     ensures err { IfErr result (λ f. FaultsSource text.now f) }
 {
     let source = match parse(alloc, text) {
         Ok(source) => source,
         Err(fault) => return Err(Fault::NoSource(fault)),
     };
-    let image = match tokenize(alloc, &source) {
-        Ok(image) => image,
-        Err(fault) => return Err(Fault::NoImage(fault)),
-    };
+    match tokenize(alloc, &source) {
+        Ok(image) => Ok(image),
+        Err(fault) => Err(Fault::NoImage(fault)),
+    }
+}
+
+/// The image of a source, in hexadecimal digits and a newline.
+fn tokenize_text(alloc: Global, text: &[u8]) -> Result<String, Fault>
+    ensures ok { IfOk result (λ digits. TokenizesFile text.now (string_bytes digits)) }
+    ensures err { IfErr result (λ f. FaultsSource text.now f) }
+{
+    let image = image_of(alloc, text)?;
     let Ok(mut digits) = encode(alloc, image.as_slice()) else {
         return Err(Fault::NoMemory);
     };
     match digits.push('\n') {
         Ok(()) => Ok(digits),
         Err(_) => Err(Fault::NoMemory),
+    }
+}
+
+/// The image of the source of a file.
+fn read_source<R: Read>(alloc: Global, file: &mut R) -> Result<Vec<u8>, Fault>
+    ensures ok { IfOk result (λ image. IfSome (R.remaining file.old) (λ bytes. HasImage bytes image.items)) }
+    ensures err { IfErr result (λ f. IfSome (R.remaining file.old) (λ bytes. FaultsSourceFile bytes f)) }
+{
+    let text = read_whole(alloc, file)?;
+    image_of(alloc, &text)
+}
+
+/// The image of the source of a file, to be written elsewhere, or the status of the fault that it has.
+///
+/// The fault is said on the error output, as by `tok`.
+pub fn image<R: Read, E: Write>(
+    alloc: Global,
+    path: &str,
+    file: &mut R,
+    errors: &mut E,
+) -> Result<Vec<u8>, Status>
+    ensures ok { IfOk result (λ image. IfSome (R.remaining file.old) (λ bytes. HasImage bytes image.items)) }
+    ensures err { IfErr result (λ s. IfSome (R.remaining file.old) (λ bytes. FaultsWith bytes s)) }
+{
+    match read_source(alloc, file) {
+        Ok(image) => Ok(image),
+        Err(fault) => Err(report(path, fault, errors)),
+    }
+}
+
+/// Writes an image, and gives the status; a fault is said on the error output.
+pub fn keep<W: Write, E: Write>(image: &[u8], out: &mut W, errors: &mut E) -> Status
+    ensures { Writes image.now (W.contents out.old) (W.contents out.new) result }
+{
+    match write_whole(out, image) {
+        Ok(()) => Status::Done,
+        Err(fault) => report("", fault, errors),
     }
 }
 
@@ -161,24 +211,24 @@ pub fn tok<R: Read, W: Write, E: Write>(
 {
     match print_image(alloc, source, out) {
         Ok(()) => Status::Done,
-        Err(fault) => report_at(path, fault, errors),
+        Err(fault) => report(path, fault, errors),
     }
 }
 
-/// Does what was asked for with the file of its image, and gives the status.
+/// Does what was asked for with the file at its path, and gives the status.
 pub fn answer<R: Read, W: Write, E: Write>(
     alloc: Global,
     request: Request<'_>,
-    image: &mut R,
+    file: &mut R,
     out: &mut W,
     errors: &mut E,
 ) -> Status
-    ensures { IfSome (R.remaining image.old) (λ file. Answers (asked request.entry) file (W.contents out.old)
+    ensures { IfSome (R.remaining file.old) (λ bytes. Answers (asked request.entry) bytes (W.contents out.old)
         (W.contents out.new) result) }
 {
     match request {
-        Request::Run { limit, .. } => run(alloc, image, limit, out, errors),
-        Request::Tok { source } => tok(alloc, source, image, out, errors),
-        Request::Detok { .. } => detok(alloc, image, out, errors),
+        Request::Run { image, limit } => run(alloc, image, file, limit, out, errors),
+        Request::Tok { source, .. } => tok(alloc, source, file, out, errors),
+        Request::Detok { image } => detok(alloc, image, file, out, errors),
     }
 }

@@ -1,6 +1,7 @@
 ghost use Rattle.std.specs.Prelude.{◌≡◌, option_map};
 ghost use Rattle.ofw.specs.Runs.{start_byte_of};
 
+use crate::place::Place;
 use crate::status::Status;
 use of_detok::DetokFault;
 use of_machine::Refusal;
@@ -15,22 +16,22 @@ pub enum Fault {
     /// An argument isn't text.
     #[error("an argument is not text")]
     ArgumentNotText,
-    /// The image's file can't be opened.
-    #[error("the image can't be opened")]
-    Unopened,
-    /// A read of the image's file failed.
-    #[error("the image can't be read")]
-    Unread,
-    /// The image's file was given up.
-    #[error("the image doesn't end after 16777216 reads")]
+    /// A file can't be opened, with the system's number of the reason, if there is one.
+    #[error("can't be opened")]
+    Unopened(Option<i32>),
+    /// A read of a file failed, with the system's number of the reason.
+    #[error("can't be read")]
+    Unread(Option<i32>),
+    /// A file was given up.
+    #[error("doesn't end after 16777216 reads")]
     Endless,
-    /// A byte of the image's file is no hexadecimal digit.
-    #[error("line {line}: {digit:?} is no hexadecimal digit")]
+    /// A byte of an image's text is no hexadecimal digit.
+    #[error("byte {byte:02x} is no hexadecimal digit")]
     BadDigit {
-        /// The line, from 1.
-        line: usize,
-        /// What stands there, a byte as the character of that code.
-        digit: char,
+        /// Where it stands.
+        place: Place,
+        /// The byte.
+        byte: u8,
     },
     /// The last byte of the image has one digit.
     #[error("an odd number of hexadecimal digits")]
@@ -47,9 +48,9 @@ pub enum Fault {
     /// A source has no image.
     #[error(transparent)]
     NoImage(TokFault),
-    /// A write of the output failed.
+    /// A write failed, with the system's number of the reason.
     #[error("the output can't be written")]
-    Unwritten,
+    Unwritten(Option<i32>),
     /// A growth of memory was refused.
     #[error("no memory")]
     NoMemory,
@@ -104,8 +105,8 @@ impl Fault {
             Fault::Unlisted(DetokFault::NoMemory) => Status::NoMemory,
             Fault::NoSource(SourceFault::NoMemory) => Status::NoMemory,
             Fault::NoImage(TokFault::NoMemory) => Status::NoMemory,
-            Fault::Unopened => Status::Fault,
-            Fault::Unread => Status::Fault,
+            Fault::Unopened(_) => Status::Fault,
+            Fault::Unread(_) => Status::Fault,
             Fault::Endless => Status::Fault,
             Fault::BadDigit { .. } => Status::Fault,
             Fault::OddDigits => Status::Fault,
@@ -117,7 +118,7 @@ impl Fault {
             Fault::Unlisted(DetokFault::BadLine(_)) => Status::Fault,
             Fault::NoSource(_) => Status::Fault,
             Fault::NoImage(_) => Status::Fault,
-            Fault::Unwritten => Status::Fault,
+            Fault::Unwritten(_) => Status::Fault,
         }
     }
 }

@@ -7,6 +7,8 @@ mod fault;
 mod input;
 mod laws;
 mod output;
+mod part;
+mod place;
 mod status;
 #[cfg(test)]
 mod tests;
@@ -19,16 +21,45 @@ use std::fs::File;
 use std::process::ExitCode;
 use std::{env, io};
 
+/// Writes the image of a source to the file at a path, which is made anew.
+fn keep(rt: &HostRuntime, source: &str, file: &mut File, output: &str) -> Status {
+    let image = match engine::image(rt.alloc(), source, file, &mut rt.stderr()) {
+        Ok(image) => image,
+        Err(status) => return status,
+    };
+    match File::create(rt, output) {
+        Ok(mut out) => engine::keep(&image, &mut out, &mut rt.stderr()),
+        Err(error) => unopened(rt, output, &error),
+    }
+}
+
+/// Says why the file at a path can't be opened.
+fn unopened(rt: &HostRuntime, path: &str, error: &io::Error) -> Status {
+    report(
+        path,
+        Fault::Unopened(error.raw_os_error()),
+        &mut rt.stderr(),
+    )
+}
+
 /// Opens the file, and does with it what was asked for.
 fn answer(rt: &HostRuntime, request: Request) -> Status {
     let path = match request {
         Request::Run { image, .. } => image,
-        Request::Tok { source } => source,
+        Request::Tok { source, .. } => source,
         Request::Detok { image } => image,
     };
-    let Ok(mut file) = File::open(rt, path) else {
-        return report(Fault::Unopened, &mut rt.stderr());
+    let mut file = match File::open(rt, path) {
+        Ok(file) => file,
+        Err(error) => return unopened(rt, path, &error),
     };
+    if let Request::Tok {
+        source,
+        output: Some(output),
+    } = request
+    {
+        return keep(rt, source, &mut file, output);
+    }
     let (mut out, mut errors) = (rt.stdout(), rt.stderr());
     engine::answer(rt.alloc(), request, &mut file, &mut out, &mut errors)
 }
@@ -65,7 +96,7 @@ fn obey(rt: &HostRuntime, words: &[String]) -> Status {
 fn main(rt: HostRuntime) -> ExitCode {
     let status = match words(&rt) {
         Ok(words) => obey(&rt, &words),
-        Err(fault) => report(fault, &mut rt.stderr()),
+        Err(fault) => report("", fault, &mut rt.stderr()),
     };
     ExitCode::from(status.code())
 }

@@ -30,9 +30,10 @@ impl Read for Paper<'_> {
     }
 }
 
-/// A reader that never ends.
+/// A reader that gives the same byte for ever, one a read.
 #[derive(Drop)]
 struct Endless {
+    byte: u8,
     reads: u32,
 }
 
@@ -41,7 +42,7 @@ impl Read for Endless {
         if buf.is_empty() {
             return Ok(0);
         }
-        buf[0] = b'0';
+        buf[0] = self.byte;
         self.reads = self.reads.saturating_add(1);
         Ok(1)
     }
@@ -96,9 +97,9 @@ fn code_of(
     errors: &mut Screen,
 ) -> std::result::Result<u8, Fail> {
     let status = match limit {
-        "" => detok(alloc, file, out, errors),
+        "" => detok(alloc, "a.hex", file, out, errors),
         "tok" => tok(alloc, "card.fs", file, out, errors),
-        _ => run(alloc, file, limit.parse::<u64>()?, out, errors),
+        _ => run(alloc, "a.hex", file, limit.parse::<u64>()?, out, errors),
     };
     Ok(status.code())
 }
@@ -113,22 +114,28 @@ const CASES: &str = "\
 4|99|99|3||5 |f108020a0000000da7a81e9d00;
 0|99|99|3|||f108020a0000000da7a81e9d00;
 9|99|99|1|ofw: bad start byte ff||ffffffffffffffff;
-9|99|99|1|ofw: image shorter than its header||f108;
-9|99|99|1|ofw: line 2: 'z' is no hexadecimal digit||f1
+9|99|99|1|ofw: a.hex: image shorter than its header||f108;
+9|99|99|1|ofw: a.hex: image shorter than its header||;
+9|99|99|1|ofw: a.hex:2:4: 'z' is no hexadecimal digit||f1
 08 zz;
-9|99|99|1|ofw: an odd number of hexadecimal digits||f10;
-9|2|99|1|ofw: the image can't be read||f108020a0000000da7a81e9d00;
-9|99|1|1|ofw: the output can't be written|5|f108020a0000000da7a81e9d00;
+9|99|99|1|ofw: a.hex:3:9: 'x' is no hexadecimal digit||f108
+
+020a000 x;
+9|99|99|1|ofw: a.hex:1:1: byte ef, as of a byte order mark, is no hexadecimal digit||\u{feff}f108;
+9|99|99|1|ofw: a.hex:1:3: byte 00 is no hexadecimal digit||f1\x00;
+9|99|99|1|ofw: a.hex: an odd number of hexadecimal digits||f10;
+9|2|99|1|ofw: a.hex: other error||f108020a0000000da7a81e9d00;
+9|99|1|1|ofw: the output can't be written: other error|5|f108020a0000000da7a81e9d00;
 |99|999|0||000000: f108020a0000000d  start1
 000008: a7  2
 000009: a8  3
 00000a: 1e  +
 00000b: 9d  .
 00000c: 00  end0|f108020a0000000da7a81e9d00;
-|99|999|1|ofw: image ended in the token at 000009||f10800a700000009a7;
-|99|999|1|ofw: an odd number of hexadecimal digits||f108
+|99|999|1|ofw: a.hex: image ended in the token at 000009||f10800a700000009a7;
+|99|999|1|ofw: a.hex:2:1: 'x' is no hexadecimal digit||f108
 x;
-|99|2|1|ofw: the output can't be written|00|f108020a0000000da7a81e9d00;
+|99|2|1|ofw: the output can't be written: other error|00|f108020a0000000da7a81e9d00;
 tok|99|999|0||f108075c000000211204636172640201b604616464330800b7a81ec2a708009d00|fcode-version2
 \" card\" device-name : add3 3 + ; 2 add3 . fcode-end;
 tok|99|999|1|card.fs:2: unknown word||fcode-version2
@@ -136,8 +143,8 @@ zork fcode-end;
 tok|99|999|1|card.fs:3: unclosed||fcode-version2
 5
 then fcode-end;
-tok|2|999|1|ofw: the image can't be read||fcode-version2 fcode-end;
-tok|99|3|1|ofw: the output can't be written|f10|fcode-version2 fcode-end";
+tok|2|999|1|ofw: card.fs: other error||fcode-version2 fcode-end;
+tok|99|3|1|ofw: the output can't be written: other error|f10|fcode-version2 fcode-end";
 
 #[test]
 fn statuses(rt: HostRuntime) -> std::result::Result<(), Fail> {
@@ -165,23 +172,54 @@ fn statuses(rt: HostRuntime) -> std::result::Result<(), Fail> {
 }
 
 #[test]
-fn endless_file(rt: HostRuntime) {
-    let mut file = Endless { reads: 0 };
+fn binary_images(rt: HostRuntime) {
+    let image = b"\xf1\x08\x02\x0a\0\0\0\x0d\xa7\xa8\x1e\x9d\0";
+    let mut out = blank_screen(rt.alloc(), 99);
+    let mut errors = blank_screen(rt.alloc(), 99);
+    let mut file = Paper {
+        text: image,
+        reads: 0,
+        fails_at: 99,
+    };
+    let status = run(rt.alloc(), "five.rom", &mut file, 9, &mut out, &mut errors);
+    assert_eq!(rt; status, Status::Done);
+    assert_eq!(rt; out.text.as_slice(), b"5 ".as_slice());
+}
+
+/// A text is refused at its first byte, not at its end.
+#[test]
+fn endless_zeros(rt: HostRuntime) {
+    let mut file = Endless { byte: 0, reads: 0 };
     let mut out = blank_screen(rt.alloc(), 0);
     let mut errors = blank_screen(rt.alloc(), 999);
-    let status = run(rt.alloc(), &mut file, 9, &mut out, &mut errors);
+    let status = run(rt.alloc(), "/dev/zero", &mut file, 9, &mut out, &mut errors);
+    assert_eq!(rt; status, Status::Fault);
+    assert_eq!(rt; file.reads, 1);
+    let said = b"ofw: /dev/zero:1:1: byte 00 is no hexadecimal digit\n";
+    assert_eq!(rt; errors.text.as_slice(), said.as_slice());
+}
+
+#[test]
+fn endless_file(rt: HostRuntime) {
+    let mut file = Endless {
+        byte: b'0',
+        reads: 0,
+    };
+    let mut out = blank_screen(rt.alloc(), 0);
+    let mut errors = blank_screen(rt.alloc(), 999);
+    let status = run(rt.alloc(), "a.hex", &mut file, 9, &mut out, &mut errors);
     assert_eq!(rt; status, Status::Fault);
     assert_eq!(rt; file.reads, MOST_READS);
-    let said = b"ofw: the image doesn't end after 16777216 reads\n";
+    let said = b"ofw: a.hex: doesn't end after 16777216 reads\n";
     assert_eq!(rt; errors.text.as_slice(), said.as_slice());
 }
 
 #[test]
 fn reports(rt: HostRuntime) {
     let mut errors = blank_screen(rt.alloc(), 999);
-    assert_eq!(rt; report(Fault::NoMemory, &mut errors).code(), 5);
+    assert_eq!(rt; report("", Fault::NoMemory, &mut errors).code(), 5);
     assert_eq!(rt; errors.text.as_slice(), b"ofw: no memory\n".as_slice());
-    assert_eq!(rt; report(Fault::ArgumentNotText, &mut errors).code(), 2);
+    assert_eq!(rt; report("", Fault::ArgumentNotText, &mut errors).code(), 2);
 }
 
 /// Words of a command line, and behind `:` what they ask for, if anything: the image, and for a
@@ -196,6 +234,8 @@ ofw detok a.hex:a.hex
 ofw tok a.fs:a.fs
 ofw tok:
 ofw tok a.fs --limit 5:
+ofw tok a.fs --output a.rom:a.fs a.rom
+ofw tok --output a.rom:
 ofw detok a.hex --limit 5:
 ofw walk a.hex:
 ofw run a.hex --limit=7:a.hex 7
@@ -209,7 +249,10 @@ ofw:";
 fn asked(alloc: Global, line: &[String]) -> std::result::Result<String, Fail> {
     match parse(alloc, line) {
         Ok(Some(Request::Run { image, limit })) => Ok(format!(in alloc; "{image} {limit}")?),
-        Ok(Some(Request::Tok { source })) => Ok(String::from_str(alloc, source)?),
+        Ok(Some(Request::Tok { source, output })) => match output {
+            Some(output) => Ok(format!(in alloc; "{source} {output}")?),
+            None => Ok(String::from_str(alloc, source)?),
+        },
         Ok(Some(Request::Detok { image })) => Ok(String::from_str(alloc, image)?),
         _ => Ok(String::new(alloc)),
     }

@@ -1,12 +1,13 @@
 use Rattle.std.proofs.Common.{rules, ap, ap₂, codes, ◌≡◌, ◌∙◌}
 use Rattle.std.proofs.lemmas.Result.{IfOk-weaker}
 use Rattle.clap.specs.Words.{App, app_of, with_subcommand, new_app}
-use Rattle.ofw.specs.CommandLine.{needing_subcommand}
+use Rattle.ofw.specs.CommandLine.{needing_subcommand, versioned}
 use Rattle.ofw.proofs.arguments.command.Goals as goal
 
 pub returns : goal.returns
 returns c =
-    let new_is : app_of c.subcommand_required.result ≡ needing_subcommand (new_app (codes "ofw")) = search rules in
+    let new_is : app_of c.subcommand_required.result ≡ needing_subcommand (versioned (new_app (codes "ofw"))) =
+    search rules in
     let run = c.in_ok-run_command.ensures in
     let tok = c.in_ok-tok_command.ensures in
     let detok = c.in_ok-detok_command.ensures in

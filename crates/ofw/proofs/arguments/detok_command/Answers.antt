@@ -5,6 +5,6 @@ use Rattle.ofw.proofs.arguments.detok_command.Goals as goal
 
 pub returns : goal.returns
 returns c =
-    let new_is : app_of c.about.result ≡ new_app (codes "detok") = search rules in
+    let new_is : app_of c.after_help.result ≡ new_app (codes "detok") = search rules in
     let image = c.image_argument.ensures in
     IfOk-weaker c.arg.result _ _ (λ r h. (h.shape image.1 ∙ ap₂ with_rule new_is image.0, search rules)) c.arg.ensures

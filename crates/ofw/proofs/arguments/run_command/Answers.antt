@@ -5,7 +5,7 @@ use Rattle.ofw.proofs.arguments.run_command.Goals as goal
 
 pub returns : goal.returns
 returns c =
-    let new_is : app_of c.about.result ≡ new_app (codes "run") = search rules in
+    let new_is : app_of c.after_help.result ≡ new_app (codes "run") = search rules in
     let image = c.image_argument.ensures in
     let limit = c.limit_argument.ensures in
     let with_image = c.in_ok-arg.ensures.shape image.1 ∙ ap₂ with_rule new_is image.0 in

@@ -1,8 +1,0 @@
-use Rattle.std.proofs.Common.{rules}
-use Rattle.ofw.proofs.Faults.{run_given_up}
-use Rattle.ofw.proofs.engine.print_run.Goals as goal
-
-pub returns : goal.returns
-returns g c =
-    run_given_up (g.R.Read.remaining c.args.image.now) _ _ _ _ _ c.in-Err.fault (search rules)
-    c.deref.ensures.value c.in_ok-text.ensures.ok c.in-Err.ensures.err
