@@ -1,34 +1,33 @@
 -- The laws.
-use Rattle.std.proofs.Common.{arith, ◌≡◌, false, ℕ, List, [], Some, None, refl, sym, ap, ◌∙◌, subst, IsTrue, ◌⊎◌, inl}
+use Rattle.of_control.proofs.Agreement.{all_parts-whole, agrees_named, flushed, read_so_far-keeps}
+use Rattle.of_control.proofs.CallLemmas.{no_answer_in, answers, open_then, kept, kept_of}
+use Rattle.std.proofs.Common.{arith, ◌≡◌, false, ℕ, List, [], Some, None, refl, sym, ap, ◌∙◌, subst, IsTrue, ◌⊎◌}
 use Rattle.std.specs.Prelude.{map}
 use Rattle.of_control.specs.Openers.{is_all_closed}
 use Rattle.of_control.specs.Element.{Element}
-use Rattle.of_control.specs.Matching.{IsMatching, Partners}
+use Rattle.of_control.specs.Matching.{Partners}
 use Rattle.of_control.specs.Body.{Body}
-use Rattle.of_control.specs.Reading.{body_in, read_by, reading}
+use Rattle.of_control.specs.Reading.{body_in, read_by}
 use Rattle.of_control.specs.Tight.{IsReading}
 use Rattle.of_control.specs.Calls.{after_calls, placed}
 use Rattle.of_control.specs.Law.{CallsFollowMatching, ClosedIsRead, HasNone, IsBodyIn, IsBounded, IsMatched}
 use Rattle.of_control.specs.Law.{ItemsAreFlat, JumpsStayInside, MatchingIsDecided, OneReading}
 use Rattle.of_control.specs.AgedStack.{AgedStack, aged_stack}
 use Rattle.of_control.proofs.MatchingLemmas.{Sound, complete, sound, one_matching}
-use Rattle.of_control.proofs.Agreement.{agrees}
 use Rattle.of_control.proofs.Totality.{total, only}
 use Rattle.of_control.proofs.TargetLemmas.{targets}
-use Rattle.of_control.proofs.Scopes.{tight_scoped}
+use Rattle.of_control.proofs.NamedBodies.{tight_scoped}
 use Rattle.of_control.proofs.TightReadings.{reading_tight}
 use Rattle.of_control.proofs.Trees.{one_body, one_reading}
-use Rattle.of_control.proofs.CallLemmas.{answers, open_then, no_answer, broken, kept, kept_of}
 
 -- the aged stack has a bounded matching, or there is none
 decided_by :
     {A : Type 0} → (limit : ℕ) (es : List (Element A)) (c : AgedStack) → aged_stack limit es ≡ c → Sound limit es c →
     ((m : Partners) × IsBounded limit es m) ⊎ HasNone limit es
-decided_by limit es None e h = grind (arith, complete)
-decided_by limit es (Some (m, os)) e h = inl (m, record { matching = h.0; few = h.1 })
+decided_by limit es c e h = grind (arith, complete)
 
 pub calls_follow_matching : (A : Type 0) (limit : ℕ) → CallsFollowMatching A limit
-calls_follow_matching A limit = grind (arith, one_matching, answers, open_then, no_answer, broken)
+calls_follow_matching A limit = grind (arith, one_matching, answers, open_then, kept, no_answer_in, sound)
 
 pub matching_is_decided : (A : Type 0) (limit : ℕ) → MatchingIsDecided A limit
 matching_is_decided A limit es = decided_by limit es (aged_stack limit es) refl (sound limit es)
@@ -55,33 +54,19 @@ matched_closed limit place es w =
 
 -- ---- bodies
 
--- what is read is a reading
-read_so :
-    {A : Type 0} → (es : List (Element A)) (m : Partners) (b : Body A) → IsMatching es m → reading es m ≡ Some b →
-    IsReading es m b
-read_so es m b is e = grind (arith, agrees, targets, reading_tight)
-
 body_by :
     {A : Type 0} → (limit : ℕ) (es : List (Element A)) (b : Body A) (c : AgedStack) → Sound limit es c →
     read_by es c ≡ Some b → IsBodyIn limit es b
 body_by limit es b None h e = let bad : ⊥ = cc in absurd bad
 body_by limit es b (Some (m, os)) h e =
-    record {
-      partners = m;
-      matched = record { bounded = record { matching = h.0; few = h.1 }; closed = only es m b h.0 e };
-      read = read_so es m b h.0 e;
-    }
+    grind (arith, only, targets, reading_tight, read_so_far-keeps, flushed, agrees_named, all_parts-whole)
 
 -- a matching that leaves nothing open is read
 body_of_matched :
     {A : Type 0} → (limit : ℕ) (es : List (Element A)) (m : Partners) → IsMatched limit es m →
     (b : Body A) × (body_in limit es ≡ Some b) × IsReading es m b
 body_of_matched limit es m w =
-    let r = total es m w.bounded.matching w.closed in (
-      r.0,
-      ap (read_by es) (complete limit es m w.bounded.matching w.bounded.few) ∙ r.1,
-      read_so es m r.0 w.bounded.matching r.1,
-    )
+    grind (arith, total, complete, targets, reading_tight, read_so_far-keeps, flushed, agrees_named, all_parts-whole)
 
 body_found :
     {A : Type 0} → (limit : ℕ) (es : List (Element A)) (b : Body A) → IsBodyIn limit es b → body_in limit es ≡ Some b
@@ -110,16 +95,8 @@ closed_is_read A limit = record {
   found = λ es b. (λ e. body_by limit es b (aged_stack limit es) (sound limit es) e, body_found limit es b);
 }
 
-one_in_all :
-    {A : Type 0} → (limit : ℕ) (es : List (Element A)) (b c : Body A) → IsBodyIn limit es b → IsBodyIn limit es c →
-    b ≡ c
-one_in_all limit es b c v w =
-    let same : v.partners ≡ w.partners =
-    one_matching es v.partners w.partners v.matched.bounded.matching w.matched.bounded.matching in
-    one_reading es w.partners b c (subst (λ m. IsReading es m b) same v.read) w.read
-
 pub one_reading_law : (A : Type 0) (limit : ℕ) → OneReading A limit
-one_reading_law A limit = record { bodies = one_body; readings = one_reading; in_all = one_in_all limit }
+one_reading_law A limit = grind (arith, one_body, one_reading, one_matching)
 
 pub jumps_stay_inside : (A : Type 0) (limit : ℕ) → JumpsStayInside A limit
 jumps_stay_inside A limit es b w = tight_scoped 0 false false b w.read.tight

@@ -1,16 +1,179 @@
--- Where the numbers of the jumps rise with the items, a Block that holds its jump in its first part is tight.
-use Rattle.std.proofs.Common.{◌≡◌, ℕ, suc, ◌+◌, ◌<◌, ◌≤◌, Bool, true, false, List, [], ◌∷◌, ◌++◌, length, refl, sym, ap}
-use Rattle.std.proofs.Common.{◌∙◌, subst, arith}
-use Rattle.std.specs.Prelude.{◌==◌, ◌&&◌, if◌then◌else◌, map}
-use Rattle.std.proofs.lemmas.Bool.{cases_eq, eq-eqb, eqb-true, ne_eqb}
-use Rattle.std.proofs.lemmas.List.{append_assoc, length-map, map-append}
+-- A tight body with names is tight without them.
+use Rattle.std.proofs.Common.{◌≡◌, ℕ, suc, ◌<◌, Bool, true, false, List, [], ◌∷◌, ◌++◌, length, refl, ap, ◌∙◌, arith}
+use Rattle.std.proofs.Common.{◌+◌, ◌≤◌, sym, subst}
+use Rattle.std.specs.Prelude.{◌==◌, if◌then◌else◌, map, ◌&&◌}
+use Rattle.std.proofs.lemmas.Bool.{ne_eqb, eq-eqb, cases_eq, eqb-true}
+use Rattle.std.proofs.lemmas.List.{map-append, length-map, append_assoc}
+use Rattle.of_control.specs.Body.{IsScoped}
 use Rattle.of_control.specs.Reading.{NamedArm, NamedBlock, NamedBody, NamedChoice, NamedCounted, NamedCycle, NamedEnd}
-use Rattle.of_control.specs.Reading.{NamedJump, NamedLeave, NamedOperation, joined}
-use Rattle.of_control.specs.Tight.{Each}
-use Rattle.of_control.proofs.NamedTight.{Ends, Goes, NamedIsBlock, NamedIsCycle, NamedTight, NamedWay, NotTo, Shorter}
-use Rattle.of_control.proofs.NamedTight.{Stays, left, kept_in, named_first, named_ways}
-use Rattle.of_control.proofs.NamedBodies.{named_size}
+use Rattle.of_control.specs.Reading.{NamedJump, NamedLeave, NamedOperation, label_index, nameless, joined}
+use Rattle.of_control.specs.Tight.{AtEnd, BeginsWithArm, Beyond, Each, HasOneJump, Inside, IsBlock, IsCycle, IsOther}
+use Rattle.of_control.specs.Tight.{IsShorter, IsTight, Way, first_size, ways}
+use Rattle.of_control.proofs.NamedBodies.{body_size-nameless, named_size}
 use Rattle.of_control.proofs.Pieces.{named_size-joined}
+
+-- where an item goes, by the name of the part: not out of the body, to its end by leaving this Block, or to this part
+-- round it
+pub data NamedWay : Type 0 where
+  Stays : NamedWay
+  Ends : ℕ → NamedWay
+  Goes : ℕ → NamedWay
+
+-- seen from outside of the part b
+abbrev pub left : ℕ → Bool → NamedWay → NamedWay
+left b last Stays = Stays
+left b last (Ends x) = if last then Ends x else Stays
+left b last (Goes x) = if x == b then (if last then Ends b else Stays) else Goes x
+
+abbrev pub kept_in : NamedWay → NamedWay
+kept_in w = Stays
+
+abbrev pub named_ways : {A : Type 0} → NamedBody A → List NamedWay
+named_ways NamedEnd = []
+named_ways (NamedOperation a r) = Stays ∷ named_ways r
+named_ways (NamedLeave d r) = Stays ∷ named_ways r
+named_ways (NamedJump z b r) = Goes b ∷ named_ways r
+named_ways (NamedBlock b p r) = map (left b (named_size r == 0)) (named_ways p) ++ named_ways r
+named_ways (NamedCycle c p r) = map (left c false) (named_ways p) ++ named_ways r
+named_ways (NamedCounted q d p l r) = Stays ∷ (map kept_in (named_ways p) ++ (Stays ∷ named_ways r))
+named_ways (NamedChoice c p r) = map kept_in (named_ways p) ++ (Stays ∷ named_ways r)
+named_ways (NamedArm o c p r) = Stays ∷ (map kept_in (named_ways p) ++ (Stays ∷ named_ways r))
+
+abbrev pub named_first : {A : Type 0} → NamedBody A → ℕ
+named_first NamedEnd = 0
+named_first (NamedBlock b p r) = named_size p
+named_first (NamedCycle c p r) = named_size p
+named_first (NamedCounted q d p l r) = suc (suc (named_size p))
+named_first (NamedChoice c p r) = suc (named_size p)
+named_first (NamedArm o c p r) = suc (suc (named_size p))
+named_first _ = 1
+
+abbrev pub NotTo : ℕ → NamedWay → Type 0
+NotTo b (Goes x) = x ≡ b → ⊥
+NotTo b _ = Unit {0}
+
+abbrev pub Shorter : ℕ → NamedWay → Type 0
+Shorter b Stays = Unit {0}
+Shorter b (Ends x) = ⊥
+Shorter b (Goes x) = x ≡ b → ⊥
+
+pub record NamedJumpOnce {A : Type 0} (b : ℕ) (p : NamedBody A) : Type 0 where
+  pub earlier : List NamedWay
+  pub later : List NamedWay
+  pub split : named_ways p ≡ earlier ++ (Goes b ∷ later)
+  pub shorter : Each (Shorter b) earlier
+  pub one : Each (NotTo b) later
+
+pub record NamedIsBlock {A : Type 0} (b : ℕ) (p : NamedBody A) : Type 0 where
+  pub jump : NamedJumpOnce b p
+  pub soon : length jump.earlier < named_first p
+
+pub record NamedIsCycle {A : Type 0} (c : ℕ) (p : NamedBody A) : Type 0 where
+  pub jump : NamedJumpOnce c p
+  pub last : jump.later ≡ []
+
+abbrev pub NamedBegins : {A : Type 0} → NamedBody A → Type 0
+NamedBegins NamedEnd = Unit {0}
+NamedBegins (NamedArm o c p r) = Unit {0}
+NamedBegins _ = ⊥
+
+abbrev pub NamedTight : {A : Type 0} → NamedBody A → Type 0
+NamedTight NamedEnd = Unit {0}
+NamedTight (NamedOperation a r) = NamedTight r
+NamedTight (NamedLeave d r) = NamedTight r
+NamedTight (NamedJump z b r) = NamedTight r
+NamedTight (NamedBlock b p r) = NamedIsBlock b p × NamedTight p × NamedTight r
+NamedTight (NamedCycle c p r) = NamedIsCycle c p × NamedTight p × NamedTight r
+NamedTight (NamedCounted q d p l r) = NamedTight p × NamedTight r
+NamedTight (NamedChoice c p r) = NamedBegins p × NamedTight p × NamedTight r
+NamedTight (NamedArm o c p r) = NamedTight p × NamedTight r
+
+-- ---- without names
+
+first-nameless : {A : Type 0} → (ls : List ℕ) (p : NamedBody A) → first_size (nameless ls p) ≡ named_first p
+first-nameless ls p = grind (arith, body_size-nameless)
+
+abbrev way_in : List ℕ → NamedWay → Way
+way_in ls Stays = Inside
+way_in ls (Ends x) = AtEnd
+way_in ls (Goes x) = Beyond (label_index x ls)
+
+map_out :
+    (f : Way → Way) (g h : NamedWay → Way) (k : NamedWay → NamedWay) → ((w : NamedWay) → f (g w) ≡ h (k w)) →
+    (ws : List NamedWay) → map f (map g ws) ≡ map h (map k ws)
+map_out f g h k e [] = refl
+map_out f g h k e (w ∷ ws) = ap (λ y. y ∷ map f (map g ws)) (e w) ∙ ap (λ l. h (k w) ∷ l) (map_out f g h k e ws)
+
+pub ways-nameless :
+    {A : Type 0} → (ls : List ℕ) (p : NamedBody A) → ways (nameless ls p) ≡ map (way_in ls) (named_ways p)
+ways-nameless ls NamedEnd = refl
+ways-nameless ls (NamedOperation a r) = ap (λ l. Inside ∷ l) (ways-nameless ls r)
+ways-nameless ls (NamedLeave d r) = ap (λ l. Inside ∷ l) (ways-nameless ls r)
+ways-nameless ls (NamedJump z b r) = ap (λ l. Beyond (label_index b ls) ∷ l) (ways-nameless ls r)
+ways-nameless ls (NamedBlock b p r) =
+    grind (arith, ways-nameless (b ∷ ls) p, ways-nameless ls r, body_size-nameless, named_size, map_out, map-append)
+ways-nameless ls (NamedCycle c p r) = grind (arith, ways-nameless (c ∷ ls) p, ways-nameless ls r, map_out, map-append)
+ways-nameless ls (NamedCounted q d p l r) = grind (arith, ways-nameless [] p, ways-nameless ls r, map_out, map-append)
+ways-nameless ls (NamedChoice c p r) = grind (arith, ways-nameless [] p, ways-nameless ls r, map_out, map-append)
+ways-nameless ls (NamedArm o c p r) = grind (arith, ways-nameless [] p, ways-nameless ls r, map_out, map-append)
+
+each_to :
+    (P : NamedWay → Type 0) (Q : Way → Type 0) (f : NamedWay → Way) (ws : List NamedWay) →
+    ((w : NamedWay) → P w → Q (f w)) → Each P ws → Each Q (map f ws)
+each_to P Q f [] g h = tt
+each_to P Q f (w ∷ ws) g h = (g w h.0, each_to P Q f ws g h.1)
+
+shorter_in : (b : ℕ) (ls : List ℕ) (w : NamedWay) → Shorter b w → IsShorter (way_in (b ∷ ls) w)
+shorter_in b ls w h = grind (arith, ne_eqb)
+
+other_in : (b : ℕ) (ls : List ℕ) (w : NamedWay) → NotTo b w → IsOther (way_in (b ∷ ls) w)
+other_in b ls w h = grind (arith, ne_eqb)
+
+abbrev jump_in :
+    {A : Type 0} → (b : ℕ) (ls : List ℕ) (p : NamedBody A) → NamedJumpOnce b p → HasOneJump (nameless (b ∷ ls) p)
+jump_in b ls p j =
+    let f = way_in (b ∷ ls) in
+    let here : f (Goes b) ≡ Beyond 0 = ap (λ t. Beyond (if t then 0 else suc (label_index b ls))) (eq-eqb b b refl) in
+    record {
+      earlier = map f j.earlier;
+      later = map f j.later;
+      split = ways-nameless (b ∷ ls) p ∙ ap (map f) j.split ∙ map-append f j.earlier (Goes b ∷ j.later)
+          ∙ ap (λ w. map f j.earlier ++ (w ∷ map f j.later)) here;
+      shorter = each_to (Shorter b) IsShorter f j.earlier (shorter_in b ls) j.shorter;
+      one = each_to (NotTo b) IsOther f j.later (other_in b ls) j.one;
+    }
+
+block_in : {A : Type 0} → (b : ℕ) (ls : List ℕ) (p : NamedBody A) → NamedIsBlock b p → IsBlock (nameless (b ∷ ls) p)
+block_in b ls p h =
+    let s = h.soon in
+    let l = length-map h.jump.earlier (way_in (b ∷ ls)) in
+    record { jump = jump_in b ls p h.jump; soon = omega (arith, s, l, first-nameless (b ∷ ls) p) }
+
+cycle_in : {A : Type 0} → (c : ℕ) (ls : List ℕ) (p : NamedBody A) → NamedIsCycle c p → IsCycle (nameless (c ∷ ls) p)
+cycle_in c ls p h = record { jump = jump_in c ls p h.jump; last = ap (map (way_in (c ∷ ls))) h.last }
+
+begins_in : {A : Type 0} → (p : NamedBody A) → NamedBegins p → BeginsWithArm (nameless [] p)
+begins_in p h = grind (arith)
+
+pub tight-nameless :
+    {A : Type 0} → (n : ℕ) (d c : Bool) (ls : List ℕ) (p : NamedBody A) → NamedTight p →
+    IsScoped n d c (nameless ls p) → IsTight n d c (nameless ls p)
+tight-nameless n d c ls NamedEnd t s = tt
+tight-nameless n d c ls (NamedOperation a r) t s = tight-nameless n d c ls r t s
+tight-nameless n d c ls (NamedLeave x r) t s = (s.0, tight-nameless n d c ls r t s.1)
+tight-nameless n d c ls (NamedJump z b r) t s = (s.0, tight-nameless n d c ls r t s.1)
+tight-nameless n d c ls (NamedBlock b p r) t s =
+    (block_in b ls p t.0, tight-nameless (suc n) d false (b ∷ ls) p t.1 s.0, tight-nameless n d c ls r t.2 s.1)
+tight-nameless n d c ls (NamedCycle x p r) t s =
+    (cycle_in x ls p t.0, tight-nameless (suc n) d false (x ∷ ls) p t.1 s.0, tight-nameless n d c ls r t.2 s.1)
+tight-nameless n d c ls (NamedCounted q x p l r) t s =
+    (tight-nameless 0 true false [] p t.0 s.0, tight-nameless n d c ls r t.1 s.1)
+tight-nameless n d c ls (NamedChoice x p r) t s =
+    (begins_in p t.0, tight-nameless 0 d true [] p t.1 s.0, tight-nameless n d c ls r t.2 s.1)
+tight-nameless n d c ls (NamedArm o x p r) t s =
+    (s.0, tight-nameless 0 d false [] p t.0 s.1, tight-nameless n d c ls r t.1 s.2)
+
+-- ---- where the numbers of the jumps rise with the items, a Block that holds its jump in its first part is tight
 
 -- the names from low on rise, and are below high
 abbrev pub Rise : ℕ → List NamedWay → ℕ → Type 0
@@ -31,24 +194,14 @@ rise-append low mid high (Stays ∷ xs) ys h k = rise-append low mid high xs ys 
 rise-append low mid high (Ends x ∷ xs) ys h k = (h.0, rise-append (suc x) mid high xs ys h.1 k)
 rise-append low mid high (Goes x ∷ xs) ys h k = (h.0, rise-append (suc x) mid high xs ys h.1 k)
 
-pub rise-ends :
-    (low x high : ℕ) (last : Bool) (ws : List NamedWay) → low ≤ x → Rise (suc x) ws high →
-    Rise low ((if last then Ends x else Stays) ∷ ws) high
-rise-ends low x high last ws l h = grind (arith, rise-more)
-
-pub rise-goes :
-    (low b x high : ℕ) (last t : Bool) (ws : List NamedWay) → (t ≡ true → x ≡ b) → low ≤ x → Rise (suc x) ws high →
-    Rise low ((if t then (if last then Ends b else Stays) else Goes x) ∷ ws) high
-rise-goes low b x high last t ws e l h = grind (arith, rise-ends)
-
 -- seen from outside of a part they still do
 pub rise-left :
     (low b high : ℕ) (last : Bool) (ws : List NamedWay) → Rise low ws high → Rise low (map (left b last) ws) high
 rise-left low b high last [] h = h
 rise-left low b high last (Stays ∷ ws) h = rise-left low b high last ws h
-rise-left low b high last (Ends x ∷ ws) h = grind (arith, rise-left (suc x) b high last ws h.1, rise-ends, left)
+rise-left low b high last (Ends x ∷ ws) h = grind (arith, rise-left (suc x) b high last ws h.1, left, rise-more)
 rise-left low b high last (Goes x ∷ ws) h =
-    grind (arith, rise-left (suc x) b high last ws h.1, rise-goes, left, eqb-true)
+    grind (arith, rise-left (suc x) b high last ws h.1, left, eqb-true, rise-more)
 
 pub rise-kept : (low high : ℕ) (ws : List NamedWay) → Rise low ws high → Rise low (map kept_in ws) high
 rise-kept low high [] h = h
@@ -123,22 +276,11 @@ settled last Stays = Stays
 settled last (Ends x) = if last then Ends x else Stays
 settled last (Goes x) = Goes x
 
-none_before : (n m : ℕ) → n ≡ 0 → n + m ≡ m
-none_before n m e = omega (arith, e)
-
 both_last : (n m : ℕ) → (n + m == 0) ≡ ((n == 0) && (m == 0))
-both_last n m = grind (arith, none_before, eq-eqb, ne_eqb, cases_eq)
-
-settled_ends : (x : ℕ) (l k : Bool) → (if l && k then Ends x else Stays) ≡ settled k (if l then Ends x else Stays)
-settled_ends x l k = grind (arith)
-
-settled_goes :
-    (b x : ℕ) (l k t : Bool) → (if t then (if l && k then Ends b else Stays) else Goes x) ≡ settled k
-    (if t then (if l then Ends b else Stays) else Goes x)
-settled_goes b x l k t = grind (arith, settled_ends)
+both_last n m = grind (arith, eq-eqb, ne_eqb, cases_eq)
 
 left_settled : (b : ℕ) (l k : Bool) (w : NamedWay) → left b (l && k) w ≡ settled k (left b l w)
-left_settled b l k w = grind (arith, settled_ends, settled_goes)
+left_settled b l k w = grind arith
 
 map_settled :
     (f g : NamedWay → NamedWay) (k : Bool) → ((w : NamedWay) → f w ≡ settled k (g w)) → (ws : List NamedWay) →
@@ -190,7 +332,7 @@ pub rise-settled :
     (low high : ℕ) (k : Bool) (ws : List NamedWay) → Rise low ws high → Rise low (map (settled k) ws) high
 rise-settled low high k [] h = h
 rise-settled low high k (Stays ∷ ws) h = rise-settled low high k ws h
-rise-settled low high k (Ends x ∷ ws) h = grind (arith, rise-settled (suc x) high k ws h.1, rise-ends)
+rise-settled low high k (Ends x ∷ ws) h = grind (arith, rise-settled (suc x) high k ws h.1, rise-more)
 rise-settled low high k (Goes x ∷ ws) h = (h.0, rise-settled (suc x) high k ws h.1)
 
 pub rise-joined :

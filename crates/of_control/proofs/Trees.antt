@@ -1,22 +1,121 @@
--- Tight bodies are tight trees, so tight bodies with equal items are equal.
-use Rattle.std.proofs.Common.{◌≡◌, ℕ, suc, ◌+◌, ◌<◌, ◌≤◌, Bool, true, false, List, [], ◌∷◌, ◌++◌, length, Some, None}
-use Rattle.std.proofs.Common.{refl, sym, ap, ◌∙◌, subst, arith}
-use Rattle.std.specs.Prelude.{◌==◌, if◌then◌else◌, map, slice_index}
+-- Bodies as trees, and which ways out of them there are.
+use Rattle.std.proofs.Common.{◌≡◌, ℕ, zero, suc, ◌+◌, ◌<◌, Bool, true, false, [], ◌∷◌, ◌++◌, Some, None, refl, ap, ◌∙◌}
+use Rattle.std.proofs.Common.{arith, ◌≤◌, List, length, sym, subst}
+use Rattle.std.specs.Prelude.{IsTrue, map, ◌==◌, if◌then◌else◌, slice_index}
+use Rattle.of_control.specs.Body.{Arm, Block, Body, Choice, Counted, Cycle, End, Jump, LeaveLoop, Operation, body_size}
+use Rattle.of_control.specs.Body.{items_at, items_of}
+use Rattle.of_control.specs.Tight.{Each, IsTight, first_size, AtEnd, BeginsWithArm, Beyond, Inside, IsBlock, IsCycle}
+use Rattle.of_control.specs.Tight.{IsOther, IsReading, IsShorter, Way, outward, shut, ways}
+use Rattle.of_control.proofs.Unique.{Slot, Out, Again, Drops, AnOperation, ALeave, AJump, ABlock, ACycle, ACounted}
+use Rattle.of_control.proofs.Unique.{AChoice, AnArm, Tree, Leaf, Node, size, close, slots, each-append, each-map, Does}
+use Rattle.of_control.proofs.Unique.{Leaves, To, Enters, Tests, Aims, each-more, each-both, aims-more, within, first}
 use Rattle.std.proofs.lemmas.Bool.{ne_eqb, eq-eqb, cases_eq}
 use Rattle.std.proofs.lemmas.List.{append-nil, append_assoc, map-append, length-map}
 use Rattle.of_control.specs.Element.{Element}
 use Rattle.of_control.specs.Matching.{Partners}
 use Rattle.of_control.specs.Items.{DropSelector, EndArm, EnterLoop, ExitLoop, Item, JumpTo, Perform, RepeatLoop}
 use Rattle.of_control.specs.Items.{TestArm}
-use Rattle.of_control.specs.Body.{Arm, Block, Body, Choice, Counted, Cycle, End, Jump, LeaveLoop, Operation, body_size}
-use Rattle.of_control.specs.Body.{items_at, items_of}
-use Rattle.of_control.specs.Tight.{AtEnd, BeginsWithArm, Beyond, Each, Inside, IsBlock, IsCycle, IsOther, IsReading}
-use Rattle.of_control.specs.Tight.{IsShorter, IsTight, Way, outward, shut, ways}
-use Rattle.of_control.proofs.Slots.{Slot, Does, Leaves, Out, To, Enters, Again, Tests, Drops, Tree, size, close, slots}
-use Rattle.of_control.proofs.Slots.{Aims, each-append, each-more, each-both, aims-more, within}
 use Rattle.of_control.proofs.Unique
 use Rattle.of_control.proofs.Unique.{wide_left, IsInner, IsLeft, IsRepeated, IsShut, Tight, first, hits, same}
-use Rattle.of_control.proofs.BodyTrees.{IsSeen, back, body, first-tree, seen, size-tree, tree}
+
+abbrev pub tree : {A : Type 0} → Body A → Tree A
+tree End = Leaf
+tree (Operation a r) = Node (AnOperation a) Leaf (tree r)
+tree (LeaveLoop r) = Node ALeave Leaf (tree r)
+tree (Jump z k r) = Node (AJump z k) Leaf (tree r)
+tree (Block b r) = Node ABlock (tree b) (tree r)
+tree (Cycle b r) = Node ACycle (tree b) (tree r)
+tree (Counted q b l r) = Node (ACounted q l) (tree b) (tree r)
+tree (Choice b r) = Node AChoice (tree b) (tree r)
+tree (Arm b r) = Node AnArm (tree b) (tree r)
+
+abbrev pub body : {A : Type 0} → Tree A → Body A
+body Leaf = End
+body (Node (AnOperation a) i r) = Operation a (body r)
+body (Node ALeave i r) = LeaveLoop (body r)
+body (Node (AJump z k) i r) = Jump z k (body r)
+body (Node ABlock i r) = Block (body i) (body r)
+body (Node ACycle i r) = Cycle (body i) (body r)
+body (Node (ACounted q l) i r) = Counted q (body i) l (body r)
+body (Node AChoice i r) = Choice (body i) (body r)
+body (Node AnArm i r) = Arm (body i) (body r)
+
+pub back : {A : Type 0} → (b : Body A) → body (tree b) ≡ b
+back End = refl
+back (Operation a r) = ap (λ s. Operation a s) (back r)
+back (LeaveLoop r) = ap (λ s. LeaveLoop s) (back r)
+back (Jump z k r) = ap (λ s. Jump z k s) (back r)
+back (Block b r) = ap (λ c. Block c (body (tree r))) (back b) ∙ ap (λ s. Block b s) (back r)
+back (Cycle b r) = ap (λ c. Cycle c (body (tree r))) (back b) ∙ ap (λ s. Cycle b s) (back r)
+back (Counted q b l r) = ap (λ c. Counted q c l (body (tree r))) (back b) ∙ ap (λ s. Counted q b l s) (back r)
+back (Choice b r) = ap (λ c. Choice c (body (tree r))) (back b) ∙ ap (λ s. Choice b s) (back r)
+back (Arm b r) = ap (λ c. Arm c (body (tree r))) (back b) ∙ ap (λ s. Arm b s) (back r)
+
+pub size-tree : {A : Type 0} → (b : Body A) → size (tree b) ≡ body_size b
+size-tree End = refl
+size-tree (Operation a r) = omega (arith, size-tree r)
+size-tree (LeaveLoop r) = omega (arith, size-tree r)
+size-tree (Jump z k r) = omega (arith, size-tree r)
+size-tree (Block b r) = omega (arith, size-tree b, size-tree r)
+size-tree (Cycle b r) = omega (arith, size-tree b, size-tree r)
+size-tree (Counted q b l r) = omega (arith, size-tree b, size-tree r)
+size-tree (Choice b r) = omega (arith, size-tree b, size-tree r)
+size-tree (Arm b r) = omega (arith, size-tree b, size-tree r)
+
+pub first-tree : {A : Type 0} → (b : Body A) → first (tree b) ≡ first_size b
+first-tree b = grind (arith, size-tree)
+
+-- ---- which ways out there are
+
+abbrev pub IsSeen : {A : Type 0} → ℕ → Bool → Slot A → Type 0
+IsSeen m c (Out (Some z) k) = k < m
+IsSeen m c (Out None zero) = IsTrue c
+IsSeen m c (Out None (suc k)) = ⊥
+IsSeen m c _ = Unit {0}
+
+pub seen-close : {A : Type 0} → (m t : ℕ) (c : Bool) (x : Slot A) → IsSeen (suc m) false x → IsSeen m c (close t x)
+seen-close m t c x h = grind (arith)
+
+pub seen-arms : {A : Type 0} → (m t : ℕ) (c : Bool) (x : Slot A) → IsSeen 0 true x → IsSeen m c (close t x)
+seen-arms m t c x h = grind (arith)
+
+pub seen-shut : {A : Type 0} → (m : ℕ) (c : Bool) (x : Slot A) → IsSeen 0 false x → IsSeen m c x
+seen-shut m c x h = grind (arith)
+
+seen_part :
+    {A : Type 0} → (m : ℕ) (c : Bool) (P : Slot A → Type 0) (f : Slot A → Slot A) (xs ys zs : List (Slot A)) →
+    ((x : Slot A) → P x → IsSeen m c (f x)) → Each P xs → Each (IsSeen m c) ys → Each (IsSeen m c) zs →
+    Each (IsSeen m c) ((map f xs ++ ys) ++ zs)
+seen_part m c P f xs ys zs g h k l =
+    each-append (IsSeen m c) _ zs (each-append (IsSeen m c) (map f xs) ys (each-map P (IsSeen m c) f xs g h) k) l
+
+pub seen :
+    {A : Type 0} → (m : ℕ) (d c : Bool) (b : Body A) (n : ℕ) → IsTight m d c b → Each (IsSeen m c) (slots (tree b) n)
+seen m d c End n w = tt
+seen m d c (Operation a r) n w = (tt, seen m d c r (n + 1) w)
+seen m d c (LeaveLoop r) n w = (tt, seen m d c r (n + 1) w.1)
+seen m d c (Jump z k r) n w = (w.0, seen m d c r (n + 1) w.1)
+seen m d c (Block b r) n w =
+    seen_part m c (IsSeen (suc m) false) (close _) _ [] _ (seen-close m (n + size (tree b)) c)
+    (seen (suc m) d false b n w.1) tt (seen m d c r _ w.2)
+seen m d c (Cycle b r) n w =
+    seen_part m c (IsSeen (suc m) false) (close _) _ [] _ (seen-close m n c) (seen (suc m) d false b n w.1) tt
+    (seen m d c r _ w.2)
+seen m d c (Counted q b l r) n w = (
+  tt,
+  seen_part m c (IsSeen 0 false) (λ x. x) _ (Again l ∷ []) _ (seen-shut m c) (seen 0 true false b (suc n) w.0)
+      (tt, tt) (seen m d c r _ w.1),
+)
+seen m d c (Choice b r) n w =
+    seen_part m c (IsSeen 0 true) (close _) _ (Drops ∷ []) _ (seen-arms m (n + suc (size (tree b))) c)
+    (seen 0 d true b n w.1) (tt, tt) (seen m d c r _ w.2)
+seen m d c (Arm b r) n w = (
+  tt,
+  seen_part m c (IsSeen 0 false) (λ x. x) _ (Out None 0 ∷ []) _ (seen-shut m c) (seen 0 d false b (suc n) w.1)
+      (w.0, tt) (seen m d c r _ w.2),
+)
+
+-- ---- tight bodies are tight trees, so tight bodies with equal items are equal
 
 -- ---- the ways of the items
 
@@ -65,20 +164,14 @@ each-unmap :
 each-unmap P f [] h = tt
 each-unmap P f (x ∷ xs) h = (h.0, each-unmap P f xs h.1)
 
-if_beyond : (b : Bool) → (if b then AtEnd else Inside) ≡ Beyond 0 → ⊥
-if_beyond b e = grind (arith)
-
 out_is : {A : Type 0} → (e : ℕ) (x : Slot A) → way_of e x ≡ Beyond 0 → (z : Bool) × (x ≡ Out (Some z) 0)
-out_is e x h = grind (arith, if_beyond)
+out_is e x h = grind arith
 
 inner_is : {A : Type 0} → (m e : ℕ) (x : Slot A) → IsSeen m false x → IsOther (way_of e x) → IsInner x
 inner_is m e x s h = grind (arith)
 
-not_end : (b : Bool) → IsShorter (if b then AtEnd else Inside) → b ≡ false
-not_end b h = grind (arith)
-
 hits_not : {A : Type 0} → (e : ℕ) (x : Slot A) → IsShorter (way_of e x) → hits e x ≡ false
-hits_not e x h = grind (arith, not_end)
+hits_not e x h = grind arith
 
 shorter_other : (w : Way) → IsShorter w → IsOther w
 shorter_other w h = grind (arith)
@@ -167,15 +260,10 @@ map_twice :
 map_twice f g h k [] e = refl
 map_twice f g h k (x ∷ xs) e = ap (λ y. y ∷ map f (map g xs)) e.0 ∙ ap (λ l. h (k x) ∷ l) (map_twice f g h k xs e.1)
 
--- a jump to u, seen from the Block that ends at s, and from the body round it that ends at e
-seen_out :
-    (u s e : ℕ) → u ≤ s → s ≤ e → outward (s == e) (if u == s then AtEnd else Inside) ≡ if u == e then AtEnd else Inside
-seen_out u s e a b = grind (arith, eq-eqb, ne_eqb, cases_eq)
-
 block_way :
     {A : Type 0} → (m s e : ℕ) → s ≤ e → (x : Slot A) → IsSeen m false x × Aims (λ u. u ≤ s) x →
     outward (s == e) (way_of s x) ≡ way_of e (close s x)
-block_way m s e l h4 h = grind (arith, seen_out)
+block_way m s e l h4 h = grind (arith, eq-eqb, ne_eqb, cases_eq)
 
 if_false : (b : Bool) → b ≡ false → Inside ≡ if b then AtEnd else Inside
 if_false b e = sym (ap (λ c. if c then AtEnd else Inside) e)
@@ -269,10 +357,9 @@ ways_are m d c (Counted q b l r) n e w h =
     let inner = ways_are 0 true false b (suc n) s w.0 (omega (arith, st)) in
     let rest = ways_are m d c r t e w.1 (omega (arith, st, h)) in
     let ends = inner_ends 0 false (tree b) (suc n) (seen 0 true false b (suc n) w.0) in
-    let each = each-more (λ x. IsSeen 0 false x × Aims (λ u. u ≤ s) x) (λ x. Inside ≡ way_of e x) xs
-    (shut_way s e (omega (arith, st, h))) ends in
-    ap (λ k. Inside ∷ k) (shut_ways e (ways b) xs (λ x. x) (Again l) (slots (tree r) t) (ways r)
-    (way_of s) inner each refl rest)
+    let each = each-more (λ x. IsSeen 0 false x × Aims (λ u. u ≤ s) x) (λ x. Inside ≡ way_of e x) xs (shut_way s e
+    (omega (arith, st, h))) ends in
+    ap (λ k. Inside ∷ k) (shut_ways e (ways b) xs (λ x. x) (Again l) _ (ways r) (way_of s) inner each refl rest)
 ways_are m d c (Choice b r) n e w h =
     let s = n + size (tree b) in
     let t = n + suc (size (tree b)) in
@@ -292,15 +379,11 @@ ways_are m d c (Arm b r) n e w h =
     let inner = ways_are 0 d false b (suc n) s w.1 (omega (arith, st)) in
     let rest = ways_are m d c r t e w.2 (omega (arith, st, h)) in
     let ends = inner_ends 0 false (tree b) (suc n) (seen 0 d false b (suc n) w.1) in
-    let each = each-more (λ x. IsSeen 0 false x × Aims (λ u. u ≤ s) x) (λ x. Inside ≡ way_of e x) xs
-    (shut_way s e (omega (arith, st, h))) ends in
-    ap (λ k. Inside ∷ k) (shut_ways e (ways b) xs (λ x. x) (Out None 0) (slots (tree r) t) (ways r)
-    (way_of s) inner each refl rest)
+    let each = each-more (λ x. IsSeen 0 false x × Aims (λ u. u ≤ s) x) (λ x. Inside ≡ way_of e x) xs (shut_way s e
+    (omega (arith, st, h))) ends in
+    ap (λ k. Inside ∷ k) (shut_ways e (ways b) xs (λ x. x) (Out None 0) _ (ways r) (way_of s) inner each refl rest)
 
 -- ---- tight
-
-seen_is_shut : {A : Type 0} → (x : Slot A) → IsSeen 0 true x → IsShut x
-seen_is_shut x h = grind (arith)
 
 begins : {A : Type 0} → (b : Body A) → BeginsWithArm b → Unique.BeginsWithArm (tree b)
 begins b h = grind (arith)
@@ -329,11 +412,8 @@ tight m d c (Cycle b r) n w =
     )
 tight m d c (Counted q b l r) n w =
     (tt, tight 0 true false b (suc n) w.0, tight m d c r (n + suc (suc (size (tree b)))) w.1)
-tight m d c (Choice b r) n w = (
-  (each-more (IsSeen 0 true) IsShut (slots (tree b) n) seen_is_shut (seen 0 d true b n w.1), begins b w.0),
-  tight 0 d true b n w.1,
-  tight m d c r (n + suc (size (tree b))) w.2,
-)
+tight m d c (Choice b r) n w =
+    grind (arith, tight 0 d true b n w.1, tight m d c r (n + suc (size (tree b))) w.2, each-more, seen, begins)
 tight m d c (Arm b r) n w = (tt, tight 0 d false b (suc n) w.1, tight m d c r (n + suc (suc (size (tree b)))) w.2)
 
 -- ---- the items of a body are those of its tree
@@ -359,11 +439,6 @@ placed ls ps (Enters q u) = Enters q u
 placed ls ps (Again l) = Again l
 placed ls ps (Tests u) = Tests u
 placed ls ps Drops = Drops
-
-placed-close :
-    {A : Type 0} → (m : ℕ) (ls : List ℕ) (ps t s : ℕ) → t ≡ s → (x : Slot A) → IsSeen m false x →
-    placed (t ∷ ls) ps x ≡ placed ls ps (close s x)
-placed-close m ls ps t s e h6 h = grind (arith)
 
 placed-arms :
     {A : Type 0} → (ls : List ℕ) (ps t s : ℕ) → t ≡ s → (x : Slot A) → IsSeen 0 true x →
@@ -393,33 +468,29 @@ items_are m d c (Operation a r) n ls lv ps w = grind (arith, items_are m d c r (
 items_are m d c (LeaveLoop r) n ls lv ps w = grind (arith, items_are m d c r (suc n) ls lv ps w.1, slots, tree)
 items_are m d c (Jump z k r) n ls lv ps w = grind (arith, items_are m d c r (suc n) ls lv ps w.1, slots, tree)
 items_are m d c (Block b r) n ls lv ps w =
-    let t = n + body_size b in
-    let s = n + size (tree b) in
-    let st = size-tree b in
-    let eq : t ≡ s = omega (arith, st) in
-    let xs = slots (tree b) n in
-    let each = each-more (IsSeen (suc m) false) (λ x. placed (t ∷ ls) ps x ≡ placed ls ps (close s x)) xs
-    (placed-close (suc m) ls ps t s eq) (seen (suc m) d false b n w.1) in
-    let inner = items_are (suc m) d false b n (t ∷ ls) lv ps w.1
-    ∙ map_once (placed (t ∷ ls) ps) (placed ls ps) (close s) xs each
-    ∙ sym (ap (map (placed ls ps)) (append-nil (map (close s) xs))) in
-    let rest = items_are m d c r t ls lv ps w.2 ∙ ap (λ k. map (placed ls ps) (slots (tree r) k)) eq in
-    joined_items (placed ls ps) (items_at b n (t ∷ ls) lv ps) (items_at r t ls lv ps) (map (close s) xs ++ [])
-    (slots (tree r) s) inner rest
+    grind (
+      arith,
+      items_are (suc m) d false b n ((n + body_size b) ∷ ls) lv ps w.1,
+      items_are m d c r (n + body_size b) ls lv ps w.2,
+      size-tree,
+      each-more,
+      seen,
+      map_once,
+      append-nil,
+      joined_items,
+    )
 items_are m d c (Cycle b r) n ls lv ps w =
-    let t = n + body_size b in
-    let s = n + size (tree b) in
-    let st = size-tree b in
-    let eq : t ≡ s = omega (arith, st) in
-    let xs = slots (tree b) n in
-    let each = each-more (IsSeen (suc m) false) (λ x. placed (n ∷ ls) ps x ≡ placed ls ps (close n x)) xs
-    (placed-close (suc m) ls ps n n refl) (seen (suc m) d false b n w.1) in
-    let inner = items_are (suc m) d false b n (n ∷ ls) lv ps w.1
-    ∙ map_once (placed (n ∷ ls) ps) (placed ls ps) (close n) xs each
-    ∙ sym (ap (map (placed ls ps)) (append-nil (map (close n) xs))) in
-    let rest = items_are m d c r t ls lv ps w.2 ∙ ap (λ k. map (placed ls ps) (slots (tree r) k)) eq in
-    joined_items (placed ls ps) (items_at b n (n ∷ ls) lv ps) (items_at r t ls lv ps) (map (close n) xs ++ [])
-    (slots (tree r) s) inner rest
+    grind (
+      arith,
+      items_are (suc m) d false b n (n ∷ ls) lv ps w.1,
+      items_are m d c r (n + body_size b) ls lv ps w.2,
+      size-tree,
+      each-more,
+      seen,
+      map_once,
+      append-nil,
+      joined_items,
+    )
 items_are m d c (Counted q b l r) n ls lv ps w =
     let t = suc (suc n + body_size b) in
     let s = n + suc (suc (size (tree b))) in
@@ -467,15 +538,12 @@ items_are m d c (Arm b r) n ls lv ps w =
     ∙ ap (λ k. Tests s ∷ k) (all ∙ sym (ap (map f)
     (append_assoc (map (λ x. x) xs) (Out None 0 ∷ []) (slots (tree r) s))))
 
-placed-none : {A : Type 0} → (x : Slot A) → IsSeen 0 false x → placed [] 0 x ≡ x
-placed-none x h = grind (arith)
-
 all_same : {A : Type 0} → (f : Slot A → Slot A) (xs : List (Slot A)) → Each (λ x. f x ≡ x) xs → map f xs ≡ xs
 all_same f [] h = refl
 all_same f (x ∷ xs) h = ap (λ y. y ∷ map f xs) h.0 ∙ ap (λ l. x ∷ l) (all_same f xs h.1)
 
 whole : {A : Type 0} → (b : Body A) → IsTight 0 false false b → map slot_of (items_of b) ≡ slots (tree b) 0
-whole b w = grind (arith, items_are, all_same, slots, tree, each-more, placed-none, seen)
+whole b w = grind (arith, items_are, all_same, slots, tree, each-more, seen)
 
 -- tight bodies with the same items are the same
 pub one_body :

@@ -1,16 +1,242 @@
--- Tight trees with equal slots are equal.
-use Rattle.std.proofs.Common.{◌≡◌, ℕ, zero, suc, ◌+◌, ◌<◌, ◌≤◌, Bool, true, false, List, [], ◌∷◌, ◌++◌, length, Some}
-use Rattle.std.proofs.Common.{None, refl, sym, ap, ◌∙◌, subst, arith, ⊎_elim, ◌||◌}
-use Rattle.std.specs.Prelude.{◌==◌, if◌then◌else◌, map}
-use Rattle.std.proofs.lemmas.Bool.{ne_eqb, eq-eqb, cases_lt}
-use Rattle.std.proofs.lemmas.List.{append-nil, append_cancel_left, append_cancel_right, map-append, map-id}
-use Rattle.std.proofs.lemmas.List.{length-append, length-map}
-use Rattle.of_control.proofs.Slots.{Slot, Does, Leaves, Out, To, Enters, Again, Tests, Drops, Head, AnOperation, ALeave}
-use Rattle.of_control.proofs.Slots.{AJump, ABlock, ACycle, ACounted, AChoice, AnArm, Tree, Leaf, Node, starts, width}
-use Rattle.of_control.proofs.Slots.{size, before, behind, close, bound, part, slots, length-slots, length-part, Aims}
-use Rattle.of_control.proofs.Slots.{each-append, each-map, each-more, each-both, aims-more, Within, within-part, within}
-use Rattle.of_control.proofs.Slots.{Keeps, CutIn, cut-left, cut-right, cut-join, cut-low, cut-high, cut-unclose}
+-- Tight trees of parts with equal slots are equal.
+use Rattle.std.proofs.Common.{◌≡◌, ℕ, zero, suc, ◌+◌, ◌<◌, ◌≤◌, Bool, List, [], ◌∷◌, ◌++◌, length, Option, Some, None}
+use Rattle.std.proofs.Common.{refl, subst, arith, true, false, sym, ap, ◌∙◌, ⊎_elim, ◌||◌}
+use Rattle.std.specs.Prelude.{map, ◌==◌, if◌then◌else◌}
+use Rattle.std.proofs.lemmas.List.{length-append, length-map, append-nil, append_cancel_left, append_cancel_right}
+use Rattle.std.proofs.lemmas.List.{map-append, map-id}
 use Rattle.of_control.specs.Tight.{Each}
+use Rattle.std.proofs.lemmas.Bool.{ne_eqb, eq-eqb, cases_lt}
+
+-- an item as it is seen from inside its body: a jump to the k-th part round the body is a way out; None is an `endof`
+pub data Slot (A : Type 0) : Type 0 where
+  Does : A → Slot A
+  Leaves : Slot A
+  Out : Option Bool → ℕ → Slot A
+  To : Option Bool → ℕ → Slot A
+  Enters : Bool → ℕ → Slot A
+  Again : Bool → Slot A
+  Tests : ℕ → Slot A
+  Drops : Slot A
+
+-- what a part is, but for its inside
+pub data Head (A : Type 0) : Type 0 where
+  AnOperation : A → Head A
+  ALeave : Head A
+  AJump : Bool → ℕ → Head A
+  ABlock : Head A
+  ACycle : Head A
+  ACounted : Bool → Bool → Head A
+  AChoice : Head A
+  AnArm : Head A
+
+-- a body, each part with its inside and what follows
+pub data Tree (A : Type 0) : Type 0 where
+  Leaf : Tree A
+  Node : Head A → Tree A → Tree A → Tree A
+
+-- how many items stand before the inside of a part
+abbrev pub opens : {A : Type 0} → Head A → ℕ
+opens ABlock = 0
+opens ACycle = 0
+opens AChoice = 0
+opens _ = 1
+
+-- and how many after it
+abbrev pub closes : {A : Type 0} → Head A → ℕ
+closes (ACounted q l) = 1
+closes AChoice = 1
+closes AnArm = 1
+closes _ = 0
+
+-- where the inside of a part begins
+abbrev pub starts : {A : Type 0} → Head A → ℕ → ℕ
+starts ABlock n = n
+starts ACycle n = n
+starts AChoice n = n
+starts _ n = suc n
+
+abbrev pub width : {A : Type 0} → Head A → ℕ → ℕ
+width ABlock m = m
+width ACycle m = m
+width (ACounted q l) m = suc (suc m)
+width AnArm m = suc (suc m)
+width _ m = suc m
+
+abbrev pub size : {A : Type 0} → Tree A → ℕ
+size Leaf = 0
+size (Node h i r) = width h (size i) + size r
+
+-- the items before the inside of a part that ends at e
+abbrev pub before : {A : Type 0} → Head A → ℕ → List (Slot A)
+before (AnOperation a) e = Does a ∷ []
+before ALeave e = Leaves ∷ []
+before (AJump z k) e = Out (Some z) k ∷ []
+before (ACounted q l) e = Enters q e ∷ []
+before AnArm e = Tests e ∷ []
+before _ e = []
+
+abbrev pub behind : {A : Type 0} → Head A → List (Slot A)
+behind (ACounted q l) = Again l ∷ []
+behind AChoice = Drops ∷ []
+behind AnArm = Out None 0 ∷ []
+behind _ = []
+
+-- the way out of the innermost part goes to t
+abbrev pub close : {A : Type 0} → ℕ → Slot A → Slot A
+close t (Does a) = Does a
+close t Leaves = Leaves
+close t (Out j zero) = To j t
+close t (Out j (suc k)) = Out j k
+close t (To j u) = To j u
+close t (Enters q u) = Enters q u
+close t (Again l) = Again l
+close t (Tests u) = Tests u
+close t Drops = Drops
+
+abbrev pub bound : {A : Type 0} → Head A → ℕ → ℕ → Slot A → Slot A
+bound ABlock n e x = close e x
+bound ACycle n e x = close n x
+bound AChoice n e x = close e x
+bound _ n e x = x
+
+abbrev pub part : {A : Type 0} → Head A → ℕ → ℕ → List (Slot A) → List (Slot A)
+part h n m xs = before h (n + width h m) ++ (map (bound h n (n + width h m)) xs ++ behind h)
+
+-- the items of a tree from number n on
+abbrev pub slots : {A : Type 0} → Tree A → ℕ → List (Slot A)
+slots Leaf n = []
+slots (Node h i r) n = part h n (size i) (slots i (starts h n)) ++ slots r (n + width h (size i))
+
+-- ---- lengths
+
+pub starts-is : {A : Type 0} → (h : Head A) (n : ℕ) → starts h n ≡ n + opens h
+starts-is h n = grind (arith)
+
+pub width-is : {A : Type 0} → (h : Head A) (m : ℕ) → width h m ≡ opens h + (m + closes h)
+width-is h m = grind (arith)
+
+pub length-part :
+    {A : Type 0} → (h : Head A) (n m : ℕ) (xs : List (Slot A)) → length (part h n m xs) ≡ width h (length xs)
+length-part h n m xs = grind (arith, length-append, length-map, width-is)
+
+pub length-slots : {A : Type 0} → (t : Tree A) (n : ℕ) → length (slots t n) ≡ size t
+length-slots Leaf n = refl
+length-slots (Node h i r) n =
+    grind (arith, length-slots i (starts h n), length-slots r (n + width h (size i)), length-append, length-part)
+
+-- ---- all targets
+
+-- where an item may go, but for `leave` and loops' ends, is in P
+abbrev pub Aims : {A : Type 0} → (ℕ → Type 0) → Slot A → Type 0
+Aims P (To j u) = P u
+Aims P (Enters q u) = P u
+Aims P (Tests u) = P u
+Aims P _ = Unit {0}
+
+pub each-append :
+    {A : Type 0} → (P : Slot A → Type 0) (xs ys : List (Slot A)) → Each P xs → Each P ys → Each P (xs ++ ys)
+each-append P [] ys h k = k
+each-append P (x ∷ xs) ys h k = (h.0, each-append P xs ys h.1 k)
+
+pub each-map :
+    {A : Type 0} → (P Q : Slot A → Type 0) (f : Slot A → Slot A) (xs : List (Slot A)) → ((x : Slot A) → P x → Q (f x)) →
+    Each P xs → Each Q (map f xs)
+each-map P Q f [] g h = tt
+each-map P Q f (x ∷ xs) g h = (g x h.0, each-map P Q f xs g h.1)
+
+pub each-more :
+    {A : Type 0} → (P Q : Slot A → Type 0) (xs : List (Slot A)) → ((x : Slot A) → P x → Q x) → Each P xs → Each Q xs
+each-more P Q [] g h = tt
+each-more P Q (x ∷ xs) g h = (g x h.0, each-more P Q xs g h.1)
+
+pub each-both :
+    {A : Type 0} → (P Q : Slot A → Type 0) (xs : List (Slot A)) → Each P xs → Each Q xs → Each (λ x. P x × Q x) xs
+each-both P Q [] g h = tt
+each-both P Q (x ∷ xs) g h = ((g.0, h.0), each-both P Q xs g.1 h.1)
+
+pub aims-more : {A : Type 0} → (P Q : ℕ → Type 0) → ((u : ℕ) → P u → Q u) → (x : Slot A) → Aims P x → Aims Q x
+aims-more P Q g h3 h = grind (arith)
+
+aims-bound :
+    {A : Type 0} → (P : ℕ → Type 0) (h : Head A) (n e : ℕ) → P n → P e → (x : Slot A) → Aims P x →
+    Aims P (bound h n e x)
+aims-bound P h n e p q x g = grind arith
+
+aims-before : {A : Type 0} → (P : ℕ → Type 0) (h : Head A) (e : ℕ) → P e → Each (Aims P) (before h e)
+aims-before P h e p = grind (arith)
+
+aims-behind : {A : Type 0} → (P : ℕ → Type 0) (h : Head A) → Each (Aims P) (behind h)
+aims-behind P h = grind (arith)
+
+abbrev pub Within : ℕ → ℕ → ℕ → Type 0
+Within a b u = (a ≤ u) × (u ≤ b)
+
+pub within-more :
+    {A : Type 0} → (a b c d : ℕ) → c ≤ a → b ≤ d → (xs : List (Slot A)) → Each (Aims (Within a b)) xs →
+    Each (Aims (Within c d)) xs
+within-more a b c d p q xs h = grind (arith, each-more, aims-more)
+
+pub within-part :
+    {A : Type 0} → (h : Head A) (n m : ℕ) (xs : List (Slot A)) → Each (Aims (Within (starts h n) (starts h n + m))) xs →
+    Each (Aims (Within n (n + width h m))) (part h n m xs)
+within-part h n m xs w =
+    let e = n + width h m in
+    let P = Within n e in
+    let wi = width-is h m in
+    let pn : P n = (omega arith, omega arith) in
+    let pe : P e = (omega arith, omega arith) in
+    let st = starts-is h n in
+    let inner = within-more (starts h n) (starts h n + m) n e (omega (arith, st)) (omega (arith, st, wi)) xs w in
+    each-append (Aims P) (before h e) _ (aims-before P h e pe) (each-append (Aims P) (map (bound h n e) xs) (behind h)
+    (each-map (Aims P) (Aims P) (bound h n e) xs (aims-bound P h n e pn pe) inner) (aims-behind P h))
+
+pub within : {A : Type 0} → (t : Tree A) (n : ℕ) → Each (Aims (Within n (n + size t))) (slots t n)
+within Leaf n = tt
+within (Node h i r) n =
+    let e = n + width h (size i) in
+    let xs = part h n (size i) (slots i (starts h n)) in
+    each-append _ xs (slots r e) (within-more n e n (n + size (Node h i r)) (omega arith) (omega arith) xs (within-part
+    h n (size i) (slots i (starts h n)) (within i (starts h n)))) (within-more e (e + size r) n (n + size (Node h i r))
+    (omega arith) (omega arith) (slots r e) (within r e))
+
+-- ---- cuts: item c is a cut of these items, from number p on, where none goes across it
+
+abbrev pub Keeps : ℕ → ℕ → ℕ → Type 0
+Keeps p c u = (p < c → u ≤ c) × (c ≤ p → c ≤ u)
+
+abbrev pub CutIn : {A : Type 0} → ℕ → ℕ → List (Slot A) → Type 0
+CutIn p c [] = Unit {0}
+CutIn p c (x ∷ xs) = Aims (Keeps p c) x × CutIn (suc p) c xs
+
+pub cut-left : {A : Type 0} → (p c : ℕ) (xs ys : List (Slot A)) → CutIn p c (xs ++ ys) → CutIn p c xs
+cut-left p c [] ys h = tt
+cut-left p c (x ∷ xs) ys h = (h.0, cut-left (suc p) c xs ys h.1)
+
+pub cut-right :
+    {A : Type 0} → (p c q : ℕ) (xs ys : List (Slot A)) → p + length xs ≡ q → CutIn p c (xs ++ ys) → CutIn q c ys
+cut-right p c q [] ys e h = subst (λ k. CutIn k c ys) (omega (arith, e)) h
+cut-right p c q (x ∷ xs) ys e h = cut-right (suc p) c q xs ys (omega (arith, e)) h.1
+
+pub cut-join :
+    {A : Type 0} → (p c q : ℕ) (xs ys : List (Slot A)) → p + length xs ≡ q → CutIn p c xs → CutIn q c ys →
+    CutIn p c (xs ++ ys)
+cut-join p c q [] ys e h k = subst (λ n. CutIn n c ys) (omega (arith, e)) k
+cut-join p c q (x ∷ xs) ys e h k = (h.0, cut-join (suc p) c q xs ys (omega (arith, e)) h.1 k)
+
+pub cut-low :
+    {A : Type 0} → (p c : ℕ) (xs : List (Slot A)) → p + length xs ≤ c → Each (Aims (λ u. u ≤ c)) xs → CutIn p c xs
+cut-low p c [] l h = tt
+cut-low p c (x ∷ xs) l h = grind (arith, cut-low (suc p) c xs (omega (arith, l)) h.1, aims-more)
+
+pub cut-high : {A : Type 0} → (p c : ℕ) (xs : List (Slot A)) → c ≤ p → Each (Aims (λ u. c ≤ u)) xs → CutIn p c xs
+cut-high p c [] l h = tt
+cut-high p c (x ∷ xs) l h = grind (arith, cut-high (suc p) c xs (omega (arith, l)) h.1, aims-more)
+
+pub cut-unclose : {A : Type 0} → (p c t : ℕ) (xs : List (Slot A)) → CutIn p c (map (close t) xs) → CutIn p c xs
+cut-unclose p c t [] h = tt
+cut-unclose p c t (x ∷ xs) h = grind (arith, cut-unclose (suc p) c t xs h.1)
+
+-- ---- tight trees with equal slots are equal
 
 -- no way out of the part
 abbrev pub IsInner : {A : Type 0} → Slot A → Type 0
@@ -82,9 +308,6 @@ cut_at :
     Aims (Keeps (p + length xs) c) x
 cut_at p c xs ys x h = (cut-right p c (p + length xs) xs (x ∷ ys) refl h).0
 
-pub leaf_size : {A : Type 0} → (i : Tree A) → IsLeaf i → size i ≡ 0
-leaf_size i h = grind (arith)
-
 left_covers :
     {A : Type 0} → (n c : ℕ) (i : Tree A) → IsLeft n i → n + first i ≤ c →
     CutIn n c (map (close (n + size i)) (slots i n)) → n + size i ≤ c
@@ -103,17 +326,11 @@ repeated_covers n c i f l h =
     let below : (c ≤ n + length xs) → ⊥ = λ g. let m = w.1 g in omega (arith, m, l) in
     ⊎_elim (λ g. omega (arith, g, lx, total)) (λ g. absurd (below g)) (cases_lt (n + length xs) c)
 
-arm_covers :
-    {A : Type 0} → (n c : ℕ) (i : Tree A) → BeginsWithArm i → n < c → CutIn n c (part AChoice n (size i) (slots i n)) →
-    n + width {A = A} AChoice (size i) ≤ c
-arm_covers n c i b l h =
-    grind (arith, size, width, bound, slots, cut-left, close, map-append, cut_at, length-map, length-slots)
-
 pub covers : {A : Type 0} → (t : Tree A) (n c : ℕ) → Tight n t → n < c → CutIn n c (slots t n) → n + first t ≤ c
 covers Leaf n c w l h = omega (arith, l)
-covers (Node (AnOperation a) i r) n c w l h = omega (arith, leaf_size i w.0, l)
-covers (Node ALeave i r) n c w l h = omega (arith, leaf_size i w.0, l)
-covers (Node (AJump z k) i r) n c w l h = omega (arith, leaf_size i w.0, l)
+covers (Node (AnOperation a) i r) n c w l h = grind arith
+covers (Node ALeave i r) n c w l h = grind arith
+covers (Node (AJump z k) i r) n c w l h = grind arith
 covers {A = A} (Node ABlock i r) n c w l h =
     let e = n + width {A = A} ABlock (size i) in
     let xs = map (close e) (slots i n) in
@@ -121,9 +338,9 @@ covers {A = A} (Node ABlock i r) n c w l h =
     let two = cut-left n c xs [] one in
     left_covers n c i w.0 (covers i n c w.1 l (cut-unclose n c e (slots i n) two)) two
 covers {A = A} (Node ACycle i r) n c w l h = grind (arith, width, size, cut-left, part, slots, repeated_covers, close)
-covers (Node (ACounted q m) i r) n c w l h = h.0.0 l
-covers {A = A} (Node AChoice i r) n c w l h = grind (arith, width, size, arm_covers, cut-left, part, slots)
-covers (Node AnArm i r) n c w l h = h.0.0 l
+covers {A = A} (Node AChoice i r) n c w l h =
+    grind (arith, width, size, cut-left, part, slots, bound, close, map-append, cut_at, length-map, length-slots)
+covers _ n c w l h = h.0.0 l
 
 cut_first : {A : Type 0} → (h : Head A) (i r : Tree A) (n : ℕ) → CutIn n (n + width h (size i)) (slots (Node h i r) n)
 cut_first h i r n =
@@ -168,13 +385,10 @@ last_is : {A : Type 0} → (d x : Slot A) (xs : List (Slot A)) → last_of d (xs
 last_is d x [] = refl
 last_is d x (y ∷ xs) = last_is y x xs
 
-or_true : (b : Bool) → (b || true) ≡ true
-or_true b = grind (arith)
-
 hit_there :
     {A : Type 0} → (e : ℕ) (xs ys : List (Slot A)) (x : Slot A) → hits e x ≡ true → has_hit e (xs ++ (x ∷ ys)) ≡ true
 hit_there e [] ys x h = ap (λ b. b || has_hit e ys) h
-hit_there e (y ∷ xs) ys x h = ap (λ b. hits e y || b) (hit_there e xs ys x h) ∙ or_true (hits e y)
+hit_there e (y ∷ xs) ys x h = grind (arith, hit_there e xs ys x h)
 
 no_hit : {A : Type 0} → (e : ℕ) (xs : List (Slot A)) → Each (λ x. hits e x ≡ false) xs → has_hit e xs ≡ false
 no_hit e [] h = refl
@@ -200,16 +414,6 @@ by_head :
     {A : Type 0} → (e : ℕ) (xs : List (Slot A)) (x : Slot A) (h : Head A) → has_hit e xs ≡ false →
     last_of Leaves xs ≡ x → by_last (entered xs) x ≡ h → head_of e xs ≡ h
 by_head e xs x h p q r = grind (arith)
-
-leaf_head :
-    {A : Type 0} → (n : ℕ) (i : Tree A) (h : Head A) → IsLeaf i → head_of (n + width h 0) (part h n 0 []) ≡ h →
-    head_of (n + width h (size i)) (part h n (size i) (slots i (starts h n))) ≡ h
-leaf_head n i h f e = grind (arith)
-
-block_head :
-    {A : Type 0} → (n : ℕ) (i : Tree A) → IsLeft n i →
-    head_of (n + size i) (part ABlock n (size i) (slots i n)) ≡ ABlock
-block_head n i f = grind (arith, size, close, append-nil, slots, map-append, hit_there, eq-eqb, part)
 
 cycle_parts :
     {A : Type 0} → (n : ℕ) (i : Tree A) → (f : IsRepeated n i) →
@@ -246,8 +450,7 @@ counted_head n i q l =
     (strict (suc n) (suc n + size i) e (omega arith) (slots i (suc n)) (within i (suc n))) in
     let all = each-append (Aims (λ u. u < e)) xs (Again l ∷ []) inner (tt, tt) in
     let none = no_hit e (xs ++ (Again l ∷ [])) (missing e (xs ++ (Again l ∷ [])) all) in
-    by_head e (Enters q e ∷ (xs ++ (Again l ∷ []))) (Again l) (ACounted q l) none
-    (last_is (Enters q e) (Again l) xs) refl
+    by_head e (Enters q e ∷ (xs ++ (Again l ∷ []))) (Again l) _ none (last_is (Enters q e) (Again l) xs) refl
 
 arm_head :
     {A : Type 0} → (n : ℕ) (i : Tree A) →
@@ -276,14 +479,12 @@ choice_head n i s =
 head_is :
     {A : Type 0} → (h : Head A) (n : ℕ) (i : Tree A) → Fits h n i →
     head_of (n + width h (size i)) (part h n (size i) (slots i (starts h n))) ≡ h
-head_is (AnOperation a) n i f = leaf_head n i (AnOperation a) f refl
-head_is ALeave n i f = leaf_head n i ALeave f refl
-head_is (AJump z k) n i f = leaf_head n i (AJump z k) f refl
-head_is ABlock n i f = block_head n i f
+head_is ABlock n i f = grind (arith, size, close, append-nil, slots, map-append, hit_there, eq-eqb, part)
 head_is ACycle n i f = cycle_head n i f
 head_is (ACounted q l) n i f = counted_head n i q l
 head_is AChoice n i f = choice_head n i f.0
 head_is AnArm n i f = arm_head n i
+head_is _ n i f = grind arith
 
 -- ---- what is inside the first part
 
@@ -329,31 +530,14 @@ undone :
 undone f g [] h = refl
 undone f g (x ∷ xs) h = ap (λ y. y ∷ map g (map f xs)) h.0 ∙ ap (λ ys. x ∷ ys) (undone f g xs h.1)
 
-unclosed-close : {A : Type 0} → (t : ℕ) (x : Slot A) → IsInner x → unclosed (close t x) ≡ x
-unclosed-close t x h = grind (arith)
-
-hits-close : {A : Type 0} → (e : ℕ) (x : Slot A) → IsInner x → hits e (close e x) ≡ hits e x
-hits-close e x h = grind (arith)
-
 choice-close : {A : Type 0} → (e : ℕ) (x : Slot A) → IsShut x × Aims (λ u. u < e) x → in_choice e (close e x) ≡ x
 choice-close e x h = grind (arith, eq-eqb, ne_eqb)
-
-unclosed_all : {A : Type 0} → (t : ℕ) (xs : List (Slot A)) → Each IsInner xs → map unclosed (map (close t) xs) ≡ xs
-unclosed_all t xs h = grind (arith, undone, close, each-more, unclosed-close)
-
-reopened_here :
-    {A : Type 0} → (e : ℕ) (z : Bool) (ys : List (Slot A)) → Each IsInner ys →
-    reopened e (To (Some z) e ∷ map (close e) ys) ≡ Out (Some z) 0 ∷ ys
-reopened_here e z ys h =
-    ap (λ b. if b then Out (Some z) 0 ∷ map unclosed (map (close e) ys) else To (Some z) e ∷ reopened e
-    (map (close e) ys)) (eq-eqb e e refl)
-    ∙ ap (λ l. Out (Some z) 0 ∷ l) (unclosed_all e ys h)
 
 reopened_is :
     {A : Type 0} → (e : ℕ) (z : Bool) (xs ys : List (Slot A)) → Each IsInner xs → Each (λ x. hits e x ≡ false) xs →
     Each IsInner ys → reopened e (map (close e) xs ++ (To (Some z) e ∷ map (close e) ys)) ≡ xs ++ (Out (Some z) 0 ∷ ys)
-reopened_is e z [] ys i m j = reopened_here e z ys j
-reopened_is e z (x ∷ xs) ys i m j = grind (arith, reopened_is e z xs ys i.1 m.1 j, close, hits-close, unclosed-close)
+reopened_is e z [] ys i m j = grind (arith, eq-eqb, undone, close, each-more)
+reopened_is e z (x ∷ xs) ys i m j = grind (arith, reopened_is e z xs ys i.1 m.1 j, close)
 
 left_inside :
     {A : Type 0} → (n : ℕ) (i : Tree A) → IsLeft n i →
@@ -373,8 +557,8 @@ last_out_is :
     {A : Type 0} → (n : ℕ) (z : Bool) (xs : List (Slot A)) → Each IsInner xs →
     last_out (map (close n) xs ++ (To (Some z) n ∷ [])) ≡ xs ++ (Out (Some z) 0 ∷ [])
 last_out_is n z [] h = refl
-last_out_is n z (x ∷ []) h = ap (λ y. y ∷ Out (Some z) 0 ∷ []) (unclosed-close n x h.0)
-last_out_is n z (x ∷ y ∷ xs) h = grind (arith, last_out_is n z (y ∷ xs) h.1, close, unclosed-close)
+last_out_is n z (x ∷ []) h = grind arith
+last_out_is n z (x ∷ y ∷ xs) h = grind (arith, last_out_is n z (y ∷ xs) h.1, close)
 
 repeated_inside :
     {A : Type 0} → (n : ℕ) (i : Tree A) → IsRepeated n i → last_out (map (close n) (slots i n)) ≡ slots i n
@@ -401,9 +585,6 @@ inside_of AChoice e xs = map (in_choice e) xs
 inside_of AnArm e xs = xs
 inside_of _ e xs = []
 
-leaf_inside : {A : Type 0} → (i : Tree A) (n : ℕ) → IsLeaf i → [] ≡ slots i n
-leaf_inside i n f = grind (arith)
-
 inside_is :
     {A : Type 0} → (h : Head A) (n : ℕ) (i : Tree A) → Fits h n i →
     inside_of h (n + width h (size i)) (map (bound h n (n + width h (size i))) (slots i (starts h n))) ≡ slots i
@@ -413,18 +594,14 @@ inside_is ACycle n i f = repeated_inside n i f
 inside_is (ACounted q l) n i f = map-id (slots i (suc n))
 inside_is AChoice n i f = choice_inside n i f.0
 inside_is AnArm n i f = map-id (slots i (suc n))
-inside_is _ n i f = leaf_inside i (suc n) f
+inside_is _ n i f = grind arith
 
 -- ---- trees with equal slots
 
 pub split_equal :
     {A : Type 0} → (xs ys us vs : List (Slot A)) → length xs ≡ length us → xs ++ ys ≡ us ++ vs → (xs ≡ us) × (ys ≡ vs)
 split_equal [] ys [] vs l e = (refl, e)
-split_equal (x ∷ xs) ys (u ∷ us) vs l e =
-    let tails : xs ++ ys ≡ us ++ vs = cc in
-    let heads : x ≡ u = cc in
-    let r = split_equal xs ys us vs (omega (arith, l)) tails in
-    (ap (λ w. w ∷ xs) heads ∙ ap (λ w. u ∷ w) r.0, r.1)
+split_equal (x ∷ xs) ys (u ∷ us) vs l e = grind (arith, split_equal xs ys us vs (omega (arith, l)) cc)
 split_equal _ ys _ vs l e = absurd (omega (arith, l))
 
 pub wide_left :
@@ -452,20 +629,7 @@ same_inside :
     {A : Type 0} → (h : Head A) (i j : Tree A) (n : ℕ) → Fits h n i → Fits h n j → width h (size i) ≡ width h (size j) →
     part h n (size i) (slots i (starts h n)) ≡ part h n (size j) (slots j (starts h n)) →
     slots i (starts h n) ≡ slots j (starts h n)
-same_inside h i j n f g w e =
-    let a = n + width h (size i) in
-    let b = n + width h (size j) in
-    let ab : b ≡ a = omega (arith, w) in
-    let xs = map (bound h n a) (slots i (starts h n)) in
-    let ys = map (bound h n a) (slots j (starts h n)) in
-    let moved : part h n (size j) (slots j (starts h n)) ≡ before h a ++ (ys ++ behind h) =
-    ap (λ q. before h q ++ (map (bound h n q) (slots j (starts h n)) ++ behind h)) ab in
-    let inner : xs ≡ ys = append_cancel_right xs ys (behind h)
-    (append_cancel_left (before h a) (xs ++ behind h) (ys ++ behind h) (e ∙ moved)) in
-    let there : inside_of h a ys ≡ slots j (starts h n) =
-    subst (λ q. inside_of h q (map (bound h n q) (slots j (starts h n))) ≡ slots j (starts h n)) ab
-    (inside_is h n j g) in
-    sym (inside_is h n i f) ∙ ap (inside_of h a) inner ∙ there
+same_inside h i j n f g w e = grind (arith, append_cancel_right, append_cancel_left, inside_is)
 
 record SameParts {A : Type 0} (h g : Head A) (i r j s : Tree A) (n : ℕ) : Type 0 where
   pub heads : h ≡ g
@@ -501,12 +665,4 @@ same (Node h i r) Leaf n w v e =
     let k = wide h n i w.0 in
     absurd (omega (arith, l, k))
 same (Node h i r) (Node g j s) n w v e =
-    let p = same_parts h g i r j s n w v e in
-    let f : Fits h n j = subst (λ k. Fits k n j) (sym p.heads) v.0 in
-    let t : Tight (starts h n) j = subst (λ k. Tight (starts k n) j) (sym p.heads) v.1 in
-    let eq : width h (size i) ≡ width h (size j) = p.wide ∙ ap (λ k. width k (size j)) (sym p.heads) in
-    let parts = p.parts ∙ ap (λ k. part k n (size j) (slots j (starts k n))) (sym p.heads) in
-    let inner = same i j (starts h n) w.1 t (same_inside h i j n w.0 f eq parts) in
-    let next : n + width g (size j) ≡ n + width h (size i) = ap (λ k. n + k) (sym p.wide) in
-    let rest = same r s (n + width h (size i)) w.2 (subst (λ k. Tight k s) next v.2) (p.rests ∙ ap (slots s) next) in
-    ap (λ k. Node k i r) p.heads ∙ ap (λ k. Node g k r) inner ∙ ap (λ k. Node g j k) rest
+    grind (arith, same i j (starts h n) w.1, same r s (n + width h (size i)) w.2, same_parts, same_inside)

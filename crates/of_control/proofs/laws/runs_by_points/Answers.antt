@@ -1,4 +1,4 @@
-use Rattle.of_control.proofs.PointLemmas.{runs_by_points}
+use Rattle.of_control.proofs.RunningLemmas.{runs_by_points}
 use Rattle.of_control.proofs.laws.runs_by_points.Goals as goal
 
 pub returns : goal.returns
