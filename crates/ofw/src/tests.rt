@@ -1,5 +1,5 @@
 use crate::arguments::{Request, parse};
-use crate::engine::{detok, run, tok};
+use crate::engine::{detok, image, keep, run, tok};
 use crate::fault::Fault;
 use crate::input::MOST_READS;
 use crate::laws::lines_ask;
@@ -184,6 +184,22 @@ fn binary_images(rt: HostRuntime) {
     let status = run(rt.alloc(), "five.rom", &mut file, 9, &mut out, &mut errors);
     assert_eq!(rt; status, Status::Done);
     assert_eq!(rt; out.text.as_slice(), b"5 ".as_slice());
+}
+
+#[test]
+fn an_image_is_kept(rt: HostRuntime) {
+    let mut file = Paper {
+        text: b"fcode-version2 fcode-end",
+        reads: 0,
+        fails_at: 99,
+    };
+    let mut out = blank_screen(rt.alloc(), 99);
+    let mut errors = blank_screen(rt.alloc(), 0);
+    let made = image(rt.alloc(), "a.fs", &mut file, &mut errors).unwrap_or(Vec::new(rt.alloc()));
+    let wanted = b"\xf1\x08\0\0\0\0\0\x09\0".as_slice();
+    assert_eq!(rt; made.as_slice(), wanted);
+    assert_eq!(rt; keep(&made, &mut out, &mut errors), Status::Done);
+    assert_eq!(rt; out.text.as_slice(), wanted);
 }
 
 /// A text is refused at its first byte, not at its end.
