@@ -1,14 +1,9 @@
 -- What a file that has no image, or whose image or source has a fault, is given up with.
-use Rattle.std.proofs.Common.{◌≡◌, ℕ, List, Option, Some, None, IfSome, Ok, Err, subst, inl, inr, refl, ◌∙◌}
+use Rattle.std.proofs.Common.{◌≡◌, ℕ, List, Option, Some, None, IfSome, Ok, Err, subst, inl, inr, ◌∙◌}
 use Rattle.std.specs.Io.KnownBytes.{Keeps}
-use Rattle.of_detok.specs.declared.fault.DetokFault.{DetokFault}
-use Rattle.of_detok.specs.Listing.{listed, IsRefused}
-use Rattle.of_machine.specs.declared.answers.Refusal.{Refusal}
-use Rattle.of_machine.specs.States.{image_refusal, Refuses}
 use Rattle.ofw.specs.declared.fault.Fault.{Fault}
-use Rattle.ofw.specs.declared.fault.Fault.TheVariants as fault
 use Rattle.ofw.specs.Files.{image_in, FaultsReading}
-use Rattle.ofw.specs.Runs.{FaultsSource, FaultsSourceFile, FaultsListing, FaultsRun, Tokenizes}
+use Rattle.ofw.specs.Runs.{FaultsSource, FaultsSourceFile, FaultsListing, FaultsRun, HasNoListing, IsRefusedFor, Tokenizes}
 
 -- a file that has no image has a fault of a run
 pub run_unread : (known : Option (List ℕ)) (f : Fault) → IfSome known (λ file. FaultsReading file f)
@@ -17,11 +12,10 @@ run_unread (Some file) f fault = inr (inl fault)
 run_unread None f fault = fault
 
 -- and so has one whose image the monitor refuses
-pub run_refused : (known : Option (List ℕ)) (image : List ℕ) (r : Refusal)
-    → IfSome known (λ file. image_in file ≡ Ok image) → Refuses (image_refusal image) r
-    → IfSome known (λ file. FaultsRun file (fault.Refused r))
-run_refused (Some file) image r has refused = inr (inr (image, has, (r, refl, refused)))
-run_refused None image r has refused = has
+pub run_refused : (known : Option (List ℕ)) (image : List ℕ) (f : Fault)
+    → IfSome known (λ file. image_in file ≡ Ok image) → IsRefusedFor image f → IfSome known (λ file. FaultsRun file f)
+run_refused (Some file) image f has refused = inr (inr (image, has, refused))
+run_refused None image f has refused = has
 
 -- the same of a listing
 pub listing_unread : (known : Option (List ℕ)) (f : Fault) → IfSome known (λ file. FaultsReading file f)
@@ -29,11 +23,11 @@ pub listing_unread : (known : Option (List ℕ)) (f : Fault) → IfSome known (�
 listing_unread (Some file) f fault = inr (inl fault)
 listing_unread None f fault = fault
 
-pub listing_refused : (known : Option (List ℕ)) (image : List ℕ) (d : DetokFault)
-    → IfSome known (λ file. image_in file ≡ Ok image) → IsRefused (listed image) d
-    → IfSome known (λ file. FaultsListing file (fault.Unlisted d))
-listing_refused (Some file) image d has refused = inr (inr (image, has, (d, refl, refused)))
-listing_refused None image d has refused = has
+pub listing_refused : (known : Option (List ℕ)) (image : List ℕ) (f : Fault)
+    → IfSome known (λ file. image_in file ≡ Ok image) → HasNoListing image f
+    → IfSome known (λ file. FaultsListing file f)
+listing_refused (Some file) image f has refused = inr (inr (image, has, refused))
+listing_refused None image f has refused = has
 
 -- a fault of the source that was read is one of the file
 of_source : (file text : List ℕ) (f : Fault) → text ≡ file → FaultsSource text f → FaultsSourceFile file f

@@ -124,13 +124,16 @@ abbrev pub IsUnwritten : Fault → Type 0
 IsUnwritten (fault.Unwritten code) = ⊤
 IsUnwritten _ = ⊥
 
+-- what the monitor refuses an image for
+abbrev pub IsRefusedFor : List ℕ → Fault → Type 0
+IsRefusedFor image f = (r : Refusal) × (f ≡ fault.Refused r) × Refuses (image_refusal image) r
+
 -- the faults of a run: of reading, of a write, or what the monitor refuses the image for
 abbrev pub FaultsRun : List ℕ → Fault → Type 0
 FaultsRun file f =
     IsUnwritten f
     ⊎ FaultsReading file f
-    ⊎ ((image : List ℕ) × (image_in file ≡ Ok image)
-    × ((r : Refusal) × (f ≡ fault.Refused r) × Refuses (image_refusal image) r))
+    ⊎ ((image : List ℕ) × (image_in file ≡ Ok image) × IsRefusedFor image f)
 
 -- what was printed of the run, or of a part of it beside a fault
 abbrev pub Prints : List ℕ → ℕ → Option (List ℕ) → Option (List ℕ) → Result End Fault → Type 0
@@ -153,13 +156,16 @@ EndsWith file limit old new s =
 abbrev pub ListsFile : List ℕ → List ℕ → Type 0
 ListsFile file lines = (image : List ℕ) × (image_in file ≡ Ok image) × (listed image ≡ Ok lines)
 
+-- why an image has no listing
+abbrev pub HasNoListing : List ℕ → Fault → Type 0
+HasNoListing image f = (d : DetokFault) × (f ≡ fault.Unlisted d) × IsRefused (listed image) d
+
 -- the faults of a listing: of reading, of a write, or why the image has none
 abbrev pub FaultsListing : List ℕ → Fault → Type 0
 FaultsListing file f =
     IsUnwritten f
     ⊎ FaultsReading file f
-    ⊎ ((image : List ℕ) × (image_in file ≡ Ok image)
-    × ((d : DetokFault) × (f ≡ fault.Unlisted d) × IsRefused (listed image) d))
+    ⊎ ((image : List ℕ) × (image_in file ≡ Ok image) × HasNoListing image f)
 
 -- nothing was printed, or the first bytes of the listing
 abbrev pub ListsPart : List ℕ → Option (List ℕ) → Option (List ℕ) → Type 0

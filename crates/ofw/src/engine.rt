@@ -1,7 +1,9 @@
-ghost use Rattle.std.specs.Prelude.{◌≡◌, IfOk, IfErr, IfSome};
+ghost use Rattle.std.specs.Prelude.{◌≡◌, [], Ok, IfOk, IfErr, IfSome};
 ghost use Rattle.ofw.specs.CommandLine.{asked};
 ghost use Rattle.ofw.specs.Runs.{RunsFile, FaultsRun, Prints, EndsWith, ListsFile, FaultsListing, Lists, ListsWith};
-ghost use Rattle.ofw.specs.Runs.{Answers};
+ghost use Rattle.ofw.specs.Runs.{Answers, HasNoListing, IsRefusedFor};
+ghost use Rattle.of_detok.specs.Listing.{listed};
+ghost use Rattle.of_machine.specs.Runs.{RunsTo};
 ghost use Rattle.ofw.specs.Runs.{FaultsSource, FaultsSourceFile, FaultsWith, HasImage, Tokenizes, TokenizesFile};
 ghost use Rattle.ofw.specs.Runs.{TokenizesWith, Writes};
 ghost use Rattle.std.specs.String.{string_bytes};
@@ -19,6 +21,17 @@ use of_tok::tokenize;
 use std::alloc::Global;
 use std::io::{Read, Write};
 
+/// Runs an image.
+fn run_image(alloc: Global, image: &[u8], limit: u64) -> Result<(ScriptMachine, End), Fault>
+    ensures ok { IfOk result (λ r. RunsTo image.now [] [] [] limit r.0 r.1) }
+    ensures err { IfErr result (IsRefusedFor image.now) }
+{
+    match run_script(alloc, image, &[], &[], &[], limit) {
+        Ok(run) => Ok(run),
+        Err(refusal) => Err(Fault::Refused(refusal)),
+    }
+}
+
 /// Runs the image of a file.
 #[tactic(auto, using(crate::proofs::Faults::run_unread, crate::proofs::Faults::run_refused))]
 fn run_file<R: Read>(alloc: Global, file: &mut R, limit: u64) -> Result<(ScriptMachine, End), Fault>
@@ -26,9 +39,9 @@ fn run_file<R: Read>(alloc: Global, file: &mut R, limit: u64) -> Result<(ScriptM
     ensures err { IfErr result (λ f. IfSome (R.remaining file.old) (λ bytes. FaultsRun bytes f)) }
 {
     let image = read_image(alloc, file)?;
-    match run_script(alloc, &image, &[], &[], &[], limit) {
+    match run_image(alloc, &image, limit) {
         Ok(run) => Ok(run),
-        Err(refusal) => Err(Fault::Refused(refusal)),
+        Err(fault) => Err(fault),
     }
 }
 
@@ -74,6 +87,17 @@ pub fn run<R: Read, W: Write, E: Write>(
     }
 }
 
+/// The listing of an image.
+fn list_image(alloc: Global, image: &[u8]) -> Result<Vec<u8>, Fault>
+    ensures ok { IfOk result (λ lines. listed image.now ≡ Ok lines.items) }
+    ensures err { IfErr result (HasNoListing image.now) }
+{
+    match listing(alloc, image) {
+        Ok(lines) => Ok(lines),
+        Err(fault) => Err(Fault::Unlisted(fault)),
+    }
+}
+
 /// The listing of the image of a file.
 #[tactic(auto, using(crate::proofs::Faults::listing_unread, crate::proofs::Faults::listing_refused))]
 fn list_file<R: Read>(alloc: Global, file: &mut R) -> Result<Vec<u8>, Fault>
@@ -81,9 +105,9 @@ fn list_file<R: Read>(alloc: Global, file: &mut R) -> Result<Vec<u8>, Fault>
     ensures err { IfErr result (λ f. IfSome (R.remaining file.old) (λ bytes. FaultsListing bytes f)) }
 {
     let image = read_image(alloc, file)?;
-    match listing(alloc, &image) {
+    match list_image(alloc, &image) {
         Ok(lines) => Ok(lines),
-        Err(fault) => Err(Fault::Unlisted(fault)),
+        Err(fault) => Err(fault),
     }
 }
 
