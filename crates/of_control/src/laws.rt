@@ -12,6 +12,7 @@ ghost use Rattle.of_control.specs.RunningLaw.{RunsByPlaces, RunsByPoints};
 /// A definition has at most one matching. The calls that its elements make answer exactly the places of the partners,
 /// and `None` from the first element on with which there is no matching, or one with more than `N` openers open at
 /// once.
+#[tactic(auto, using(crate::proofs::LawLemmas::calls_follow_matching))]
 pub fn calls_follow_matching<A, const N: usize>()
     ensures { CallsFollowMatching A N }
 {}
@@ -23,17 +24,20 @@ pub fn matching_is_decided<A, const N: usize>()
 
 /// Where no call is made past a place, no call keeps or answers one past it: not one call, and not all calls of a
 /// definition.
+#[tactic(auto, using(crate::proofs::Places::places_stay_within))]
 pub fn places_stay_within<A, const N: usize>()
     ensures { PlacesStayWithin A N }
 {}
 
 /// `is_closed` holds, wherever the calls are made, exactly where all is matched and never more than `N` openers were
 /// open at once. Exactly there the definition has a body.
+#[tactic(auto, using(crate::proofs::LawLemmas::closed_is_read))]
 pub fn closed_is_read<A, const N: usize>()
     ensures { ClosedIsRead A N }
 {}
 
 /// Tight bodies with equal items are equal, so a definition has at most one body.
+#[tactic(auto, using(crate::proofs::LawLemmas::one_reading_law))]
 pub fn one_reading<A, const N: usize>()
     ensures { OneReading A N }
 {}
@@ -52,6 +56,7 @@ pub fn items_are_flat<A, const N: usize>()
 
 /// A definition that is compiled element by element, with the targets that are set at a resolve, a `loop`, an `endof`
 /// and an `endcase`, has exactly these items.
+#[tactic(auto, using(crate::proofs::CompilingLemmas::compiled_is_flat))]
 pub fn compiled_is_flat<A, const N: usize>()
     ensures { CompiledIsFlat A N }
 {}
@@ -59,17 +64,20 @@ pub fn compiled_is_flat<A, const N: usize>()
 /// A definition that is compiled element by element has one item for each element that leaves one, and its plain items
 /// are those of its operations and of the elements that fit nowhere, in their order; all this also where an element
 /// fits nowhere.
+#[tactic(auto, using(crate::proofs::Counted::items_are_counted))]
 pub fn items_are_counted<A, const N: usize>()
     ensures { ItemsAreCounted A N }
 {}
 
 /// Item `k` of a body is the one that its structure has there, with the numbers of the points where execution may
 /// continue as targets, and after it comes item `k + 1`.
+#[tactic(auto, using(crate::proofs::RunningLemmas::runs_by_places))]
 pub fn runs_by_places<A>()
     ensures { RunsByPlaces A }
 {}
 
 /// In each run of a body by its structure alone, what is taken at a point is the item of that point's number.
+#[tactic(auto, using(crate::proofs::RunningLemmas::runs_by_points))]
 pub fn runs_by_points<A>()
     ensures { RunsByPoints A }
 {}
