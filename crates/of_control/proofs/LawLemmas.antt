@@ -1,5 +1,5 @@
 -- The laws.
-use Rattle.of_control.proofs.Agreement.{all_parts-whole, agrees_named, flushed, read_so_far-keeps}
+use Rattle.of_control.proofs.Agreement.{read_as}
 use Rattle.of_control.proofs.CallLemmas.{no_answer_in, answers, open_then, kept, kept_of}
 use Rattle.std.proofs.Common.{arith, ◌≡◌, false, ℕ, List, [], Some, None, refl, sym, ap, ◌∙◌, subst, IsTrue, ◌⊎◌}
 use Rattle.std.specs.Prelude.{map}
@@ -14,7 +14,6 @@ use Rattle.of_control.specs.Law.{CallsFollowMatching, ClosedIsRead, HasNone, IsB
 use Rattle.of_control.specs.Law.{ItemsAreFlat, JumpsStayInside, MatchingIsDecided, OneReading}
 use Rattle.of_control.specs.AgedStack.{AgedStack, aged_stack}
 use Rattle.of_control.proofs.MatchingLemmas.{Sound, complete, sound, one_matching}
-use Rattle.of_control.proofs.Totality.{total, only}
 use Rattle.of_control.proofs.TargetLemmas.{targets}
 use Rattle.of_control.proofs.NamedBodies.{tight_scoped}
 use Rattle.of_control.proofs.TightReadings.{reading_tight}
@@ -59,14 +58,14 @@ body_by :
     read_by es c ≡ Some b → IsBodyIn limit es b
 body_by limit es b None h e = let bad : ⊥ = cc in absurd bad
 body_by limit es b (Some (m, os)) h e =
-    grind (arith, only, targets, reading_tight, read_so_far-keeps, flushed, agrees_named, all_parts-whole)
+    grind (arith, targets, reading_tight, read_as)
 
 -- a matching that leaves nothing open is read
 body_of_matched :
     {A : Type 0} → (limit : ℕ) (es : List (Element A)) (m : Partners) → IsMatched limit es m →
     (b : Body A) × (body_in limit es ≡ Some b) × IsReading es m b
 body_of_matched limit es m w =
-    grind (arith, total, complete, targets, reading_tight, read_so_far-keeps, flushed, agrees_named, all_parts-whole)
+    grind (arith, complete, targets, reading_tight, read_as)
 
 body_found :
     {A : Type 0} → (limit : ℕ) (es : List (Element A)) (b : Body A) → IsBodyIn limit es b → body_in limit es ≡ Some b
