@@ -575,14 +575,9 @@ all_parts-whole T (BlockStart c ∷ d) g =
     omega (arith, h c, one)
 all_parts-whole T _ g = λ f h. cc
 
-nothing_open_step :
-    (x : Opening) (os : List Opening) (c : Bool) → is_orig x.kind ≡ c → stack_frames (x ∷ os) ≡ [] →
-    waits 0 x.at (x ∷ os) ≡ 0 → ⊥
-nothing_open_step x os c e f w = grind (arith, eq-eqb, waits, waits-is, stack_frames)
-
 nothing_open : (os : List Opening) → stack_frames os ≡ [] → ((b : ℕ) → waits 0 b os ≡ 0) → os ≡ []
 nothing_open [] f w = refl
-nothing_open (x ∷ os) f w = absurd (nothing_open_step x os (is_orig x.kind) refl f (w x.at))
+nothing_open (x ∷ os) f w = let h = w x.at in grind (arith, eq-eqb, waits-is)
 
 -- what the body of a matching is
 pub record Agrees {A : Type 0} (T : Targets) (es : List (Element A)) (m : Partners) (b : Body A) : Type 0 where
