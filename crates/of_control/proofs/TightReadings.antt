@@ -425,15 +425,21 @@ abbrev Rested : {A : Type 0} → ℕ → Draft A → Type 0
 Rested n None = Unit {0}
 Rested n (Some d) = Ordered n n none ⊥ d × ((t : ℕ) → EndsFrom t d)
 
-one_more :
-    {A : Type 0} → (n : ℕ) (p : NamedBody A) (d : List (Piece A)) → NamedTight p → Rise n (named_ways p) (suc n) →
-    Ordered n n none ⊥ d → Ordered (suc n) (suc n) none ⊥ (Part p ∷ d)
-one_more n p d t r h = grind (arith, ordered_any)
+-- a part after others
+rested_part :
+    {A : Type 0} {n low : ℕ} {B : Type 0} → (mid : ℕ) (q : NamedBody A) (d : List (Piece A)) → NamedTight q →
+    Rise mid (named_ways q) n → 0 < named_size q → ((t : ℕ) → Each (EndsAbove t) (named_ways q)) →
+    Ordered mid low none B d → low ≤ n → (B → IsArm q) → Rested n (Some (Part q ∷ d))
+rested_part {n = n} {low = low} {B = B} mid q d t r s e o l f = (
+  (t, (mid, r, ordered-more mid mid low n none (λ x. HeldIn x q) B (IsArm q) d (omega arith) l (λ c u x. absurd x) f o)),
+  λ t. (s, e t),
+)
 
 leave_rested :
     {A : Type 0} → (n : ℕ) (o : Option ℕ) (d : List (Piece A)) → Ordered n n none ⊥ d → Rested (suc n) (add_leave o d)
 leave_rested n None d h = tt
-leave_rested n (Some x) d h = (one_more n (NamedLeave x NamedEnd) d tt (omega arith) h, λ t. (omega arith, (tt, tt)))
+leave_rested n (Some x) d h =
+    rested_part n (NamedLeave x NamedEnd) d tt (omega arith) (omega arith) (λ t. (tt, tt)) h (omega arith) (λ x. absurd x)
 
 branch_rested :
     {A : Type 0} → (n : ℕ) (z : Bool) (d : List (Piece A)) → Ordered n n none ⊥ d →
@@ -512,66 +518,34 @@ ends-shut : (t : ℕ) (ws : List NamedWay) → Each (EndsAbove t) (map kept_in w
 ends-shut t ws = ends-append t (map kept_in ws) (Stays ∷ []) (ends-kept t ws) (tt, tt)
 
 counted_made : {A : Type 0} → (n : ℕ) (l : Bool) → Made {A = A} n (close_counted l)
-counted_made {A = A} n l [] p (OpenDo q a) before k =
-    let body : NamedBody A = NamedCounted q a p l NamedEnd in
-    let below = k.blocks in (
-      (
-        (k.tight, tt),
-        (
-          k.mid,
-          rise-shut k.mid n (named_ways p) k.rise,
-          ordered_any k.mid k.mid k.low (suc n) (λ x.
-              HeldIn x body) ⊥ before (omega arith) (omega (arith, below)) k.rest,
-        ),
-      ),
-      λ t. (omega arith, (tt, ends-shut t _)),
-    )
+counted_made n l [] p (OpenDo q a) before k =
+    let below = k.blocks in
+    rested_part k.mid (NamedCounted q a p l NamedEnd) before (k.tight, tt) (rise-shut k.mid n (named_ways p) k.rise)
+    (omega arith) (λ t. (tt, ends-shut t (named_ways p))) k.rest (omega (arith, below)) (λ x. absurd x)
 counted_made n l _ p _ before k = tt
 
 endof_made : {A : Type 0} → (n : ℕ) → Made {A = A} n close_of
-endof_made {A = A} n [] p (OpenOf o c) before k =
-    let body : NamedBody A = NamedArm o c p NamedEnd in
-    let below = k.blocks in (
-      (
-        (k.tight, tt),
-        (
-          k.mid,
-          rise-shut k.mid n (named_ways p) k.rise,
-          ordered-more k.mid k.mid k.low (suc n) none (λ x. HeldIn x body) (Unit {0}) (Unit {0}) before (omega arith)
-              (omega (arith, below)) (λ e u x. absurd x) (λ x. x) k.rest,
-        ),
-      ),
-      λ t. (omega arith, (tt, ends-shut t (named_ways p))),
-    )
+endof_made n [] p (OpenOf o c) before k =
+    let below = k.blocks in
+    rested_part k.mid (NamedArm o c p NamedEnd) before (k.tight, tt) (rise-shut k.mid n (named_ways p) k.rise)
+    (omega arith) (λ t. (tt, ends-shut t (named_ways p))) k.rest (omega (arith, below)) (λ x. x)
 endof_made n _ p _ before k = tt
 
 endcase_made : {A : Type 0} → (n : ℕ) → Made {A = A} n close_case
 endcase_made {A = A} n [] p (OpenCase c) before k = grind (arith, ordered_any)
 endcase_made {A = A} n [] p (OpenChoice c) before k =
-    let body : NamedBody A = NamedChoice c p NamedEnd in
     let below = k.blocks in
     let w = k.rest in
-    let arm : IsArm p = ⊎_elim (λ f. absurd f.0) (λ f. f) w.0 in (
-      (
-        (arm_begins p arm, k.tight, tt),
-        (
-          k.mid,
-          rise-shut k.mid n (named_ways p) k.rise,
-          ordered_any k.mid k.mid k.low
-              (suc n) (λ x. HeldIn x body) ⊥ before (omega arith) (omega (arith, below)) w.1,
-        ),
-      ),
-      λ t. (
-        omega arith,
-        ends-shut t
-            _,
-      ),
-    )
+    let arm : IsArm p = ⊎_elim (λ f. absurd f.0) (λ f. f) w.0 in
+    rested_part k.mid (NamedChoice c p NamedEnd) before (arm_begins p arm, k.tight, tt)
+    (rise-shut k.mid n (named_ways p) k.rise) (omega arith) (λ t. ends-shut t (named_ways p)) w.1
+    (omega (arith, below)) (λ x. absurd x)
 endcase_made n _ p _ before k = tt
 
 put_rested :
     {A : Type 0} → (n : ℕ) (e : Element A) (d : List (Piece A)) → Ordered n n none ⊥ d → Rested (suc n) (put n e d)
-put_rested n (Plain k) d h = (one_more n (NamedOperation k NamedEnd) d tt (omega arith) h, λ t. (omega arith, (tt, tt)))
+put_rested n (Plain k) d h =
+    rested_part n (NamedOperation k NamedEnd) d tt (omega arith) (omega arith) (λ t. (tt, tt)) h (omega arith) (λ x. absurd x)
 put_rested n (Branch z t) d h = branch_rested n z d h
 put_rested n (Mark p) d h = ((omega arith, ordered_any n n n (suc n) none ⊥ d (omega arith) (omega arith) h), λ t. tt)
 put_rested n (Do q) d h = (ordered_any n (suc n) n (suc n) none ⊥ d (omega arith) (omega arith) h, λ t. tt)
