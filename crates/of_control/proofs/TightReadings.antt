@@ -430,16 +430,16 @@ rested_part :
     {A : Type 0} {n low : ℕ} {B : Type 0} → (mid : ℕ) (q : NamedBody A) (d : List (Piece A)) → NamedTight q →
     Rise mid (named_ways q) n → 0 < named_size q → ((t : ℕ) → Each (EndsAbove t) (named_ways q)) →
     Ordered mid low none B d → low ≤ n → (B → IsArm q) → Rested n (Some (Part q ∷ d))
-rested_part {n = n} {low = low} {B = B} mid q d t r s e o l f = (
-  (t, (mid, r, ordered-more mid mid low n none (λ x. HeldIn x q) B (IsArm q) d (omega arith) l (λ c u x. absurd x) f o)),
-  λ t. (s, e t),
-)
+rested_part {n = n} {low = low} {B = B} mid q d t r s e o l f =
+    let all = ordered-more mid mid low n none (λ x. HeldIn x q) B (IsArm q) d (omega arith) l (λ c u x. absurd x) f o in
+    ((t, (mid, r, all)), λ u. (s, e u))
 
 leave_rested :
     {A : Type 0} → (n : ℕ) (o : Option ℕ) (d : List (Piece A)) → Ordered n n none ⊥ d → Rested (suc n) (add_leave o d)
 leave_rested n None d h = tt
 leave_rested n (Some x) d h =
-    rested_part n (NamedLeave x NamedEnd) d tt (omega arith) (omega arith) (λ t. (tt, tt)) h (omega arith) (λ x. absurd x)
+    rested_part n (NamedLeave x NamedEnd) d tt (omega arith) (omega arith) (λ t. (tt, tt)) h (omega arith)
+    (λ e. absurd e)
 
 branch_rested :
     {A : Type 0} → (n : ℕ) (z : Bool) (d : List (Piece A)) → Ordered n n none ⊥ d →
@@ -545,7 +545,8 @@ endcase_made n _ p _ before k = tt
 put_rested :
     {A : Type 0} → (n : ℕ) (e : Element A) (d : List (Piece A)) → Ordered n n none ⊥ d → Rested (suc n) (put n e d)
 put_rested n (Plain k) d h =
-    rested_part n (NamedOperation k NamedEnd) d tt (omega arith) (omega arith) (λ t. (tt, tt)) h (omega arith) (λ x. absurd x)
+    rested_part n (NamedOperation k NamedEnd) d tt (omega arith) (omega arith) (λ t. (tt, tt)) h (omega arith)
+    (λ e. absurd e)
 put_rested n (Branch z t) d h = branch_rested n z d h
 put_rested n (Mark p) d h = ((omega arith, ordered_any n n n (suc n) none ⊥ d (omega arith) (omega arith) h), λ t. tt)
 put_rested n (Do q) d h = (ordered_any n (suc n) n (suc n) none ⊥ d (omega arith) (omega arith) h, λ t. tt)

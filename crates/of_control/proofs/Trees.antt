@@ -294,16 +294,20 @@ joined_ways :
     vs ≡ map (way_of e) zs → map (way_of e) ys ≡ map (way_of e) xs → ws ++ vs ≡ map (way_of e) (ys ++ zs)
 joined_ways e xs ys zs ws vs p q r = grind (arith, map-append)
 
-shut_ways :
-    {A : Type 0} → (e : ℕ) (ws : List Way) (xs : List (Slot A)) (k : Slot A → Slot A) (y : Slot A) (zs : List (Slot A))
-    (vs : List Way) (g : Slot A → Way) → ws ≡ map g xs → Each (λ x. Inside ≡ way_of e (k x)) xs → way_of e y ≡ Inside →
-    vs ≡ map (way_of e) zs → map shut ws ++ (Inside ∷ vs) ≡ map (way_of e) ((map k xs ++ (y ∷ [])) ++ zs)
-shut_ways e ws xs k y zs vs g p h yi q = grind (arith, map_twice, map-append, append_assoc)
-
 inner_ends :
     {A : Type 0} → (m : ℕ) (c : Bool) (t : Tree A) (n : ℕ) → Each (IsSeen m c) (slots t n) →
     Each (λ x. IsSeen m c x × Aims (λ u. u ≤ n + size t) x) (slots t n)
 inner_ends m c t n s = each-both (IsSeen m c) (Aims (λ u. u ≤ n + size t)) (slots t n) s (before_end t n)
+
+-- a part that no jump leaves, with the item that ends it, and what follows
+shut_ways :
+    {A : Type 0} → (c : Bool) (t : Tree A) (n e : ℕ) (k : Slot A → Slot A) (y : Slot A) (zs : List (Slot A))
+    (ws vs : List Way) → Each (IsSeen 0 c) (slots t n) → ws ≡ map (way_of (n + size t)) (slots t n) →
+    ((x : Slot A) → IsSeen 0 c x × Aims (λ u. u ≤ n + size t) x → Inside ≡ way_of e (k x)) → way_of e y ≡ Inside →
+    vs ≡ map (way_of e) zs → map shut ws ++ (Inside ∷ vs) ≡ map (way_of e) ((map k (slots t n) ++ (y ∷ [])) ++ zs)
+shut_ways c t n e k y zs ws vs s p h yi q =
+    let each = each-more _ (λ x. Inside ≡ way_of e (k x)) (slots t n) h (inner_ends 0 c t n s) in
+    grind (arith, each, map_twice, map-append, append_assoc)
 
 ways_are :
     {A : Type 0} → (m : ℕ) (d c : Bool) (b : Body A) (n e : ℕ) → IsTight m d c b → n + body_size b ≡ e →
@@ -351,37 +355,23 @@ ways_are m d c (Cycle b r) n e w h =
     (ways r) left rest (ap (map (way_of e)) (append-nil (map (close n) xs)))
 ways_are m d c (Counted q b l r) n e w h =
     let s = suc n + size (tree b) in
-    let t = n + suc (suc (size (tree b))) in
     let st = size-tree b in
-    let xs = slots (tree b) (suc n) in
-    let inner = ways_are 0 true false b (suc n) s w.0 (omega (arith, st)) in
-    let rest = ways_are m d c r t e w.1 (omega (arith, st, h)) in
-    let ends = inner_ends 0 false (tree b) (suc n) (seen 0 true false b (suc n) w.0) in
-    let each = each-more (λ x. IsSeen 0 false x × Aims (λ u. u ≤ s) x) (λ x. Inside ≡ way_of e x) xs (shut_way s e
-    (omega (arith, st, h))) ends in
-    ap (λ k. Inside ∷ k) (shut_ways e (ways b) xs (λ x. x) (Again l) _ (ways r) (way_of s) inner each refl rest)
+    ap (λ k. Inside ∷ k) (shut_ways false (tree b) (suc n) e (λ x. x) (Again l) _ (ways b) (ways r)
+    (seen 0 true false b (suc n) w.0) (ways_are 0 true false b (suc n) s w.0 (omega (arith, st)))
+    (shut_way s e (omega (arith, st, h))) refl (ways_are m d c r _ e w.1 (omega (arith, st, h))))
 ways_are m d c (Choice b r) n e w h =
     let s = n + size (tree b) in
     let t = n + suc (size (tree b)) in
     let st = size-tree b in
-    let xs = slots (tree b) n in
-    let inner = ways_are 0 d true b n s w.1 (omega (arith, st)) in
-    let rest = ways_are m d c r t e w.2 (omega (arith, st, h)) in
-    let ends = inner_ends 0 true (tree b) n (seen 0 d true b n w.1) in
-    let each = each-more (λ x. IsSeen 0 true x × Aims (λ u. u ≤ s) x) (λ x. Inside ≡ way_of e (close t x)) xs
-    (arms_way s e t (omega (arith, st, h))) ends in
-    shut_ways e (ways b) xs (close t) Drops (slots (tree r) t) (ways r) (way_of s) inner each refl rest
+    shut_ways true (tree b) n e (close t) Drops (slots (tree r) t) (ways b) (ways r) (seen 0 d true b n w.1)
+    (ways_are 0 d true b n s w.1 (omega (arith, st))) (arms_way s e t (omega (arith, st, h))) refl
+    (ways_are m d c r t e w.2 (omega (arith, st, h)))
 ways_are m d c (Arm b r) n e w h =
     let s = suc n + size (tree b) in
-    let t = n + suc (suc (size (tree b))) in
     let st = size-tree b in
-    let xs = slots (tree b) (suc n) in
-    let inner = ways_are 0 d false b (suc n) s w.1 (omega (arith, st)) in
-    let rest = ways_are m d c r t e w.2 (omega (arith, st, h)) in
-    let ends = inner_ends 0 false (tree b) (suc n) (seen 0 d false b (suc n) w.1) in
-    let each = each-more (λ x. IsSeen 0 false x × Aims (λ u. u ≤ s) x) (λ x. Inside ≡ way_of e x) xs (shut_way s e
-    (omega (arith, st, h))) ends in
-    ap (λ k. Inside ∷ k) (shut_ways e (ways b) xs (λ x. x) (Out None 0) _ (ways r) (way_of s) inner each refl rest)
+    ap (λ k. Inside ∷ k) (shut_ways false (tree b) (suc n) e (λ x. x) (Out None 0) _ (ways b) (ways r)
+    (seen 0 d false b (suc n) w.1) (ways_are 0 d false b (suc n) s w.1 (omega (arith, st)))
+    (shut_way s e (omega (arith, st, h))) refl (ways_are m d c r _ e w.2 (omega (arith, st, h))))
 
 -- ---- tight
 
@@ -460,6 +450,16 @@ joined_items :
     map slot_of vs ≡ map g zs → map slot_of (us ++ vs) ≡ map g (ys ++ zs)
 joined_items g us vs ys zs p q = grind (arith, map-append)
 
+-- the items of a part that no jump leaves, with the item that ends it, and what follows
+shut_items :
+    {A : Type 0} → (f g k : Slot A → Slot A) (P : Slot A → Type 0) (us vs : List (Item A)) (i : Item A)
+    (xs zs : List (Slot A)) (y : Slot A) → Each P xs → ((x : Slot A) → P x → f x ≡ g (k x)) →
+    map slot_of us ≡ map f xs → slot_of i ≡ g y → map slot_of vs ≡ map g zs →
+    map slot_of (us ++ (i ∷ vs)) ≡ map g ((map k xs ++ (y ∷ [])) ++ zs)
+shut_items f g k P us vs i xs zs y s h p e q =
+    let each = map_once f g k xs (each-more P (λ x. f x ≡ g (k x)) xs h s) in
+    grind (arith, each, map-append, append_assoc)
+
 items_are :
     {A : Type 0} → (m : ℕ) (d c : Bool) (b : Body A) (n : ℕ) (ls : List ℕ) (lv ps : ℕ) → IsTight m d c b →
     map slot_of (items_at b n ls lv ps) ≡ map (placed ls ps) (slots (tree b) n)
@@ -493,50 +493,31 @@ items_are m d c (Cycle b r) n ls lv ps w =
     )
 items_are m d c (Counted q b l r) n ls lv ps w =
     let t = suc (suc n + body_size b) in
-    let s = n + suc (suc (size (tree b))) in
     let st = size-tree b in
-    let eq : t ≡ s = omega (arith, st) in
-    let xs = slots (tree b) (suc n) in
-    let f = placed ls ps in
-    let each = each-more (IsSeen 0 false) (λ x. placed [] ps x ≡ placed ls ps x) xs (placed-shut ls [] ps ps)
-    (seen 0 true false b (suc n) w.0) in
-    let inner = items_are 0 true false b (suc n) [] t ps w.0 ∙ map_once (placed [] ps) f (λ x. x) xs each in
-    let rest = items_are m d c r t ls lv ps w.1 ∙ ap (λ k. map f (slots (tree r) k)) eq in
-    let all = joined_items f (items_at b (suc n) [] t ps) (RepeatLoop l (suc n) ∷ items_at r t ls lv ps)
-    (map (λ x. x) xs) (Again l ∷ slots (tree r) s) inner (ap (λ k. Again l ∷ k) rest) in
+    let eq : t ≡ n + suc (suc (size (tree b))) = omega (arith, st) in
+    let rest = items_are m d c r t ls lv ps w.1 ∙ ap (λ k. map (placed ls ps) (slots (tree r) k)) eq in
+    let all = shut_items (placed [] ps) (placed ls ps) (λ x. x) (IsSeen 0 false) (items_at b (suc n) [] t ps) _
+    (RepeatLoop l (suc n)) _ _ (Again l) (seen 0 true false b (suc n) w.0) (placed-shut ls [] ps ps)
+    (items_are 0 true false b (suc n) [] t ps w.0) refl rest in
     ap (λ u. Enters q u ∷ map slot_of (items_at b (suc n) [] t ps ++ (RepeatLoop l (suc n) ∷ items_at r t ls lv ps))) eq
-    ∙ ap (λ k. Enters q s ∷ k) (all ∙ sym
-    (ap (map f) (append_assoc (map (λ x. x) xs) (Again l ∷ []) (slots (tree r) s))))
+    ∙ ap (λ k. Enters q (n + suc (suc (size (tree b)))) ∷ k) all
 items_are m d c (Choice b r) n ls lv ps w =
     let t = suc (n + body_size b) in
-    let s = n + suc (size (tree b)) in
     let st = size-tree b in
-    let eq : t ≡ s = omega (arith, st) in
-    let xs = slots (tree b) n in
-    let f = placed ls ps in
-    let each = each-more (IsSeen 0 true) (λ x. placed [] t x ≡ placed ls ps (close s x)) xs (placed-arms ls ps t s eq)
-    (seen 0 d true b n w.1) in
-    let inner = items_are 0 d true b n [] lv t w.1 ∙ map_once (placed [] t) f (close s) xs each in
-    let rest = items_are m d c r t ls lv ps w.2 ∙ ap (λ k. map f (slots (tree r) k)) eq in
-    let all = joined_items f (items_at b n [] lv t) (DropSelector ∷ items_at r t ls lv ps) (map (close s) xs)
-    (Drops ∷ slots (tree r) s) inner (ap (λ k. Drops ∷ k) rest) in
-    all ∙ sym (ap (map f) (append_assoc (map (close s) xs) (Drops ∷ []) (slots (tree r) s)))
+    let eq : t ≡ n + suc (size (tree b)) = omega (arith, st) in
+    let rest = items_are m d c r t ls lv ps w.2 ∙ ap (λ k. map (placed ls ps) (slots (tree r) k)) eq in
+    shut_items (placed [] t) (placed ls ps) (close _) (IsSeen 0 true) (items_at b n [] lv t) _ DropSelector _ _ Drops
+    (seen 0 d true b n w.1) (placed-arms ls ps t _ eq) (items_are 0 d true b n [] lv t w.1) refl rest
 items_are m d c (Arm b r) n ls lv ps w =
     let t = suc (suc n + body_size b) in
-    let s = n + suc (suc (size (tree b))) in
     let st = size-tree b in
-    let eq : t ≡ s = omega (arith, st) in
-    let xs = slots (tree b) (suc n) in
-    let f = placed ls ps in
-    let each = each-more (IsSeen 0 false) (λ x. placed [] ps x ≡ placed ls ps x) xs (placed-shut ls [] ps ps)
-    (seen 0 d false b (suc n) w.1) in
-    let inner = items_are 0 d false b (suc n) [] lv ps w.1 ∙ map_once (placed [] ps) f (λ x. x) xs each in
-    let rest = items_are m d c r t ls lv ps w.2 ∙ ap (λ k. map f (slots (tree r) k)) eq in
-    let all = joined_items f (items_at b (suc n) [] lv ps) (EndArm ps ∷ items_at r t ls lv ps) (map (λ x. x) xs)
-    (Out None 0 ∷ slots (tree r) s) inner (ap (λ k. To None ps ∷ k) rest) in
+    let eq : t ≡ n + suc (suc (size (tree b))) = omega (arith, st) in
+    let rest = items_are m d c r t ls lv ps w.2 ∙ ap (λ k. map (placed ls ps) (slots (tree r) k)) eq in
+    let all = shut_items (placed [] ps) (placed ls ps) (λ x. x) (IsSeen 0 false) (items_at b (suc n) [] lv ps) _
+    (EndArm ps) _ _ (Out None 0) (seen 0 d false b (suc n) w.1) (placed-shut ls [] ps ps)
+    (items_are 0 d false b (suc n) [] lv ps w.1) refl rest in
     ap (λ u. Tests u ∷ map slot_of (items_at b (suc n) [] lv ps ++ (EndArm ps ∷ items_at r t ls lv ps))) eq
-    ∙ ap (λ k. Tests s ∷ k) (all ∙ sym (ap (map f)
-    (append_assoc (map (λ x. x) xs) (Out None 0 ∷ []) (slots (tree r) s))))
+    ∙ ap (λ k. Tests (n + suc (suc (size (tree b)))) ∷ k) all
 
 all_same : {A : Type 0} → (f : Slot A → Slot A) (xs : List (Slot A)) → Each (λ x. f x ≡ x) xs → map f xs ≡ xs
 all_same f [] h = refl
