@@ -290,8 +290,6 @@ ordered-hoisted high top low P K C [] d h f k = grind (arith, ordered-more)
 ordered-hoisted high top low P K C (c ∷ cs) d h f k =
     (f c (falls_low P c low cs h.2) h.0, h.1, ordered-hoisted high c low P K ⊥ cs d h.2 f k)
 
--- ---- readings are tight
-
 -- ---- what ends with the last part
 
 -- the last part isn't empty, and the Blocks that end with it have no numbers below b

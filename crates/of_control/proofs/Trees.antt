@@ -115,8 +115,6 @@ seen m d c (Arm b r) n w = (
       (w.0, tt) (seen m d c r _ w.2),
 )
 
--- ---- tight bodies are tight trees, so tight bodies with equal items are equal
-
 -- ---- the ways of the items
 
 abbrev way_of : {A : Type 0} → ℕ → Slot A → Way
