@@ -55,6 +55,7 @@ AgreeingDraft T es m due (Some d) = Agreeing T es m due d
 -- ---- the open structures from element to element
 
 module _ {A : Type 0} where
+  -- a part is no structure
   part_shaped :
       {due : List ℕ} {os : List Opening} {d : List (Piece A)} {p : NamedBody A} → Shaped due os d →
       Shaped due os (Part p ∷ d)
@@ -68,6 +69,7 @@ module _ {A : Type 0} where
   begins_open (BlockStart b) d h = absurd h
   begins_open _ d h = (λ b. refl, λ k b. refl)
 
+  -- at each level as many begin as wait
   level : (os : List Opening) (d : List (Piece A)) → Shaped [] os d → (k b : ℕ) → begins k b d ≡ waits k b os
   level os d s zero b = omega (arith, s.top b)
   level os d s (suc k) b = s.below k b
@@ -105,11 +107,13 @@ IsOpenerOf CaseSys n (OpenChoice c) = c ≡ n
 IsOpenerOf OfSys n (OpenOf o c) = o ≡ n
 IsOpenerOf _ _ _ = ⊥
 
+-- a structure on top has the kind and the number of the stack's
 opener_is :
     {A : Type 0} → (k : Kind) (n : ℕ) (fs : List Frame) (x : Piece A) (d : List (Piece A)) → IsStructure x →
     is_orig k ≡ false → frames (x ∷ d) ≡ frame_of k n ++ fs → IsOpenerOf k n x × (frames d ≡ fs)
 opener_is k n fs x d i o e = grind (arith, frames)
 
+-- a structure leaves a frame
 no_frame : (k : Kind) (n : ℕ) (fs : List Frame) → is_orig k ≡ false → [] ≡ frame_of k n ++ fs → ⊥
 no_frame k n fs o e = grind (arith)
 
@@ -126,6 +130,7 @@ record Finds {A : Type 0} (T : Targets) (os : List Opening) (d : List (Piece A))
 
 module _ {A : Type 0} (T : Targets) (os : List Opening) (d : List (Piece A)) (x : Opening) (ds : Desc os)
     (s : Shaped [] os d) (np : is_orig x.kind ≡ false) where
+  -- what was gathered is what the closer finds
   finds :
       (bs : List ℕ) (p : NamedBody A) (from : Piece A) (before : List (Piece A)) → top_structure os ≡ Some x →
       Keeps T d bs p (from ∷ before) → IsStructure from → Finds T os d x bs p from before
@@ -179,6 +184,7 @@ mark_opener :
     IsOpenerOf (Dest None) n x
 mark_opener t k n x h i = grind (arith)
 
+-- and no branch
 mark_kind : (t : Option ℕ) (k : Kind) → IsDestFor t k → is_orig k ≡ false
 mark_kind t k h = grind (arith)
 
@@ -194,6 +200,7 @@ enclosed :
     xs ++ (i ∷ (ys ++ j ∷ [])) ≡ zs ++ j ∷ []
 enclosed xs ys i j e = grind (arith, append_assoc)
 
+-- a branch that is added is once more in the list
 times-add : (a b : ℕ) (cs : List ℕ) → times b (add_due a cs) ≡ one_if (b == a) + times b cs
 times-add a b [] = refl
 times-add a b (c ∷ cs) = grind (arith, times-add a b cs)
@@ -222,6 +229,7 @@ module _ {A : Type 0} (T : Targets) (es : List (Element A)) (m : Partners) where
         };
       }
 
+  -- the branch is there, as it is due
   close_one :
       (b : ℕ) (due : List ℕ) (d : List (Piece A)) (o : Option (Gathered A)) → Agreeing T es m (b ∷ due) d →
       T.to b ≡ item_count es → GatheredIf T d (λ x. x ≡ BlockStart b) (begins 0 b d ≡ 0) o →
@@ -234,6 +242,7 @@ module _ {A : Type 0} (T : Targets) (es : List (Element A)) (m : Partners) where
       block_made b due d g.blocks g.inside g.before h to
       (subst (λ x. Keeps T d g.blocks g.inside (x ∷ g.before)) k.1 k.0)
 
+  -- the Blocks of all branches that are due are ended
   flushed :
       (due : List ℕ) (o : Draft A) → EndHere T (item_count es) due → AgreeingDraft T es m due o →
       AgreeingDraft T es m [] (close_all due o)
@@ -263,6 +272,7 @@ module _ {A : Type 0} (T : Targets) (es : List (Element A)) (m : Partners) where
       }
 
   module _ (d : List (Piece A)) (h : Agreeing T es m [] d) where
+    -- a `leave` has a loop round it
     leave_next :
         (o : Option ℕ) → innermost_do d ≡ o → IsMatching (Leave ∷ es) (None ∷ m) →
         AgreeingDraft T (Leave ∷ es) (None ∷ m) [] (add_leave o d)
@@ -275,6 +285,7 @@ module _ {A : Type 0} (T : Targets) (es : List (Element A)) (m : Partners) where
         made h is (keep_all (open_ones es m)) (ap (λ n. piece_items T d ++ ExitLoop (T.to n) ∷ []) (sym i))
         (omega arith) (h.good, tt, (e, tt)) (part_shaped s)
 
+    -- a backward branch ends a Cycle
     cycle_next :
         (z : Bool) (t : Option ℕ) (x : Opening) (bs : List ℕ) (p : NamedBody A) (from : Piece A)
         (before : List (Piece A)) → IsMatching (Back z t ∷ es) (Some x ∷ m) → IsOpenerOf (Dest None) x.at from →
@@ -300,6 +311,7 @@ module _ {A : Type 0} (T : Targets) (es : List (Element A)) (m : Partners) where
         (part_shaped g.shaped)
     cycle_next z t x bs p _ before is at g = absurd at
 
+    -- a `loop` ends a Counted
     counted_next :
         (l : Bool) (x : Opening) (p : NamedBody A) (from : Piece A) (before : List (Piece A)) →
         IsMatching (Loop l ∷ es) (Some x ∷ m) → T.to x.at ≡ suc (item_count es) → IsOpenerOf DoSys x.at from →
@@ -318,6 +330,7 @@ module _ {A : Type 0} (T : Targets) (es : List (Element A)) (m : Partners) where
         (part_shaped g.shaped)
     counted_next l x p _ before is to at g = absurd at
 
+    -- an `of` begins the Choice, unless one before it did
     of_next :
         (x : Opening) (p : NamedBody A) (from : Piece A) (before : List (Piece A)) → IsMatching (Of ∷ es) (None ∷ m) →
         IsOpenerOf CaseSys x.at from → Finds T (open_ones es m) d x [] p from before →
@@ -334,6 +347,7 @@ module _ {A : Type 0} (T : Targets) (es : List (Element A)) (m : Partners) where
         (pushed refl tt refl (regathered k refl (λ b. refl) (λ j b. refl) h.shaped))
     of_next x p _ before is at g = absurd at
 
+    -- an `endof` ends an Arm
     endof_next :
         (x : Opening) (p : NamedBody A) (from : Piece A) (before : List (Piece A)) →
         IsMatching (EndOf ∷ es) (Some x ∷ m) → T.to x.at ≡ suc (item_count es) → IsOpenerOf OfSys x.at from →
@@ -355,6 +369,7 @@ module _ {A : Type 0} (T : Targets) (es : List (Element A)) (m : Partners) where
         (part_shaped g.shaped)
     endof_next x p _ before is to at g = absurd at
 
+    -- an `endcase` ends a Choice, empty where there was no `of`
     endcase_next :
         (x : Opening) (p : NamedBody A) (from : Piece A) (before : List (Piece A)) →
         IsMatching (EndCase ∷ es) (Some x ∷ m) → T.to x.at ≡ suc (item_count es) → IsOpenerOf CaseSys x.at from →
@@ -394,6 +409,7 @@ module _ {A : Type 0} (T : Targets) (es : List (Element A)) (m : Partners) where
         (AgreeingDraft T (e ∷ es) (o ∷ m) []) f h.good top
         (λ p from before g. by p from before (subst (λ k. IsOpenerOf k x.at from) is g.opener) g)
 
+    -- any element that is no resolve or roll
     put_next :
         (e : Element A) (o : Option Opening) → IsMatching (e ∷ es) (o ∷ m) → Sets T es e o → IsUsual e →
         AgreeingDraft T (e ∷ es) (o ∷ m) [] (put (length es) e d)
@@ -436,6 +452,7 @@ module _ {A : Type 0} (T : Targets) (es : List (Element A)) (m : Partners) where
     put_next (Misfit k) (Some x) is to u = absurd is.1
     put_next _ _ is to u = absurd is.1
 
+  -- a resolve makes its branch due
   resolve_next :
       (p : Option ℕ) (x : Opening) (due : List ℕ) (o : Draft A) → AgreeingDraft T es m due o →
       IsMatching (Resolve p ∷ es) (Some x ∷ m) → AgreeingDraft T (Resolve p ∷ es) (Some x ∷ m) (add_due x.at due) o
@@ -449,6 +466,7 @@ module _ {A : Type 0} (T : Targets) (es : List (Element A)) (m : Partners) where
           Shaped (add_due x.at due) (without x os) d
       resolved os ds a s = grind (arith, frames-resolve, waits-taken, times-add, waits-below)
 
+  -- a roll changes no piece
   roll_next :
       (n : ℕ) (x : Opening) (due : List ℕ) (o : Draft A) → AgreeingDraft T es m due o →
       IsMatching (Roll n ∷ es) (Some x ∷ m) → AgreeingDraft T (Roll n ∷ es) (Some x ∷ m) due o
@@ -470,16 +488,19 @@ pub record AgreeingRead {A : Type 0} (T : Targets) (es : List (Element A)) (m : 
   pub due : EndHere T (item_count es) r.due
   pub pieces : AgreeingDraft T es m r.due r.pieces
 
+-- what ends here still does
 add_due-ends : (T : Targets) (n b : ℕ) (bs : List ℕ) → T.to b ≡ n → EndHere T n bs → EndHere T n (add_due b bs)
 add_due-ends T n b [] e h = (e, tt)
 add_due-ends T n b (c ∷ cs) e h = grind (arith, add_due-ends T n b cs e h.1)
 
+-- branches that are due are ended before the element
 usual_next :
     {A : Type 0} → (T : Targets) (e : Element A) (es : List (Element A)) (o : Option Opening) (m : Partners)
     (r : PartlyRead A) → AgreeingRead T es m r → IsMatching (e ∷ es) (o ∷ m) → Sets T es e o → IsUsual e →
     AgreeingRead T (e ∷ es) (o ∷ m) (record { due = []; pieces = put_all (length es) e (close_all r.due r.pieces) })
 usual_next T e es o m r h is to u = grind (arith, flushed, put_next)
 
+-- all elements
 read_so_far-keeps :
     {A : Type 0} → (T : Targets) (es : List (Element A)) (m : Partners) → IsMatching es m → AreTargets T es m →
     AgreeingRead T es m (read_so_far es m)
@@ -513,6 +534,7 @@ abbrev WholeIf : {A : Type 0} → Targets → List (Piece A) → Option (NamedBo
 WholeIf T d None = frames d ≡ [] → ((b : ℕ) → begins 0 b d ≡ 0) → ⊥
 WholeIf T d (Some q) = Whole T d q
 
+-- a part after a body
 whole_part :
     {A : Type 0} → (T : Targets) (p : NamedBody A) (d : List (Piece A)) (o : Option (NamedBody A)) →
     Fine T (piece_count d) p → Scoped (labels d) (innermost_do d) (cases d) p → WholeIf T d o →
@@ -521,6 +543,7 @@ whole_part T p d None f s h = h
 whole_part T p d (Some q) f s h =
     grind (arith, named_items-joined, named_size-joined, Fine-joined, fine_at, Scoped-joined)
 
+-- parts alone are a body, and there is one where nothing is open
 all_parts-whole : {A : Type 0} → (T : Targets) (d : List (Piece A)) → Good T d → WholeIf T d (all_parts d)
 all_parts-whole T [] g = grind (arith)
 all_parts-whole T (Part p ∷ d) g = whole_part T p d (all_parts d) g.1 g.2 (all_parts-whole T d g.0)
@@ -530,6 +553,7 @@ all_parts-whole T (BlockStart c ∷ d) g =
     omega (arith, h c, one)
 all_parts-whole T _ g = λ f h. cc
 
+-- a stack with no structure and no branch is empty
 nothing_open : (os : List Opening) → stack_frames os ≡ [] → ((b : ℕ) → waits 0 b os ≡ 0) → os ≡ []
 nothing_open [] f w = refl
 nothing_open (x ∷ os) f w = let h = w x.at in grind (arith, eq-eqb, waits-is)
@@ -544,6 +568,7 @@ abbrev AgreesIf : {A : Type 0} → Targets → List (Element A) → Partners →
 AgreesIf T es m None = open_ones es m ≡ [] → ⊥
 AgreesIf T es m (Some b) = Agrees T es m b
 
+-- without names it has the flat items
 agrees_named :
     {A : Type 0} → (T : Targets) (es : List (Element A)) (m : Partners) (d : List (Piece A))
     (o : Option (NamedBody A)) → Agreeing T es m [] d → WholeIf T d o → AgreesIf T es m (body_of o)
@@ -559,6 +584,7 @@ agrees_named T es m d (Some q) h w =
           (λ b. sym (level (open_ones es m) d s 0 b) ∙ w.begun b);
     }
 
+-- the same of what is left at the end
 agrees_draft :
     {A : Type 0} → (T : Targets) (es : List (Element A)) (m : Partners) (o : Draft A) → AgreeingDraft T es m [] o →
     AgreesIf T es m (body_of (finished o))

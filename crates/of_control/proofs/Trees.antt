@@ -458,6 +458,9 @@ shut_items f g k P us vs i xs zs y s h p e q =
     let each = map_once f g k xs (each-more P (λ x. f x ≡ g (k x)) xs h s) in
     grind (arith, each, map-append, append_assoc)
 
+-- the items of a part that ends without an item
+ruleset open_items = (size-tree, each-more, seen, map_once, append-nil, joined_items)
+
 items_are :
     {A : Type 0} → (m : ℕ) (d c : Bool) (b : Body A) (n : ℕ) (ls : List ℕ) (lv ps : ℕ) → IsTight m d c b →
     map slot_of (items_at b n ls lv ps) ≡ map (placed ls ps) (slots (tree b) n)
@@ -466,29 +469,11 @@ items_are m d c (Operation a r) n ls lv ps w = grind (arith, items_are m d c r (
 items_are m d c (LeaveLoop r) n ls lv ps w = grind (arith, items_are m d c r (suc n) ls lv ps w.1, slots, tree)
 items_are m d c (Jump z k r) n ls lv ps w = grind (arith, items_are m d c r (suc n) ls lv ps w.1, slots, tree)
 items_are m d c (Block b r) n ls lv ps w =
-    grind (
-      arith,
-      items_are (suc m) d false b n ((n + body_size b) ∷ ls) lv ps w.1,
-      items_are m d c r (n + body_size b) ls lv ps w.2,
-      size-tree,
-      each-more,
-      seen,
-      map_once,
-      append-nil,
-      joined_items,
-    )
+    let inner = items_are (suc m) d false b n ((n + body_size b) ∷ ls) lv ps w.1 in
+    grind (arith, inner, items_are m d c r (n + body_size b) ls lv ps w.2, open_items)
 items_are m d c (Cycle b r) n ls lv ps w =
-    grind (
-      arith,
-      items_are (suc m) d false b n (n ∷ ls) lv ps w.1,
-      items_are m d c r (n + body_size b) ls lv ps w.2,
-      size-tree,
-      each-more,
-      seen,
-      map_once,
-      append-nil,
-      joined_items,
-    )
+    let inner = items_are (suc m) d false b n (n ∷ ls) lv ps w.1 in
+    grind (arith, inner, items_are m d c r (n + body_size b) ls lv ps w.2, open_items)
 items_are m d c (Counted q b l r) n ls lv ps w =
     let t = suc (suc n + body_size b) in
     let st = size-tree b in
