@@ -14,22 +14,21 @@ use Rattle.of_control.proofs.NamedBodies.{scoped-nameless, Fine, IsIn, Scoped, i
 use Rattle.of_control.specs.Matching.{IsDestFor, IsMatching, Opening, Partners, is_partner, open_ones, top_origs}
 use Rattle.of_control.specs.Matching.{top_structure, IsAmong, opened_by}
 use Rattle.of_control.specs.Targets.{Targets, flat_items, item_of}
-use Rattle.of_control.specs.Reading.{Draft, NamedBody, NamedEnd}
-use Rattle.of_control.specs.Reading.{NamedJump, OpenCase, OpenChoice, OpenDo, OpenMark, OpenOf, Part, PartlyRead, Piece}
-use Rattle.of_control.specs.Reading.{add_due, add_leave, all_parts, body_of, close_all, close_case, close_counted}
-use Rattle.of_control.specs.Reading.{close_cycle, close_of, hoisted, innermost_do, joined, open_of, put, put_all}
-use Rattle.of_control.specs.Reading.{read_so_far, BlockStart, Gathered, close_block, close_branch}
-use Rattle.of_control.specs.Reading.{reading, to_branch, to_structure, with_last, with_structure}
+use Rattle.of_control.specs.Reading.{Draft, NamedBody, NamedEnd, NamedJump, OpenCase, OpenChoice, OpenDo, OpenMark}
+use Rattle.of_control.specs.Reading.{OpenOf, Part, PartlyRead, Piece, add_due, add_leave, all_parts, body_of, close_all}
+use Rattle.of_control.specs.Reading.{close_case, close_counted, close_cycle, close_of, hoisted, innermost_do, joined}
+use Rattle.of_control.specs.Reading.{open_of, put, put_all, read_so_far, BlockStart, Gathered, close_block}
+use Rattle.of_control.specs.Reading.{close_branch, reading, to_branch, to_structure, with_last, with_structure}
 use Rattle.of_control.specs.Reading.{NamedBlock, finished}
 use Rattle.of_control.proofs.MatchingLemmas.{Desc-open, among-get, among-resolved, open-next, Desc}
-use Rattle.of_control.proofs.Pieces.{EndHere, Fine-joined, Frame, Good, Keeps}
-use Rattle.of_control.proofs.Pieces.{Scoped-joined, cases, fine_at, frames, labels, named_items-joined}
-use Rattle.of_control.proofs.Pieces.{named_size-joined, nil_append, piece_count, piece_items, sub_none, sub_refl}
-use Rattle.of_control.proofs.Pieces.{to_structure-keeps, case_in, case_of-frames, case_stack, do_in, do_of-frames}
-use Rattle.of_control.proofs.Pieces.{do_stack, frame_of, frame_pending, frames-closed, frames-resolve, keep_all}
-use Rattle.of_control.proofs.Pieces.{pending_is, stack_frames, structure_top, IsStructure, times, begins, waits}
-use Rattle.of_control.proofs.Pieces.{waits-is, waits-taken, waits-below, waits-closed, waits-closed_below, waits-top}
-use Rattle.of_control.proofs.Pieces.{do_there, hoists, inside_hoisted, GatheredIf, to_branch-keeps}
+use Rattle.of_control.proofs.Pieces.{EndHere, Fine-joined, Frame, Good, Keeps, Scoped-joined, cases, fine_at, frames}
+use Rattle.of_control.proofs.Pieces.{labels, named_items-joined, named_size-joined, nil_append, piece_count}
+use Rattle.of_control.proofs.Pieces.{piece_items, sub_none, sub_refl, to_structure-keeps, case_in, case_of-frames}
+use Rattle.of_control.proofs.Pieces.{case_stack, do_in, do_of-frames, do_stack, frame_of, frame_pending, frames-closed}
+use Rattle.of_control.proofs.Pieces.{frames-resolve, keep_all, pending_is, stack_frames, structure_top, IsStructure}
+use Rattle.of_control.proofs.Pieces.{times, begins, waits, waits-is, waits-taken, waits-below, waits-closed}
+use Rattle.of_control.proofs.Pieces.{waits-closed_below, waits-top, do_there, hoists, inside_hoisted, GatheredIf}
+use Rattle.of_control.proofs.Pieces.{to_branch-keeps}
 use Rattle.of_control.proofs.TargetLemmas.{AreTargets, Sets}
 use Rattle.of_control.specs.declared.opener.Kind.TheVariants.{DoSys, CaseSys, Dest, OfSys}
 
