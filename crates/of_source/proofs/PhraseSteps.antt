@@ -1,0 +1,260 @@
+-- A phrase that can stand where it does takes the source on to what is known behind it.
+use Rattle.std.proofs.Common.{◌≡◌, ◌≢◌, ℕ, ◌<◌, ◌≤◌, Bool, true, false, List, [], ◌∷◌, ◌++◌, length, codes, Option, Some}
+use Rattle.std.proofs.Common.{None, Result, Ok, Err, nat_lt, if◌then◌else◌, refl, sym, ap, subst, ◌∙◌, arith}
+use Rattle.std.specs.Prelude.{is_some}
+use Rattle.std.specs.List.{All}
+use Rattle.std.proofs.lemmas.Bool.Decides.{nat_tests}
+use Rattle.std.proofs.lemmas.List.{append-nil}
+use Rattle.of_cells.specs.declared.cells.Cell.{Cell}
+use Rattle.of_fcodes.specs.declared.codes.FCode.{FCode}
+use Rattle.of_source.specs.declared.fault.SourceFault.{SourceFault}
+use Rattle.of_source.specs.declared.fault.SourceFault.TheVariants.{Unclosed, Unknown, BadNumber, TooLong}
+use Rattle.of_source.specs.declared.keyword.Keyword.{Keyword}
+use Rattle.of_source.specs.declared.keyword.Keyword.TheVariants as keyword
+use Rattle.of_source.specs.declared.keyword.Quote.{Quote}
+use Rattle.of_source.specs.declared.keyword.Quote.TheVariants as quote
+use Rattle.of_source.specs.declared.keyword.Radix.{Radix}
+use Rattle.of_source.specs.declared.nesting.Part.TheVariants as part
+use Rattle.of_source.specs.declared.number.Number.{Number}
+use Rattle.of_source.specs.declared.number.Number.TheVariants.{Value}
+use Rattle.of_source.specs.Keywords.{keyword_named, ordinary_named}
+use Rattle.of_source.specs.Names.{Own, own_in}
+use Rattle.of_source.specs.Numbers.{number_in}
+use Rattle.of_source.specs.Radix.{base_of}
+use Rattle.of_source.specs.Items.{Item, call, string, naming, bare}
+use Rattle.of_source.specs.Items as item
+use Rattle.of_source.specs.Nesting.{Nesting, with_branch, with_part, without_branch, without_begin, without_part}
+use Rattle.of_source.specs.Nesting.{then_without_branch, then_with_branch, opened_if, in_definition, in_loop, on_case}
+use Rattle.of_source.specs.Nesting.{is_straight}
+use Rattle.of_source.specs.Shapes.{Shape, nothing, run, shape_of}
+use Rattle.of_source.specs.Scan.{Rest, rest_at, next_word, Found, quoted_string, plain_string}
+use Rattle.of_source.specs.Steps.{State, Step, Goes, Fails, giving, opening, reading_on, knowing, defining, with_next}
+use Rattle.of_source.specs.Steps.{with_name, name_found, name_if, with_string, with_code, if_open, if_ends, ended}
+use Rattle.of_source.specs.Steps.{number_or_bad, number_items, comment_step, code_named, making_items, recurse_step}
+use Rattle.of_source.specs.Steps.{keyword_step, number_word_step, ordinary_step, listed_step, own_step, word_step}
+use Rattle.of_source.specs.Steps.{next_step}
+use Rattle.of_source.specs.Phrases.{Phrase, Spelled, Known, after_blank, in_digits, taken, written, items_of, behind}
+use Rattle.of_source.specs.Phrases.{next_own, named}
+use Rattle.of_source.specs.Phrases as phrase
+use Rattle.of_source.specs.Written.{IsWord, IsName, IsWithin, LeaveOpen, IsOutside, IsStraight, keyword_of, own_of}
+use Rattle.of_source.specs.Written.{IsKeyword, IsPlaced, IsSaid}
+use Rattle.of_source.proofs.ReadingBack.{Parts, word_behind, plain_behind, quoted_behind, digits_behind}
+use Rattle.of_source.proofs.Opening.{MayStand, then_goes, else_goes, back_goes, repeat_goes, semicolon_goes, loop_goes}
+use Rattle.of_source.proofs.Opening.{end_of_goes, end_case_goes, leave_goes, of_goes, colon_goes, outside_goes}
+use Rattle.of_source.proofs.Opening.{straight_goes}
+
+-- the state at a text where this is known and open
+abbrev pub state_of : Known → Nesting → List ℕ → State
+state_of k n text = record {
+  rest = rest_at 1 text;
+  radix = k.radix;
+  maker = k.maker;
+  known = k.names;
+  open_one = k.open_one;
+  nesting = n;
+  items = k.items;
+}
+
+-- the source goes on with what is known, at this text
+pub record GoesOn (step : Step) (k : Known) (more : List ℕ) : Type 0 where
+  pub nesting : Nesting
+  pub goes : step ≡ Goes (state_of k nesting more)
+
+goes_by : (a b : Step) (k : Known) (more : List ℕ) → a ≡ b → GoesOn b k more → GoesOn a k more
+goes_by a b k more e h = record { nesting = h.nesting; goes = e ∙ h.goes }
+
+-- with more items
+abbrev pub with_items : List Item → Known → Known
+with_items is k = record k { items = k.items ++ is }
+
+-- ---- words that read on
+
+next_by : (f : SourceFault) (word more : List ℕ) (go : List ℕ → Rest → Step) → IsWord word → Parts more
+    → with_next f (next_word (rest_at 1 (after_blank (word ++ more)))) go ≡ go word (rest_at 1 more)
+next_by f word more go h p = ap (λ o. with_next f o go) (word_behind word more h p)
+
+pub number_goes : (last : ℕ) (base : Radix) (word : List ℕ) (x : Cell) (k : Known) (n : Nesting) (more : List ℕ)
+    → IsWord word → number_in (base_of base) word ≡ Value x → Parts more
+    → GoesOn (keyword_step last (keyword.NumberIn base) (state_of k n (after_blank (word ++ more))))
+    (with_items (number_items x) k) more
+number_goes last base word x k n more h e p = record {
+  nesting = n;
+  goes =
+      next_by (BadNumber 1) word more _ h p
+      ∙ ap (λ v. number_or_bad 1 v (λ c. Goes (giving (number_items c) (state_of k n more)))) e;
+}
+
+pub character_goes : (last b : ℕ) (word : List ℕ) (k : Known) (n : Nesting) (more : List ℕ) → IsWord (b ∷ word)
+    → Parts more
+    → GoesOn (keyword_step last keyword.Character (state_of k n (after_blank (b ∷ word ++ more))))
+    (with_items (number_items (record { 0 = b })) k) more
+character_goes last b word k n more h p =
+    record { nesting = n; goes = next_by (ended last (state_of k n (after_blank (b ∷ word ++ more)))) (b ∷ word) more _ h p }
+
+pub naming_goes : (last : ℕ) (t : FCode) (name : List ℕ) (c : FCode) (k : Known) (n : Nesting) (more : List ℕ)
+    → IsWord name → code_named k.names name ≡ Some c → Parts more
+    → GoesOn (keyword_step last (keyword.Naming t) (state_of k n (after_blank (name ++ more))))
+    (with_items (item.Plain (naming t c) ∷ []) k) more
+naming_goes last t name c k n more h e p = record {
+  nesting = n;
+  goes =
+      next_by (ended last (state_of k n (after_blank (name ++ more)))) name more _ h p
+      ∙ ap (λ o. with_code 1 o (λ d. Goes (giving (item.Plain (naming t d) ∷ []) (state_of k n more)))) e;
+}
+
+short_string : (s : State) (bytes more : List ℕ) (f : Found) (go : List ℕ → State → Step) → f ≡ Some (bytes, more)
+    → length bytes ≤ 255 → with_string s f go ≡ go bytes (reading_on (rest_at s.rest.line more) s)
+short_string s bytes more f go e l =
+    let t : nat_lt 255 (length bytes) ≡ false = grind (arith, nat_tests) in
+    ap (λ o. with_string s o go) e ∙ rw t refl
+
+pub text_goes : (last : ℕ) (q : Quote) (bytes : List ℕ) (k : Known) (n : Nesting) (more : List ℕ)
+    → length bytes ≤ 255 → IsWithin 34 bytes → Parts more
+    → GoesOn (keyword_step last (keyword.Text q) (state_of k n (after_blank (bytes ++ 34 ∷ more))))
+    (behind (phrase.Text q bytes) k) more
+text_goes last quote.Bytes bytes k n more l h p = record {
+  nesting = n;
+  goes = short_string (state_of k n (after_blank (bytes ++ 34 ∷ more))) bytes more _ _ (quoted_behind bytes more h p) l;
+}
+text_goes last quote.Plain bytes k n more l h p = record {
+  nesting = n;
+  goes = short_string (state_of k n (after_blank (bytes ++ 34 ∷ more))) bytes more _ _ (plain_behind 34 bytes more h) l;
+}
+text_goes last quote.Printed bytes k n more l h p = record {
+  nesting = n;
+  goes = short_string (state_of k n (after_blank (bytes ++ 34 ∷ more))) bytes more _ _ (plain_behind 34 bytes more h) l;
+}
+
+pub bytes_go : (last : ℕ) (bytes : List ℕ) (k : Known) (n : Nesting) (more : List ℕ) → length bytes ≤ 255
+    → All (λ b. b < 256) bytes → Parts more
+    → GoesOn (keyword_step last (keyword.Text quote.Bytes) (state_of k n (taken (phrase.Bytes bytes) more)))
+    (behind (phrase.Bytes bytes) k) more
+bytes_go last bytes k n more l h p = record {
+  nesting = n;
+  goes = short_string (state_of k n (taken (phrase.Bytes bytes) more)) bytes more _ _ (digits_behind bytes more h p) l;
+}
+
+pub comment_goes : (last : ℕ) (bytes : List ℕ) (k : Known) (n : Nesting) (more : List ℕ) → IsWithin 41 bytes
+    → GoesOn (keyword_step last keyword.Comment (state_of k n (after_blank (bytes ++ 41 ∷ more))))
+    (with_items [] k) more
+comment_goes last bytes k n more h = record {
+  nesting = n;
+  goes =
+      ap (comment_step (state_of k n (after_blank (bytes ++ 41 ∷ more)))) (plain_behind 41 bytes more h)
+      ∙ ap (λ is. Goes (state_of (record k { items = is }) n more)) (sym (append-nil k.items));
+}
+
+-- ---- definitions
+
+name_by : (last : ℕ) (name more : List ℕ) (k : Known) (n : Nesting) (go : List ℕ → State → Step) → IsName name
+    → Parts more
+    → with_name (name_found last (state_of k n (after_blank (name ++ more)))
+    (next_word (rest_at 1 (after_blank (name ++ more))))) go ≡ go name (state_of k n more)
+name_by last name more k n go h p =
+    let t : nat_lt 31 (length name) ≡ false = short (length name) h.1 in
+    ap (λ o. with_name (name_found last (state_of k n (after_blank (name ++ more))) o) go) (word_behind name more h.0 p)
+    ∙ rw t refl
+  where
+    short : (l : ℕ) → l ≤ 31 → nat_lt 31 l ≡ false
+    short l h = grind (arith, nat_tests)
+
+unless : (b : Bool) (x y : Step) → b ≡ false → (if b then x else y) ≡ y
+unless b x y h = rw h refl
+
+when_so : (b : Bool) (x y : Step) → b ≡ true → (if b then x else y) ≡ x
+when_so b x y h = rw h refl
+
+pub defining_goes : (last : ℕ) (t : FCode) (name : List ℕ) (k : Known) (n : Nesting) (more : List ℕ) → IsName name
+    → in_definition n.parts ≡ false → Parts more
+    → GoesOn (keyword_step last (keyword.Defining t) (state_of k n (after_blank (name ++ more))))
+    (behind (phrase.Defining t name) k) more
+defining_goes last t name k n more h e p = record {
+  nesting = n;
+  goes = unless (in_definition n.parts) _ _ e ∙ name_by last name more k n _ h p;
+}
+
+pub colon_step_goes : (last : ℕ) (name : List ℕ) (k : Known) (n : Nesting) (more : List ℕ) → IsName name
+    → in_definition n.parts ≡ false → Parts more
+    → GoesOn (keyword_step last keyword.Colon (state_of k n (after_blank (name ++ more))))
+    (behind (phrase.Colon name) k) more
+colon_step_goes last name k n more h e p = record {
+  nesting = with_part part.Definition 1 n;
+  goes =
+      unless (in_definition n.parts) _ _ e
+      ∙ name_by last name more k (with_part part.Definition 1 n) _ h p;
+}
+
+pub semicolon_step_goes : (o : Option Nesting) (k : Known) (n : Nesting) (more : List ℕ) → is_some o ≡ true
+    → GoesOn (if_ends o (state_of k n more)) (behind phrase.Semicolon k) more
+semicolon_step_goes None k n more h = absurd cc
+semicolon_step_goes (Some m) k n more h = record { nesting = m; goes = refl }
+
+pub recurse_goes : (d : Own) (o : Option Own) (k : Known) (n : Nesting) (more : List ℕ) → o ≡ Some d
+    → GoesOn (recurse_step (state_of k n more) o) (with_items (phrase.recursion o) k) more
+recurse_goes d None k n more h = absurd cc
+recurse_goes d (Some e) k n more h = record { nesting = n; goes = refl }
+
+-- ---- control structures
+
+pub opened : (o : Option Nesting) (is : List Item) (k : Known) (n : Nesting) (more : List ℕ) → is_some o ≡ true
+    → GoesOn (if_open o is (state_of k n more)) (with_items is k) more
+opened None is k n more h = absurd cc
+opened (Some m) is k n more h = record { nesting = m; goes = refl }
+
+-- ---- one phrase
+
+own_goes : (last j : ℕ) (word : List ℕ) (k : Known) (n : Nesting) (more : List ℕ) → own_in k.names word ≡ Some j
+    → GoesOn (word_step last word (state_of k n more)) (behind (phrase.OwnWord j) k) more
+unfolding word_step
+own_goes last j word k n more h = record { nesting = n; goes = ap (own_step last word (state_of k n more)) h }
+
+keyed : (last : ℕ) (word : List ℕ) (s : State) (key : Option Keyword) → own_in s.known word ≡ None
+    → keyword_named word ≡ key → word_step last word s ≡ listed_step last word s key
+unfolding word_step
+keyed last word s key h e = ap (own_step last word s) h ∙ ap (listed_step last word s) e
+
+board_goes : (word : List ℕ) (c : FCode) (k : Known) (n : Nesting) (more : List ℕ) → ordinary_named word ≡ Some c
+    → GoesOn (ordinary_step word (state_of k n more) (ordinary_named word)) (behind (phrase.BoardWord c) k) more
+board_goes word c k n more h = record { nesting = n; goes = ap (ordinary_step word (state_of k n more)) h }
+
+digits_go : (word : List ℕ) (x : Cell) (k : Known) (n : Nesting) (more : List ℕ) → ordinary_named word ≡ None
+    → number_in (base_of k.radix) word ≡ Value x
+    → GoesOn (ordinary_step word (state_of k n more) (ordinary_named word)) (behind (phrase.Number x) k) more
+digits_go word x k n more h e = record {
+  nesting = n;
+  goes =
+      ap (ordinary_step word (state_of k n more)) h ∙ ap (number_word_step (state_of k n more)) e;
+}
+
+-- a phrase of a keyword, where the keyword's word goes on
+by_keyword : (last : ℕ) (word : List ℕ) (key : Keyword) (k l : Known) (n : Nesting) (text more : List ℕ)
+    → own_in k.names word ≡ None → keyword_named word ≡ Some key
+    → GoesOn (keyword_step last key (state_of k n text)) l more → GoesOn (word_step last word (state_of k n text)) l more
+by_keyword last word key k l n text more h e g =
+    goes_by _ (keyword_step last key (state_of k n text)) l more (keyed last word (state_of k n text) (Some key) h e) g
+
+-- what is open here, by the items before
+outside_there : (k : Known) (n : Nesting) → run k.items nothing ≡ Some (shape_of n) → LeaveOpen k.items IsOutside
+    → in_definition n.parts ≡ false
+outside_there k n h l = outside_goes n (subst IsOutside (same (sym l.1 ∙ h)) l.2)
+  where
+    same : {o p : Shape} → Some o ≡ Some p → o ≡ p
+    same h = cc
+
+straight_there : (k : Known) (n : Nesting) → run k.items nothing ≡ Some (shape_of n) → LeaveOpen k.items IsStraight
+    → is_straight n ≡ true
+straight_there k n h l = straight_goes n (subst IsStraight (same (sym l.1 ∙ h)) l.2)
+  where
+    same : {o p : Shape} → Some o ≡ Some p → o ≡ p
+    same h = cc
+
+offset16_goes : (last : ℕ) (k : Known) (n : Nesting) (more : List ℕ) → is_straight n ≡ true
+    → GoesOn (keyword_step last keyword.Offset16 (state_of k n more)) (behind phrase.Offset16 k) more
+offset16_goes last k n more h = record { nesting = n; goes = when_so (is_straight n) _ _ h }
+
+-- the keyword of a phrase goes on
+pub keyword_goes : (last : ℕ) (word : List ℕ) (p : Phrase) (key : Keyword) (k : Known) (n : Nesting) (more : List ℕ)
+    → Some key ≡ keyword_of p → IsPlaced k word p → Parts more → run k.items nothing ≡ Some (shape_of n)
+    → MayStand (items_of p k) n
+    → GoesOn (keyword_step last key (state_of k n (taken p more))) (behind p k) more
+keyword_goes = ?

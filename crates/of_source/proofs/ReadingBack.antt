@@ -1,0 +1,165 @@
+-- Words and strings that were written are read back.
+use Rattle.std.proofs.Common.{◌≡◌, ◌≢◌, ℕ, zero, suc, ◌+◌, ◌*◌, ◌/◌, ◌%◌, ◌<◌, ◌≤◌, Bool, true, false, not, List, []}
+use Rattle.std.proofs.Common.{◌∷◌, ◌++◌, length, take, drop, take_while, Option, Some, None, nat_eq, nat_lt, nat_le, refl}
+use Rattle.std.proofs.Common.{sym, ap, subst, ◌∙◌, arith, if◌then◌else◌}
+use Rattle.std.specs.Char.{digit_char}
+use Rattle.std.specs.List.{All}
+use Rattle.std.proofs.Math.Nat.{div-add-mod}
+use Rattle.std.proofs.Math.Seq.{take-append_seam, drop-append_seam}
+use Rattle.std.proofs.lemmas.Bool.Decides.{nat_tests}
+use Rattle.std.proofs.lemmas.List.{append-nil}
+use Rattle.std.proofs.lemmas.List.Sums.{take_while-cons}
+use Rattle.std.proofs.lemmas.List.Elements.{All-head, All-tail}
+use Rattle.std.proofs.lemmas.Str.{digit_value-digit_char}
+use Rattle.of_format.specs.Digits.{digit_value, digit_of}
+use Rattle.of_source.specs.Scan.{Rest, rest_at, is_blank, line_behind, at_word, word_length, word_at, next_word, Found}
+use Rattle.of_source.specs.Scan.{byte_before, up_to, byte_of, before_found, pairs, group, bytes_before, grouped}
+use Rattle.of_source.specs.Scan.{and_grouped, quoted, quoted_string, plain_string}
+use Rattle.of_source.specs.Phrases.{after_blank, in_digits}
+use Rattle.of_source.specs.Written.{IsWord, IsWithin}
+use Rattle.of_source.proofs.Scanning.{passed}
+
+-- a text that ends the word before it
+abbrev pub Parts : List ℕ → Type 0
+Parts [] = Unit {0}
+Parts (b ∷ text) = is_blank b ≡ true
+
+-- ---- words
+
+no_blank : (b : ℕ) → 0x20 < b → is_blank b ≡ false
+no_blank b l = grind (arith, nat_tests)
+
+while_if : (b : Bool) (c : ℕ) (l m : List ℕ) → b ≡ false → l ≡ m → (if not b then c ∷ l else []) ≡ c ∷ m
+while_if true c l m h e = absurd cc
+while_if false c l m h e = ap (λ k. c ∷ k) e
+
+word_taken : (word more : List ℕ) → All (λ b. 0x20 < b) word → Parts more
+    → take_while (λ b. not (is_blank b)) (word ++ more) ≡ word
+word_taken [] [] h p = refl
+word_taken [] (b ∷ more) h p = rw p refl
+word_taken (c ∷ word) more h p =
+    take_while-cons (λ b. not (is_blank b)) c (word ++ more)
+    ∙ while_if (is_blank c) c _ word (no_blank c (All-head (λ b. 0x20 < b) c word h))
+    (word_taken word more (All-tail (λ b. 0x20 < b) c word h) p)
+
+some_bytes : (n : ℕ) → 0 < n → nat_eq n 0 ≡ false
+some_bytes n l = grind (arith, nat_tests)
+
+-- what a text begins with, of this length, and what follows it
+abbrev pub cut_at : ℕ → ℕ → List ℕ → Option (List ℕ × Rest)
+cut_at n line text = Some (take n text, rest_at line (drop n text))
+
+word_if : (line : ℕ) (text : List ℕ) (n m : ℕ) → n ≡ m → nat_eq m 0 ≡ false
+    → (if nat_eq n 0 then None else cut_at n line text) ≡ cut_at m line text
+word_if line text n m e z = rw (e, z) refl
+
+word_there : (line : ℕ) (word more : List ℕ) → IsWord word → Parts more
+    → word_at (rest_at line (word ++ more)) ≡ Some (word, rest_at line more)
+word_there line word more h p =
+    word_if line (word ++ more) (word_length (word ++ more)) (length word) (ap length (word_taken word more h.1 p))
+    (some_bytes (length word) h.0)
+    ∙ rw (take-append_seam word more, drop-append_seam word more) refl
+
+at_there : (line b : ℕ) (text : List ℕ) → 0x20 < b → at_word line (b ∷ text) ≡ rest_at line (b ∷ text)
+at_there line b text l = let e : is_blank b ≡ false = no_blank b l in rw e refl
+
+-- a word at which a text begins
+pub word_next : (line : ℕ) (word more : List ℕ) → IsWord word → Parts more
+    → next_word (rest_at line (word ++ more)) ≡ Some (word, rest_at line more)
+word_next line [] more h p = let l : 0 < 0 = h.0 in absurd (omega (arith, l))
+word_next line (b ∷ word) more h p =
+    ap word_at (at_there line b (word ++ more) (All-head (λ c. 0x20 < c) b word h.1))
+    ∙ word_there line (b ∷ word) more h p
+
+-- a word behind a blank
+pub word_behind : (word more : List ℕ) → IsWord word → Parts more
+    → next_word (rest_at 1 (after_blank (word ++ more))) ≡ Some (word, rest_at 1 more)
+word_behind word more h p = word_next 1 word more h p
+
+-- ---- strings as they are
+
+same_byte : (b : ℕ) → nat_eq b b ≡ true
+same_byte b = grind (arith, nat_tests)
+
+-- bytes up to the one that ends them
+pub all_up_to : (end : ℕ) (bytes more : List ℕ) → IsWithin end bytes
+    → up_to end (bytes ++ end ∷ more) ≡ Some (bytes, more)
+all_up_to end [] more h = let e : nat_eq end end ≡ true = same_byte end in rw e refl
+all_up_to end (b ∷ bytes) more h =
+    let w = All-head (λ c. (c ≢ end) × (c ≢ 10)) b bytes h in
+    passed end b (bytes ++ end ∷ more) w.0 w.1
+    ∙ ap (byte_before b) (all_up_to end bytes more (All-tail (λ c. (c ≢ end) × (c ≢ 10)) b bytes h))
+
+-- a string or comment behind a blank
+pub plain_behind : (end : ℕ) (bytes more : List ℕ) → IsWithin end bytes
+    → plain_string end (after_blank (bytes ++ end ∷ more)) ≡ Some (bytes, more)
+plain_behind end bytes more h = all_up_to end bytes more h
+
+no_group : (more : List ℕ) → Parts more → group more ≡ None
+no_group [] p = refl
+no_group (b ∷ more) p = let e : nat_eq b 40 ≡ false = blank b p in rw e refl
+  where
+    blank : (b : ℕ) → is_blank b ≡ true → nat_eq b 40 ≡ false
+    blank b h = grind (arith, nat_tests)
+
+-- a string behind `"` that no group follows
+pub quoted_behind : (bytes more : List ℕ) → IsWithin 34 bytes → Parts more
+    → quoted_string (after_blank (bytes ++ 34 ∷ more)) ≡ Some (bytes, more)
+quoted_behind bytes more h p =
+    let next = quoted (length (bytes ++ 34 ∷ more)) in
+    ap (λ f. and_grouped f next) (all_up_to 34 bytes more h) ∙ ap (λ g. grouped bytes more g next) (no_group more p)
+
+-- ---- strings as digits
+
+digit_back : (d : ℕ) → d < 16 → digit_value 16 (digit_char d) ≡ Some d
+unfolding digit_of
+digit_back d l =
+    let value = digit_value-digit_char d (omega arith) in
+    let small : nat_lt d 36 ≡ true = grind (arith, nat_tests) in
+    let below : nat_lt d 16 ≡ true = grind (arith, nat_tests) in
+    rw (value, small, below) refl
+
+high_digit : (d : ℕ) → 48 ≤ digit_char d
+high_digit d = pick (nat_lt d 10)
+  where
+    pick : (b : Bool) → 48 ≤ (if b then 48 + d else 87 + d)
+    pick true = omega arith
+    pick false = omega arith
+
+high_passes : (c d b : ℕ) (text : List ℕ) → 48 ≤ c → byte_of (digit_value 16 c) (digit_value 16 d) ≡ Some b
+    → pairs (c ∷ d ∷ text) ≡ byte_before b (pairs text)
+high_passes c d b text l e =
+    let x : nat_eq c 41 ≡ false = grind (arith, nat_tests) in
+    let y : nat_eq c 10 ≡ false = grind (arith, nat_tests) in
+    let z : is_blank c ≡ false = grind (arith, nat_tests) in
+    rw (x, y, z, e) refl
+
+byte_back : (b : ℕ) → b < 256
+    → byte_of (digit_value 16 (digit_char (b / 16))) (digit_value 16 (digit_char (b % 16))) ≡ Some b
+byte_back b l =
+    let whole : 16 * (b / 16) + b % 16 ≡ b = div-add-mod b 16 in
+    let h : digit_value 16 (digit_char (b / 16)) ≡ Some (b / 16) = digit_back (b / 16) (omega arith) in
+    let k : digit_value 16 (digit_char (b % 16)) ≡ Some (b % 16) = digit_back (b % 16) (omega arith) in
+    ap (λ o. byte_of o (digit_value 16 (digit_char (b % 16)))) h ∙ ap (byte_of (Some (b / 16))) k
+    ∙ ap (λ n. Some n) (omega arith)
+
+pairs_back : (bytes more : List ℕ) → All (λ b. b < 256) bytes
+    → pairs (in_digits bytes (41 ∷ 34 ∷ more)) ≡ Some (bytes, 34 ∷ more)
+pairs_back [] more h = refl
+pairs_back (b ∷ bytes) more h =
+    high_passes (digit_char (b / 16)) (digit_char (b % 16)) b (in_digits bytes (41 ∷ 34 ∷ more)) (high_digit (b / 16))
+    (byte_back b (All-head (λ c. c < 256) b bytes h))
+    ∙ ap (byte_before b) (pairs_back bytes more (All-tail (λ c. c < 256) b bytes h))
+
+last_piece : (n : ℕ) (more : List ℕ) → Parts more → quoted (suc n) (34 ∷ more) ≡ Some ([], more)
+last_piece n more p = ap (λ g. grouped [] more g (quoted n)) (no_group more p)
+
+-- a string behind `"` that is a group alone
+pub digits_behind : (bytes more : List ℕ) → All (λ b. b < 256) bytes → Parts more
+    → quoted_string (after_blank (34 ∷ 40 ∷ in_digits bytes (41 ∷ 34 ∷ more))) ≡ Some (bytes, more)
+digits_behind bytes more h p =
+    let text = in_digits bytes (41 ∷ 34 ∷ more) in
+    let next = quoted (length (34 ∷ 40 ∷ text)) in
+    ap (λ g. grouped [] (40 ∷ text) g next) (pairs_back bytes more h)
+    ∙ ap (bytes_before bytes) (last_piece (length (40 ∷ text)) more p)
+    ∙ ap (λ l. Some (l, more)) (append-nil bytes)

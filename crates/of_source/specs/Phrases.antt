@@ -1,0 +1,188 @@
+-- A source as a list of phrases: each is a word with all that it takes from the text.
+use Rattle.std.specs.Prelude.{ℕ, ◌+◌, ◌/◌, ◌%◌, Bool, false, List, [], ◌∷◌, ◌++◌, length, codes, Option, Some, None}
+use Rattle.std.specs.Char.{digit_char}
+use Rattle.of_cells.specs.declared.cells.Cell.{Cell}
+use Rattle.of_fcodes.specs.declared.codes.FCode.{FCode}
+use Rattle.of_stream.specs.declared.stream.OffsetSize.{OffsetSize}
+use Rattle.of_stream.specs.declared.stream.OffsetSize.TheVariants as size
+use Rattle.of_source.specs.declared.keyword.Maker.{Maker}
+use Rattle.of_source.specs.declared.keyword.Maker.TheVariants.{Named}
+use Rattle.of_source.specs.declared.keyword.Radix.{Radix}
+use Rattle.of_source.specs.declared.keyword.Radix.TheVariants.{Hexadecimal}
+use Rattle.of_source.specs.declared.keyword.Quote.{Quote}
+use Rattle.of_source.specs.declared.keyword.Quote.TheVariants as quote
+use Rattle.of_source.specs.declared.keyword.Keyword.{Keyword}
+use Rattle.of_source.specs.declared.keyword.Keyword.TheVariants as keyword
+use Rattle.of_source.specs.Names.{Own}
+use Rattle.of_source.specs.Items.{Item, own_code, call, string, naming, making, bare}
+use Rattle.of_source.specs.Items as item
+use Rattle.of_source.specs.Steps.{number_items, known_with}
+
+-- a word with all that it takes from the text
+pub data Phrase : Type 0 where
+  OwnWord : ℕ → Phrase  -- the definition of this number
+  BoardWord : FCode → Phrase
+  Number : Cell → Phrase  -- in the radix in force
+  NumberIn : Radix → List ℕ → Cell → Phrase  -- `h#` or `d#` and a number
+  Character : ℕ → List ℕ → Phrase  -- `char` or `[char]` and a word, of which the first byte counts
+  Short : FCode → Phrase  -- a word that stands for this one, as `true`
+  Pair : FCode → FCode → Phrase  -- a word that stands for these two, as `1+`
+  Text : Quote → List ℕ → Phrase  -- `"`, `s"` or `."` and a string as it is
+  Bytes : List ℕ → Phrase  -- `"` and a string as hexadecimal digits
+  Comment : List ℕ → Phrase  -- `(` and what is no part of the source
+  Naming : FCode → List ℕ → FCode → Phrase  -- `'`, `[']` or `to` and a name, which stands for this FCode
+  Headers : Maker → Phrase
+  Base : Radix → Phrase  -- `hex` or `decimal`
+  Defining : FCode → List ℕ → Phrase  -- a defining word and a name
+  Colon : List ℕ → Phrase  -- `:` and a name
+  Semicolon : Phrase
+  Recurse : Phrase
+  Offset16 : Phrase
+  If : Phrase  -- or `while`
+  Else : Phrase
+  Then : Phrase
+  Begin : Phrase
+  Back : Bool → Phrase  -- `until`, or `again`, which asks for no flag
+  Repeat : Phrase
+  Do : Bool → Phrase  -- `?do`, or `do`, which skips nothing
+  Loop : Bool → Phrase  -- `+loop`, or `loop`, which counts by one
+  Leave : Phrase
+  Case : Phrase
+  Of : Phrase
+  EndOf : Phrase
+  EndCase : Phrase
+
+-- a phrase with its word as it is spelled, in letters of either case
+pub record Spelled : Type 0 where
+  pub word : List ℕ
+  pub phrase : Phrase
+
+-- ---- as text
+
+-- a blank, and then this text
+abbrev pub after_blank : List ℕ → List ℕ
+after_blank text = 0x20 ∷ text
+
+-- two hexadecimal digits for each byte, and then this text
+abbrev pub in_digits : List ℕ → List ℕ → List ℕ
+in_digits [] more = more
+in_digits (b ∷ bytes) more = digit_char (b / 16) ∷ digit_char (b % 16) ∷ in_digits bytes more
+
+-- what a phrase takes from the text behind its word, and then this text
+abbrev pub taken : Phrase → List ℕ → List ℕ
+taken (NumberIn base word x) more = after_blank (word ++ more)
+taken (Character b word) more = after_blank (b ∷ word ++ more)
+taken (Text q bytes) more = after_blank (bytes ++ 34 ∷ more)
+taken (Bytes bytes) more = after_blank (34 ∷ 40 ∷ in_digits bytes (41 ∷ 34 ∷ more))
+taken (Comment bytes) more = after_blank (bytes ++ 41 ∷ more)
+taken (Naming t name c) more = after_blank (name ++ more)
+taken (Defining t name) more = after_blank (name ++ more)
+taken (Colon name) more = after_blank (name ++ more)
+taken _ more = more
+
+-- a phrase behind a blank, and then this text
+abbrev pub written : Spelled → List ℕ → List ℕ
+written p more = after_blank (p.word ++ taken p.phrase more)
+
+-- phrases with a blank before each, and the end of the source
+abbrev pub all_written : List Spelled → List ℕ
+all_written [] = after_blank (codes "fcode-end")
+all_written (p ∷ ps) = written p (all_written ps)
+
+-- the word that begins a source
+abbrev pub version_word : OffsetSize → List ℕ
+version_word size.One = codes "fcode-version1"
+version_word size.Two = codes "fcode-version2"
+
+-- phrases as the text of a source, on one line, with one blank between two words
+abbrev pub text_of : OffsetSize → List Spelled → List ℕ
+text_of z ps = version_word z ++ all_written ps
+
+-- ---- as items
+
+-- what is known at a phrase
+pub record Known : Type 0 where
+  pub radix : Radix
+  pub maker : Maker
+  pub names : List Own  -- the definitions that can be named, latest first
+  pub open_one : Option Own  -- the definition that is open
+  pub items : List Item  -- the items before it
+
+-- at the beginning of a source
+abbrev pub nothing_known : Known
+nothing_known = record { radix = Hexadecimal; maker = Named; names = []; open_one = None; items = [] }
+
+-- a string, which `."` also prints
+abbrev pub string_items : Quote → List ℕ → List Item
+string_items quote.Bytes bytes = item.Plain (string bytes) ∷ []
+string_items quote.Plain bytes = item.Plain (string bytes) ∷ []
+string_items quote.Printed bytes = item.Plain (string bytes) ∷ item.Plain (bare 0x090) ∷ []
+
+-- the open definition, if one is, by its number
+abbrev pub recursion : Option Own → List Item
+recursion None = []
+recursion (Some d) = item.Plain (call (own_code d.number)) ∷ []
+
+-- a name for the definition that begins
+abbrev pub named : List ℕ → Known → Item
+named name k = item.Plain (making k.maker name (own_code (length k.names)))
+
+-- the items of a phrase, on line 1
+abbrev pub items_of : Phrase → Known → List Item
+items_of (OwnWord n) k = item.Plain (call (own_code n)) ∷ []
+items_of (BoardWord c) k = item.Plain (call c) ∷ []
+items_of (Number x) k = number_items x
+items_of (NumberIn base word x) k = number_items x
+items_of (Character b word) k = number_items (record { 0 = b })
+items_of (Short t) k = item.Plain (call t) ∷ []
+items_of (Pair t u) k = item.Plain (call t) ∷ item.Plain (call u) ∷ []
+items_of (Text q bytes) k = string_items q bytes
+items_of (Bytes bytes) k = item.Plain (string bytes) ∷ []
+items_of (Comment bytes) k = []
+items_of (Naming t name c) k = item.Plain (naming t c) ∷ []
+items_of (Headers m) k = []
+items_of (Base base) k = []
+items_of (Defining t name) k = named name k ∷ item.Plain (call t) ∷ []
+items_of (Colon name) k = named name k ∷ item.Colon ∷ []
+items_of Semicolon k = item.Semicolon ∷ []
+items_of Recurse k = recursion k.open_one
+items_of Offset16 k = item.Plain (bare 0x0cc) ∷ []
+items_of If k = item.If 1 ∷ []
+items_of Else k = item.Else 1 ∷ []
+items_of Then k = item.Then ∷ []
+items_of Begin k = item.Begin ∷ []
+items_of (Back z) k = item.Back z 1 ∷ []
+items_of Repeat k = item.Back false 1 ∷ item.Then ∷ []
+items_of (Do q) k = item.Do q 1 ∷ []
+items_of (Loop q) k = item.Loop q 1 ∷ []
+items_of Leave k = item.Leave ∷ []
+items_of Case k = item.Case ∷ []
+items_of Of k = item.Of 1 ∷ []
+items_of EndOf k = item.EndOf 1 ∷ []
+items_of EndCase k = item.EndCase ∷ []
+
+-- a definition of this name, with the next number
+abbrev pub next_own : List ℕ → Known → Own
+next_own name k = record { name = name; number = length k.names }
+
+-- what else is known behind a phrase
+abbrev pub learned : Phrase → Known → Known
+learned (Headers m) k = record k { maker = m }
+learned (Base base) k = record k { radix = base }
+learned (Defining t name) k = record k { names = next_own name k ∷ k.names }
+learned (Colon name) k = record k { open_one = Some (next_own name k) }
+learned Semicolon k = record k { names = known_with k.open_one k.names; open_one = None }
+learned _ k = k
+
+-- what is known behind a phrase
+abbrev pub behind : Phrase → Known → Known
+behind p k = record (learned p k) { items = k.items ++ items_of p k }
+
+-- what is known behind phrases
+abbrev pub all_behind : List Spelled → Known → Known
+all_behind [] k = k
+all_behind (p ∷ ps) k = all_behind ps (behind p.phrase k)
+
+-- the items of a source of these phrases
+abbrev pub items_in : List Spelled → List Item
+items_in ps = (all_behind ps nothing_known).items
