@@ -21,7 +21,7 @@ use Rattle.of_source.specs.Keywords.{keyword_named, ordinary_named}
 use Rattle.of_source.specs.Names.{Own, own_in}
 use Rattle.of_source.specs.Numbers.{number_in}
 use Rattle.of_source.specs.Radix.{base_of}
-use Rattle.of_source.specs.Items.{Item, call, string, naming, bare}
+use Rattle.of_source.specs.Items.{Item, call, string, naming, making, bare, own_code}
 use Rattle.of_source.specs.Items as item
 use Rattle.of_source.specs.Nesting.{Nesting, with_branch, with_part, without_branch, without_begin, without_part}
 use Rattle.of_source.specs.Nesting.{then_without_branch, then_with_branch, opened_if, in_definition, in_loop, on_case}
@@ -60,7 +60,7 @@ pub record GoesOn (step : Step) (k : Known) (more : List ℕ) : Type 0 where
   pub nesting : Nesting
   pub goes : step ≡ Goes (state_of k nesting more)
 
-goes_by : (a b : Step) (k : Known) (more : List ℕ) → a ≡ b → GoesOn b k more → GoesOn a k more
+pub goes_by : (a b : Step) (k : Known) (more : List ℕ) → a ≡ b → GoesOn b k more → GoesOn a k more
 goes_by a b k more e h = record { nesting = h.nesting; goes = e ∙ h.goes }
 
 -- with more items
@@ -161,7 +161,7 @@ name_by last name more k n go h p =
 unless : (b : Bool) (x y : Step) → b ≡ false → (if b then x else y) ≡ y
 unless b x y h = rw h refl
 
-when_so : (b : Bool) (x y : Step) → b ≡ true → (if b then x else y) ≡ x
+pub when_so : (b : Bool) (x y : Step) → b ≡ true → (if b then x else y) ≡ x
 when_so b x y h = rw h refl
 
 pub defining_goes : (last : ℕ) (t : FCode) (name : List ℕ) (k : Known) (n : Nesting) (more : List ℕ) → IsName name
@@ -196,7 +196,7 @@ recurse_goes d (Some e) k n more h = record { nesting = n; goes = refl }
 
 -- ---- control structures
 
-pub opened : (o : Option Nesting) (is : List Item) (k : Known) (n : Nesting) (more : List ℕ) → is_some o ≡ true
+opened : (o : Option Nesting) (is : List Item) (k : Known) (n : Nesting) (more : List ℕ) → is_some o ≡ true
     → GoesOn (if_open o is (state_of k n more)) (with_items is k) more
 opened None is k n more h = absurd cc
 opened (Some m) is k n more h = record { nesting = m; goes = refl }
@@ -208,7 +208,7 @@ own_goes : (last j : ℕ) (word : List ℕ) (k : Known) (n : Nesting) (more : Li
 unfolding word_step
 own_goes last j word k n more h = record { nesting = n; goes = ap (own_step last word (state_of k n more)) h }
 
-keyed : (last : ℕ) (word : List ℕ) (s : State) (key : Option Keyword) → own_in s.known word ≡ None
+pub keyed : (last : ℕ) (word : List ℕ) (s : State) (key : Option Keyword) → own_in s.known word ≡ None
     → keyword_named word ≡ key → word_step last word s ≡ listed_step last word s key
 unfolding word_step
 keyed last word s key h e = ap (own_step last word s) h ∙ ap (listed_step last word s) e
@@ -252,9 +252,80 @@ offset16_goes : (last : ℕ) (k : Known) (n : Nesting) (more : List ℕ) → is_
     → GoesOn (keyword_step last keyword.Offset16 (state_of k n more)) (behind phrase.Offset16 k) more
 offset16_goes last k n more h = record { nesting = n; goes = when_so (is_straight n) _ _ h }
 
--- the keyword of a phrase goes on
-pub keyword_goes : (last : ℕ) (word : List ℕ) (p : Phrase) (key : Keyword) (k : Known) (n : Nesting) (more : List ℕ)
-    → Some key ≡ keyword_of p → IsPlaced k word p → Parts more → run k.items nothing ≡ Some (shape_of n)
-    → MayStand (items_of p k) n
-    → GoesOn (keyword_step last key (state_of k n (taken p more))) (behind p k) more
-keyword_goes = ?
+-- the items so far are those before, with none behind them
+no_items : (l : Known) (n : Nesting) (more : List ℕ) → Goes (state_of l n more) ≡ Goes (state_of (with_items [] l) n more)
+no_items l n more = ap (λ is. Goes (state_of (record l { items = is }) n more)) (sym (append-nil l.items))
+
+-- each phrase goes on, where it can stand
+pub phrase_goes : (last : ℕ) (word : List ℕ) (p : Phrase) (k : Known) (n : Nesting) (more : List ℕ)
+    → own_in k.names word ≡ own_of p → IsKeyword word p → IsPlaced k word p → Parts more
+    → run k.items nothing ≡ Some (shape_of n) → MayStand (items_of p k) n
+    → GoesOn (word_step last word (state_of k n (taken p more))) (behind p k) more
+phrase_goes last word (phrase.OwnWord j) k n more h e w p r m = own_goes last j word k n more h
+phrase_goes last word (phrase.BoardWord c) k n more h e w p r m =
+    goes_by _ _ _ more (keyed last word (state_of k n more) None h e) (board_goes word c k n more w)
+phrase_goes last word (phrase.Number x) k n more h e w p r m =
+    goes_by _ _ _ more (keyed last word (state_of k n more) None h e) (digits_go word x k n more w.0 w.1)
+phrase_goes last word (phrase.NumberIn base digits x) k n more h e w p r m =
+    by_keyword last word _ k _ n _ more h e (number_goes last base digits x k n more w.0 w.1 p)
+phrase_goes last word (phrase.Character b bytes) k n more h e w p r m =
+    by_keyword last word _ k _ n _ more h e (character_goes last b bytes k n more w p)
+phrase_goes last word (phrase.Short t) k n more h e w p r m =
+    by_keyword last word _ k _ n _ more h e (record { nesting = n; goes = refl })
+phrase_goes last word (phrase.Pair t u) k n more h e w p r m =
+    by_keyword last word _ k _ n _ more h e (record { nesting = n; goes = refl })
+phrase_goes last word (phrase.Text q bytes) k n more h e w p r m =
+    by_keyword last word _ k _ n _ more h e (text_goes last q bytes k n more w.0 w.1 p)
+phrase_goes last word (phrase.Bytes bytes) k n more h e w p r m =
+    by_keyword last word _ k _ n _ more h e (bytes_go last bytes k n more w.0 w.1 p)
+phrase_goes last word (phrase.Comment bytes) k n more h e w p r m =
+    by_keyword last word _ k _ n _ more h e (comment_goes last bytes k n more w)
+phrase_goes last word (phrase.Naming t name c) k n more h e w p r m =
+    by_keyword last word _ k _ n _ more h e (naming_goes last t name c k n more w.0 w.1 p)
+phrase_goes last word (phrase.Headers maker) k n more h e w p r m =
+    by_keyword last word _ k _ n _ more h e
+    (record { nesting = n; goes = no_items (record k { maker = maker }) n more })
+phrase_goes last word (phrase.Base base) k n more h e w p r m =
+    by_keyword last word _ k _ n _ more h e
+    (record { nesting = n; goes = no_items (record k { radix = base }) n more })
+phrase_goes last word (phrase.Defining t name) k n more h e w p r m =
+    by_keyword last word _ k _ n _ more h e (defining_goes last t name k n more w.0 (outside_there k n r w.1) p)
+phrase_goes last word (phrase.Colon name) k n more h e w p r m =
+    let t = making k.maker name (own_code (length k.names)) in
+    by_keyword last word _ k _ n _ more h e (colon_step_goes last name k n more w (colon_goes n t m) p)
+phrase_goes last word phrase.Semicolon k n more h e w p r m =
+    by_keyword last word _ k _ n _ more h e
+    (semicolon_step_goes (without_part part.Definition n) k n more (semicolon_goes n m))
+phrase_goes last word phrase.Recurse k n more h e w p r m =
+    by_keyword last word _ k _ n _ more h e (recurse_goes w.0 k.open_one k n more w.1)
+phrase_goes last word phrase.Offset16 k n more h e w p r m =
+    by_keyword last word _ k _ n _ more h e (offset16_goes last k n more (straight_there k n r w))
+phrase_goes last word phrase.If k n more h e w p r m =
+    by_keyword last word _ k _ n _ more h e (opened (Some (with_branch 1 n)) _ k n more refl)
+phrase_goes last word phrase.Else k n more h e w p r m =
+    by_keyword last word _ k _ n _ more h e
+    (opened (then_with_branch 1 (without_branch n)) _ k n more (else_goes n m))
+phrase_goes last word phrase.Then k n more h e w p r m =
+    by_keyword last word _ k _ n _ more h e (opened (without_branch n) _ k n more (then_goes n m))
+phrase_goes last word phrase.Begin k n more h e w p r m =
+    by_keyword last word _ k _ n _ more h e (opened (Some (with_part part.Begin 1 n)) _ k n more refl)
+phrase_goes last word (phrase.Back z) k n more h e w p r m =
+    by_keyword last word _ k _ n _ more h e (opened (without_begin n) _ k n more (back_goes z n m))
+phrase_goes last word phrase.Repeat k n more h e w p r m =
+    by_keyword last word _ k _ n _ more h e
+    (opened (then_without_branch (without_begin n)) _ k n more (repeat_goes n m))
+phrase_goes last word (phrase.Do q) k n more h e w p r m =
+    by_keyword last word _ k _ n _ more h e (opened (Some (with_part part.Do 1 n)) _ k n more refl)
+phrase_goes last word (phrase.Loop q) k n more h e w p r m =
+    by_keyword last word _ k _ n _ more h e (opened (without_part part.Do n) _ k n more (loop_goes q n m))
+phrase_goes last word phrase.Leave k n more h e w p r m =
+    by_keyword last word _ k _ n _ more h e (opened (opened_if (in_loop n.parts) n) _ k n more (leave_goes n m))
+phrase_goes last word phrase.Case k n more h e w p r m =
+    by_keyword last word _ k _ n _ more h e (opened (Some (with_part part.Case 1 n)) _ k n more refl)
+phrase_goes last word phrase.Of k n more h e w p r m =
+    by_keyword last word _ k _ n _ more h e
+    (opened (opened_if (on_case n) (with_part part.Of 1 n)) _ k n more (of_goes n m))
+phrase_goes last word phrase.EndOf k n more h e w p r m =
+    by_keyword last word _ k _ n _ more h e (opened (without_part part.Of n) _ k n more (end_of_goes n m))
+phrase_goes last word phrase.EndCase k n more h e w p r m =
+    by_keyword last word _ k _ n _ more h e (opened (without_part part.Case n) _ k n more (end_case_goes n m))

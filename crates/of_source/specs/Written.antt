@@ -108,7 +108,7 @@ IsPlaced k word _ = Unit {0}
 -- a phrase can stand here: its word is spelled so, and no own name hides it
 pub record IsSaid (k : Known) (p : Spelled) : Type 0 where
   pub spelled : IsWord p.word
-  pub known : own_in k.names p.word ≡ own_of p.phrase
+  pub own : own_in k.names p.word ≡ own_of p.phrase
   pub means : IsKeyword p.word p.phrase
   pub placed : IsPlaced k p.word p.phrase
 
