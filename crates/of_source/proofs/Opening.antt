@@ -1,9 +1,8 @@
 -- Where an item may stand, its word goes on.
-use Rattle.std.proofs.Common.{◌≡◌, ℕ, zero, suc, ◌-◌, Bool, true, false, not, ◌&&◌, List, [], ◌∷◌, ◌++◌, length, Option}
-use Rattle.std.proofs.Common.{Some, None, nat_eq, nat_lt, if◌then◌else◌, refl, sym, ap, subst, ◌∙◌, arith}
-use Rattle.std.specs.Prelude.{option_and_then, map, is_some}
+use Rattle.std.proofs.Common.{◌≡◌, ℕ, suc, Bool, true, false, not, ◌&&◌, List, [], ◌∷◌, length, Option}
+use Rattle.std.proofs.Common.{Some, None, nat_eq, nat_lt, if◌then◌else◌, refl, sym, ap, ◌∙◌, arith}
+use Rattle.std.specs.Prelude.{option_and_then, is_some}
 use Rattle.std.specs.List.{list_all}
-use Rattle.std.proofs.lemmas.Bool.Decides.{nat_tests}
 use Rattle.of_stream.specs.Decoding.{Token}
 use Rattle.of_source.specs.declared.nesting.Part.{Part}
 use Rattle.of_source.specs.declared.nesting.Part.TheVariants as part

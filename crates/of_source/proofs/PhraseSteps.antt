@@ -1,6 +1,6 @@
 -- A phrase that can stand where it does takes the source on to what is known behind it.
-use Rattle.std.proofs.Common.{◌≡◌, ◌≢◌, ℕ, ◌<◌, ◌≤◌, Bool, true, false, List, [], ◌∷◌, ◌++◌, length, codes, Option, Some}
-use Rattle.std.proofs.Common.{None, Result, Ok, Err, nat_lt, if◌then◌else◌, refl, sym, ap, subst, ◌∙◌, arith}
+use Rattle.std.proofs.Common.{◌≡◌, ℕ, ◌<◌, ◌≤◌, Bool, true, false, List, [], ◌∷◌, ◌++◌, length, Option, Some}
+use Rattle.std.proofs.Common.{None, nat_lt, if◌then◌else◌, refl, sym, ap, subst, ◌∙◌, arith}
 use Rattle.std.specs.Prelude.{is_some}
 use Rattle.std.specs.List.{All}
 use Rattle.std.proofs.lemmas.Bool.Decides.{nat_tests}
@@ -8,14 +8,13 @@ use Rattle.std.proofs.lemmas.List.{append-nil}
 use Rattle.of_cells.specs.declared.cells.Cell.{Cell}
 use Rattle.of_fcodes.specs.declared.codes.FCode.{FCode}
 use Rattle.of_source.specs.declared.fault.SourceFault.{SourceFault}
-use Rattle.of_source.specs.declared.fault.SourceFault.TheVariants.{Unclosed, Unknown, BadNumber, TooLong}
+use Rattle.of_source.specs.declared.fault.SourceFault.TheVariants.{BadNumber}
 use Rattle.of_source.specs.declared.keyword.Keyword.{Keyword}
 use Rattle.of_source.specs.declared.keyword.Keyword.TheVariants as keyword
 use Rattle.of_source.specs.declared.keyword.Quote.{Quote}
 use Rattle.of_source.specs.declared.keyword.Quote.TheVariants as quote
 use Rattle.of_source.specs.declared.keyword.Radix.{Radix}
 use Rattle.of_source.specs.declared.nesting.Part.TheVariants as part
-use Rattle.of_source.specs.declared.number.Number.{Number}
 use Rattle.of_source.specs.declared.number.Number.TheVariants.{Value}
 use Rattle.of_source.specs.Keywords.{keyword_named, ordinary_named}
 use Rattle.of_source.specs.Names.{Own, own_in}
@@ -27,17 +26,16 @@ use Rattle.of_source.specs.Nesting.{Nesting, with_branch, with_part, without_bra
 use Rattle.of_source.specs.Nesting.{then_without_branch, then_with_branch, opened_if, in_definition, in_loop, on_case}
 use Rattle.of_source.specs.Nesting.{is_straight}
 use Rattle.of_source.specs.Shapes.{Shape, nothing, run, shape_of}
-use Rattle.of_source.specs.Scan.{Rest, rest_at, next_word, Found, quoted_string, plain_string}
-use Rattle.of_source.specs.Steps.{State, Step, Goes, Fails, giving, opening, reading_on, knowing, defining, with_next}
-use Rattle.of_source.specs.Steps.{with_name, name_found, name_if, with_string, with_code, if_open, if_ends, ended}
-use Rattle.of_source.specs.Steps.{number_or_bad, number_items, comment_step, code_named, making_items, recurse_step}
+use Rattle.of_source.specs.Scan.{Rest, rest_at, next_word, Found}
+use Rattle.of_source.specs.Steps.{State, Step, Goes, giving, reading_on, with_next}
+use Rattle.of_source.specs.Steps.{with_name, name_found, with_string, with_code, if_open, if_ends, ended}
+use Rattle.of_source.specs.Steps.{number_or_bad, number_items, comment_step, code_named, recurse_step}
 use Rattle.of_source.specs.Steps.{keyword_step, number_word_step, ordinary_step, listed_step, own_step, word_step}
-use Rattle.of_source.specs.Steps.{next_step}
 use Rattle.of_source.specs.Phrases.{Phrase, Spelled, Known, after_blank, in_digits, taken, written, items_of, behind}
 use Rattle.of_source.specs.Phrases.{next_own, named}
 use Rattle.of_source.specs.Phrases as phrase
-use Rattle.of_source.specs.Written.{IsWord, IsName, IsWithin, LeaveOpen, IsOutside, IsStraight, keyword_of, own_of}
-use Rattle.of_source.specs.Written.{IsKeyword, IsPlaced, IsSaid}
+use Rattle.of_source.specs.Written.{IsWord, IsName, IsWithin, LeaveOpen, IsOutside, IsStraight, own_of}
+use Rattle.of_source.specs.Written.{IsKeyword, IsPlaced}
 use Rattle.of_source.proofs.ReadingBack.{Parts, word_behind, plain_behind, quoted_behind, digits_behind}
 use Rattle.of_source.proofs.Opening.{MayStand, then_goes, else_goes, back_goes, repeat_goes, semicolon_goes, loop_goes}
 use Rattle.of_source.proofs.Opening.{end_of_goes, end_case_goes, leave_goes, of_goes, colon_goes, outside_goes}

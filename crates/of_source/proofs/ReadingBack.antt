@@ -1,7 +1,7 @@
 -- Words and strings that were written are read back.
-use Rattle.std.proofs.Common.{◌≡◌, ◌≢◌, ℕ, zero, suc, ◌+◌, ◌*◌, ◌/◌, ◌%◌, ◌<◌, ◌≤◌, Bool, true, false, not, List, []}
-use Rattle.std.proofs.Common.{◌∷◌, ◌++◌, length, take, drop, take_while, Option, Some, None, nat_eq, nat_lt, nat_le, refl}
-use Rattle.std.proofs.Common.{sym, ap, subst, ◌∙◌, arith, if◌then◌else◌}
+use Rattle.std.proofs.Common.{◌≡◌, ◌≢◌, ℕ, suc, ◌+◌, ◌*◌, ◌/◌, ◌%◌, ◌<◌, ◌≤◌, Bool, true, false, not, List, []}
+use Rattle.std.proofs.Common.{◌∷◌, ◌++◌, length, take, drop, take_while, Option, Some, None, nat_eq, nat_lt, refl}
+use Rattle.std.proofs.Common.{ap, ◌∙◌, arith, if◌then◌else◌}
 use Rattle.std.specs.Char.{digit_char}
 use Rattle.std.specs.List.{All}
 use Rattle.std.proofs.Math.Nat.{div-add-mod}
@@ -12,8 +12,8 @@ use Rattle.std.proofs.lemmas.List.Sums.{take_while-cons}
 use Rattle.std.proofs.lemmas.List.Elements.{All-head, All-tail}
 use Rattle.std.proofs.lemmas.Str.{digit_value-digit_char}
 use Rattle.of_format.specs.Digits.{digit_value, digit_of}
-use Rattle.of_source.specs.Scan.{Rest, rest_at, is_blank, line_behind, at_word, word_length, word_at, next_word, Found}
-use Rattle.of_source.specs.Scan.{byte_before, up_to, byte_of, before_found, pairs, group, bytes_before, grouped}
+use Rattle.of_source.specs.Scan.{Rest, rest_at, is_blank, at_word, word_length, word_at, next_word}
+use Rattle.of_source.specs.Scan.{byte_before, up_to, byte_of, pairs, group, bytes_before, grouped}
 use Rattle.of_source.specs.Scan.{and_grouped, quoted, quoted_string, plain_string}
 use Rattle.of_source.specs.Phrases.{after_blank, in_digits}
 use Rattle.of_source.specs.Written.{IsWord, IsWithin}

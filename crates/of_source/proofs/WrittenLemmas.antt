@@ -1,26 +1,22 @@
 -- Phrases that are those of a nest are accepted.
-use Rattle.std.proofs.Common.{◌≡◌, ℕ, zero, suc, ◌<◌, Bool, true, false, ◌&&◌, List, [], ◌∷◌, ◌++◌, length, codes, Option}
-use Rattle.std.proofs.Common.{Some, None, Result, Ok, nat_lt, if◌then◌else◌, refl, sym, ap, subst, ◌∙◌, arith}
+use Rattle.std.proofs.Common.{◌≡◌, ℕ, zero, suc, ◌<◌, Bool, true, false, ◌&&◌, List, [], ◌∷◌, ◌++◌, length, codes}
+use Rattle.std.proofs.Common.{Some, None, Ok, nat_lt, refl, sym, ap, subst, ◌∙◌, arith}
 use Rattle.std.specs.List.{All, list_all}
 use Rattle.std.proofs.lemmas.Bool.Decides.{nat_tests}
 use Rattle.std.proofs.lemmas.List.{length-append}
 use Rattle.std.proofs.lemmas.List.Elements.{All-nil, All-cons}
 use Rattle.of_stream.specs.declared.stream.OffsetSize.{OffsetSize}
 use Rattle.of_stream.specs.declared.stream.OffsetSize.TheVariants as size
-use Rattle.of_source.specs.declared.fault.SourceFault.{SourceFault}
-use Rattle.of_source.specs.declared.fault.SourceFault.TheVariants.{Unclosed}
 use Rattle.of_source.specs.declared.keyword.Keyword.TheVariants as keyword
-use Rattle.of_source.specs.Keywords.{keyword_named, text_rows, control_rows}
+use Rattle.of_source.specs.Keywords.{keyword_named, text_rows}
 use Rattle.of_source.specs.Names.{own_in}
-use Rattle.of_source.specs.Items.{Item, Source}
-use Rattle.of_source.specs.Nest.{IsNested}
-use Rattle.of_source.specs.Nesting.{Nesting, nothing_open, is_closed, first_open}
+use Rattle.of_source.specs.Nesting.{Nesting, nothing_open, is_closed}
 use Rattle.of_source.specs.Shapes.{Shape, nothing, run, shape_of}
 use Rattle.of_source.specs.Scan.{Rest, rest_at, next_word, last_line}
-use Rattle.of_source.specs.Steps.{State, Step, Goes, Ends, Fails, beginning, reading_on, with_next, ended, word_step}
-use Rattle.of_source.specs.Steps.{listed_step, keyword_step, next_step}
-use Rattle.of_source.specs.Parsing.{Beyond, Word, Nothing, is_word, beyond_word, beyond, trailed, parsed}
-use Rattle.of_source.specs.Order.{behind_word, behind_words, outcome_at, IsDecided, BeginsWith}
+use Rattle.of_source.specs.Steps.{Ends, beginning, reading_on, with_next, ended, word_step}
+use Rattle.of_source.specs.Steps.{next_step}
+use Rattle.of_source.specs.Parsing.{Word, Nothing, is_word, beyond_word, beyond, trailed, parsed}
+use Rattle.of_source.specs.Order.{behind_word, behind_words, outcome_at, IsDecided}
 use Rattle.of_source.specs.Phrases.{Phrase, Spelled, Known, nothing_known, after_blank, taken, written, all_written}
 use Rattle.of_source.specs.Phrases.{version_word, text_of, items_of, behind, all_behind, items_in}
 use Rattle.of_source.specs.Phrases as phrase

@@ -1,5 +1,5 @@
 -- A source as a list of phrases: each is a word with all that it takes from the text.
-use Rattle.std.specs.Prelude.{ℕ, ◌+◌, ◌/◌, ◌%◌, Bool, false, List, [], ◌∷◌, ◌++◌, length, codes, Option, Some, None}
+use Rattle.std.specs.Prelude.{ℕ, ◌/◌, ◌%◌, Bool, false, List, [], ◌∷◌, ◌++◌, length, codes, Option, Some, None}
 use Rattle.std.specs.Char.{digit_char}
 use Rattle.of_cells.specs.declared.cells.Cell.{Cell}
 use Rattle.of_fcodes.specs.declared.codes.FCode.{FCode}
@@ -11,8 +11,6 @@ use Rattle.of_source.specs.declared.keyword.Radix.{Radix}
 use Rattle.of_source.specs.declared.keyword.Radix.TheVariants.{Hexadecimal}
 use Rattle.of_source.specs.declared.keyword.Quote.{Quote}
 use Rattle.of_source.specs.declared.keyword.Quote.TheVariants as quote
-use Rattle.of_source.specs.declared.keyword.Keyword.{Keyword}
-use Rattle.of_source.specs.declared.keyword.Keyword.TheVariants as keyword
 use Rattle.of_source.specs.Names.{Own}
 use Rattle.of_source.specs.Items.{Item, own_code, call, string, naming, making, bare}
 use Rattle.of_source.specs.Items as item

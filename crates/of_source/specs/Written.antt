@@ -1,5 +1,5 @@
 -- Which phrases can be written: what must hold of each where it stands.
-use Rattle.std.specs.Prelude.{◌≡◌, ◌≢◌, ℕ, ◌<◌, ◌≤◌, Bool, true, false, List, [], ◌∷◌, length, codes, Option, Some, None, Ok}
+use Rattle.std.specs.Prelude.{◌≡◌, ◌≢◌, ℕ, ◌<◌, ◌≤◌, true, false, List, [], ◌∷◌, length, codes, Option, Some, None, Ok}
 use Rattle.std.specs.List.{All, list_all}
 use Rattle.of_stream.specs.declared.stream.OffsetSize.{OffsetSize}
 use Rattle.of_source.specs.declared.keyword.Quote.TheVariants as quote
@@ -12,7 +12,7 @@ use Rattle.of_source.specs.Keywords.{keyword_named, ordinary_named}
 use Rattle.of_source.specs.Names.{Own, own_in}
 use Rattle.of_source.specs.Numbers.{number_in}
 use Rattle.of_source.specs.Radix.{base_of}
-use Rattle.of_source.specs.Items.{Item, Source}
+use Rattle.of_source.specs.Items.{Item}
 use Rattle.of_source.specs.Nest.{IsNested}
 use Rattle.of_source.specs.Nesting.{is_same}
 use Rattle.of_source.specs.Shapes.{Shape, nothing, around_of, run}
