@@ -46,14 +46,14 @@ pub then_goes : (n : Nesting) → MayStand (item.Then ∷ []) n → is_some (wit
 then_goes n h =
     branch_there n (when_some (nat_lt (floor_of (shapes n.parts)) (length n.branches)) _ (run []) h.0 h.1).0
 
-another : (o : Option Nesting) → is_some o ≡ true → is_some (then_with_branch 1 o) ≡ true
-another None h = absurd cc
-another (Some n) h = refl
+another : (l : ℕ) (o : Option Nesting) → is_some o ≡ true → is_some (then_with_branch l o) ≡ true
+another l None h = absurd cc
+another l (Some n) h = refl
 
-pub else_goes : (n : Nesting) → MayStand (item.Else 1 ∷ []) n
-    → is_some (then_with_branch 1 (without_branch n)) ≡ true
-else_goes n h =
-    another (without_branch n)
+pub else_goes : (l : ℕ) (n : Nesting) → MayStand (item.Else l ∷ []) n
+    → is_some (then_with_branch l (without_branch n)) ≡ true
+else_goes l n h =
+    another l (without_branch n)
     (branch_there n (when_some (nat_lt (floor_of (shapes n.parts)) (length n.branches)) _ (run []) h.0 h.1).0)
 
 -- ---- parts
@@ -68,12 +68,12 @@ begin_at bs (f ∷ fs) k o h =
     let e : is_same f.part part.Begin ≡ true = (both (is_same f.part part.Begin) true w.0).0 in
     (m, rw e refl, w.1)
 
-pub back_goes : (z : Bool) (n : Nesting) → MayStand (item.Back z 1 ∷ []) n → is_some (without_begin n) ≡ true
-back_goes z n h = ap is_some (begin_at n.branches n.parts (run []) h.0 h.1).1
+pub back_goes : (z : Bool) (l : ℕ) (n : Nesting) → MayStand (item.Back z l ∷ []) n → is_some (without_begin n) ≡ true
+back_goes z l n h = ap is_some (begin_at n.branches n.parts (run []) h.0 h.1).1
 
-pub repeat_goes : (n : Nesting) → MayStand (item.Back false 1 ∷ item.Then ∷ []) n
+pub repeat_goes : (l : ℕ) (n : Nesting) → MayStand (item.Back false l ∷ item.Then ∷ []) n
     → is_some (then_without_branch (without_begin n)) ≡ true
-repeat_goes n h =
+repeat_goes l n h =
     let w = begin_at n.branches n.parts (run (item.Then ∷ [])) h.0 h.1 in
     ap (λ o. is_some (then_without_branch o)) w.1 ∙ then_goes w.0 (h.0, w.2)
 
@@ -89,11 +89,11 @@ pub semicolon_goes : (n : Nesting) → MayStand (item.Semicolon ∷ []) n
     → is_some (without_part part.Definition n) ≡ true
 semicolon_goes n h = part_at part.Definition n.branches n.parts h.0 (λ b c. refl) h.1
 
-pub loop_goes : (q : Bool) (n : Nesting) → MayStand (item.Loop q 1 ∷ []) n → is_some (without_part part.Do n) ≡ true
-loop_goes q n h = part_at part.Do n.branches n.parts h.0 (λ b c. refl) h.1
+pub loop_goes : (q : Bool) (l : ℕ) (n : Nesting) → MayStand (item.Loop q l ∷ []) n → is_some (without_part part.Do n) ≡ true
+loop_goes q l n h = part_at part.Do n.branches n.parts h.0 (λ b c. refl) h.1
 
-pub end_of_goes : (n : Nesting) → MayStand (item.EndOf 1 ∷ []) n → is_some (without_part part.Of n) ≡ true
-end_of_goes n h = part_at part.Of n.branches n.parts h.0 (λ b c. refl) h.1
+pub end_of_goes : (l : ℕ) (n : Nesting) → MayStand (item.EndOf l ∷ []) n → is_some (without_part part.Of n) ≡ true
+end_of_goes l n h = part_at part.Of n.branches n.parts h.0 (λ b c. refl) h.1
 
 pub end_case_goes : (n : Nesting) → MayStand (item.EndCase ∷ []) n → is_some (without_part part.Case n) ≡ true
 end_case_goes n h = part_at part.Case n.branches n.parts h.0 (λ b c. refl) h.1
@@ -103,9 +103,9 @@ leave_goes n h =
     let w = when_some (around_of (shapes n.parts)).loops (shape_of n) (run []) h.0 h.1 in
     some_if _ _ (sym (loops-shapes n.parts) ∙ w.0)
 
-pub of_goes : (n : Nesting) → MayStand (item.Of 1 ∷ []) n
-    → is_some (opened_if (on_case n) (with_part part.Of 1 n)) ≡ true
-of_goes n h =
+pub of_goes : (l : ℕ) (n : Nesting) → MayStand (item.Of l ∷ []) n
+    → is_some (opened_if (on_case n) (with_part part.Of l n)) ≡ true
+of_goes l n h =
     let a : (around_of (shapes n.parts)).cases ≡ is_in part.Case n.parts = cases-shapes n.parts in
     let b : floor_of (shapes n.parts) ≡ floor n.parts = floor-shapes n.parts in
     let w = when_some ((around_of (shapes n.parts)).cases && nat_eq (floor_of (shapes n.parts)) (length n.branches)) _

@@ -1,5 +1,5 @@
 -- A phrase that can stand where it does takes the source on to what is known behind it.
-use Rattle.std.proofs.Common.{◌≡◌, ℕ, ◌<◌, ◌≤◌, Bool, true, false, List, [], ◌∷◌, ◌++◌, length, Option, Some}
+use Rattle.std.proofs.Common.{◌≡◌, ◌≢◌, ℕ, ◌<◌, ◌≤◌, Bool, true, false, List, [], ◌∷◌, ◌++◌, length, Option, Some}
 use Rattle.std.proofs.Common.{None, nat_lt, if◌then◌else◌, refl, sym, ap, subst, ◌∙◌, arith}
 use Rattle.std.specs.Prelude.{is_some}
 use Rattle.std.specs.List.{All}
@@ -35,8 +35,8 @@ use Rattle.of_source.specs.Phrases.{Phrase, Spelled, Known, after_blank, in_digi
 use Rattle.of_source.specs.Phrases.{next_own, named}
 use Rattle.of_source.specs.Phrases as phrase
 use Rattle.of_source.specs.Written.{IsWord, IsName, IsWithin, LeaveOpen, IsOutside, IsStraight, own_of}
-use Rattle.of_source.specs.Written.{IsKeyword, IsPlaced}
-use Rattle.of_source.proofs.ReadingBack.{Parts, word_behind, plain_behind, quoted_behind, digits_behind}
+use Rattle.of_source.specs.Written.{IsKeyword, IsPlaced, IsFollowed}
+use Rattle.of_source.proofs.ReadingBack.{Parts, word_behind, line_left, plain_behind, quoted_behind, digits_behind}
 use Rattle.of_source.proofs.Opening.{MayStand, then_goes, else_goes, back_goes, repeat_goes, semicolon_goes, loop_goes}
 use Rattle.of_source.proofs.Opening.{end_of_goes, end_case_goes, leave_goes, of_goes, colon_goes, outside_goes}
 use Rattle.of_source.proofs.Opening.{straight_goes}
@@ -44,7 +44,7 @@ use Rattle.of_source.proofs.Opening.{straight_goes}
 -- the state at a text where this is known and open
 abbrev pub state_of : Known → Nesting → List ℕ → State
 state_of k n text = record {
-  rest = rest_at 1 text;
+  rest = rest_at k.line text;
   radix = k.radix;
   maker = k.maker;
   known = k.names;
@@ -67,9 +67,9 @@ with_items is k = record k { items = k.items ++ is }
 
 -- ---- words that read on
 
-next_by : (f : SourceFault) (word more : List ℕ) (go : List ℕ → Rest → Step) → IsWord word → Parts more
-    → with_next f (next_word (rest_at 1 (after_blank (word ++ more)))) go ≡ go word (rest_at 1 more)
-next_by f word more go h p = ap (λ o. with_next f o go) (word_behind word more h p)
+next_by : (f : SourceFault) (line : ℕ) (word more : List ℕ) (go : List ℕ → Rest → Step) → IsWord word → Parts more
+    → with_next f (next_word (rest_at line (after_blank (word ++ more)))) go ≡ go word (rest_at line more)
+next_by f line word more go h p = ap (λ o. with_next f o go) (word_behind line word more h p)
 
 pub number_goes : (last : ℕ) (base : Radix) (word : List ℕ) (x : Cell) (k : Known) (n : Nesting) (more : List ℕ)
     → IsWord word → number_in (base_of base) word ≡ Value x → Parts more
@@ -78,8 +78,8 @@ pub number_goes : (last : ℕ) (base : Radix) (word : List ℕ) (x : Cell) (k : 
 number_goes last base word x k n more h e p = record {
   nesting = n;
   goes =
-      next_by (BadNumber 1) word more _ h p
-      ∙ ap (λ v. number_or_bad 1 v (λ c. Goes (giving (number_items c) (state_of k n more)))) e;
+      next_by (BadNumber k.line) k.line word more _ h p
+      ∙ ap (λ v. number_or_bad k.line v (λ c. Goes (giving (number_items c) (state_of k n more)))) e;
 }
 
 pub character_goes : (last b : ℕ) (word : List ℕ) (k : Known) (n : Nesting) (more : List ℕ) → IsWord (b ∷ word)
@@ -87,7 +87,7 @@ pub character_goes : (last b : ℕ) (word : List ℕ) (k : Known) (n : Nesting) 
     → GoesOn (keyword_step last keyword.Character (state_of k n (after_blank (b ∷ word ++ more))))
     (with_items (number_items (record { 0 = b })) k) more
 character_goes last b word k n more h p =
-    record { nesting = n; goes = next_by (ended last (state_of k n (after_blank (b ∷ word ++ more)))) (b ∷ word) more _ h p }
+    record { nesting = n; goes = next_by (ended last (state_of k n (after_blank (b ∷ word ++ more)))) k.line (b ∷ word) more _ h p }
 
 pub naming_goes : (last : ℕ) (t : FCode) (name : List ℕ) (c : FCode) (k : Known) (n : Nesting) (more : List ℕ)
     → IsWord name → code_named k.names name ≡ Some c → Parts more
@@ -96,8 +96,8 @@ pub naming_goes : (last : ℕ) (t : FCode) (name : List ℕ) (c : FCode) (k : Kn
 naming_goes last t name c k n more h e p = record {
   nesting = n;
   goes =
-      next_by (ended last (state_of k n (after_blank (name ++ more)))) name more _ h p
-      ∙ ap (λ o. with_code 1 o (λ d. Goes (giving (item.Plain (naming t d) ∷ []) (state_of k n more)))) e;
+      next_by (ended last (state_of k n (after_blank (name ++ more)))) k.line name more _ h p
+      ∙ ap (λ o. with_code k.line o (λ d. Goes (giving (item.Plain (naming t d) ∷ []) (state_of k n more)))) e;
 }
 
 short_string : (s : State) (bytes more : List ℕ) (f : Found) (go : List ℕ → State → Step) → f ≡ Some (bytes, more)
@@ -147,10 +147,10 @@ comment_goes last bytes k n more h = record {
 name_by : (last : ℕ) (name more : List ℕ) (k : Known) (n : Nesting) (go : List ℕ → State → Step) → IsName name
     → Parts more
     → with_name (name_found last (state_of k n (after_blank (name ++ more)))
-    (next_word (rest_at 1 (after_blank (name ++ more))))) go ≡ go name (state_of k n more)
+    (next_word (rest_at k.line (after_blank (name ++ more))))) go ≡ go name (state_of k n more)
 name_by last name more k n go h p =
     let t : nat_lt 31 (length name) ≡ false = short (length name) h.1 in
-    ap (λ o. with_name (name_found last (state_of k n (after_blank (name ++ more))) o) go) (word_behind name more h.0 p)
+    ap (λ o. with_name (name_found last (state_of k n (after_blank (name ++ more))) o) go) (word_behind k.line name more h.0 p)
     ∙ rw t refl
   where
     short : (l : ℕ) → l ≤ 31 → nat_lt 31 l ≡ false
@@ -176,10 +176,10 @@ pub colon_step_goes : (last : ℕ) (name : List ℕ) (k : Known) (n : Nesting) (
     → GoesOn (keyword_step last keyword.Colon (state_of k n (after_blank (name ++ more))))
     (behind (phrase.Colon name) k) more
 colon_step_goes last name k n more h e p = record {
-  nesting = with_part part.Definition 1 n;
+  nesting = with_part part.Definition k.line n;
   goes =
       unless (in_definition n.parts) _ _ e
-      ∙ name_by last name more k (with_part part.Definition 1 n) _ h p;
+      ∙ name_by last name more k (with_part part.Definition k.line n) _ h p;
 }
 
 pub semicolon_step_goes : (o : Option Nesting) (k : Known) (n : Nesting) (more : List ℕ) → is_some o ≡ true
@@ -254,76 +254,86 @@ offset16_goes last k n more h = record { nesting = n; goes = when_so (is_straigh
 no_items : (l : Known) (n : Nesting) (more : List ℕ) → Goes (state_of l n more) ≡ Goes (state_of (with_items [] l) n more)
 no_items l n more = ap (λ is. Goes (state_of (record l { items = is }) n more)) (sym (append-nil l.items))
 
+line_comment_goes : (last : ℕ) (bytes : List ℕ) (k : Known) (n : Nesting) (more : List ℕ)
+    → All (λ b. b ≢ 10) bytes → IsFollowed (phrase.LineComment bytes) more
+    → GoesOn (keyword_step last keyword.LineComment (state_of k n (after_blank (bytes ++ more)))) (with_items [] k) more
+line_comment_goes last bytes k n more h f = record {
+  nesting = n;
+  goes = ap (λ t. Goes (state_of k n t)) (line_left bytes more h f) ∙ no_items k n more;
+}
+
 -- each phrase goes on, where it can stand
 pub phrase_goes : (last : ℕ) (word : List ℕ) (p : Phrase) (k : Known) (n : Nesting) (more : List ℕ)
     → own_in k.names word ≡ own_of p → IsKeyword word p → IsPlaced k word p → Parts more
-    → run k.items nothing ≡ Some (shape_of n) → MayStand (items_of p k) n
+    → run k.items nothing ≡ Some (shape_of n) → MayStand (items_of p k) n → IsFollowed p more
     → GoesOn (word_step last word (state_of k n (taken p more))) (behind p k) more
-phrase_goes last word (phrase.OwnWord j) k n more h e w p r m = own_goes last j word k n more h
-phrase_goes last word (phrase.BoardWord c) k n more h e w p r m =
+phrase_goes last word (phrase.OwnWord j) k n more h e w p r m f = own_goes last j word k n more h
+phrase_goes last word (phrase.BoardWord c) k n more h e w p r m f =
     goes_by _ _ _ more (keyed last word (state_of k n more) None h e) (board_goes word c k n more w)
-phrase_goes last word (phrase.Number x) k n more h e w p r m =
+phrase_goes last word (phrase.Number x) k n more h e w p r m f =
     goes_by _ _ _ more (keyed last word (state_of k n more) None h e) (digits_go word x k n more w.0 w.1)
-phrase_goes last word (phrase.NumberIn base digits x) k n more h e w p r m =
+phrase_goes last word (phrase.NumberIn base digits x) k n more h e w p r m f =
     by_keyword last word _ k _ n _ more h e (number_goes last base digits x k n more w.0 w.1 p)
-phrase_goes last word (phrase.Character b bytes) k n more h e w p r m =
+phrase_goes last word (phrase.Character b bytes) k n more h e w p r m f =
     by_keyword last word _ k _ n _ more h e (character_goes last b bytes k n more w p)
-phrase_goes last word (phrase.Short t) k n more h e w p r m =
+phrase_goes last word (phrase.Short t) k n more h e w p r m f =
     by_keyword last word _ k _ n _ more h e (record { nesting = n; goes = refl })
-phrase_goes last word (phrase.Pair t u) k n more h e w p r m =
+phrase_goes last word (phrase.Pair t u) k n more h e w p r m f =
     by_keyword last word _ k _ n _ more h e (record { nesting = n; goes = refl })
-phrase_goes last word (phrase.Text q bytes) k n more h e w p r m =
+phrase_goes last word (phrase.Text q bytes) k n more h e w p r m f =
     by_keyword last word _ k _ n _ more h e (text_goes last q bytes k n more w.0 w.1 p)
-phrase_goes last word (phrase.Bytes bytes) k n more h e w p r m =
+phrase_goes last word (phrase.Bytes bytes) k n more h e w p r m f =
     by_keyword last word _ k _ n _ more h e (bytes_go last bytes k n more w.0 w.1 p)
-phrase_goes last word (phrase.Comment bytes) k n more h e w p r m =
+phrase_goes last word (phrase.Comment bytes) k n more h e w p r m f =
     by_keyword last word _ k _ n _ more h e (comment_goes last bytes k n more w)
-phrase_goes last word (phrase.Naming t name c) k n more h e w p r m =
+phrase_goes last word (phrase.LineComment bytes) k n more h e w p r m f =
+    by_keyword last word _ k _ n _ more h e (line_comment_goes last bytes k n more w f)
+phrase_goes last word (phrase.Naming t name c) k n more h e w p r m f =
     by_keyword last word _ k _ n _ more h e (naming_goes last t name c k n more w.0 w.1 p)
-phrase_goes last word (phrase.Headers maker) k n more h e w p r m =
+phrase_goes last word (phrase.Headers maker) k n more h e w p r m f =
     by_keyword last word _ k _ n _ more h e
     (record { nesting = n; goes = no_items (record k { maker = maker }) n more })
-phrase_goes last word (phrase.Base base) k n more h e w p r m =
+phrase_goes last word (phrase.Base base) k n more h e w p r m f =
     by_keyword last word _ k _ n _ more h e
     (record { nesting = n; goes = no_items (record k { radix = base }) n more })
-phrase_goes last word (phrase.Defining t name) k n more h e w p r m =
+phrase_goes last word (phrase.Defining t name) k n more h e w p r m f =
     by_keyword last word _ k _ n _ more h e (defining_goes last t name k n more w.0 (outside_there k n r w.1) p)
-phrase_goes last word (phrase.Colon name) k n more h e w p r m =
+phrase_goes last word (phrase.Colon name) k n more h e w p r m f =
     let t = making k.maker name (own_code (length k.names)) in
     by_keyword last word _ k _ n _ more h e (colon_step_goes last name k n more w (colon_goes n t m) p)
-phrase_goes last word phrase.Semicolon k n more h e w p r m =
+phrase_goes last word phrase.Semicolon k n more h e w p r m f =
     by_keyword last word _ k _ n _ more h e
     (semicolon_step_goes (without_part part.Definition n) k n more (semicolon_goes n m))
-phrase_goes last word phrase.Recurse k n more h e w p r m =
+phrase_goes last word phrase.Recurse k n more h e w p r m f =
     by_keyword last word _ k _ n _ more h e (recurse_goes w.0 k.open_one k n more w.1)
-phrase_goes last word phrase.Offset16 k n more h e w p r m =
+phrase_goes last word phrase.Offset16 k n more h e w p r m f =
     by_keyword last word _ k _ n _ more h e (offset16_goes last k n more (straight_there k n r w))
-phrase_goes last word phrase.If k n more h e w p r m =
-    by_keyword last word _ k _ n _ more h e (opened (Some (with_branch 1 n)) _ k n more refl)
-phrase_goes last word phrase.Else k n more h e w p r m =
+phrase_goes last word phrase.If k n more h e w p r m f =
+    by_keyword last word _ k _ n _ more h e (opened (Some (with_branch k.line n)) _ k n more refl)
+phrase_goes last word phrase.Else k n more h e w p r m f =
     by_keyword last word _ k _ n _ more h e
-    (opened (then_with_branch 1 (without_branch n)) _ k n more (else_goes n m))
-phrase_goes last word phrase.Then k n more h e w p r m =
+    (opened (then_with_branch k.line (without_branch n)) _ k n more (else_goes k.line n m))
+phrase_goes last word phrase.Then k n more h e w p r m f =
     by_keyword last word _ k _ n _ more h e (opened (without_branch n) _ k n more (then_goes n m))
-phrase_goes last word phrase.Begin k n more h e w p r m =
-    by_keyword last word _ k _ n _ more h e (opened (Some (with_part part.Begin 1 n)) _ k n more refl)
-phrase_goes last word (phrase.Back z) k n more h e w p r m =
-    by_keyword last word _ k _ n _ more h e (opened (without_begin n) _ k n more (back_goes z n m))
-phrase_goes last word phrase.Repeat k n more h e w p r m =
+phrase_goes last word phrase.Begin k n more h e w p r m f =
+    by_keyword last word _ k _ n _ more h e (opened (Some (with_part part.Begin k.line n)) _ k n more refl)
+phrase_goes last word (phrase.Back z) k n more h e w p r m f =
+    by_keyword last word _ k _ n _ more h e (opened (without_begin n) _ k n more (back_goes z k.line n m))
+phrase_goes last word phrase.Repeat k n more h e w p r m f =
     by_keyword last word _ k _ n _ more h e
-    (opened (then_without_branch (without_begin n)) _ k n more (repeat_goes n m))
-phrase_goes last word (phrase.Do q) k n more h e w p r m =
-    by_keyword last word _ k _ n _ more h e (opened (Some (with_part part.Do 1 n)) _ k n more refl)
-phrase_goes last word (phrase.Loop q) k n more h e w p r m =
-    by_keyword last word _ k _ n _ more h e (opened (without_part part.Do n) _ k n more (loop_goes q n m))
-phrase_goes last word phrase.Leave k n more h e w p r m =
+    (opened (then_without_branch (without_begin n)) _ k n more (repeat_goes k.line n m))
+phrase_goes last word (phrase.Do q) k n more h e w p r m f =
+    by_keyword last word _ k _ n _ more h e (opened (Some (with_part part.Do k.line n)) _ k n more refl)
+phrase_goes last word (phrase.Loop q) k n more h e w p r m f =
+    by_keyword last word _ k _ n _ more h e (opened (without_part part.Do n) _ k n more (loop_goes q k.line n m))
+phrase_goes last word phrase.Leave k n more h e w p r m f =
     by_keyword last word _ k _ n _ more h e (opened (opened_if (in_loop n.parts) n) _ k n more (leave_goes n m))
-phrase_goes last word phrase.Case k n more h e w p r m =
-    by_keyword last word _ k _ n _ more h e (opened (Some (with_part part.Case 1 n)) _ k n more refl)
-phrase_goes last word phrase.Of k n more h e w p r m =
+phrase_goes last word phrase.Case k n more h e w p r m f =
+    by_keyword last word _ k _ n _ more h e (opened (Some (with_part part.Case k.line n)) _ k n more refl)
+phrase_goes last word phrase.Of k n more h e w p r m f =
     by_keyword last word _ k _ n _ more h e
-    (opened (opened_if (on_case n) (with_part part.Of 1 n)) _ k n more (of_goes n m))
-phrase_goes last word phrase.EndOf k n more h e w p r m =
-    by_keyword last word _ k _ n _ more h e (opened (without_part part.Of n) _ k n more (end_of_goes n m))
-phrase_goes last word phrase.EndCase k n more h e w p r m =
+    (opened (opened_if (on_case n) (with_part part.Of k.line n)) _ k n more (of_goes k.line n m))
+phrase_goes last word phrase.EndOf k n more h e w p r m f =
+    by_keyword last word _ k _ n _ more h e (opened (without_part part.Of n) _ k n more (end_of_goes k.line n m))
+phrase_goes last word phrase.EndCase k n more h e w p r m f =
     by_keyword last word _ k _ n _ more h e (opened (without_part part.Case n) _ k n more (end_case_goes n m))

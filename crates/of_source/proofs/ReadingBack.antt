@@ -12,11 +12,12 @@ use Rattle.std.proofs.lemmas.List.Sums.{take_while-cons}
 use Rattle.std.proofs.lemmas.List.Elements.{All-head, All-tail}
 use Rattle.std.proofs.lemmas.Str.{digit_value-digit_char}
 use Rattle.of_format.specs.Digits.{digit_value, digit_of}
-use Rattle.of_source.specs.Scan.{Rest, rest_at, is_blank, at_word, word_length, word_at, next_word}
+use Rattle.of_source.specs.Scan.{Rest, rest_at, is_blank, line_behind, at_word, word_length, word_at, next_word}
 use Rattle.of_source.specs.Scan.{byte_before, up_to, byte_of, pairs, group, bytes_before, grouped}
-use Rattle.of_source.specs.Scan.{and_grouped, quoted, quoted_string, plain_string}
-use Rattle.of_source.specs.Phrases.{after_blank, in_digits}
-use Rattle.of_source.specs.Written.{IsWord, IsWithin}
+use Rattle.of_source.specs.Scan.{and_grouped, quoted, quoted_string, plain_string, line_end}
+use Rattle.of_source.specs.Phrases.{after_blank, in_digits, line_after}
+use Rattle.of_source.specs.Phrases as phrase
+use Rattle.of_source.specs.Written.{IsWord, AreBlanks, IsWithin, IsFollowed}
 use Rattle.of_source.proofs.Scanning.{passed}
 
 -- a text that ends the word before it
@@ -72,9 +73,42 @@ word_next line (b ∷ word) more h p =
     ∙ word_there line (b ∷ word) more h p
 
 -- a word behind a blank
-pub word_behind : (word more : List ℕ) → IsWord word → Parts more
-    → next_word (rest_at 1 (after_blank (word ++ more))) ≡ Some (word, rest_at 1 more)
-word_behind word more h p = word_next 1 word more h p
+pub word_behind : (line : ℕ) (word more : List ℕ) → IsWord word → Parts more
+    → next_word (rest_at line (after_blank (word ++ more))) ≡ Some (word, rest_at line more)
+word_behind line word more h p = word_next line word more h p
+
+blank_is : (b : ℕ) → b ≤ 0x20 → is_blank b ≡ true
+blank_is b l = grind (arith, nat_tests)
+
+-- past blanks
+blanks_passed : (blanks : List ℕ) (line : ℕ) (text : List ℕ) → AreBlanks blanks
+    → at_word line (blanks ++ text) ≡ at_word (line_after blanks line) text
+blanks_passed [] line text h = refl
+blanks_passed (b ∷ blanks) line text h =
+    let e : is_blank b ≡ true = blank_is b (All-head (λ c. c ≤ 0x20) b blanks h) in
+    rw e (blanks_passed blanks (line_behind b line) text (All-tail (λ c. c ≤ 0x20) b blanks h))
+
+-- a word behind blanks
+pub word_after : (blanks : List ℕ) (line : ℕ) (word more : List ℕ) → AreBlanks blanks → IsWord word → Parts more
+    → next_word (rest_at line (blanks ++ (word ++ more))) ≡ Some (word, rest_at (line_after blanks line) more)
+word_after blanks line word more b h p =
+    ap word_at (blanks_passed blanks line (word ++ more) b) ∙ word_next (line_after blanks line) word more h p
+
+-- no word behind blanks alone
+pub no_word_after : (blanks : List ℕ) (line : ℕ) → AreBlanks blanks → next_word (rest_at line blanks) ≡ None
+no_word_after [] line h = refl
+no_word_after (b ∷ blanks) line h =
+    let e : is_blank b ≡ true = blank_is b (All-head (λ c. c ≤ 0x20) b blanks h) in
+    rw e (no_word_after blanks (line_behind b line) (All-tail (λ c. c ≤ 0x20) b blanks h))
+
+-- blanks end the word before them
+pub blanks_part : (blanks text : List ℕ) → 0 < length blanks → AreBlanks blanks → Parts (blanks ++ text)
+blanks_part [] text l h = let k : 0 < 0 = l in absurd (omega (arith, k))
+blanks_part (b ∷ blanks) text l h = blank_is b (All-head (λ c. c ≤ 0x20) b blanks h)
+
+pub all_part : (blanks : List ℕ) → AreBlanks blanks → Parts blanks
+all_part [] h = tt
+all_part (b ∷ blanks) h = blank_is b (All-head (λ c. c ≤ 0x20) b blanks h)
 
 -- ---- strings as they are
 
@@ -94,6 +128,18 @@ all_up_to end (b ∷ bytes) more h =
 pub plain_behind : (end : ℕ) (bytes more : List ℕ) → IsWithin end bytes
     → plain_string end (after_blank (bytes ++ end ∷ more)) ≡ Some (bytes, more)
 plain_behind end bytes more h = all_up_to end bytes more h
+
+-- the rest of a line
+pub line_left : (bytes more : List ℕ) → All (λ b. b ≢ 10) bytes → IsFollowed (phrase.LineComment bytes) more
+    → line_end (bytes ++ more) ≡ more
+line_left [] [] h f = absurd f
+line_left [] (b ∷ more) h f = let e : nat_eq b 10 ≡ true = ap (λ c. nat_eq c 10) f in rw e refl
+line_left (b ∷ bytes) more h f =
+    let e : nat_eq b 10 ≡ false = other b (All-head (λ c. c ≢ 10) b bytes h) in
+    rw e (line_left bytes more (All-tail (λ c. c ≢ 10) b bytes h) f)
+  where
+    other : (b : ℕ) → b ≢ 10 → nat_eq b 10 ≡ false
+    other b h = grind (arith, nat_tests)
 
 no_group : (more : List ℕ) → Parts more → group more ≡ None
 no_group [] p = refl

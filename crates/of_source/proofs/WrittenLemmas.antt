@@ -1,6 +1,6 @@
 -- Phrases that are those of a nest are accepted.
 use Rattle.std.proofs.Common.{◌≡◌, ℕ, zero, suc, ◌<◌, Bool, true, false, ◌&&◌, List, [], ◌∷◌, ◌++◌, length, codes}
-use Rattle.std.proofs.Common.{Some, None, Ok, nat_lt, refl, sym, ap, subst, ◌∙◌, arith}
+use Rattle.std.proofs.Common.{Some, Ok, nat_lt, refl, sym, ap, subst, ◌∙◌, arith}
 use Rattle.std.specs.List.{All, list_all}
 use Rattle.std.proofs.lemmas.Bool.Decides.{nat_tests}
 use Rattle.std.proofs.lemmas.List.{length-append}
@@ -9,7 +9,6 @@ use Rattle.of_stream.specs.declared.stream.OffsetSize.{OffsetSize}
 use Rattle.of_stream.specs.declared.stream.OffsetSize.TheVariants as size
 use Rattle.of_source.specs.declared.keyword.Keyword.TheVariants as keyword
 use Rattle.of_source.specs.Keywords.{keyword_named, text_rows}
-use Rattle.of_source.specs.Names.{own_in}
 use Rattle.of_source.specs.Nesting.{Nesting, nothing_open, is_closed}
 use Rattle.of_source.specs.Shapes.{Shape, nothing, run, shape_of}
 use Rattle.of_source.specs.Scan.{Rest, rest_at, next_word, last_line}
@@ -17,14 +16,14 @@ use Rattle.of_source.specs.Steps.{Ends, beginning, reading_on, with_next, ended,
 use Rattle.of_source.specs.Steps.{next_step}
 use Rattle.of_source.specs.Parsing.{Word, Nothing, is_word, beyond_word, beyond, trailed, parsed}
 use Rattle.of_source.specs.Order.{behind_word, behind_words, outcome_at, IsDecided}
-use Rattle.of_source.specs.Phrases.{Phrase, Spelled, Known, nothing_known, after_blank, taken, written, all_written}
+use Rattle.of_source.specs.Phrases.{Phrase, Spelled, Ending, Known, nothing_known, moved, taken, written, all_written}
 use Rattle.of_source.specs.Phrases.{version_word, text_of, items_of, behind, all_behind, items_in}
 use Rattle.of_source.specs.Phrases as phrase
-use Rattle.of_source.specs.Written.{IsWord, IsSaid, AreSaid, WrittenIsParsed}
+use Rattle.of_source.specs.Written.{IsWord, AreBlanks, IsSaid, IsEnded, AreSaid, WrittenIsParsed}
 use Rattle.of_source.proofs.Deciding.{first_word_decides, decided-version1, decided-version2}
 use Rattle.of_source.proofs.Kept.{Kept, kept}
 use Rattle.of_source.proofs.RunLemmas.{nested_runs, earlier_runs, later_run}
-use Rattle.of_source.proofs.ReadingBack.{Parts, word_next, word_behind}
+use Rattle.of_source.proofs.ReadingBack.{Parts, word_next, word_after, no_word_after, blanks_part, all_part}
 use Rattle.of_source.proofs.Opening.{closed_goes}
 use Rattle.of_source.proofs.PhraseSteps.{state_of, GoesOn, goes_by, phrase_goes, keyed, when_so}
 
@@ -70,51 +69,59 @@ parts_taken (phrase.Character b word) more h = refl
 parts_taken (phrase.Text q bytes) more h = refl
 parts_taken (phrase.Bytes bytes) more h = refl
 parts_taken (phrase.Comment bytes) more h = refl
+parts_taken (phrase.LineComment bytes) more h = refl
 parts_taken (phrase.Naming t name c) more h = refl
 parts_taken (phrase.Defining t name) more h = refl
 parts_taken (phrase.Colon name) more h = refl
 parts_taken _ more h = h
 
-parts_written : (ps : List Spelled) → Parts (all_written ps)
-parts_written [] = refl
-parts_written (p ∷ ps) = refl
+parts_written : (ps : List Spelled) (e : Ending) (k : Known) → AreSaid ps e k → Parts (all_written ps e)
+parts_written [] e k h = blanks_part e.blanks _ h.apart.0 h.apart.1
+parts_written (p ∷ ps) e k h = blanks_part p.blanks _ h.0.apart.0 h.0.apart.1
 
--- the next word is the one behind the blank
-read_word : (last : ℕ) (word more : List ℕ) (k : Known) (n : Nesting) → IsWord word → Parts more
-    → next_step last (state_of k n (after_blank (word ++ more))) ≡ word_step last word (state_of k n more)
-read_word last word more k n h p =
-    let s = state_of k n (after_blank (word ++ more)) in
-    ap (λ o. with_next (ended last s) o (λ w r. word_step last w (reading_on r s))) (word_behind word more h p)
+-- the next word is the one behind the blanks
+read_word : (last : ℕ) (blanks word more : List ℕ) (k : Known) (n : Nesting) → AreBlanks blanks → IsWord word
+    → Parts more
+    → next_step last (state_of k n (blanks ++ (word ++ more))) ≡ word_step last word (state_of (moved blanks k) n more)
+read_word last blanks word more k n b h p =
+    let s = state_of k n (blanks ++ (word ++ more)) in
+    ap (λ o. with_next (ended last s) o (λ w r. word_step last w (reading_on r s)))
+    (word_after blanks k.line word more b h p)
 
-said_goes : (last : ℕ) (p : Spelled) (k : Known) (n : Nesting) (more : List ℕ) (o : Shape) → IsSaid k p → Parts more
-    → run k.items nothing ≡ Some (shape_of n) → run (behind p.phrase k).items nothing ≡ Some o
-    → GoesOn (next_step last (state_of k n (written p more))) (behind p.phrase k) more
+said_goes : (last : ℕ) (p : Spelled) (k : Known) (n : Nesting) (more : List ℕ) (o : Shape)
+    → IsSaid (moved p.blanks k) p more → Parts more → run k.items nothing ≡ Some (shape_of n)
+    → run (behind p.phrase (moved p.blanks k)).items nothing ≡ Some o
+    → GoesOn (next_step last (state_of k n (written p more))) (behind p.phrase (moved p.blanks k)) more
 said_goes last p k n more o h q r e =
-    goes_by _ _ _ more (read_word last p.word (taken p.phrase more) k n h.spelled (parts_taken p.phrase more q))
-    (phrase_goes last p.word p.phrase k n more h.own h.means h.placed q r
-    (o, later_run k.items (items_of p.phrase k) (shape_of n) o r e))
+    let l = moved p.blanks k in
+    goes_by _ _ _ more
+    (read_word last p.blanks p.word (taken p.phrase more) k n h.apart.1 h.spelled (parts_taken p.phrase more q))
+    (phrase_goes last p.word p.phrase l n more h.own h.means h.placed q r
+    (o, later_run k.items (items_of p.phrase l) (shape_of n) o r e) h.followed)
 
 -- ---- the end
 
-nothing_beyond : (n : ℕ) → beyond n (rest_at 1 []) ≡ Nothing
-nothing_beyond zero = refl
-nothing_beyond (suc n) = refl
+nothing_beyond : (n line : ℕ) (more : List ℕ) → AreBlanks more → beyond n (rest_at line more) ≡ Nothing
+nothing_beyond zero line more h = refl
+nothing_beyond (suc n) line more h = ap (λ o. beyond_word o (beyond n)) (no_word_after more line h)
 
 some_is : (x y : Shape) → Some x ≡ Some y → x ≡ y
 some_is x y h = cc
 
-end_goes : (last : ℕ) (k : Known) (n : Nesting) → own_in k.names (codes "fcode-end") ≡ None
-    → run k.items nothing ≡ Some (shape_of n) → run k.items nothing ≡ Some nothing
-    → next_step last (state_of k n (all_written [])) ≡ Ends (state_of k n [])
-end_goes last k n h r c =
+end_goes : (last : ℕ) (e : Ending) (k : Known) (n : Nesting) → IsEnded k e → run k.items nothing ≡ Some (shape_of n)
+    → run k.items nothing ≡ Some nothing
+    → next_step last (state_of k n (all_written [] e)) ≡ Ends (state_of (moved e.blanks k) n e.more)
+end_goes last e k n h r c =
+    let s = state_of (moved e.blanks k) n e.more in
     let closed = closed_goes n.branches n.parts (some_is (shape_of n) nothing (sym r ∙ c)) in
-    read_word last (codes "fcode-end") [] k n end_word tt
-    ∙ keyed last (codes "fcode-end") (state_of k n []) (Some keyword.Finish) h end_keyword
-    ∙ when_so (is_closed n) (Ends (state_of k n [])) _ closed
+    read_word last e.blanks (codes "fcode-end") e.more k n h.apart.1 end_word (all_part e.more h.more)
+    ∙ keyed last (codes "fcode-end") s (Some keyword.Finish) h.own end_keyword
+    ∙ when_so (is_closed n) (Ends s) _ closed
 
-end_decides : (text : List ℕ) (z : OffsetSize) (k : Known) (n : Nesting)
-    → outcome_at text z (Ends (state_of k n [])) ≡ Some (Ok (record { size = z; items = k.items }))
-end_decides text z k n = ap (λ b. Some (trailed z (state_of k n []) b)) (nothing_beyond (length text))
+end_decides : (text : List ℕ) (z : OffsetSize) (e : Ending) (k : Known) (n : Nesting) → AreBlanks e.more
+    → outcome_at text z (Ends (state_of k n e.more)) ≡ Some (Ok (record { size = z; items = k.items }))
+end_decides text z e k n h =
+    ap (λ b. Some (trailed z (state_of k n e.more) b)) (nothing_beyond (length text) k.line e.more h)
 
 -- ---- all phrases
 
@@ -123,26 +130,28 @@ before_runs : (ps : List Spelled) (k : Known) (o : Shape) → run (all_behind ps
     → (p : Shape) × (run k.items nothing ≡ Some p)
 before_runs [] k o h = (o, h)
 before_runs (p ∷ ps) k o h =
-    let w = before_runs ps (behind p.phrase k) o h in
-    earlier_runs k.items (items_of p.phrase k) w.0 w.1
+    let w = before_runs ps (behind p.phrase (moved p.blanks k)) o h in
+    earlier_runs k.items (items_of p.phrase (moved p.blanks k)) w.0 w.1
 
-all_decide : (text : List ℕ) (z : OffsetSize) (ps : List Spelled) (k : Known) (n : Nesting) → AreSaid ps k
-    → run k.items nothing ≡ Some (shape_of n) → run (all_behind ps k).items nothing ≡ Some nothing
-    → IsDecided text z (state_of k n (all_written ps)) (Ok (record { size = z; items = (all_behind ps k).items }))
-all_decide text z [] k n h r c = record {
+all_decide : (text : List ℕ) (z : OffsetSize) (ps : List Spelled) (e : Ending) (k : Known) (n : Nesting)
+    → AreSaid ps e k → run k.items nothing ≡ Some (shape_of n) → run (all_behind ps k).items nothing ≡ Some nothing
+    → IsDecided text z (state_of k n (all_written ps e)) (Ok (record { size = z; items = (all_behind ps k).items }))
+all_decide text z [] e k n h r c = record {
   count = 0;
-  state = state_of k n (all_written []);
+  state = state_of k n (all_written [] e);
   fits = refl;
-  decides = ap (outcome_at text z) (end_goes (last_line text) k n h r c) ∙ end_decides text z k n;
+  decides =
+      ap (outcome_at text z) (end_goes (last_line text) e k n h r c)
+      ∙ end_decides text z e (moved e.blanks k) n h.more;
 }
-all_decide text z (p ∷ ps) k n h r c =
+all_decide text z (p ∷ ps) e k n h r c =
     let last = last_line text in
-    let l = behind p.phrase k in
+    let l = behind p.phrase (moved p.blanks k) in
     let w = before_runs ps l nothing c in
-    let s = state_of k n (written p (all_written ps)) in
-    let g = said_goes last p k n (all_written ps) w.0 h.0 (parts_written ps) r w.1 in
+    let s = state_of k n (written p (all_written ps e)) in
+    let g = said_goes last p k n (all_written ps e) w.0 h.0 (parts_written ps e l h.1) r w.1 in
     let i : run l.items nothing ≡ Some (shape_of g.nesting) = subst Kept g.goes (kept last s r) in
-    let d = all_decide text z ps l g.nesting h.1 i c in
+    let d = all_decide text z ps e l g.nesting h.1 i c in
     record {
       count = suc d.count;
       state = d.state;
@@ -157,26 +166,29 @@ first_word : (n : ℕ) (text w : List ℕ) (r : Rest) → 0 < n → next_word (r
 first_word zero text w r l h a b = absurd (omega (arith, l))
 first_word (suc n) text w r l h a b = ap (λ o. beyond_word o (beyond n)) h ∙ rw (a, b) refl
 
-version_first : (z : OffsetSize) (ps : List Spelled)
-    → beyond (length (text_of z ps)) (rest_at 1 (text_of z ps)) ≡ Word (version_word z) (rest_at 1 (all_written ps))
-version_first z ps =
+version_first : (z : OffsetSize) (text : List ℕ) → Parts text
+    → beyond (length (version_word z ++ text)) (rest_at 1 (version_word z ++ text))
+    ≡ Word (version_word z) (rest_at 1 text)
+version_first z text p =
     let h = version_is_word z in
     let some : 0 < length (version_word z) = h.0 in
-    let l : 0 < length (text_of z ps) = omega (arith, some, length-append (version_word z) (all_written ps)) in
-    first_word (length (text_of z ps)) (text_of z ps) (version_word z) (rest_at 1 (all_written ps)) l
-    (word_next 1 (version_word z) (all_written ps) h (parts_written ps)) (no_comment z) (no_line_comment z)
+    let l : 0 < length (version_word z ++ text) = omega (arith, some, length-append (version_word z) text) in
+    first_word (length (version_word z ++ text)) (version_word z ++ text) (version_word z) (rest_at 1 text) l
+    (word_next 1 (version_word z) text h p) (no_comment z) (no_line_comment z)
 
 -- phrases that are those of a whole nest are accepted, with its items
 pub written_parsed : WrittenIsParsed
-written_parsed size.One ps said nested =
-    let text = text_of size.One ps in
-    let r = rest_at 1 (all_written ps) in
-    first_word_decides.alone text size.One (beginning r) (parsed text) _
-    (decided-version1 text r (codes "fcode-version1", version_first size.One ps, refl))
-    (all_decide text size.One ps nothing_known nothing_open said refl (nested_runs (items_in ps) nested))
-written_parsed size.Two ps said nested =
-    let text = text_of size.Two ps in
-    let r = rest_at 1 (all_written ps) in
-    first_word_decides.alone text size.Two (beginning r) (parsed text) _
-    (decided-version2 text r (codes "fcode-version2", version_first size.Two ps, refl))
-    (all_decide text size.Two ps nothing_known nothing_open said refl (nested_runs (items_in ps) nested))
+written_parsed size.One ps e said nested =
+    let text = text_of size.One ps e in
+    let more = all_written ps e in
+    first_word_decides.alone text size.One (beginning (rest_at 1 more)) (parsed text) _
+    (decided-version1 text (rest_at 1 more)
+    (codes "fcode-version1", version_first size.One more (parts_written ps e nothing_known said), refl))
+    (all_decide text size.One ps e nothing_known nothing_open said refl (nested_runs (items_in ps) nested))
+written_parsed size.Two ps e said nested =
+    let text = text_of size.Two ps e in
+    let more = all_written ps e in
+    first_word_decides.alone text size.Two (beginning (rest_at 1 more)) (parsed text) _
+    (decided-version2 text (rest_at 1 more)
+    (codes "fcode-version2", version_first size.Two more (parts_written ps e nothing_known said), refl))
+    (all_decide text size.Two ps e nothing_known nothing_open said refl (nested_runs (items_in ps) nested))

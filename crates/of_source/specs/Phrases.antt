@@ -12,6 +12,7 @@ use Rattle.of_source.specs.declared.keyword.Radix.TheVariants.{Hexadecimal}
 use Rattle.of_source.specs.declared.keyword.Quote.{Quote}
 use Rattle.of_source.specs.declared.keyword.Quote.TheVariants as quote
 use Rattle.of_source.specs.Names.{Own}
+use Rattle.of_source.specs.Scan.{line_behind}
 use Rattle.of_source.specs.Items.{Item, own_code, call, string, naming, making, bare}
 use Rattle.of_source.specs.Items as item
 use Rattle.of_source.specs.Steps.{number_items, known_with}
@@ -27,7 +28,8 @@ pub data Phrase : Type 0 where
   Pair : FCode → FCode → Phrase  -- a word that stands for these two, as `1+`
   Text : Quote → List ℕ → Phrase  -- `"`, `s"` or `."` and a string as it is
   Bytes : List ℕ → Phrase  -- `"` and a string as hexadecimal digits
-  Comment : List ℕ → Phrase  -- `(` and what is no part of the source
+  Comment : List ℕ → Phrase  -- `(` and bytes up to `)`
+  LineComment : List ℕ → Phrase  -- `\` and bytes up to the end of the line
   Naming : FCode → List ℕ → FCode → Phrase  -- `'`, `[']` or `to` and a name, which stands for this FCode
   Headers : Maker → Phrase
   Base : Radix → Phrase  -- `hex` or `decimal`
@@ -50,10 +52,16 @@ pub data Phrase : Type 0 where
   EndOf : Phrase
   EndCase : Phrase
 
--- a phrase with its word as it is spelled, in letters of either case
+-- a phrase with its word as it is spelled, in letters of either case, and with the blanks and line ends before that
 pub record Spelled : Type 0 where
+  pub blanks : List ℕ
   pub word : List ℕ
   pub phrase : Phrase
+
+-- the blanks and line ends before the word that ends a source, and those behind it
+pub record Ending : Type 0 where
+  pub blanks : List ℕ
+  pub more : List ℕ
 
 -- ---- as text
 
@@ -73,33 +81,35 @@ taken (Character b word) more = after_blank (b ∷ word ++ more)
 taken (Text q bytes) more = after_blank (bytes ++ 34 ∷ more)
 taken (Bytes bytes) more = after_blank (34 ∷ 40 ∷ in_digits bytes (41 ∷ 34 ∷ more))
 taken (Comment bytes) more = after_blank (bytes ++ 41 ∷ more)
+taken (LineComment bytes) more = after_blank (bytes ++ more)
 taken (Naming t name c) more = after_blank (name ++ more)
 taken (Defining t name) more = after_blank (name ++ more)
 taken (Colon name) more = after_blank (name ++ more)
 taken _ more = more
 
--- a phrase behind a blank, and then this text
+-- a phrase behind its blanks, and then this text
 abbrev pub written : Spelled → List ℕ → List ℕ
-written p more = after_blank (p.word ++ taken p.phrase more)
+written p more = p.blanks ++ (p.word ++ taken p.phrase more)
 
--- phrases with a blank before each, and the end of the source
-abbrev pub all_written : List Spelled → List ℕ
-all_written [] = after_blank (codes "fcode-end")
-all_written (p ∷ ps) = written p (all_written ps)
+-- phrases, and the end of the source
+abbrev pub all_written : List Spelled → Ending → List ℕ
+all_written [] e = e.blanks ++ (codes "fcode-end" ++ e.more)
+all_written (p ∷ ps) e = written p (all_written ps e)
 
 -- the word that begins a source
 abbrev pub version_word : OffsetSize → List ℕ
 version_word size.One = codes "fcode-version1"
 version_word size.Two = codes "fcode-version2"
 
--- phrases as the text of a source, on one line, with one blank between two words
-abbrev pub text_of : OffsetSize → List Spelled → List ℕ
-text_of z ps = version_word z ++ all_written ps
+-- phrases as the text of a source
+abbrev pub text_of : OffsetSize → List Spelled → Ending → List ℕ
+text_of z ps e = version_word z ++ all_written ps e
 
 -- ---- as items
 
 -- what is known at a phrase
 pub record Known : Type 0 where
+  pub line : ℕ  -- on which its word stands
   pub radix : Radix
   pub maker : Maker
   pub names : List Own  -- the definitions that can be named, latest first
@@ -108,7 +118,7 @@ pub record Known : Type 0 where
 
 -- at the beginning of a source
 abbrev pub nothing_known : Known
-nothing_known = record { radix = Hexadecimal; maker = Named; names = []; open_one = None; items = [] }
+nothing_known = record { line = 1; radix = Hexadecimal; maker = Named; names = []; open_one = None; items = [] }
 
 -- a string, which `."` also prints
 abbrev pub string_items : Quote → List ℕ → List Item
@@ -125,7 +135,7 @@ recursion (Some d) = item.Plain (call (own_code d.number)) ∷ []
 abbrev pub named : List ℕ → Known → Item
 named name k = item.Plain (making k.maker name (own_code (length k.names)))
 
--- the items of a phrase, on line 1
+-- the items of a phrase
 abbrev pub items_of : Phrase → Known → List Item
 items_of (OwnWord n) k = item.Plain (call (own_code n)) ∷ []
 items_of (BoardWord c) k = item.Plain (call c) ∷ []
@@ -137,6 +147,7 @@ items_of (Pair t u) k = item.Plain (call t) ∷ item.Plain (call u) ∷ []
 items_of (Text q bytes) k = string_items q bytes
 items_of (Bytes bytes) k = item.Plain (string bytes) ∷ []
 items_of (Comment bytes) k = []
+items_of (LineComment bytes) k = []
 items_of (Naming t name c) k = item.Plain (naming t c) ∷ []
 items_of (Headers m) k = []
 items_of (Base base) k = []
@@ -145,18 +156,18 @@ items_of (Colon name) k = named name k ∷ item.Colon ∷ []
 items_of Semicolon k = item.Semicolon ∷ []
 items_of Recurse k = recursion k.open_one
 items_of Offset16 k = item.Plain (bare 0x0cc) ∷ []
-items_of If k = item.If 1 ∷ []
-items_of Else k = item.Else 1 ∷ []
+items_of If k = item.If k.line ∷ []
+items_of Else k = item.Else k.line ∷ []
 items_of Then k = item.Then ∷ []
 items_of Begin k = item.Begin ∷ []
-items_of (Back z) k = item.Back z 1 ∷ []
-items_of Repeat k = item.Back false 1 ∷ item.Then ∷ []
-items_of (Do q) k = item.Do q 1 ∷ []
-items_of (Loop q) k = item.Loop q 1 ∷ []
+items_of (Back z) k = item.Back z k.line ∷ []
+items_of Repeat k = item.Back false k.line ∷ item.Then ∷ []
+items_of (Do q) k = item.Do q k.line ∷ []
+items_of (Loop q) k = item.Loop q k.line ∷ []
 items_of Leave k = item.Leave ∷ []
 items_of Case k = item.Case ∷ []
-items_of Of k = item.Of 1 ∷ []
-items_of EndOf k = item.EndOf 1 ∷ []
+items_of Of k = item.Of k.line ∷ []
+items_of EndOf k = item.EndOf k.line ∷ []
 items_of EndCase k = item.EndCase ∷ []
 
 -- a definition of this name, with the next number
@@ -176,10 +187,19 @@ learned _ k = k
 abbrev pub behind : Phrase → Known → Known
 behind p k = record (learned p k) { items = k.items ++ items_of p k }
 
+-- the line on which stands what follows these bytes
+abbrev pub line_after : List ℕ → ℕ → ℕ
+line_after [] line = line
+line_after (b ∷ bytes) line = line_after bytes (line_behind b line)
+
+-- at the word behind these blanks
+abbrev pub moved : List ℕ → Known → Known
+moved blanks k = record k { line = line_after blanks k.line }
+
 -- what is known behind phrases
 abbrev pub all_behind : List Spelled → Known → Known
 all_behind [] k = k
-all_behind (p ∷ ps) k = all_behind ps (behind p.phrase k)
+all_behind (p ∷ ps) k = all_behind ps (behind p.phrase (moved p.blanks k))
 
 -- the items of a source of these phrases
 abbrev pub items_in : List Spelled → List Item

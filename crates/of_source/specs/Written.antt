@@ -18,12 +18,17 @@ use Rattle.of_source.specs.Nesting.{is_same}
 use Rattle.of_source.specs.Shapes.{Shape, nothing, around_of, run}
 use Rattle.of_source.specs.Steps.{code_named}
 use Rattle.of_source.specs.Parsing.{parsed}
-use Rattle.of_source.specs.Phrases.{Phrase, Spelled, Known, nothing_known, behind, items_in, text_of}
+use Rattle.of_source.specs.Phrases.{Phrase, Spelled, Ending, Known, nothing_known, moved, behind, items_in}
+use Rattle.of_source.specs.Phrases.{all_written, text_of}
 use Rattle.of_source.specs.Phrases as phrase
 
 -- one byte or more, and none of them a blank
 abbrev pub IsWord : List ℕ → Type 0
 IsWord word = (0 < length word) × All (λ b. 0x20 < b) word
+
+-- bytes that separate words
+abbrev pub AreBlanks : List ℕ → Type 0
+AreBlanks bytes = All (λ b. b ≤ 0x20) bytes
 
 -- a word that a definition can be named by
 abbrev pub IsName : List ℕ → Type 0
@@ -57,6 +62,7 @@ keyword_of (phrase.Pair t u) = Some (keyword.Two t u)
 keyword_of (phrase.Text q bytes) = Some (keyword.Text q)
 keyword_of (phrase.Bytes bytes) = Some (keyword.Text quote.Bytes)
 keyword_of (phrase.Comment bytes) = Some keyword.Comment
+keyword_of (phrase.LineComment bytes) = Some keyword.LineComment
 keyword_of (phrase.Naming t name c) = Some (keyword.Naming t)
 keyword_of (phrase.Headers m) = Some (keyword.Headers m)
 keyword_of (phrase.Base base) = Some (keyword.Radix base)
@@ -98,6 +104,7 @@ IsPlaced k word (phrase.Character b bytes) = IsWord (b ∷ bytes)
 IsPlaced k word (phrase.Text q bytes) = (length bytes ≤ 255) × IsWithin 34 bytes
 IsPlaced k word (phrase.Bytes bytes) = (length bytes ≤ 255) × All (λ b. b < 256) bytes
 IsPlaced k word (phrase.Comment bytes) = IsWithin 41 bytes
+IsPlaced k word (phrase.LineComment bytes) = All (λ b. b ≢ 10) bytes
 IsPlaced k word (phrase.Naming t name c) = IsWord name × (code_named k.names name ≡ Some c)
 IsPlaced k word (phrase.Defining t name) = IsName name × LeaveOpen k.items IsOutside
 IsPlaced k word (phrase.Colon name) = IsName name
@@ -105,19 +112,34 @@ IsPlaced k word phrase.Recurse = (d : Own) × (k.open_one ≡ Some d)
 IsPlaced k word phrase.Offset16 = LeaveOpen k.items IsStraight
 IsPlaced k word _ = Unit {0}
 
--- a phrase can stand here: its word is spelled so, and no own name hides it
-pub record IsSaid (k : Known) (p : Spelled) : Type 0 where
+-- a comment up to the end of the line is followed by that
+abbrev pub IsFollowed : Phrase → List ℕ → Type 0
+IsFollowed (phrase.LineComment bytes) [] = ⊥
+IsFollowed (phrase.LineComment bytes) (b ∷ more) = b ≡ 10
+IsFollowed _ more = Unit {0}
+
+-- a phrase can stand here, before this text: blanks are before its word, which is spelled so, and no own name hides it
+pub record IsSaid (k : Known) (p : Spelled) (more : List ℕ) : Type 0 where
+  pub apart : (0 < length p.blanks) × AreBlanks p.blanks
   pub spelled : IsWord p.word
   pub own : own_in k.names p.word ≡ own_of p.phrase
   pub means : IsKeyword p.word p.phrase
   pub placed : IsPlaced k p.word p.phrase
+  pub followed : IsFollowed p.phrase more
 
--- each phrase can stand where it does, and no own name hides the word behind them that ends the source
-abbrev pub AreSaid : List Spelled → Known → Type 0
-AreSaid [] k = own_in k.names (codes "fcode-end") ≡ None
-AreSaid (p ∷ ps) k = IsSaid k p × AreSaid ps (behind p.phrase k)
+-- a source can end here: blanks are around the word that ends it, and no own name hides that
+pub record IsEnded (k : Known) (e : Ending) : Type 0 where
+  pub apart : (0 < length e.blanks) × AreBlanks e.blanks
+  pub own : own_in k.names (codes "fcode-end") ≡ None
+  pub more : AreBlanks e.more
+
+-- each phrase can stand where it does, and the source can end behind them
+abbrev pub AreSaid : List Spelled → Ending → Known → Type 0
+AreSaid [] e k = IsEnded k e
+AreSaid (p ∷ ps) e k = IsSaid (moved p.blanks k) p (all_written ps e)
+    × AreSaid ps e (behind p.phrase (moved p.blanks k))
 
 -- phrases that are those of a nest are accepted, with the items of that nest
 abbrev pub WrittenIsParsed : Type 0
-WrittenIsParsed = (z : OffsetSize) (ps : List Spelled) → AreSaid ps nothing_known → IsNested (items_in ps)
-    → parsed (text_of z ps) ≡ Ok (record { size = z; items = items_in ps })
+WrittenIsParsed = (z : OffsetSize) (ps : List Spelled) (e : Ending) → AreSaid ps e nothing_known → IsNested (items_in ps)
+    → parsed (text_of z ps e) ≡ Ok (record { size = z; items = items_in ps })
