@@ -55,7 +55,8 @@ chained : (xs ys : List Item) → ((o : Shape) → run (xs ++ ys) o ≡ option_a
 chained xs ys k None = refl
 chained xs ys k (Some o) = k o
 
-run-append : (xs ys : List Item) (o : Shape) → run (xs ++ ys) o ≡ option_and_then (run ys) (run xs o)
+-- items, and then others
+pub run-append : (xs ys : List Item) (o : Shape) → run (xs ++ ys) o ≡ option_and_then (run ys) (run xs o)
 run-append [] ys o = refl
 run-append (x ∷ xs) ys o = chained xs ys (run-append xs ys) (opens x o)
 
@@ -152,7 +153,7 @@ pub cases-shapes : (fs : List Frame) → (around_of (shapes fs)).cases ≡ is_in
 cases-shapes [] = refl
 cases-shapes (f ∷ fs) = case_part f.part (around_of (shapes fs))
 
-floor-shapes : (fs : List Frame) → floor_of (shapes fs) ≡ floor fs
+pub floor-shapes : (fs : List Frame) → floor_of (shapes fs) ≡ floor fs
 floor-shapes [] = refl
 floor-shapes (f ∷ fs) = refl
 

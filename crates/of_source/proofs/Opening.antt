@@ -12,26 +12,14 @@ use Rattle.of_source.specs.Items as item
 use Rattle.of_source.specs.Nesting.{Nesting, is_same, floor, is_in, without_branch, without_begin, without_part}
 use Rattle.of_source.specs.Nesting.{then_without_branch, then_with_branch, opened_if, in_definition, in_loop, on_case}
 use Rattle.of_source.specs.Nesting.{all_definitions, is_straight, is_closed, with_part}
-use Rattle.of_source.specs.Shapes.{Shape, nothing, floor_of, around_of, when, is_even, closing, run, shape_of}
+use Rattle.of_source.specs.Shapes.{Shape, nothing, floor_of, around_of, is_even, closing, run, shape_of}
 use Rattle.of_source.specs.Written.{IsOutside, IsStraight}
-use Rattle.of_source.proofs.Kept.{shapes, defines-shapes, loops-shapes, cases-shapes}
+use Rattle.of_source.proofs.Kept.{shapes, defines-shapes, loops-shapes, cases-shapes, floor-shapes}
+use Rattle.of_source.proofs.ShapeLemmas.{when_some, both_true, not_true}
 
 -- an item may stand where these are open
 abbrev pub MayStand : List Item → Nesting → Type 0
 MayStand is n = (o : Shape) × (run is (shape_of n) ≡ Some o)
-
-floor-shapes : (fs : List Frame) → floor_of (shapes fs) ≡ floor fs
-floor-shapes [] = refl
-floor-shapes (f ∷ fs) = refl
-
-both : (a b : Bool) → (a && b) ≡ true → (a ≡ true) × (b ≡ true)
-both true b h = (refl, h)
-both false b h = absurd cc
-
-when_some : (b : Bool) (o : Shape) (k : Shape → Option Shape) (n : Shape) → option_and_then k (when b o) ≡ Some n
-    → (b ≡ true) × (k o ≡ Some n)
-when_some true o k n h = (refl, h)
-when_some false o k n h = absurd cc
 
 some_if : (b : Bool) (n : Nesting) → b ≡ true → is_some (if b then Some n else None) ≡ true
 some_if b n h = rw h refl
@@ -65,7 +53,7 @@ begin_at bs [] k o h = absurd cc
 begin_at bs (f ∷ fs) k o h =
     let m : Nesting = record { branches = bs; parts = fs } in
     let w = when_some (is_same f.part part.Begin && true) (shape_of m) k o h in
-    let e : is_same f.part part.Begin ≡ true = (both (is_same f.part part.Begin) true w.0).0 in
+    let e : is_same f.part part.Begin ≡ true = (both_true (is_same f.part part.Begin) true w.0).0 in
     (m, rw e refl, w.1)
 
 pub back_goes : (z : Bool) (l : ℕ) (n : Nesting) → MayStand (item.Back z l ∷ []) n → is_some (without_begin n) ≡ true
@@ -89,7 +77,8 @@ pub semicolon_goes : (n : Nesting) → MayStand (item.Semicolon ∷ []) n
     → is_some (without_part part.Definition n) ≡ true
 semicolon_goes n h = part_at part.Definition n.branches n.parts h.0 (λ b c. refl) h.1
 
-pub loop_goes : (q : Bool) (l : ℕ) (n : Nesting) → MayStand (item.Loop q l ∷ []) n → is_some (without_part part.Do n) ≡ true
+pub loop_goes : (q : Bool) (l : ℕ) (n : Nesting) → MayStand (item.Loop q l ∷ []) n
+    → is_some (without_part part.Do n) ≡ true
 loop_goes q l n h = part_at part.Do n.branches n.parts h.0 (λ b c. refl) h.1
 
 pub end_of_goes : (l : ℕ) (n : Nesting) → MayStand (item.EndOf l ∷ []) n → is_some (without_part part.Of n) ≡ true
@@ -110,17 +99,13 @@ of_goes l n h =
     let b : floor_of (shapes n.parts) ≡ floor n.parts = floor-shapes n.parts in
     let w = when_some ((around_of (shapes n.parts)).cases && nat_eq (floor_of (shapes n.parts)) (length n.branches)) _
     (run []) h.0 h.1 in
-    let t = both (around_of (shapes n.parts)).cases (nat_eq (floor_of (shapes n.parts)) (length n.branches)) w.0 in
+    let t = both_true (around_of (shapes n.parts)).cases (nat_eq (floor_of (shapes n.parts)) (length n.branches)) w.0 in
     let c : is_in part.Case n.parts ≡ true = sym a ∙ t.0 in
     let d : nat_eq (floor n.parts) (length n.branches) ≡ true =
     ap (λ f. nat_eq f (length n.branches)) (sym b) ∙ t.1 in
     some_if _ _ (rw (c, d) refl)
 
 -- ---- definitions
-
-not_true : (b : Bool) → not b ≡ true → b ≡ false
-not_true true h = absurd cc
-not_true false h = refl
 
 pub colon_goes : (n : Nesting) (t : Token) → MayStand (item.Plain t ∷ item.Colon ∷ []) n
     → in_definition n.parts ≡ false
@@ -135,7 +120,7 @@ straight_parts : (fs : List Frame) → list_all (λ (p : Part × ℕ). is_same p
     → all_definitions fs ≡ true
 straight_parts [] h = refl
 straight_parts (f ∷ fs) h =
-    let w = both (is_same f.part part.Definition) _ h in
+    let w = both_true (is_same f.part part.Definition) _ h in
     rw w.0 (straight_parts fs w.1)
 
 pub straight_goes : (n : Nesting) → IsStraight (shape_of n) → is_straight n ≡ true

@@ -87,7 +87,8 @@ pub character_goes : (last b : ℕ) (word : List ℕ) (k : Known) (n : Nesting) 
     → GoesOn (keyword_step last keyword.Character (state_of k n (after_blank (b ∷ word ++ more))))
     (with_items (number_items (record { 0 = b })) k) more
 character_goes last b word k n more h p =
-    record { nesting = n; goes = next_by (ended last (state_of k n (after_blank (b ∷ word ++ more)))) k.line (b ∷ word) more _ h p }
+    let s = state_of k n (after_blank (b ∷ word ++ more)) in
+    record { nesting = n; goes = next_by (ended last s) k.line (b ∷ word) more _ h p }
 
 pub naming_goes : (last : ℕ) (t : FCode) (name : List ℕ) (c : FCode) (k : Known) (n : Nesting) (more : List ℕ)
     → IsWord name → code_named k.names name ≡ Some c → Parts more
@@ -150,7 +151,8 @@ name_by : (last : ℕ) (name more : List ℕ) (k : Known) (n : Nesting) (go : Li
     (next_word (rest_at k.line (after_blank (name ++ more))))) go ≡ go name (state_of k n more)
 name_by last name more k n go h p =
     let t : nat_lt 31 (length name) ≡ false = short (length name) h.1 in
-    ap (λ o. with_name (name_found last (state_of k n (after_blank (name ++ more))) o) go) (word_behind k.line name more h.0 p)
+    let s = state_of k n (after_blank (name ++ more)) in
+    ap (λ o. with_name (name_found last s o) go) (word_behind k.line name more h.0 p)
     ∙ rw t refl
   where
     short : (l : ℕ) → l ≤ 31 → nat_lt 31 l ≡ false
@@ -227,7 +229,8 @@ digits_go word x k n more h e = record {
 -- a phrase of a keyword, where the keyword's word goes on
 by_keyword : (last : ℕ) (word : List ℕ) (key : Keyword) (k l : Known) (n : Nesting) (text more : List ℕ)
     → own_in k.names word ≡ None → keyword_named word ≡ Some key
-    → GoesOn (keyword_step last key (state_of k n text)) l more → GoesOn (word_step last word (state_of k n text)) l more
+    → GoesOn (keyword_step last key (state_of k n text)) l more
+    → GoesOn (word_step last word (state_of k n text)) l more
 by_keyword last word key k l n text more h e g =
     goes_by _ (keyword_step last key (state_of k n text)) l more (keyed last word (state_of k n text) (Some key) h e) g
 
@@ -251,7 +254,8 @@ offset16_goes : (last : ℕ) (k : Known) (n : Nesting) (more : List ℕ) → is_
 offset16_goes last k n more h = record { nesting = n; goes = when_so (is_straight n) _ _ h }
 
 -- the items so far are those before, with none behind them
-no_items : (l : Known) (n : Nesting) (more : List ℕ) → Goes (state_of l n more) ≡ Goes (state_of (with_items [] l) n more)
+no_items : (l : Known) (n : Nesting) (more : List ℕ)
+    → Goes (state_of l n more) ≡ Goes (state_of (with_items [] l) n more)
 no_items l n more = ap (λ is. Goes (state_of (record l { items = is }) n more)) (sym (append-nil l.items))
 
 line_comment_goes : (last : ℕ) (bytes : List ℕ) (k : Known) (n : Nesting) (more : List ℕ)

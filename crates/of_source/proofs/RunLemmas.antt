@@ -9,7 +9,8 @@ use Rattle.of_source.specs.Items.{Item}
 use Rattle.of_source.specs.Items as item
 use Rattle.of_source.specs.Nest.{Nest, Stop, Plain, Definition, If, Else, Then, Begin, Do, Leave, Case, Of, items_of}
 use Rattle.of_source.specs.Nest.{open_behind, Fits, IsNested}
-use Rattle.of_source.specs.Shapes.{Shape, nothing, floor_of, around_of, closing, opens, run}
+use Rattle.of_source.proofs.Kept.{run-append}
+use Rattle.of_source.specs.Shapes.{Shape, nothing, floor_of, around_of, closing, run}
 
 same_number : (d n : ℕ) → n ≡ d → nat_eq d n ≡ true
 same_number d n e = grind (arith, nat_tests)
@@ -66,17 +67,6 @@ pub nested_runs : (is : List Item) → IsNested is → run is nothing ≡ Some n
 nested_runs is h =
     ap (λ (js : List Item). run js nothing) h.1 ∙ ran h.0 [] 0 [] h.2.0
     ∙ ap (λ m. Some (shape m [])) h.2.1
-
-chained : (xs ys : List Item) → ((o : Shape) → run (xs ++ ys) o ≡ option_and_then (run ys) (run xs o))
-    → (r : Option Shape)
-    → option_and_then (run (xs ++ ys)) r ≡ option_and_then (run ys) (option_and_then (run xs) r)
-chained xs ys k None = refl
-chained xs ys k (Some o) = k o
-
--- items, and then others
-pub run-append : (xs ys : List Item) (o : Shape) → run (xs ++ ys) o ≡ option_and_then (run ys) (run xs o)
-run-append [] ys o = refl
-run-append (x ∷ xs) ys o = chained xs ys (run-append xs ys) (opens x o)
 
 first_runs : (r : Option Shape) (f : Shape → Option Shape) (o : Shape) → option_and_then f r ≡ Some o
     → (p : Shape) × (r ≡ Some p)

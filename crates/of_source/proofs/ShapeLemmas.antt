@@ -131,16 +131,16 @@ of_any : (l : ℕ) (x : Nest) (cs : List (Item × Nest)) (is : List Item) (d : �
 of_any l x [] is d ps n f h = absurd h.rest
 of_any l x (c ∷ cs) is d ps n f h = of_read l c.0 x c.1 cs is d ps n f h
 
-when_some : (b : Bool) (o : Shape) (k : Shape → Option Shape) (n : Shape) → option_and_then k (when b o) ≡ Some n
+pub when_some : (b : Bool) (o : Shape) (k : Shape → Option Shape) (n : Shape) → option_and_then k (when b o) ≡ Some n
     → (b ≡ true) × (k o ≡ Some n)
 when_some true o k n h = (refl, h)
 when_some false o k n h = absurd cc
 
-both_true : (a b : Bool) → (a && b) ≡ true → (a ≡ true) × (b ≡ true)
+pub both_true : (a b : Bool) → (a && b) ≡ true → (a ≡ true) × (b ≡ true)
 both_true true b h = (refl, h)
 both_true false b h = absurd cc
 
-not_true : (b : Bool) → not b ≡ true → b ≡ false
+pub not_true : (b : Bool) → not b ≡ true → b ≡ false
 not_true true h = absurd cc
 not_true false h = refl
 

@@ -1,5 +1,5 @@
 -- Phrases that are those of a nest are accepted.
-use Rattle.std.proofs.Common.{◌≡◌, ℕ, zero, suc, ◌<◌, Bool, true, false, ◌&&◌, List, [], ◌∷◌, ◌++◌, length, codes}
+use Rattle.std.proofs.Common.{◌≡◌, ℕ, zero, suc, ◌<◌, true, false, List, [], ◌∷◌, ◌++◌, length, codes}
 use Rattle.std.proofs.Common.{Some, Ok, nat_lt, refl, sym, ap, subst, ◌∙◌, arith}
 use Rattle.std.specs.List.{All, list_all}
 use Rattle.std.proofs.lemmas.Bool.Decides.{nat_tests}
@@ -22,6 +22,7 @@ use Rattle.of_source.specs.Phrases as phrase
 use Rattle.of_source.specs.Written.{IsWord, AreBlanks, IsSaid, IsEnded, AreSaid, WrittenIsParsed}
 use Rattle.of_source.proofs.Deciding.{first_word_decides, decided-version1, decided-version2}
 use Rattle.of_source.proofs.Kept.{Kept, kept}
+use Rattle.of_source.proofs.ShapeLemmas.{both_true}
 use Rattle.of_source.proofs.RunLemmas.{nested_runs, earlier_runs, later_run}
 use Rattle.of_source.proofs.ReadingBack.{Parts, word_next, word_after, no_word_after, blanks_part, all_part}
 use Rattle.of_source.proofs.Opening.{closed_goes}
@@ -29,14 +30,10 @@ use Rattle.of_source.proofs.PhraseSteps.{state_of, GoesOn, goes_by, phrase_goes,
 
 -- ---- words that are known
 
-both : (a b : Bool) → (a && b) ≡ true → (a ≡ true) × (b ≡ true)
-both true b h = (refl, h)
-both false b h = absurd cc
-
 visible : (word : List ℕ) → list_all (λ b. nat_lt 0x20 b) word ≡ true → All (λ b. 0x20 < b) word
 visible [] h = All-nil (λ b. 0x20 < b)
 visible (b ∷ word) h =
-    let w = both (nat_lt 0x20 b) (list_all (λ c. nat_lt 0x20 c) word) h in
+    let w = both_true (nat_lt 0x20 b) (list_all (λ c. nat_lt 0x20 c) word) h in
     All-cons (λ c. 0x20 < c) b word (above b w.0) (visible word w.1)
   where
     above : (b : ℕ) → nat_lt 0x20 b ≡ true → 0x20 < b

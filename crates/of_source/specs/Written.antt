@@ -141,5 +141,5 @@ AreSaid (p ∷ ps) e k = IsSaid (moved p.blanks k) p (all_written ps e)
 
 -- phrases that are those of a nest are accepted, with the items of that nest
 abbrev pub WrittenIsParsed : Type 0
-WrittenIsParsed = (z : OffsetSize) (ps : List Spelled) (e : Ending) → AreSaid ps e nothing_known → IsNested (items_in ps)
-    → parsed (text_of z ps e) ≡ Ok (record { size = z; items = items_in ps })
+WrittenIsParsed = (z : OffsetSize) (ps : List Spelled) (e : Ending) → AreSaid ps e nothing_known
+    → IsNested (items_in ps) → parsed (text_of z ps e) ≡ Ok (record { size = z; items = items_in ps })
