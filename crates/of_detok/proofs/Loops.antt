@@ -1,21 +1,23 @@
 -- A step of each loop, over variables.
 use Rattle.std.proofs.Common.{◌≡◌, ℕ, suc, ◌+◌, ◌-◌, ◌*◌, ◌/◌, ◌%◌, ◌<◌, ◌≤◌, List, [], ◌∷◌, ◌++◌, length}
 use Rattle.std.proofs.Common.{take, drop}
-use Rattle.std.proofs.Common.{get_or, Option, Some, None, Result, Ok, Err, Bool, true, false, cond, nat_eq, nat_lt}
-use Rattle.std.proofs.Common.{refl, sym, ap, ◌∙◌, arith, append_assoc, codes, map}
-use Rattle.std.proofs.lemmas.List.{drop_more, drop_all, drop-drop, take_all, length-append, append-nil}
+use Rattle.std.proofs.Common.{get_or, Option, Some, None, Bool, true, false, cond, nat_eq, nat_lt}
+use Rattle.std.proofs.Common.{refl, sym, ap, ◌∙◌, arith, append_assoc, codes, map, replicate, zero}
+use Rattle.std.proofs.lemmas.List.{drop_more, drop_all, drop-drop, take_all, length-append, append-nil, map-set, set_past}
 use Rattle.std.proofs.lemmas.Bool.Decides.{nat_tests}
 use Rattle.std.specs.List.{flat_map, position, position_or_len}
 use Rattle.std.specs.Option.{option_map}
+use Rattle.std.specs.Borrow.{Bor}
 use Rattle.std.specs.Char.{digit_char}
-use Rattle.of_stream.specs.declared.fault.StreamFault.{StreamFault}
 use Rattle.of_stream.specs.declared.fault.StreamFault.TheVariants.{Ended}
 use Rattle.of_stream.specs.declared.stream.OffsetSize.{OffsetSize}
 use Rattle.of_stream.specs.Decoding.{Token, token_from}
 use Rattle.of_detok.specs.Digits.{digit_value, pairs}
 use Rattle.of_stream.specs.Sizes.{is_end, size_behind}
-use Rattle.of_detok.specs.Listing.{Line, shown, line_text, line_before, text_behind, token_line, lines_from, trailing}
-use Rattle.of_detok.specs.Listing.{trailing_from}
+use Rattle.of_detok.specs.Labels.{shown}
+use Rattle.of_detok.specs.Listing.{Line, Lines, line_text, line_before, text_behind, to_end, token_line, lines_from}
+use Rattle.of_detok.specs.Listing.{trailing, trailing_from}
+use Rattle.of_detok.specs.Notes.{Notes, behind_token}
 use Rattle.of_detok.specs.Reading.{paired, are_spaces, byte_of, byte_before, some_bytes, text_lines}
 
 -- one more byte as two digits
@@ -180,38 +182,44 @@ line_open text h e =
     (take_all (line_length text) text past) ∙ ap (λ xs. text ∷ text_lines xs) none
 
 -- one more line of a listing
-pub text_more : (text : List ℕ) (l : Line) (r : Result (List Line) StreamFault)
+pub text_more : (text : List ℕ) (l : Line) (r : Lines)
     → text_behind text (line_before l r) ≡ text_behind (text ++ line_text l) r
-text_more text l (Ok lines) = ap (λ xs. Ok xs) (sym (append_assoc text (line_text l) (flat_map line_text lines)))
-text_more text l (Err f) = refl
+text_more text l r = ap (λ xs. (xs, r.fault)) (sym (append_assoc text (line_text l) (flat_map line_text r.lines)))
 
 -- one more token
-pub tokens_more : (text image : List ℕ) (n k position : ℕ) (size : OffsetSize) (r : Token × ℕ) → k < n
-    → token_from image position size ≡ Some r → is_end r.0.code.0 ≡ false
-    → text_behind text (lines_from image (n - k) position size)
-    ≡ text_behind (text ++ line_text (token_line image position r))
-    (lines_from image (n - (k + 1)) r.1 (size_behind r.0.code.0 size))
-tokens_more text image n k position size r l h e =
+pub tokens_more : (text image : List ℕ) (n k : ℕ) (notes : Notes) (position : ℕ) (size : OffsetSize) (r : Token × ℕ)
+    → k < n → token_from image position size ≡ Some r → is_end r.0.code.0 ≡ false
+    → text_behind text (lines_from image (n - k) notes position size)
+    ≡ text_behind (text ++ line_text (token_line image notes position r))
+    (lines_from image (n - (k + 1)) (behind_token r.0 notes) r.1 (size_behind r.0.code.0 size))
+tokens_more text image n k notes position size r l h e =
     let less : n - k ≡ suc (n - (k + 1)) = omega arith in
-    rw (less, h, e) (text_more text (token_line image position r)
-    (lines_from image (n - (k + 1)) r.1 (size_behind r.0.code.0 size)))
+    rw (less, h, e) (text_more text (token_line image notes position r)
+    (lines_from image (n - (k + 1)) (behind_token r.0 notes) r.1 (size_behind r.0.code.0 size)))
 
 -- the end token
-pub tokens_end : (text image : List ℕ) (n k position : ℕ) (size : OffsetSize) (r : Token × ℕ) → k < n
-    → token_from image position size ≡ Some r → is_end r.0.code.0 ≡ true
-    → text_behind text (lines_from image (n - k) position size)
-    ≡ Ok ((text ++ line_text (token_line image position r)) ++ flat_map line_text (trailing_from image r.1))
-tokens_end text image n k position size r l h e =
+pub tokens_end : (text image : List ℕ) (n k : ℕ) (notes : Notes) (position : ℕ) (size : OffsetSize) (r : Token × ℕ)
+    → k < n → token_from image position size ≡ Some r → is_end r.0.code.0 ≡ true
+    → text_behind text (lines_from image (n - k) notes position size)
+    ≡ ((text ++ line_text (token_line image notes position r)) ++ flat_map line_text (trailing_from image r.1), None)
+tokens_end text image n k notes position size r l h e =
     let less : n - k ≡ suc (n - (k + 1)) = omega arith in
-    rw (less, h, e) (text_more text (token_line image position r) (Ok (trailing_from image r.1)))
+    rw (less, h, e) (text_more text (token_line image notes position r) (to_end (trailing_from image r.1)))
 
 -- no token
-pub tokens_cut : (text image : List ℕ) (n k position : ℕ) (size : OffsetSize) → k < n
+pub tokens_cut : (text image : List ℕ) (n k : ℕ) (notes : Notes) (position : ℕ) (size : OffsetSize) → k < n
     → token_from image position size ≡ None
-    → text_behind text (lines_from image (n - k) position size) ≡ Err (Ended position)
-tokens_cut text image n k position size l h =
+    → text_behind text (lines_from image (n - k) notes position size) ≡ (text, Some (Ended position))
+tokens_cut text image n k notes position size l h =
     let less : n - k ≡ suc (n - (k + 1)) = omega arith in
-    rw (less, h) refl
+    rw (less, h) (ap (λ xs. (xs, Some (Ended position))) (append-nil text))
+
+-- the bound on the number of tokens is reached
+pub tokens_out : (text image : List ℕ) (n k : ℕ) (notes : Notes) (position : ℕ) (size : OffsetSize) → n ≤ k
+    → text_behind text (lines_from image (n - k) notes position size) ≡ (text, Some (Ended position))
+tokens_out text image n k notes position size l =
+    let none : n - k ≡ 0 = omega arith in
+    rw none (ap (λ xs. (xs, Some (Ended position))) (append-nil text))
 
 -- one more line behind the end token
 pub trailing_more : (text image : List ℕ) (count k position : ℕ) → k < count
@@ -230,3 +238,37 @@ trailing_more text image count k position l =
 
 -- the bytes on a line, if it has some
 pub ruleset some_or_none = (some_by, none_by)
+
+
+-- one more structure's spaces
+pub spaces_more : (text : List ℕ) (k : ℕ)
+    → (text ++ replicate (2 * k) 0x20) ++ codes "  " ≡ text ++ replicate (2 * (k + 1)) 0x20
+spaces_more text k = append_assoc text (replicate (2 * k) 0x20) (codes "  ")
+    ∙ ap (λ xs. text ++ xs) (go k)
+  where
+    go : (k : ℕ) → replicate (2 * k) 0x20 ++ codes "  " ≡ replicate (2 * (k + 1)) 0x20
+    go zero = refl
+    go (suc k) =
+        let next : 2 * suc k ≡ suc (suc (2 * k)) = omega arith in
+        let last : 2 * (suc k + 1) ≡ suc (suc (2 * (k + 1))) = omega arith in
+        rw (next, last) (ap (λ xs. 0x20 ∷ 0x20 ∷ xs) (go k))
+
+-- no FCode has a name yet
+pub no_names : (n m : ℕ) (old names : List (Option (Bor (List ℕ)))) → old ≡ [] → m ≡ 0
+    → names ≡ take n old ++ replicate (n - m) None
+    → map (option_map (λ (name : Bor (List ℕ)). name.now)) names ≡ replicate n None
+no_names n m old names none begins h =
+    let all : n - m ≡ n = omega (arith, begins) in
+    let blank : take n old ++ replicate (n - m) None ≡ replicate n None = rw (all, none, take_nil n) refl in
+    ap (map (option_map (λ (name : Bor (List ℕ)). name.now))) (h ∙ blank) ∙ each n
+  where
+    take_nil : (n : ℕ) → take {A = Option (Bor (List ℕ))} n [] ≡ []
+    take_nil zero = refl
+    take_nil (suc n) = refl
+
+    each : (n : ℕ) → map (option_map (λ (name : Bor (List ℕ)). name.now)) (replicate n None) ≡ replicate n None
+    each zero = refl
+    each (suc n) = ap (λ names. None ∷ names) (each n)
+
+-- one FCode's name is another, if it has a place
+pub ruleset one_name = (map-set, set_past)

@@ -1,6 +1,6 @@
 -- No label has a newline.
 use Rattle.std.proofs.Common.{◌≡◌, ℕ, zero, suc, ◌/◌, ◌%◌, List, [], ◌∷◌, ◌++◌, map, codes, Option, Some, None, Bool}
-use Rattle.std.proofs.Common.{true, false, cond, ◌&&◌, nat_eq, length, slice_index, refl, arith}
+use Rattle.std.proofs.Common.{true, false, cond, ◌&&◌, ◌*◌, nat_eq, length, replicate, slice_index, refl, arith}
 use Rattle.std.proofs.lemmas.Bool.Decides.{nat_tests}
 use Rattle.std.specs.Option.{option_map}
 use Rattle.std.specs.Char.{digit_char}
@@ -10,9 +10,11 @@ use Rattle.of_fcodes.specs.Lookup.{row_in, row_numbered, name_numbered}
 use Rattle.of_stream.specs.Decoding.{Argument, Nothing, Literal, String, Code, Named, Offset, Token}
 use Rattle.of_detok.specs.Digits.{digits, pairs, place}
 use Rattle.of_stream.specs.Targets.{target}
-use Rattle.of_detok.specs.Listing.{name_or, name, shown, quoted, wrapped, operands, token_label, start_name, said_sum}
-use Rattle.of_detok.specs.Listing.{actual_sum}
-use Rattle.of_detok.specs.Listing.{said_length, unless_said, header_label}
+use Rattle.of_detok.specs.Labels.{name_or, name, shown, quoted, wrapped, operands, token_label, start_name, said_sum}
+use Rattle.of_detok.specs.Labels.{actual_sum}
+use Rattle.of_detok.specs.Labels.{said_length, unless_said, header_label}
+use Rattle.of_detok.specs.Notes.{Notes, indent, depth_at, name_of_token, nest_of, noted_label, said_name}
+use Rattle.of_detok.specs.declared.notes.Nest.{Nest}
 
 -- whether a text has no newline
 abbrev pub plain : List ℕ → Bool
@@ -126,11 +128,31 @@ plain_operands position (Offset by) =
     plain_append (codes " -> ") (digits 6 (wrapped (target position by))) refl
     (plain_digits 6 (wrapped (target position by)))
 
--- of a token
-pub plain_token : (position : ℕ) (t : Token) → plain (token_label position t) ≡ true
+plain_token : (position : ℕ) (t : Token) → plain (token_label position t) ≡ true
 plain_token position t =
     plain_append (name t.code.0) (operands position t.argument) (plain_name t.code.0)
     (plain_operands position t.argument)
+
+plain_spaces : (n : ℕ) → plain (replicate n 0x20) ≡ true
+plain_spaces zero = refl
+plain_spaces (suc n) = plain_spaces n
+
+plain_indent : (t : Nest) (d : Option ℕ) → plain (indent t d) ≡ true
+plain_indent t (Some d) = plain_spaces (2 * depth_at t d)
+plain_indent t None = refl
+
+plain_said : (o : Option (List ℕ)) → plain (said_name o) ≡ true
+plain_said (Some name) = plain_append (codes " ") (map shown name) refl (plain_shown name)
+plain_said None = refl
+
+-- of a token
+pub plain_noted : (n : Notes) (position : ℕ) (t : Token) → plain (noted_label n position t) ≡ true
+plain_noted n position t =
+    plain_append (indent (nest_of t) n.depth ++ token_label position t)
+    (said_name (name_of_token t.code.0 t.argument n.names))
+    (plain_append (indent (nest_of t) n.depth) (token_label position t) (plain_indent (nest_of t) n.depth)
+    (plain_token position t))
+    (plain_said (name_of_token t.code.0 t.argument n.names))
 
 plain_if : (t : Bool) (a b : List ℕ) → plain a ≡ true → plain b ≡ true → plain (cond t a b) ≡ true
 plain_if true a b h k = h

@@ -1,14 +1,16 @@
 -- The text of lines that lie one behind another means their bytes.
-use Rattle.std.proofs.Common.{◌≡◌, ℕ, ◌+◌, ◌<◌, List, [], ◌∷◌, ◌++◌, length, take, drop, codes, Some, Result, Ok, Err}
+use Rattle.std.proofs.Common.{Option, None}
+use Rattle.std.proofs.Common.{◌≡◌, ℕ, ◌+◌, ◌<◌, List, [], ◌∷◌, ◌++◌, length, take, drop, codes, Some, Ok}
 use Rattle.std.proofs.Common.{true, refl, sym, ap, ◌∙◌, arith, append_assoc}
-use Rattle.std.proofs.lemmas.List.{length-append, append-nil, take_at, drop_at}
+use Rattle.std.proofs.lemmas.List.{length-append, append-nil, take_at, drop_at, take-append-drop}
 use Rattle.std.proofs.lemmas.List.Elements.{recursion_from_All}
 use Rattle.std.specs.List.{AllByRecursion, flat_map}
-use Rattle.of_stream.specs.Bytes.{AreBytes}
 use Rattle.of_stream.specs.declared.fault.StreamFault.{StreamFault}
+use Rattle.of_stream.specs.declared.fault.StreamFault.TheVariants.{Short, Start0, BadStart, Ended}
 use Rattle.of_stream.specs.Decoding.{TokenStandsAlone}
 use Rattle.of_detok.specs.Digits.{pairs, place}
-use Rattle.of_detok.specs.Listing.{Line, line_text, lines_of, text_behind}
+use Rattle.of_detok.specs.Listing.{Line, line_text, lines_of}
+use Rattle.of_detok.specs.Reading.{listed_bytes}
 use Rattle.of_detok.specs.Reading.{text_lines, some_bytes, line_bytes, bytes_behind, read_lines, ListingReadsBack}
 use Rattle.of_detok.proofs.Plain.{plain, plain_parts, plain_append, plain_place, plain_pairs}
 use Rattle.of_detok.proofs.Digits16.{paired-pairs, length-place, same_text}
@@ -95,15 +97,17 @@ read_laid number before image (l ∷ lines) bytes at all laid =
     ∙ later
     ∙ ap (λ xs. Ok xs) (append_assoc image l.bytes rest ∙ ap (λ xs. image ++ xs) (sym laid.1))
 
-back_by : TokenStandsAlone → (image text : List ℕ) (r : Result (List Line) StreamFault) → lines_of image ≡ r
-    → AreBytes image → text_behind [] r ≡ Ok text
-    → read_lines 1 [] (text_lines text) ≡ Ok image
-back_by law image text (Err f) e all h = absurd cc
-back_by law image text (Ok lines) e all h =
-    let same : flat_map line_text lines ≡ text = cc in
-    rw (← same) (read_laid 1 0 [] lines image refl (recursion_from_All (λ b. b < 256) image all)
-    (lines_laid law image lines e))
+-- the bytes that a listing has are bytes
+listed_each : (image : List ℕ) (f : Option StreamFault) → EachByte image → EachByte (listed_bytes image f)
+listed_each image None all = all
+listed_each image (Some (Ended p)) all = bytes_left (take p image) (drop p image) (rw (take-append-drop p image) all)
+listed_each image (Some Short) all = tt
+listed_each image (Some Start0) all = tt
+listed_each image (Some (BadStart b)) all = tt
 
 -- each listing reads back
 pub reads_back : TokenStandsAlone → ListingReadsBack
-reads_back law image text all h = back_by law image text (lines_of image) refl all h
+reads_back law e image all =
+    let r = lines_of e image in
+    read_laid 1 0 [] r.lines (listed_bytes image r.fault) refl
+    (listed_each image r.fault (recursion_from_All (λ b. b < 256) image all)) (lines_laid law e image)

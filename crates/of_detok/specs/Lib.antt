@@ -1,3 +1,5 @@
 pub mod Digits
+pub mod Labels
 pub mod Listing
+pub mod Notes
 pub mod Reading

@@ -1,21 +1,19 @@
 -- The listing of an image, a line for each token (IEEE 1275-1994, 5.2.2).
-use Rattle.std.specs.Prelude.{◌≡◌, ℕ, zero, suc, ◌+◌, ◌-◌, ◌*◌, ◌/◌, ◌%◌, ℤ, pos, negsuc, ◌≤◌, List, [], ◌∷◌}
-use Rattle.std.specs.Prelude.{◌++◌}
-use Rattle.std.specs.Prelude.{map, length, take, drop}
-use Rattle.std.specs.Prelude.{slice_index, slice_range, codes, Option, Some, None, Result, Ok, Err, nat_eq, nat_lt}
-use Rattle.std.specs.Prelude.{if◌then◌else◌}
-use Rattle.std.specs.List.{sum, flat_map}
-use Rattle.of_fcodes.specs.Lookup.{name_numbered}
+use Rattle.std.specs.Prelude.{◌≡◌, ℕ, zero, suc, ◌+◌, ◌-◌, ◌/◌, ◌≤◌, List, [], ◌∷◌, ◌++◌, length, take, drop}
+use Rattle.std.specs.Prelude.{slice_range, codes, Option, Some, None, Result, Ok, Err, if◌then◌else◌}
+use Rattle.std.specs.List.{flat_map}
 use Rattle.of_stream.specs.declared.fault.StreamFault.{StreamFault}
 use Rattle.of_stream.specs.declared.fault.StreamFault.TheVariants.{Ended}
 use Rattle.of_stream.specs.declared.stream.OffsetSize.{OffsetSize}
-use Rattle.of_stream.specs.Decoding.{Argument, Nothing, Literal, String, Code, Named, Offset, Token, token_from}
+use Rattle.of_stream.specs.Decoding.{Token, token_from}
 use Rattle.of_stream.specs.Image.{header_fault, header_length, first_size}
 use Rattle.of_stream.specs.Sizes.{is_end, size_behind}
-use Rattle.of_stream.specs.Targets.{target}
 use Rattle.of_detok.specs.declared.fault.DetokFault.{DetokFault}
 use Rattle.of_detok.specs.declared.fault.DetokFault.TheVariants as fault
-use Rattle.of_detok.specs.Digits.{digits, pairs, place}
+use Rattle.of_detok.specs.declared.notes.Extras.{Extras}
+use Rattle.of_detok.specs.Digits.{pairs, place}
+use Rattle.of_detok.specs.Labels.{header_label}
+use Rattle.of_detok.specs.Notes.{Notes, first_notes, behind_token, noted_label}
 
 -- ---- one line
 
@@ -28,76 +26,6 @@ pub record Line : Type 0 where
 -- place and bytes, two spaces, the label
 unfoldable pub line_text : Line → List ℕ
 line_text l = place l.before ++ pairs l.bytes ++ codes "  " ++ l.label ++ codes "\n"
-
--- ---- the label of a token
-
--- the name, or the number of an FCode that isn't listed
-abbrev pub name_or : Option (List ℕ) → ℕ → List ℕ
-name_or (Some name) n = name
-name_or None n = codes "fcode-" ++ digits 3 n
-
--- the name of an FCode
-unfoldable pub name : ℕ → List ℕ
-name n = name_or (name_numbered n) n
-
--- a byte as it is shown in a string: `.` unless it can be printed
-abbrev pub shown : ℕ → ℕ
-shown b = if nat_lt b 0x20 then 46 else if nat_lt 0x7e b then 46 else b
-
--- a string in quotes
-unfoldable pub quoted : List ℕ → List ℕ
-quoted bytes = codes "\"" ++ map shown bytes ++ codes "\""
-
--- an integer modulo 2^24
-abbrev pub wrapped : ℤ → ℕ
-wrapped (pos n) = n % 0x1000000
-wrapped (negsuc n) = 0xffffff - n % 0x1000000
-
--- the operands of the token at a position, each behind a space; an offset by where it leads
-unfoldable pub operands : ℕ → Argument → List ℕ
-operands position Nothing = []
-operands position (Literal x) = codes " " ++ digits 8 x.0
-operands position (String s) = codes " " ++ quoted s
-operands position (Code c) = codes " " ++ digits 3 c.0
-operands position (Named s c) = codes " " ++ quoted s ++ codes " " ++ digits 3 c.0
-operands position (Offset by) = codes " -> " ++ digits 6 (wrapped (target position by))
-
--- name and operands
-abbrev pub token_label : ℕ → Token → List ℕ
-token_label position t = name t.code.0 ++ operands position t.argument
-
--- ---- the label of a header
-
--- the word that a start byte stands for
-abbrev pub start_name : ℕ → List ℕ
-start_name start =
-    if nat_eq start 0xf1 then codes "start1" else
-    if nat_eq start 0xf2 then codes "start2" else
-    if nat_eq start 0xf3 then codes "start4" else
-    codes "version1"
-
--- the checksum that a header says, and that of the bytes behind it
-abbrev pub said_sum : List ℕ → ℕ
-said_sum image = slice_index image 2 * 256 + slice_index image 3
-
-unfoldable pub actual_sum : List ℕ → ℕ
-actual_sum image = sum (drop header_length image) % 65536
-
--- the length that a header says
-abbrev pub said_length : List ℕ → ℕ
-said_length image =
-    ((slice_index image 4 * 256 + slice_index image 5) * 256 + slice_index image 6) * 256 + slice_index image 7
-
--- a number where the header says another
-abbrev pub unless_said : List ℕ → ℕ → ℕ → ℕ → List ℕ
-unless_said title count said actual = if nat_eq said actual then [] else title ++ digits count actual ++ codes ")"
-
--- the start word, and the checksum and the length where the header says others
-unfoldable pub header_label : List ℕ → List ℕ
-header_label image =
-    start_name (slice_index image 0)
-    ++ unless_said (codes " (sum ") 4 (said_sum image) (actual_sum image)
-    ++ unless_said (codes " (bytes ") 8 (said_length image) (length image)
 
 -- ---- all lines
 
@@ -112,65 +40,86 @@ trailing (suc more) before bytes =
 abbrev pub trailing_from : List ℕ → ℕ → List Line
 trailing_from image position = trailing ((length image - position + 15) / 16) position (drop position image)
 
--- lines, or what is wrong with the image
-abbrev pub Lines : Type 0
-Lines = Result (List Line) StreamFault
+-- the lines of an image up to its end, or up to what is wrong with it
+pub record Lines : Type 0 where
+  pub lines : List Line
+  pub fault : Option StreamFault
 
--- a line, and then others if there are any
+-- these lines, to the end
+abbrev pub to_end : List Line → Lines
+to_end lines = record { lines = lines; fault = None }
+
+-- no more lines, for this fault
+abbrev pub stopped : StreamFault → Lines
+stopped f = record { lines = []; fault = Some f }
+
+-- a line, and then others
 abbrev pub line_before : Line → Lines → Lines
-line_before l (Ok lines) = Ok (l ∷ lines)
-line_before l (Err f) = Err f
+line_before l r = record { lines = l ∷ r.lines; fault = r.fault }
 
 -- the line of a token at a position, which is given with the position behind it
-abbrev pub token_line : List ℕ → ℕ → Token × ℕ → Line
-token_line image position r =
-    record { before = position; bytes = slice_range image position r.1; label = token_label position r.0 }
+abbrev pub token_line : List ℕ → Notes → ℕ → Token × ℕ → Line
+token_line image n position r =
+    record { before = position; bytes = slice_range image position r.1; label = noted_label n position r.0 }
 
 -- The lines from a position on, by the token that is read there; without one the image ends too early.
 -- Behind an end token all is trailing, and behind another one the next lines follow.
-abbrev pub token_lines : List ℕ → ℕ → OffsetSize → Option (Token × ℕ) → (ℕ → OffsetSize → Lines) → Lines
-token_lines image position size None next_lines = Err (Ended position)
-token_lines image position size (Some r) next_lines = line_before (token_line image position r) (
-    if is_end r.0.code.0 then Ok (trailing_from image r.1) else next_lines r.1 (size_behind r.0.code.0 size)
+abbrev pub token_lines : List ℕ → Notes → ℕ → OffsetSize → Option (Token × ℕ) → (Notes → ℕ → OffsetSize → Lines) → Lines
+token_lines image n position size None next_lines = stopped (Ended position)
+token_lines image n position size (Some r) next_lines = line_before (token_line image n position r) (
+    if is_end r.0.code.0 then to_end (trailing_from image r.1)
+    else next_lines (behind_token r.0 n) r.1 (size_behind r.0.code.0 size)
     )
 
 -- the lines from a position to the end of the image, with at most n tokens
-abbrev pub lines_from : List ℕ → ℕ → ℕ → OffsetSize → Lines
-lines_from image zero position size = Err (Ended position)
-lines_from image (suc n) position size =
-    token_lines image position size (token_from image position size) (lines_from image n)
+abbrev pub lines_from : List ℕ → ℕ → Notes → ℕ → OffsetSize → Lines
+lines_from image zero n position size = stopped (Ended position)
+lines_from image (suc more) n position size =
+    token_lines image n position size (token_from image position size) (lines_from image more)
 
 -- the lines behind the header's; a token has a byte at least, so there are no more tokens than bytes
-abbrev pub lines_behind : List ℕ → Lines
-lines_behind image = lines_from image (length image) header_length (first_size image)
+abbrev pub lines_behind : Extras → List ℕ → Lines
+lines_behind e image = lines_from image (length image) (first_notes e) header_length (first_size image)
 
 -- the bound on the number of tokens cuts nothing: a larger one gives the same lines
 abbrev pub BoundCutsNothing : Type 0
 BoundCutsNothing =
-    (image : List ℕ) (n : ℕ) → length image ≤ n
-    → lines_from image n header_length (first_size image) ≡ lines_behind image
+    (e : Extras) (image : List ℕ) (n : ℕ) → length image ≤ n
+    → lines_from image n (first_notes e) header_length (first_size image) ≡ lines_behind e image
 
 -- the line of the header
 abbrev pub header_line : List ℕ → Line
 header_line image = record { before = 0; bytes = take header_length image; label = header_label image }
 
 -- the lines of an image whose header has this fault, or none
-abbrev pub lines_if : List ℕ → Option StreamFault → Lines
-lines_if image (Some f) = Err f
-lines_if image None = line_before (header_line image) (lines_behind image)
+abbrev pub lines_if : Extras → List ℕ → Option StreamFault → Lines
+lines_if e image (Some f) = stopped f
+lines_if e image None = line_before (header_line image) (lines_behind e image)
 
 -- the lines of an image: the header, the tokens up to the end token, and what trails
-unfoldable pub lines_of : List ℕ → Lines
-lines_of image = lines_if image (header_fault image)
+unfoldable pub lines_of : Extras → List ℕ → Lines
+lines_of e image = lines_if e image (header_fault image)
+
+-- a text, and what is wrong with the image behind it, if anything
+abbrev pub Listed : Type 0
+Listed = List ℕ × Option StreamFault
 
 -- the text of these lines behind another
-abbrev pub text_behind : List ℕ → Lines → Result (List ℕ) StreamFault
-text_behind text (Ok lines) = Ok (text ++ flat_map line_text lines)
-text_behind text (Err f) = Err f
+abbrev pub text_behind : List ℕ → Lines → Listed
+text_behind text r = (text ++ flat_map line_text r.lines, r.fault)
+
+-- the listing of an image up to its end, or up to what is wrong with it
+abbrev pub listed_so_far : Extras → List ℕ → Listed
+listed_so_far e image = text_behind [] (lines_of e image)
+
+-- a whole listing, or what is wrong with the image
+abbrev pub whole : Listed → Result (List ℕ) StreamFault
+whole (text, None) = Ok text
+whole (text, Some f) = Err f
 
 -- the listing of an image, or what is wrong with the image
-abbrev pub listed : List ℕ → Result (List ℕ) StreamFault
-listed image = text_behind [] (lines_of image)
+abbrev pub listed : Extras → List ℕ → Result (List ℕ) StreamFault
+listed e image = whole (listed_so_far e image)
 
 -- a call was refused for this fault, or for want of memory
 abbrev pub IsRefused : {A : Type 0} → Result A StreamFault → DetokFault → Type 0

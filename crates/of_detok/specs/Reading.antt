@@ -7,7 +7,10 @@ use Rattle.of_stream.specs.Bytes.{AreBytes}
 use Rattle.of_detok.specs.declared.fault.DetokFault.{DetokFault}
 use Rattle.of_detok.specs.declared.fault.DetokFault.TheVariants as fault
 use Rattle.of_detok.specs.Digits.{digit_value, place}
-use Rattle.of_detok.specs.Listing.{listed}
+use Rattle.of_stream.specs.declared.fault.StreamFault.{StreamFault}
+use Rattle.of_stream.specs.declared.fault.StreamFault.TheVariants.{Ended}
+use Rattle.of_detok.specs.declared.notes.Extras.{Extras}
+use Rattle.of_detok.specs.Listing.{Listed, listed_so_far}
 
 -- a byte before the other lines of a text
 abbrev pub with_first : ℕ → List (List ℕ) → List (List ℕ)
@@ -71,6 +74,17 @@ IsUnread r fault.NoMemory = Unit {0}
 IsUnread r (fault.Stream f) = ⊥
 IsUnread r (fault.BadLine n) = r ≡ Err n
 
--- each listing of bytes reads back
+-- how many bytes of an image a listing has that stops for this fault, if for any
+abbrev pub listed_bytes : List ℕ → Option StreamFault → List ℕ
+listed_bytes image None = image
+listed_bytes image (Some (Ended position)) = take position image
+listed_bytes image (Some f) = []
+
+-- a text means the bytes of an image that a listing has
+abbrev pub MeansListed : List ℕ → Listed → Type 0
+MeansListed image (text, f) = meaning text ≡ Ok (listed_bytes image f)
+
+-- Each listing of bytes reads back, whatever it says beyond names and operands: to the whole image, or to what stands
+-- before the first token that can't be read.
 abbrev pub ListingReadsBack : Type 0
-ListingReadsBack = (image text : List ℕ) → AreBytes image → listed image ≡ Ok text → meaning text ≡ Ok image
+ListingReadsBack = (e : Extras) (image : List ℕ) → AreBytes image → MeansListed image (listed_so_far e image)

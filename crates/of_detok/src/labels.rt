@@ -1,15 +1,19 @@
 // What is said behind the bytes of a line. Each function that writes puts its text behind what
 // stands there.
 
-ghost use Rattle.std.specs.Prelude.{◌≡◌, ◌<◌, ◌≤◌, ◌+◌, ◌^◌, ◌++◌, codes, length, map, OnOk, slice_index};
-ghost use Rattle.of_detok.specs.Listing.{name, shown, quoted, wrapped, operands, token_label, start_name};
-ghost use Rattle.of_detok.specs.Listing.{actual_sum, said_sum, said_length, unless_said, header_label};
+ghost use Rattle.std.specs.Prelude.{◌≡◌, ◌<◌, ◌≤◌, ◌+◌, ◌*◌, ◌^◌, ◌++◌, codes, length, map, replicate, OnOk};
+ghost use Rattle.std.specs.Prelude.{slice_index};
+ghost use Rattle.std.specs.Option.{option_map};
+ghost use Rattle.of_detok.specs.Labels.{name, shown, quoted, wrapped, operands, token_label, start_name};
+ghost use Rattle.of_detok.specs.Labels.{actual_sum, said_sum, said_length, unless_said, header_label};
+ghost use Rattle.of_detok.specs.Notes.{indent, noted_label, said_name};
 ghost use Rattle.of_detok.specs.Digits.{digits};
 ghost use Rattle.of_stream.specs.Decoding.{argument_shown, token_shown};
 ghost use Rattle.of_stream.specs.Image.{header_length};
 ghost use Rattle.of_stream.specs.Targets.{target};
 
 use crate::line::write_digits;
+use crate::notes::{Nest, Notes, nest_of};
 use of_fcodes::{FCode, name_of};
 use of_stream::{Argument, HEADER_LENGTH, Token, target_at};
 use std::alloc::AllocError;
@@ -22,7 +26,7 @@ fn write_code(out: &mut Vec<u8>, code: FCode) -> Result<(), AllocError>
 }
 
 /// Writes the name of an FCode, and of one that isn't listed its number.
-#[tactic(auto, unfolding(crate::specs::Listing::name), using(std::proofs::lemmas::List::append_assoc))]
+#[tactic(auto, unfolding(crate::specs::Labels::name), using(std::proofs::lemmas::List::append_assoc))]
 fn write_name(out: &mut Vec<u8>, code: FCode) -> Result<(), AllocError>
     ensures { OnOk result (out.new.items ≡ out.old.items ++ name code.0) }
 {
@@ -47,7 +51,7 @@ fn shown(byte: u8) -> u8
 }
 
 /// Writes a string in quotes.
-#[tactic(auto, unfolding(crate::specs::Listing::quoted), using(std::proofs::lemmas::List::append_assoc))]
+#[tactic(auto, unfolding(crate::specs::Labels::quoted), using(std::proofs::lemmas::List::append_assoc))]
 fn write_quoted(out: &mut Vec<u8>, text: &[u8]) -> Result<(), AllocError>
     ensures { OnOk result (out.new.items ≡ out.old.items ++ quoted text.now) }
 {
@@ -79,7 +83,7 @@ fn target_shown(position: usize, by: i16) -> usize
 }
 
 /// Writes the operands of the token at a position, each behind a space.
-#[tactic(auto, unfolding(crate::specs::Listing::operands), using(std::proofs::lemmas::List::append_assoc))]
+#[tactic(auto, unfolding(crate::specs::Labels::operands), using(std::proofs::lemmas::List::append_assoc))]
 fn write_operands(
     out: &mut Vec<u8>,
     position: usize,
@@ -117,12 +121,62 @@ fn write_operands(
 
 /// Writes the name and the operands of the token at a position.
 #[tactic(auto, using(std::proofs::lemmas::List::append_assoc))]
-pub fn write_token(out: &mut Vec<u8>, position: usize, token: Token<'_>) -> Result<(), AllocError>
+fn write_token(out: &mut Vec<u8>, position: usize, token: Token<'_>) -> Result<(), AllocError>
     requires { position < 2 ^ 63 }
     ensures { OnOk result (out.new.items ≡ out.old.items ++ token_label position (token_shown token.entry)) }
 {
     write_name(out, token.code)?;
     write_operands(out, position, token.argument)
+}
+
+/// Writes two spaces for each structure.
+fn write_spaces(out: &mut Vec<u8>, depth: usize) -> Result<(), AllocError>
+    ensures { OnOk result (out.new.items ≡ out.old.items ++ replicate (2 * depth) 0x20) }
+{
+    for _ in 0..depth {
+        out.extend_from_slice(b"  ")?;
+    }
+    Ok(())
+}
+
+/// Writes the spaces before the name of a token.
+fn write_indent(out: &mut Vec<u8>, nest: Nest, depth: Option<usize>) -> Result<(), AllocError>
+    ensures { OnOk result (out.new.items ≡ out.old.items ++ indent nest depth) }
+{
+    match depth {
+        Some(depth) => write_spaces(out, nest.depth_at(depth)),
+        None => Ok(()),
+    }
+}
+
+/// Writes the name that a token's FCode was given, if it was given one.
+#[tactic(auto, using(std::proofs::lemmas::List::append_assoc))]
+fn write_said(out: &mut Vec<u8>, name: Option<&[u8]>) -> Result<(), AllocError>
+    ensures { OnOk result (out.new.items ≡ out.old.items ++ said_name (option_map (λ text. text.now) name.entry)) }
+{
+    match name {
+        Some(name) => {
+            out.push(b' ')?;
+            write_shown(out, name)
+        }
+        None => Ok(()),
+    }
+}
+
+/// Writes the label of the token at a position, indented, with the name that it was given.
+#[tactic(auto, using(std::proofs::lemmas::List::append_assoc))]
+pub fn write_noted(
+    out: &mut Vec<u8>,
+    notes: &Notes<'_>,
+    position: usize,
+    token: Token<'_>,
+) -> Result<(), AllocError>
+    requires { position < 2 ^ 63 }
+    ensures { OnOk result (out.new.items ≡ out.old.items ++ noted_label notes.now position (token_shown token.entry)) }
+{
+    write_indent(out, nest_of(token), notes.depth())?;
+    write_token(out, position, token)?;
+    write_said(out, notes.name_of(token))
 }
 
 /// The word that a start byte stands for.
@@ -138,7 +192,7 @@ fn start_name(start: u8) -> &'static [u8]
 }
 
 /// The low sixteen bits of the sum of the bytes behind the header.
-#[tactic(auto, unfolding(crate::specs::Listing::actual_sum))]
+#[tactic(auto, unfolding(crate::specs::Labels::actual_sum))]
 fn actual_sum(image: &[u8]) -> usize
     requires { header_length ≤ length image.now }
     ensures { result ≡ actual_sum image.now }
@@ -188,7 +242,7 @@ fn write_unless_said(
 }
 
 /// Writes the start word, and the checksum and the length where the header says others.
-#[tactic(auto, unfolding(crate::specs::Listing::header_label), using(std::proofs::lemmas::List::append_assoc))]
+#[tactic(auto, unfolding(crate::specs::Labels::header_label), using(std::proofs::lemmas::List::append_assoc))]
 pub fn write_header(out: &mut Vec<u8>, image: &[u8]) -> Result<(), AllocError>
     requires { header_length ≤ length image.now }
     ensures { OnOk result (out.new.items ≡ out.old.items ++ header_label image.now) }

@@ -3,12 +3,14 @@ ghost use Rattle.std.specs.Prelude.{OnOk, slice_range};
 ghost use Rattle.std.specs.List.{flat_map};
 ghost use Rattle.of_stream.specs.Decoding.{token_shown};
 ghost use Rattle.of_stream.specs.Image.{header_length};
-ghost use Rattle.of_detok.specs.Listing.{header_line, line_text, token_line, trailing_from, lines_behind};
-ghost use Rattle.of_detok.specs.Listing.{text_behind, listed, IsRefused};
+ghost use Rattle.of_stream.specs.Image.{first_size};
+ghost use Rattle.of_detok.specs.Listing.{header_line, line_text, token_line, trailing_from, lines_from};
+ghost use Rattle.of_detok.specs.Listing.{text_behind, listed, listed_so_far, IsRefused};
 
 use crate::fault::DetokFault;
-use crate::labels::{write_header, write_token};
+use crate::labels::{write_header, write_noted};
 use crate::line::write_line;
+use crate::notes::{Extras, Notes};
 use of_stream::{HEADER_LENGTH, Stream, StreamFault, Token, open};
 use std::alloc::{AllocError, Global};
 
@@ -32,6 +34,7 @@ fn write_header_line(out: &mut Vec<u8>, image: &[u8]) -> Result<(), AllocError>
 fn write_token_line(
     out: &mut Vec<u8>,
     image: &[u8],
+    notes: &Notes<'_>,
     position: usize,
     token: Token<'_>,
     next: usize,
@@ -39,10 +42,10 @@ fn write_token_line(
     requires rises { position ≤ next }
     requires within { next ≤ length image.now }
     ensures { OnOk result (out.new.items
-        ≡ out.old.items ++ line_text (token_line image.now position (token_shown token.entry, next))) }
+        ≡ out.old.items ++ line_text (token_line image.now notes.now position (token_shown token.entry, next))) }
 {
     write_line(out, position, &image[position..next])?;
-    write_token(out, position, token)?;
+    write_noted(out, notes, position, token)?;
     out.push(b'\n')?;
     Ok(())
 }
@@ -80,29 +83,39 @@ fn write_trailing(out: &mut Vec<u8>, image: &[u8], position: usize) -> Result<()
     Ok(())
 }
 
-/// Writes the lines behind the header. A token has a byte at least, so there are no more tokens
-/// than bytes.
-fn write_tokens(out: &mut Vec<u8>, stream: Stream<'_>) -> Result<(), DetokFault>
+/// Writes the lines behind the header, and says why it stops before the end, if it does. A token has a byte at least,
+/// so there are no more tokens than bytes.
+fn write_tokens<'a>(
+    out: &mut Vec<u8>,
+    stream: Stream<'a>,
+    mut notes: Notes<'a>,
+) -> Result<Option<StreamFault>, AllocError>
     requires { header_length ≤ length stream.image.now }
-    ensures ok { OnOk result (text_behind out.old.items (lines_behind stream.entry.image.now) ≡ Ok out.new.items) }
-    ensures err { IfErr result (λ f. IsRefused (text_behind out.old.items (lines_behind stream.entry.image.now)) f) }
+    ensures { IfOk result (λ fault. (out.new.items, fault)
+        ≡ text_behind out.old.items (lines_from stream.entry.image.now (length stream.entry.image.now) notes.entry
+        header_length (first_size stream.entry.image.now))) }
 {
     let mut position = HEADER_LENGTH;
     let mut size = stream.first_size();
     for _ in 0..stream.image.len() {
-        let (token, next) = stream.token_at(position, size)?;
-        write_token_line(out, stream.image, position, token, next)?;
+        let (token, next) = match stream.token_at(position, size) {
+            Ok(read) => read,
+            Err(fault) => return Ok(Some(fault)),
+        };
+        write_token_line(out, stream.image, &notes, position, token, next)?;
         if token.is_end() {
             write_trailing(out, stream.image, next)?;
-            return Ok(());
+            return Ok(None);
         }
+        notes.pass(token);
         position = next;
         size = token.size_behind(size);
     }
-    Err(DetokFault::Stream(StreamFault::Ended(position)))
+    Ok(Some(StreamFault::Ended(position)))
 }
 
-/// The listing of an image (IEEE 1275-1994, 5.2.2), a line for each token.
+/// The listing of an image (IEEE 1275-1994, 5.2.2), a line for each token, up to the end of the image or up to what is
+/// wrong with it, which is given, too.
 ///
 /// A line has its position in six digits (modulo 2^24), `: `, its bytes in hexadecimal, two spaces,
 /// the name and the operands. The first line is the header's, with the start word, and with the
@@ -110,15 +123,36 @@ fn write_tokens(out: &mut Vec<u8>, stream: Stream<'_>) -> Result<(), DetokFault>
 /// holds at their token, in the order of the bytes. Bytes behind the end token are lines of up to
 /// sixteen bytes, named `trailing`.
 ///
-/// Stream where the header, or a token up to the end token, can't be read; NoMemory.
+/// What is wrong is the header, and then there are no lines, or a token up to the end token that can't be read. An
+/// error is for memory alone.
 #[tactic(auto, unfolding(crate::specs::Listing::lines_of))]
-pub fn listing(alloc: Global, image: &[u8]) -> Result<Vec<u8>, DetokFault>
-    ensures ok { IfOk result (λ text. listed image.now ≡ Ok text.items) }
-    ensures err { IfErr result (λ f. IsRefused (listed image.now) f) }
+pub fn partial_listing(
+    alloc: Global,
+    image: &[u8],
+    extras: Extras,
+) -> Result<(Vec<u8>, Option<StreamFault>), AllocError>
+    ensures { IfOk result (λ r. (r.0.items, r.1) ≡ listed_so_far extras image.now) }
 {
-    let stream = open(image)?;
     let mut out = Vec::new(alloc);
+    let stream = match open(image) {
+        Ok(stream) => stream,
+        Err(fault) => return Ok((out, Some(fault))),
+    };
+    let notes = Notes::new(alloc, extras)?;
     write_header_line(&mut out, image)?;
-    write_tokens(&mut out, stream)?;
-    Ok(out)
+    let fault = write_tokens(&mut out, stream, notes)?;
+    Ok((out, fault))
+}
+
+/// The listing of an image whose tokens can all be read, as `partial_listing` gives it.
+///
+/// Stream where the header, or a token up to the end token, can't be read; NoMemory.
+pub fn listing(alloc: Global, image: &[u8], extras: Extras) -> Result<Vec<u8>, DetokFault>
+    ensures ok { IfOk result (λ text. listed extras image.now ≡ Ok text.items) }
+    ensures err { IfErr result (λ f. IsRefused (listed extras image.now) f) }
+{
+    match partial_listing(alloc, image, extras)? {
+        (text, None) => Ok(text),
+        (_, Some(fault)) => Err(DetokFault::Stream(fault)),
+    }
 }

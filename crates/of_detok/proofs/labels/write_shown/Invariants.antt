@@ -1,5 +1,5 @@
 use Rattle.std.proofs.Common.{◌≡◌, ◌++◌, map, drop}
-use Rattle.of_detok.specs.Listing.{shown}
+use Rattle.of_detok.specs.Labels.{shown}
 use Rattle.of_detok.proofs.labels.write_shown.Given as goal
 
 abbrev pub invariant-loop-byte : goal.invariant-loop-byte

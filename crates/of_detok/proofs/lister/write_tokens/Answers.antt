@@ -1,41 +1,33 @@
-use Rattle.std.proofs.Common.{◌≡◌, ◌-◌, length, refl, sym, ◌∙◌, arith}
-use Rattle.std.proofs.lemmas.Result.{err_from_is_err_and}
+use Rattle.std.proofs.Common.{length, sym, ◌∙◌}
 use Rattle.of_stream.specs.Decoding.{token_shown}
 use Rattle.of_detok.proofs.Loops.{tokens_more, tokens_end, tokens_cut}
 use Rattle.of_detok.proofs.lister.write_tokens.Goals as goal
 
-pub loop-init : goal.loop-init
-loop-init c =
+pub returns-in-Err : goal.returns-in-Err
+returns-in-Err c =
     let image = c.args.stream.image.now in
-    let whole : length image - 0 ≡ length image = omega arith in
-    rw (whole, c.first_size-size.ensures) refl
-
-pub returns-in_err-token-clause-err : goal.returns-in_err-token-clause-err
-returns-in_err-token-clause-err c =
-    let image = c.args.stream.image.now in
-    let p = err_from_is_err_and c.from_residual.result c.from_residual.ensures.1 in
-    rw (p.1, p.2, c.in_err-token.ensures.err.1) (
-    sym c.loop.invariant
-    ∙ tokens_cut c.loop.out.items image (length image) c.loop.counter c.loop.position c.loop.size c.loop-test.true
-    c.in_err-token.ensures.err.0
+    rw c.in-Err.ensures.err.1 (
+    sym (tokens_cut c.loop.out.items image (length image) c.loop.counter c.loop.notes c.loop.position c.loop.size
+    c.loop-test.true c.in-Err.ensures.err.0)
+    ∙ c.loop.invariant
     )
 
-pub returns-then-is_end-clause-ok : goal.returns-then-is_end-clause-ok
-returns-then-is_end-clause-ok c =
+pub returns-then-is_end : goal.returns-then-is_end
+returns-then-is_end c =
     let image = c.args.stream.image.now in
     rw (c.in_ok-write_trailing.ensures, c.in_ok-write_token_line.ensures) (
-    sym c.loop.invariant
-    ∙ tokens_end c.loop.out.items image (length image) c.loop.counter c.loop.position c.loop.size
-    (token_shown c.in_ok-token.token, c.in_ok-token.next)
-    c.loop-test.true c.in_ok-token.ensures.ok (sym c.is_end.ensures ∙ c.if-is_end.true)
+    sym (tokens_end c.loop.out.items image (length image) c.loop.counter c.loop.notes c.loop.position c.loop.size
+    (token_shown c.in-Ok.read.0, c.in-Ok.read.1)
+    c.loop-test.true c.in-Ok.ensures.ok (sym c.is_end.ensures ∙ c.if-is_end.true))
+    ∙ c.loop.invariant
     )
 
 pub loop-preserved : goal.loop-preserved
 loop-preserved c =
     let image = c.args.stream.image.now in
-    rw (c.size_behind-size.ensures, c.in_ok-write_token_line.ensures) (
-    sym (tokens_more c.loop.out.items image (length image) c.loop.counter c.loop.position c.loop.size
-    (token_shown c.in_ok-token.token, c.in_ok-token.next)
-    c.loop-test.true c.in_ok-token.ensures.ok (sym c.is_end.ensures ∙ c.if-is_end.false))
+    rw (c.size_behind-size.ensures, c.in_ok-write_token_line.ensures, c.pass.ensures) (
+    sym (tokens_more c.loop.out.items image (length image) c.loop.counter c.loop.notes c.loop.position c.loop.size
+    (token_shown c.in-Ok.read.0, c.in-Ok.read.1)
+    c.loop-test.true c.in-Ok.ensures.ok (sym c.is_end.ensures ∙ c.if-is_end.false))
     ∙ c.loop.invariant
     )
