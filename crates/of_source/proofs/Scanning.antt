@@ -1,6 +1,7 @@
 -- Strings, byte by byte.
-use Rattle.std.proofs.Common.{◌≡◌, ℕ, suc, ◌+◌, ◌<◌, ◌≤◌, ◌-◌, false, List, [], ◌∷◌, ◌++◌, length, take, drop, get_or}
-use Rattle.std.proofs.Common.{nat_eq, Some, None, refl, ap, sym, ◌∙◌, arith, add-one, drop-cons, append_assoc}
+use Rattle.std.proofs.Common.{◌≡◌, ℕ, suc, ◌+◌, ◌<◌, ◌≤◌, ◌-◌, true, false, List, [], ◌∷◌, ◌++◌, length}
+use Rattle.std.proofs.Common.{take, drop, get_or, nat_eq, Some, None, refl, ap, sym, ◌∙◌, arith, add-one, drop-cons}
+use Rattle.std.proofs.Common.{append_assoc, append-nil}
 use Rattle.std.proofs.lemmas.Bool.Decides.{nat_tests}
 use Rattle.of_format.specs.Digits.{digit_value}
 use Rattle.std.proofs.Math.Seq.{take-suc}
@@ -75,6 +76,50 @@ quoted_none out rest i end lt e =
 
 pub quoted_cut : (out rest : List ℕ) (i end : ℕ) → end ≤ i → None ≡ bytes_before out (quoted (end - i) rest)
 quoted_cut out rest i end le = let n : end - i ≡ 0 = omega arith in rw n refl
+
+-- pairs end at `)`
+pub pairs_end : (out text : List ℕ) (d : ℕ) → 1 ≤ length text → get_or text 0 d ≡ 41
+    → Some (out, drop 1 text) ≡ bytes_before out (pairs text)
+pairs_end out [] d l e = absurd (omega (arith, l))
+pairs_end out (x ∷ []) d l e = rw (e, append-nil out) refl
+pairs_end out (x ∷ y ∷ text) d l e = rw (e, append-nil out) refl
+
+-- no pair goes on over the end of the line
+pub pairs_line : (out text : List ℕ) (d : ℕ) → 2 ≤ length text → get_or text 0 d ≡ 10
+    → None ≡ bytes_before out (pairs text)
+pairs_line out [] d l e = absurd (omega (arith, l))
+pairs_line out (x ∷ []) d l e = absurd (omega (arith, l))
+pairs_line out (x ∷ y ∷ text) d l e = rw e refl
+
+-- past a blank between pairs
+pub pairs_blank : (out text : List ℕ) (d : ℕ) → 2 ≤ length text → (get_or text 0 d ≡ 41 → ⊥)
+    → (get_or text 0 d ≡ 10 → ⊥) → is_blank (get_or text 0 d) ≡ true
+    → bytes_before out (pairs (drop 1 text)) ≡ bytes_before out (pairs text)
+pairs_blank out [] d l n m s = absurd (omega (arith, l))
+pairs_blank out (x ∷ []) d l n m s = absurd (omega (arith, l))
+pairs_blank out (x ∷ y ∷ text) d l n m s = let nn : nat_eq x 41 ≡ false =
+    grind (arith, nat_tests) in let mm : nat_eq x 10 ≡ false = grind (arith, nat_tests) in rw (nn, mm, s) refl
+
+-- what is no pair of digits
+pub pairs_bad : (out text : List ℕ) (d : ℕ) → 2 ≤ length text → (get_or text 0 d ≡ 41 → ⊥)
+    → (get_or text 0 d ≡ 10 → ⊥) → is_blank (get_or text 0 d) ≡ false
+    → byte_of (digit_value 16 (get_or text 0 d)) (digit_value 16 (get_or text 1 d)) ≡ None
+    → None ≡ bytes_before out (pairs text)
+pairs_bad out [] d l n m s h = absurd (omega (arith, l))
+pairs_bad out (x ∷ []) d l n m s h = absurd (omega (arith, l))
+pairs_bad out (x ∷ y ∷ text) d l n m s h = let nn : nat_eq x 41 ≡ false =
+    grind (arith, nat_tests) in let mm : nat_eq x 10 ≡ false = grind (arith, nat_tests) in rw (nn, mm, s, h) refl
+
+-- the bytes of a group are those of its pairs
+pub group_pairs : (text : List ℕ) (d : ℕ) (f : Found) → 1 ≤ length text → get_or text 0 d ≡ 40
+    → f ≡ bytes_before [] (pairs (drop 1 text)) → f ≡ group text
+group_pairs [] d f l n e = absurd (omega (arith, l))
+group_pairs (b ∷ text) d f l n e = rw n (e ∙ bytes_before_nil (pairs text))
+
+-- another byte begins no group
+pub group_none : (text : List ℕ) (d : ℕ) → (get_or text 0 d ≡ 40 → ⊥) → None ≡ group text
+group_none [] d n = refl
+group_none (b ∷ text) d n = let e : nat_eq b 40 ≡ false = grind (arith, nat_tests) in rw e refl
 
 -- the ways on in a string with its groups
 pub ruleset pieces = (quoted_more, quoted_end, quoted_none, quoted_cut, bytes_before_nil)

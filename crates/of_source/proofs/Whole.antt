@@ -1,16 +1,17 @@
 -- A step of each loop over a whole text, over variables.
-use Rattle.std.proofs.Common.{◌≡◌, ℕ, suc, ◌+◌, ◌-◌, ◌<◌, ◌≤◌, true, false, List, [], ◌∷◌, length, Some, None, Result}
-use Rattle.std.proofs.Common.{Err, codes, refl, sym, ap, subst, arith}
+use Rattle.std.proofs.Common.{◌≡◌, ℕ, suc, ◌+◌, ◌-◌, ◌<◌, ◌≤◌, Bool, true, false, List, [], ◌∷◌, length}
+use Rattle.std.proofs.Common.{Some, None, Result, IfErr, Ok, Err, codes, refl, sym, ap, subst, arith}
 use Rattle.std.specs.Prelude.{option_map}
 use Rattle.of_stream.specs.declared.stream.OffsetSize.{OffsetSize}
+use Rattle.of_stream.specs.declared.stream.OffsetSize.TheVariants as size
 use Rattle.of_source.specs.declared.fault.SourceFault.{SourceFault}
 use Rattle.of_source.specs.declared.fault.SourceFault.TheVariants.{Unclosed, Unknown, BadNumber, TooLong, NoMemory}
 use Rattle.of_source.specs.Scan.{Rest, Found, rest_at, next_word, plain_string, line_end, last_line, last_line_from}
 use Rattle.of_source.specs.Items.{Source}
 use Rattle.of_source.specs.Steps.{State, Goes, Ends, Fails, Steps}
 use Rattle.of_source.specs.Parsing.{Beyond, beyond, skipped_comment, is_word}
-use Rattle.of_source.specs.Steps.{next_step, ended}
-use Rattle.of_source.specs.Parsing.{words, trailed, IsRefused}
+use Rattle.of_source.specs.Steps.{next_step, ended, beginning}
+use Rattle.of_source.specs.Parsing.{Word, words, trailed, parsed, IsRefused}
 
 pub last_short : (line : ℕ) (text : List ℕ) → length text < 2 → line ≡ last_line_from line text
 last_short line [] h = refl
@@ -83,6 +84,43 @@ pub words_refused_by : (text : List ℕ) (z : OffsetSize) (n i last : ℕ) (s t 
 words_refused_by text z n i last s t f lt e h =
     let P : ℕ → Type 0 = λ l. Steps (next_step l s) t (Err f) in
     words_refused text z n i s t f lt (subst P e h)
+
+-- one more word, where the last line is known by an equation
+pub words_more_by : (text : List ℕ) (z : OffsetSize) (n i last : ℕ) (s t : State) (b : Bool) → i < n
+    → last ≡ last_line text → b ≡ true → Steps (next_step last s) t (Ok b)
+    → words text z (n - (i + 1)) t ≡ words text z (n - i) s
+words_more_by text z n i last s t b lt e is h =
+    let P : ℕ → Type 0 = λ l. Steps (next_step l s) t (Ok true) in
+    let Q : Bool → Type 0 = λ x. Steps (next_step last s) t (Ok x) in
+    words_more text z n i s t lt (subst P e (subst Q is h))
+
+-- the last word, where the last line is known by an equation
+pub words_end_by : (text : List ℕ) (z : OffsetSize) (n i last : ℕ) (s t : State) (b : Bool) → i < n
+    → last ≡ last_line text → b ≡ false → Steps (next_step last s) t (Ok b)
+    → trailed z t (beyond (length text) t.rest) ≡ words text z (n - i) s
+words_end_by text z n i last s t b lt e is h =
+    let P : ℕ → Type 0 = λ l. Steps (next_step l s) t (Ok false) in
+    let Q : Bool → Type 0 = λ x. Steps (next_step last s) t (Ok x) in
+    words_end text z n i s t lt (subst P e (subst Q is h))
+
+-- each of the faults of a result
+pub all_refused : {A : Type 0} (r : Result A SourceFault) (w : Result Source SourceFault)
+    → IfErr r (λ f. w ≡ Err f) → IfErr r (λ f. IsRefused w f)
+all_refused (Ok x) w h = tt
+all_refused (Err f) w h = is_refused w f h
+
+-- behind `fcode-version2`
+pub parsed_two : (text w : List ℕ) (r : Rest) → Word w r ≡ beyond (length text) (rest_at 1 text)
+    → is_word (codes "fcode-version2") w ≡ true → parsed text ≡ words text size.Two (length text) (beginning r)
+unfolding parsed
+parsed_two text w r h v = rw (← h, v) refl
+
+-- behind `fcode-version1`
+pub parsed_one : (text w : List ℕ) (r : Rest) → Word w r ≡ beyond (length text) (rest_at 1 text)
+    → is_word (codes "fcode-version2") w ≡ false → is_word (codes "fcode-version1") w ≡ true
+    → parsed text ≡ words text size.One (length text) (beginning r)
+unfolding parsed
+parsed_one text w r h v u = rw (← h, v, u) refl
 
 -- the ways on at a word
 pub ruleset word_by_word = (words_more, words_end, words_cut, words_refused, is_refused)

@@ -7,7 +7,7 @@ use std::collections::HashMap;
 use std::marker::Model;
 
 /// A definition of a source by its name.
-#[derive(Clone, Copy, Debug, PartialEq, Eq)]
+#[derive(Clone, Copy)]
 pub struct Own<'a> {
     /// The name as it was spelt.
     pub name: &'a [u8],

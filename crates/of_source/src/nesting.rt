@@ -5,7 +5,7 @@ use std::alloc::{AllocError, Global};
 use std::marker::Model;
 
 /// A part of a source that has an inside.
-#[derive(Clone, Copy, Debug, PartialEq, Eq)]
+#[derive(Clone, Copy)]
 pub enum Part {
     /// `:` to `;`.
     Definition,
@@ -20,7 +20,7 @@ pub enum Part {
 }
 
 /// An open part: its line, and how many branches were open before it.
-#[derive(Clone, Copy, Debug, PartialEq, Eq)]
+#[derive(Clone, Copy)]
 pub struct Frame {
     /// Which part.
     pub part: Part,
