@@ -131,16 +131,13 @@ impl Parser<'_> {
     }
 
     /// `."`.
+    #[tactic(auto, using(crate::proofs::Printing::printed))]
     pub(super) fn printed_word(&mut self) -> Result<bool, SourceFault>
         ensures { Steps (keyword_step 0 (keyword.Text quote.Printed) self.old) self.new result }
     {
-        let Some(bytes) = self.rest.string(b'"') else {
-            return self.unknown();
-        };
-        if bytes.len() > 255 {
-            return Err(SourceFault::TooLong(self.rest.line()));
+        if !self.plain_word()? {
+            return Ok(false);
         }
-        self.give_string(bytes.to_vec(self.alloc)?)?;
         self.call(Name::Listed(FCode(0x090)))?;
         Ok(true)
     }
