@@ -13,8 +13,8 @@ use Rattle.of_stream.specs.declared.stream.OffsetSize.{OffsetSize}
 use Rattle.of_stream.specs.Image.{header_fault, start_fault, first_size}
 use Rattle.of_stream.specs.Decoding.{Token, decoded, token_from, TokenStandsAlone}
 use Rattle.of_stream.specs.Sizes.{is_end, size_behind}
-use Rattle.of_detok.specs.Listing.{Line, Lines, trailing, trailing_from, line_before, token_line, token_lines, lines_from}
-use Rattle.of_detok.specs.Listing.{lines_behind, stopped, to_end}
+use Rattle.of_detok.specs.Listing.{Line, Lines, trailing, trailing_from, line_before, token_line, token_lines}
+use Rattle.of_detok.specs.Listing.{lines_from, lines_behind, stopped, to_end}
 use Rattle.of_detok.specs.Listing.{BoundCutsNothing, header_line, lines_if, lines_of}
 use Rattle.of_detok.specs.Notes.{Notes, behind_token, first_notes}
 use Rattle.of_detok.specs.Reading.{listed_bytes}
@@ -96,7 +96,8 @@ step law image m n notes p size (Some r) agree e h k =
     let up = rises law image p size r e in
     let same = agree (behind_token r.0 notes) r.1 (size_behind r.0.code.0 size) (omega (arith, h, up.0))
     (omega (arith, k, up.0)) in
-    ap (λ x. line_before (token_line image notes p r) (cond (is_end r.0.code.0) (to_end (trailing_from image r.1)) x)) same
+    let line = token_line image notes p r in
+    ap (λ x. line_before line (cond (is_end r.0.code.0) (to_end (trailing_from image r.1)) x)) same
 
 agree_all : TokenStandsAlone → (image : List ℕ) (m n : ℕ) → Agree image m n
 agree_all law image zero zero notes p size h k = refl
@@ -235,8 +236,8 @@ laid_if law e image (Some (BadStart b)) h = refl
 laid_if law e image None h =
     let long : 8 ≤ length image = long_by (nat_lt (length image) 8) image (start_fault (slice_index image 0)) refl h in
     from_first image (line_before (header_line image) (lines_behind e image)) _ refl
-    (covers_before image 0 8 (header_line image) (lines_behind e image) refl refl (plain_header image) (omega arith) long
-    (covers_from law image (length image) (first_notes e) 8 (first_size image) long))
+    (covers_before image 0 8 (header_line image) (lines_behind e image) refl refl (plain_header image) (omega arith)
+    long (covers_from law image (length image) (first_notes e) 8 (first_size image) long))
 
 -- the lines of an image have all bytes that a listing has
 pub lines_laid : TokenStandsAlone → (e : Extras) (image : List ℕ)

@@ -3,7 +3,8 @@ use Rattle.std.proofs.Common.{◌≡◌, ℕ, suc, ◌+◌, ◌-◌, ◌*◌, �
 use Rattle.std.proofs.Common.{take, drop}
 use Rattle.std.proofs.Common.{get_or, Option, Some, None, Bool, true, false, cond, nat_eq, nat_lt}
 use Rattle.std.proofs.Common.{refl, sym, ap, ◌∙◌, arith, append_assoc, codes, map, replicate, zero}
-use Rattle.std.proofs.lemmas.List.{drop_more, drop_all, drop-drop, take_all, length-append, append-nil, map-set, set_past}
+use Rattle.std.proofs.lemmas.List.{drop_more, drop_all, drop-drop, take_all, length-append, append-nil, map-set}
+use Rattle.std.proofs.lemmas.List.{set_past}
 use Rattle.std.proofs.lemmas.Bool.Decides.{nat_tests}
 use Rattle.std.specs.List.{flat_map, position, position_or_len}
 use Rattle.std.specs.Option.{option_map}
@@ -238,7 +239,6 @@ trailing_more text image count k position l =
 
 -- the bytes on a line, if it has some
 pub ruleset some_or_none = (some_by, none_by)
-
 
 -- one more structure's spaces
 pub spaces_more : (text : List ℕ) (k : ℕ)

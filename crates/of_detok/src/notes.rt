@@ -3,7 +3,7 @@
 ghost use Rattle.std.specs.Prelude.{◌≡◌, [], map, replicate, set, IfOk, Some, None, if◌then◌else◌};
 ghost use Rattle.std.specs.Option.{option_map};
 ghost use Rattle.of_stream.specs.Decoding.{argument_shown, token_shown};
-ghost use Rattle.of_detok.specs.Notes.{branch_nest, depth_at, depth_behind, is_branch, is_closer, is_nameless, is_opener};
+ghost use Rattle.of_detok.specs.Notes.{branch_nest, depth_at, depth_behind, is_nameless};
 ghost use Rattle.of_detok.specs.Notes.{behind_token, first_notes, name_given, name_of_token, nest_of};
 
 use of_fcodes::FCode;
@@ -100,13 +100,7 @@ impl Nest {
         ensures { result ≡ depth_behind self depth }
     {
         match self {
-            Nest::Opens => {
-                if depth < DEEPEST {
-                    depth + 1
-                } else {
-                    DEEPEST
-                }
-            }
+            Nest::Opens => { if depth < DEEPEST { depth + 1 } else { DEEPEST } }
             Nest::Closes => depth.saturating_sub(1),
             Nest::Stays => depth,
         }
@@ -177,8 +171,10 @@ impl<'a> Notes<'a> {
     /// Gives a name to an FCode, or takes it.
     #[tactic(auto, using(crate::proofs::Loops::one_name))]
     fn give(&mut self, code: FCode, name: Option<&'a [u8]>)
-        ensures { self.new ≡ record self.old { names = set self.old.names code.0
-            (option_map (λ name. name.now) name.entry) } }
+        ensures { self.new ≡ record self.old {
+          names = set self.old.names code.0
+              (option_map (λ name. name.now) name.entry);
+        } }
     {
         let place = usize::from(code.0);
         if place < self.names.len() {

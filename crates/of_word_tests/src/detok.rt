@@ -1,5 +1,8 @@
 //! Listings that were worked out by hand from the bytes of images (IEEE 1275-1994, 5.2.2).
-use of_detok::{DetokFault, bound_cuts_nothing, listing, listings_read_back, read_listing};
+use of_detok::{
+    DetokFault, Extras, bound_cuts_nothing, listing, listings_read_back, partial_listing,
+    read_listing,
+};
 use of_stream::StreamFault;
 use std::alloc::Global;
 use std::test::Fail;
@@ -72,7 +75,7 @@ f10800cc0000000acc00
 
 /// Whether an image has the listing of these lines.
 fn is_listed(alloc: Global, image: &[u8], lines: &str) -> Result<bool, Fail> {
-    let listed = listing(alloc, image)?;
+    let listed = listing(alloc, image, Extras::default())?;
     Ok(listed.strip_suffix(b"\n") == Some(lines.as_bytes()))
 }
 
@@ -98,6 +101,69 @@ fn images(rt: HostRuntime) -> Result<(), Fail> {
     Ok(())
 }
 
+/// Damaged images, each with its lines up to the fault, indented and with the names that it gives; an empty line
+/// between two. A name is said behind the FCode that has it, until `new-token` takes that away.
+const PARTIAL: &str = "\
+fd08000000000000b601610800b9ca01620801b70800b114080801c3080013f5b2c2b50800b70800080112ff
+000000: fd08000000000000  version1 (sum 0a81) (bytes 0000002c)
+000008: b601610800  named-token \"a\" 800
+00000d: b9  b(variable)
+00000e: ca01620801  external-token \"b\" 801
+000013: b7  b(:)
+000014: 0800    fcode-800 a
+000016: b1    b(<mark)
+000017: 1408      b?branch -> 000020
+000019: 0801        fcode-801 b
+00001b: c30800        b(to) 800 a
+00001e: 13f5      bbranch -> 000014
+000020: b2    b(>resolve)
+000021: c2  b(;)
+000022: b50800  new-token 800
+000025: b7  b(:)
+000026: 0800    fcode-800
+000028: 0801    fcode-801 b
+
+fd08000000000000c4a71c05a8c603c5b604220a7800080208021705a615fe12ff
+000000: fd08000000000000  version1 (sum 081a) (bytes 00000021)
+000008: c4  b(case)
+000009: a7    2
+00000a: 1c05    b(of) -> 000010
+00000c: a8      3
+00000d: c603    b(endof) -> 000011
+00000f: c5  b(endcase)
+000010: b604220a78000802  named-token \"\".x.\" 802
+000018: 0802  fcode-802 \".x.
+00001a: 1705  b(do) -> 000020
+00001c: a6    1
+00001d: 15fe  b(loop) -> 00001c
+";
+
+#[test]
+fn partial_listings(rt: HostRuntime) -> Result<(), Fail> {
+    let extras = Extras {
+        names: true,
+        indents: true,
+    };
+    for case in PARTIAL.split("\n\n") {
+        let (digits, lines) = case.split_once('\n').unwrap_or(("", ""));
+        let image = hex::decode(rt.alloc(), digits)?;
+        let (listed, fault) = partial_listing(rt.alloc(), &image, extras)?;
+        assert_eq!(rt;
+            without_newline(&listed),
+            without_newline(lines.as_bytes()),
+            "{digits}"
+        );
+        let end = read_listing(rt.alloc(), &listed)?.len();
+        assert!(rt; fault == Some(StreamFault::Ended(end)), "{digits}");
+    }
+    Ok(())
+}
+
+/// A text without the newline at its end.
+fn without_newline(text: &[u8]) -> &[u8] {
+    text.strip_suffix(b"\n").unwrap_or(text)
+}
+
 /// Images without a listing, and what is wrong with them.
 const FAULTS: &str = "\
 f1080000000000 Some(Stream(Short))
@@ -114,7 +180,7 @@ fn images_without_listing(rt: HostRuntime) -> Result<(), Fail> {
     for line in FAULTS.lines() {
         let (digits, wanted) = line.split_once(' ').unwrap_or(("", ""));
         let image = hex::decode(rt.alloc(), digits)?;
-        let fault = listing(rt.alloc(), &image).err();
+        let fault = listing(rt.alloc(), &image, Extras::default()).err();
         let said = format!(in rt.alloc(); "{fault:?}")?;
         assert_eq!(rt; said.as_str(), wanted, "{line}");
     }
@@ -191,7 +257,7 @@ const ONE_LISTED: &[u8] = b"000000: f100000000000009  start1\n000008: 00  end0\n
 /// Whether the image is listed, once no growth is refused, and until then the answer is NoMemory.
 fn is_listed_at_last(alloc: Global) -> bool {
     for _ in 0..99 {
-        match listing(alloc, ONE) {
+        match listing(alloc, ONE, Extras::default()) {
             Ok(text) => return text.as_slice() == ONE_LISTED,
             Err(DetokFault::NoMemory) => {}
             Err(DetokFault::Stream(_) | DetokFault::BadLine(_)) => return false,
