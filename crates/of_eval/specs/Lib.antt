@@ -14,3 +14,4 @@ pub mod Listed
 pub mod Placed
 pub mod Frames
 pub mod Images
+pub mod Views

@@ -1,10 +1,14 @@
 ghost use Rattle.std.specs.Prelude.{◌≡◌, length, reverse};
+ghost use Rattle.of_eval.specs.Views.{next_token};
 
 use crate::eval::Eval;
 use of_cells::Cell;
 use of_code::CodeStore;
 use of_compile::Words;
+use of_fcodes::FCode;
 use of_memory::Memory;
+use of_stacks::{Continuation, Input};
+use of_stream::Stream;
 
 impl<C: CodeStore> Eval<C> {
     /// The cells of the data stack, the bottom first.
@@ -47,5 +51,26 @@ impl<C: CodeStore> Eval<C> {
         ensures { result.now ≡ self.now.words }
     {
         &self.words
+    }
+
+    /// The token that comes next, behind its position in the image that is read. None where nothing runs, where a
+    /// definition goes on, and where the image ends before the token does.
+    pub fn next_token(&self) -> Option<(usize, FCode)>
+        ensures { result ≡ next_token self.now }
+    {
+        if !self.flow.is_running {
+            return None;
+        }
+        let (Continuation::Source, Input::Image { size, position }) = (
+            self.flow.next,
+            self.flow.reading.input,
+        ) else {
+            return None;
+        };
+        let image = self.parts.memory.latest_image();
+        match (Stream { image }).token_at(position, size) {
+            Ok((token, _)) => Some((position, token.code)),
+            Err(_) => None,
+        }
     }
 }

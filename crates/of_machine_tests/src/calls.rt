@@ -69,6 +69,25 @@ fn steps(rt: HostRuntime) -> Result<(), Fail> {
     Ok(())
 }
 
+/// The token that comes next before each step: none while the definition runs, whose number and end are two steps.
+#[test]
+fn tokens_come_next(rt: HostRuntime) -> Result<(), Fail> {
+    let image = decode(rt.alloc(), "f108000000000014b50800b7a7c2080000")?;
+    let mut machine = Machine::new(rt.alloc(), ListCode::new(rt.alloc()))?;
+    machine.load(&image, "/slot")?;
+    let mut seen = String::new(rt.alloc());
+    for _ in 0..8 {
+        match machine.next_token() {
+            Some((position, code)) => write!(seen, "{position}:{number:x} ", number = code.0)?,
+            None => seen.push_str("- ")?,
+        }
+        machine.step()?;
+    }
+    assert_eq!(rt; seen.as_str(), "8:b5 11:b7 12:a7 13:c2 14:800 - - 16:0 ");
+    assert_eq!(rt; machine.next_token(), None);
+    Ok(())
+}
+
 /// Whether the image region begins with these bytes.
 fn stands_in_the_region(machine: &ScriptMachine, bytes: &[u8]) -> bool {
     bytes

@@ -1,4 +1,5 @@
 ghost use Rattle.std.specs.Prelude.{◌≡◌, length, reverse};
+ghost use Rattle.of_eval.specs.Views.{next_token};
 ghost use Rattle.of_machine.specs.States.{is_running};
 ghost use Rattle.of_machine.specs.Views.{byte_of, xt_named, xt_numbered};
 
@@ -75,5 +76,13 @@ impl<C: CodeStore> Machine<C> {
         ensures { result ≡ length self.now.eval.flow.items }
     {
         self.eval.depth()
+    }
+
+    /// The token that comes next, behind its position in the image that is read. None where nothing runs, where a
+    /// definition goes on, and where the image ends before the token does.
+    pub fn next_token(&self) -> Option<(usize, FCode)>
+        ensures { result ≡ next_token self.now.eval }
+    {
+        self.eval.next_token()
     }
 }
