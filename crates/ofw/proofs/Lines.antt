@@ -17,7 +17,7 @@ use Rattle.clap.specs.Words.{Text}
 use Rattle.clap.specs.declared.builder.value_parser.ValueParser.TheVariants as parser
 use Rattle.clap.proofs.ValueTestLemmas.{Accepts-accepts, accepts-Accepts}
 use Rattle.ofw.specs.CommandLine.{LinesAsk, is_plain, AsksToRun, AsksToList, AsksForLimit, number_in, ofw_app, run_app}
-use Rattle.ofw.specs.CommandLine.{AsksToKeep, AsksToTokenize, detok_app, tok_app}
+use Rattle.ofw.specs.CommandLine.{AsksToExplain, AsksWith, plain_extras, AsksToKeep, AsksToTokenize, detok_app, tok_app}
 
 -- ---- a word that begins with no hyphen is no option
 
@@ -127,6 +127,35 @@ lists program b rest e = (
       refl,
 )
 
+explained : (program : Text) (b : ℕ) (rest : Text) → (b == 45) ≡ false → AsksToExplain program (b ∷ rest)
+unfolding clap_on_literals run_shape
+explained program b rest e =
+    (rw (image_met run_shape b rest e) refl, rw (image_met run_shape b rest e, image_passes run_shape b rest e) refl)
+
+with_names : (program : Text) (b : ℕ) (rest : Text) → (b == 45) ≡ false
+    → AsksWith program (b ∷ rest) (codes "--names") (record { names = true; indents = false }) false
+unfolding clap_on_literals detok_shape
+with_names program b rest e = (
+  rw (image_met detok_shape b rest e) refl,
+  rw (image_met detok_shape b rest e, image_passes detok_shape b rest e) refl,
+)
+
+with_indents : (program : Text) (b : ℕ) (rest : Text) → (b == 45) ≡ false
+    → AsksWith program (b ∷ rest) (codes "--indent") (record { names = false; indents = true }) false
+unfolding clap_on_literals detok_shape
+with_indents program b rest e = (
+  rw (image_met detok_shape b rest e) refl,
+  rw (image_met detok_shape b rest e, image_passes detok_shape b rest e) refl,
+)
+
+with_part : (program : Text) (b : ℕ) (rest : Text) → (b == 45) ≡ false
+    → AsksWith program (b ∷ rest) (codes "--partial") plain_extras true
+unfolding clap_on_literals detok_shape
+with_part program b rest e = (
+  rw (image_met detok_shape b rest e) refl,
+  rw (image_met detok_shape b rest e, image_passes detok_shape b rest e) refl,
+)
+
 tokenizes : (program : Text) (b : ℕ) (rest : Text) → (b == 45) ≡ false → AsksToTokenize program (b ∷ rest)
 unfolding clap_on_literals tok_shape
 tokenizes program b rest e =
@@ -181,6 +210,12 @@ lines_ask program (b ∷ rest) e = (
   runs program b rest (hyphenless b e),
   lists program b rest (hyphenless b e),
   tokenizes program b rest (hyphenless b e),
+  explained program b rest (hyphenless b e),
+  (
+    with_names program b rest (hyphenless b e),
+    with_indents program b rest (hyphenless b e),
+    with_part program b rest (hyphenless b e),
+  ),
   kept,
   limited,
 )

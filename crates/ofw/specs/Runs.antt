@@ -1,11 +1,11 @@
 -- What the program prints of a file's run or listing, and how it ends.
 use Rattle.std.specs.Prelude.{◌≡◌, ◌≤◌, ◌⊎◌, ℕ, List, [], ◌∷◌, length, take, Option, Result, Ok, Err}
-use Rattle.std.specs.Prelude.{Some, None, ◌++◌, codes, ⊤}
+use Rattle.std.specs.Prelude.{Some, None, ◌++◌, codes, ⊤, Bool, if◌then◌else◌}
+use Rattle.std.specs.Option.{option_map}
 use Rattle.std.specs.Io.KnownBytes.{Keeps, Appends}
 use Rattle.hex.specs.Hex.{encode_lower}
-use Rattle.of_detok.specs.declared.fault.DetokFault.{DetokFault}
-use Rattle.of_detok.specs.declared.fault.DetokFault.TheVariants as detok
-use Rattle.of_detok.specs.Listing.{listed, IsRefused}
+use Rattle.of_detok.specs.declared.notes.Extras.{Extras}
+use Rattle.of_detok.specs.Listing.{Listed, listed_so_far}
 use Rattle.of_machine.specs.declared.answers.End.{End}
 use Rattle.of_machine.specs.declared.answers.End.TheVariants as end
 use Rattle.of_machine.specs.declared.answers.Refusal.{Refusal}
@@ -46,7 +46,6 @@ abbrev pub status_of : Fault → Status
 status_of fault.ArgumentNotText = status.Usage
 status_of fault.NoMemory = status.NoMemory
 status_of (fault.Refused refusal.NoMemory) = status.NoMemory
-status_of (fault.Unlisted detok.NoMemory) = status.NoMemory
 status_of (fault.NoSource source.NoMemory) = status.NoMemory
 status_of (fault.NoImage tok.NoMemory) = status.NoMemory
 status_of (fault.Unopened code) = status.Fault
@@ -54,12 +53,12 @@ status_of (fault.Unread code) = status.Fault
 status_of fault.Endless = status.Fault
 status_of (fault.BadDigit place byte) = status.Fault
 status_of fault.OddDigits = status.Fault
+status_of (fault.TooLong length) = status.Fault
 status_of (fault.Refused refusal.Busy) = status.Fault
 status_of (fault.Refused refusal.ImageTooLong) = status.Fault
 status_of (fault.Refused (refusal.BadStart f)) = status.Fault
 status_of (fault.Refused refusal.NoNode) = status.Fault
-status_of (fault.Unlisted (detok.Stream f)) = status.Fault
-status_of (fault.Unlisted (detok.BadLine n)) = status.Fault
+status_of (fault.Unlisted f) = status.Fault
 status_of (fault.NoSource (source.Unclosed line)) = status.Fault
 status_of (fault.NoSource (source.Unknown line)) = status.Fault
 status_of (fault.NoSource (source.BadNumber line)) = status.Fault
@@ -93,7 +92,7 @@ start_byte_of (stream.Ended position) = None
 -- the first byte of an image, where it is the byte that is wrong
 abbrev pub bad_start_of : Fault → Option ℕ
 bad_start_of (fault.Refused (refusal.BadStart f)) = start_byte_of f
-bad_start_of (fault.Unlisted (detok.Stream f)) = start_byte_of f
+bad_start_of (fault.Unlisted f) = start_byte_of f
 bad_start_of _ = None
 
 -- the line that is said of it
@@ -124,9 +123,14 @@ abbrev pub IsUnwritten : Fault → Type 0
 IsUnwritten (fault.Unwritten code) = ⊤
 IsUnwritten _ = ⊥
 
+-- the fault that a refusal of an image of so many bytes is
+abbrev pub refused_as : ℕ → Refusal → Fault
+refused_as length refusal.ImageTooLong = fault.TooLong length
+refused_as length r = fault.Refused r
+
 -- what the monitor refuses an image for
 abbrev pub IsRefusedFor : List ℕ → Fault → Type 0
-IsRefusedFor image f = (r : Refusal) × (f ≡ fault.Refused r) × Refuses (image_refusal image) r
+IsRefusedFor image f = (r : Refusal) × (f ≡ refused_as (length image) r) × Refuses (image_refusal image) r
 
 -- the faults of a run: of reading, of a write, or what the monitor refuses the image for
 abbrev pub FaultsRun : List ℕ → Fault → Type 0
@@ -152,37 +156,33 @@ EndsWith file limit old new s =
 
 -- ---- listings
 
--- the listing of the image that a file has
-abbrev pub ListsFile : List ℕ → List ℕ → Type 0
-ListsFile file lines = (image : List ℕ) × (image_in file ≡ Ok image) × (listed image ≡ Ok lines)
+-- what is shown of a listing: all its lines, or with a fault behind them none, unless a part is asked for
+abbrev pub shown_lines : Bool → Listed → Listed
+shown_lines partial (lines, None) = (lines, None)
+shown_lines partial (lines, Some f) = (if partial then lines else [], Some f)
 
--- why an image has no listing
-abbrev pub HasNoListing : List ℕ → Fault → Type 0
-HasNoListing image f = (d : DetokFault) × (f ≡ fault.Unlisted d) × IsRefused (listed image) d
+-- the lines that are shown of the image that a file has, and what is wrong behind them, if anything
+abbrev pub ListsFile : Extras → Bool → List ℕ → Listed → Type 0
+ListsFile e partial file listed =
+    (image : List ℕ) × (image_in file ≡ Ok image) × (shown_lines partial (listed_so_far e image) ≡ listed)
 
--- the faults of a listing: of reading, of a write, or why the image has none
-abbrev pub FaultsListing : List ℕ → Fault → Type 0
-FaultsListing file f =
-    IsUnwritten f
-    ⊎ FaultsReading file f
-    ⊎ ((image : List ℕ) × (image_in file ≡ Ok image) × HasNoListing image f)
+-- the lines were printed, and what is wrong behind them is the fault; or a write failed
+abbrev pub ListsPart : Listed → Option (List ℕ) → Option (List ℕ) → Fault → Type 0
+ListsPart (lines, wrong) old new f =
+    (Appends old new lines × (option_map fault.Unlisted wrong ≡ Some f)) ⊎ (AppendsPart old new lines × IsUnwritten f)
 
--- nothing was printed, or the first bytes of the listing
-abbrev pub ListsPart : List ℕ → Option (List ℕ) → Option (List ℕ) → Type 0
-ListsPart file old new = Keeps old new ⊎ ((lines : List ℕ) × ListsFile file lines × AppendsPart old new lines)
-
--- the listing was printed
-abbrev pub ListsAll : List ℕ → Option (List ℕ) → Option (List ℕ) → Type 0
-ListsAll file old new = (lines : List ℕ) × ListsFile file lines × Appends old new lines
-
-abbrev pub Lists : List ℕ → Option (List ℕ) → Option (List ℕ) → Result (Unit {0}) Fault → Type 0
-Lists file old new (Ok _) = ListsAll file old new
-Lists file old new (Err f) = ListsPart file old new × FaultsListing file f
+-- what was printed of a listing: all of it, or beside a fault nothing, the lines before it or a part of them
+abbrev pub Lists :
+    Extras → Bool → List ℕ → Option (List ℕ) → Option (List ℕ) → Result (Unit {0}) Fault → Type 0
+Lists e partial file old new (Ok _) = (lines : List ℕ) × ListsFile e partial file (lines, None) × Appends old new lines
+Lists e partial file old new (Err f) =
+    (Keeps old new × FaultsReading file f)
+    ⊎ ((listed : Listed) × ListsFile e partial file listed × ListsPart listed old new f)
 
 -- the program ends with this status, done or that of a fault, and printed what belongs to it
-abbrev pub ListsWith : List ℕ → Option (List ℕ) → Option (List ℕ) → Status → Type 0
-ListsWith file old new s =
-    (r : Result (Unit {0}) Fault) × (status_in (λ _. status.Done) r ≡ s) × Lists file old new r
+abbrev pub ListsWith : Extras → Bool → List ℕ → Option (List ℕ) → Option (List ℕ) → Status → Type 0
+ListsWith e partial file old new s =
+    (r : Result (Unit {0}) Fault) × (status_in (λ _. status.Done) r ≡ s) × Lists e partial file old new r
 
 -- ---- images of sources
 
@@ -241,9 +241,9 @@ TokenizesWith file old new s =
 
 -- what a status says of the output and of the file, where this was asked for
 abbrev pub Answers : Asked → List ℕ → Option (List ℕ) → Option (List ℕ) → Status → Type 0
-Answers (a_run image limit) file old new s = EndsWith file limit old new s
+Answers (a_run image limit explain) file old new s = EndsWith file limit old new s
 Answers (an_image source output) file old new s = TokenizesWith file old new s
-Answers (a_listing image) file old new s = ListsWith file old new s
+Answers (a_listing image extras partial) file old new s = ListsWith extras partial file old new s
 
 -- how the program ends where a command line asks for nothing
 abbrev pub unasked : ErrorKind → Status

@@ -4,11 +4,13 @@ ghost use Rattle.clap.specs.Values.{kind_of};
 ghost use Rattle.std.specs.String.{string_bytes};
 ghost use Rattle.ofw.specs.Runs.{unasked};
 ghost use Rattle.ofw.specs.CommandLine.{IsBuilt, asked, asked_by, asks, detok_app, image_rule, limit_in, limit_rule};
-ghost use Rattle.ofw.specs.CommandLine.{ofw_app, output_rule, run_app, source_rule, tok_app};
+ghost use Rattle.ofw.specs.CommandLine.{flag_rule, has_flag, is_true, ofw_app, output_rule, run_app, source_rule};
+ghost use Rattle.ofw.specs.CommandLine.{tok_app};
 
 use crate::status::Status;
 use clap::error::ErrorKind;
 use clap::{Arg, ArgAction, ArgMatches, Command, Error, value_parser};
+use of_detok::Extras;
 use std::alloc::{AllocError, Global};
 
 /// How many steps a run makes where no limit is given.
@@ -16,7 +18,7 @@ const DEFAULT_LIMIT: u64 = 1_000_000;
 
 /// What the help of `run` ends with.
 const RUN_HELP: &str = "\
-Example: ofw run card.rom --limit 5000
+Example: ofw run card.rom --limit 5000 --explain
 
 The file is a ROM as it stands where it begins with f0 to f3 or fd, else hexadecimal digits.
 
@@ -30,7 +32,7 @@ Status: 0 done, 1 fault of input or output, 2 usage, 5 no memory";
 
 /// What the help of `detok` ends with.
 const DETOK_HELP: &str = "\
-Example: ofw detok card.rom
+Example: ofw detok card.rom --names --indent
 
 The file is a ROM as it stands where it begins with f0 to f3 or fd, else hexadecimal digits.
 
@@ -45,6 +47,8 @@ pub enum Request<'a> {
         image: &'a str,
         /// How many steps the run makes at most.
         limit: u64,
+        /// Whether its end is explained on the error output.
+        explain: bool,
     },
     /// Make the image of a source.
     Tok {
@@ -57,6 +61,10 @@ pub enum Request<'a> {
     Detok {
         /// The path of the image.
         image: &'a str,
+        /// What the listing says beyond names and operands.
+        extras: Extras,
+        /// Whether the lines before a token that can't be read are printed.
+        partial: bool,
     },
 }
 
@@ -105,7 +113,57 @@ fn limit_argument<'a>(alloc: Global) -> Arg<'a>
         .value_parser(value_parser!(u64).range(0..=1_000_000_000))
 }
 
-/// `ofw run IMAGE [--limit N]`
+/// A flag.
+fn flag<'a>(alloc: Global, name: &'a str, help: &'a str) -> Arg<'a>
+    ensures { (rule_of result ≡ flag_rule name.now) × (result.global ≡ false) }
+{
+    Arg::new(alloc, name)
+        .long(name)
+        .help(help)
+        .action(ArgAction::SetTrue)
+}
+
+/// `--explain`
+fn explain_argument<'a>(alloc: Global) -> Arg<'a>
+    ensures { (rule_of result ≡ flag_rule (codes "explain")) × (result.global ≡ false) }
+{
+    flag(
+        alloc,
+        "explain",
+        "says on the error output how the run ended",
+    )
+}
+
+/// `--names`
+fn names_argument<'a>(alloc: Global) -> Arg<'a>
+    ensures { (rule_of result ≡ flag_rule (codes "names")) × (result.global ≡ false) }
+{
+    flag(
+        alloc,
+        "names",
+        "says the names that the image gives to its words",
+    )
+}
+
+/// `--indent`
+fn indent_argument<'a>(alloc: Global) -> Arg<'a>
+    ensures { (rule_of result ≡ flag_rule (codes "indent")) × (result.global ≡ false) }
+{
+    flag(
+        alloc,
+        "indent",
+        "indents definitions and control structures",
+    )
+}
+
+/// `--partial`
+fn partial_argument<'a>(alloc: Global) -> Arg<'a>
+    ensures { (rule_of result ≡ flag_rule (codes "partial")) × (result.global ≡ false) }
+{
+    flag(alloc, "partial", "lists a damaged image up to its fault")
+}
+
+/// `ofw run IMAGE [--limit N] [--explain]`
 fn run_command<'a>(alloc: Global) -> Result<Command<'a>, AllocError>
     ensures { IfOk result (IsBuilt run_app) }
 {
@@ -113,7 +171,8 @@ fn run_command<'a>(alloc: Global) -> Result<Command<'a>, AllocError>
         .about("Runs an image and prints what it prints")
         .after_help(RUN_HELP)
         .arg(image_argument(alloc))?
-        .arg(limit_argument(alloc))
+        .arg(limit_argument(alloc))?
+        .arg(explain_argument(alloc))
 }
 
 /// `ofw tok SOURCE [--output FILE]`
@@ -127,14 +186,17 @@ fn tok_command<'a>(alloc: Global) -> Result<Command<'a>, AllocError>
         .arg(output_argument(alloc))
 }
 
-/// `ofw detok IMAGE`
+/// `ofw detok IMAGE [--names] [--indent] [--partial]`
 fn detok_command<'a>(alloc: Global) -> Result<Command<'a>, AllocError>
     ensures { IfOk result (IsBuilt detok_app) }
 {
     Command::new(alloc, "detok")
         .about("Prints the listing of an image, a line for each token")
         .after_help(DETOK_HELP)
-        .arg(image_argument(alloc))
+        .arg(image_argument(alloc))?
+        .arg(names_argument(alloc))?
+        .arg(indent_argument(alloc))?
+        .arg(partial_argument(alloc))
 }
 
 /// `ofw`, with one of its subcommands
@@ -178,6 +240,44 @@ fn step_limit(matches: &ArgMatches) -> u64
     matches.get_one::<u64>("limit").unwrap_or(DEFAULT_LIMIT)
 }
 
+/// The value of a flag, as the text of one.
+fn is_true(value: Option<&str>) -> bool
+    ensures { result ≡ is_true (option_map (λ text. text.now) value.entry) }
+{
+    match value {
+        Some(text) => text == "true",
+        None => false,
+    }
+}
+
+/// Whether `--explain` was given.
+fn explains(matches: &ArgMatches) -> bool
+    ensures { result ≡ has_flag (codes "explain") (rows_of (found_of matches.now)) }
+{
+    is_true(matches.get_str("explain"))
+}
+
+/// Whether `--partial` was given.
+fn is_partial(matches: &ArgMatches) -> bool
+    ensures { result ≡ has_flag (codes "partial") (rows_of (found_of matches.now)) }
+{
+    is_true(matches.get_str("partial"))
+}
+
+/// Whether `--names` was given.
+fn says_names(matches: &ArgMatches) -> bool
+    ensures { result ≡ has_flag (codes "names") (rows_of (found_of matches.now)) }
+{
+    is_true(matches.get_str("names"))
+}
+
+/// Whether `--indent` was given.
+fn indents(matches: &ArgMatches) -> bool
+    ensures { result ≡ has_flag (codes "indent") (rows_of (found_of matches.now)) }
+{
+    is_true(matches.get_str("indent"))
+}
+
 /// What a subcommand asks for.
 fn request_of<'a>(name: &str, matches: &ArgMatches<'a>) -> Option<Request<'a>>
     ensures { option_map asked result ≡ asked_by (name.now, rows_of (found_of matches.now)) }
@@ -193,8 +293,16 @@ fn request_of<'a>(name: &str, matches: &ArgMatches<'a>) -> Option<Request<'a>>
         "run" => Some(Request::Run {
             image,
             limit: step_limit(matches),
+            explain: explains(matches),
         }),
-        "detok" => Some(Request::Detok { image }),
+        "detok" => Some(Request::Detok {
+            image,
+            extras: Extras {
+                names: says_names(matches),
+                indents: indents(matches),
+            },
+            partial: is_partial(matches),
+        }),
         _ => None,
     }
 }

@@ -1,25 +1,39 @@
-ghost use Rattle.std.specs.Prelude.{◌≡◌, [], Ok, IfOk, IfErr, IfSome};
+ghost use Rattle.std.specs.Prelude.{◌≡◌, ◌⊎◌, [], Ok, None, IfOk, IfErr, IfSome, OnOk, OnErr};
 ghost use Rattle.ofw.specs.CommandLine.{asked};
-ghost use Rattle.ofw.specs.Runs.{RunsFile, FaultsRun, Prints, EndsWith, ListsFile, FaultsListing, Lists, ListsWith};
-ghost use Rattle.ofw.specs.Runs.{Answers, HasNoListing, IsRefusedFor};
-ghost use Rattle.of_detok.specs.Listing.{listed};
+ghost use Rattle.ofw.specs.Runs.{RunsFile, FaultsRun, Prints, EndsWith, ListsFile, ListsPart, Lists, ListsWith};
+ghost use Rattle.ofw.specs.Runs.{Answers, AppendsPart, IsRefusedFor, IsUnwritten, refused_as, shown_lines};
+ghost use Rattle.ofw.specs.Files.{FaultsReading};
+ghost use Rattle.std.specs.Io.KnownBytes.{Appends};
+ghost use Rattle.of_detok.specs.Listing.{listed_so_far};
 ghost use Rattle.of_machine.specs.Runs.{RunsTo};
 ghost use Rattle.ofw.specs.Runs.{FaultsSource, FaultsSourceFile, FaultsWith, HasImage, Tokenizes, TokenizesFile};
 ghost use Rattle.ofw.specs.Runs.{TokenizesWith, Writes};
 ghost use Rattle.std.specs.String.{string_bytes};
 
 use crate::arguments::Request;
+use crate::explain::say_end;
 use crate::fault::Fault;
 use crate::input::{read_image, read_whole};
 use crate::output::{report, write_whole};
 use crate::status::Status;
 use hex::encode;
-use of_detok::listing;
-use of_machine::{End, ScriptMachine, run_script};
+use of_detok::{Extras, partial_listing};
+use of_machine::{End, Refusal, ScriptMachine, run_script};
 use of_source::parse;
+use of_stream::StreamFault;
 use of_tok::tokenize;
 use std::alloc::Global;
 use std::io::{Read, Write};
+
+/// The fault that a refusal of an image of so many bytes is.
+fn refused(length: usize, refusal: Refusal) -> Fault
+    ensures { result ≡ refused_as length refusal }
+{
+    match refusal {
+        Refusal::ImageTooLong => Fault::TooLong(length),
+        _ => Fault::Refused(refusal),
+    }
+}
 
 /// Runs an image.
 fn run_image(alloc: Global, image: &[u8], limit: u64) -> Result<(ScriptMachine, End), Fault>
@@ -28,36 +42,71 @@ fn run_image(alloc: Global, image: &[u8], limit: u64) -> Result<(ScriptMachine, 
 {
     match run_script(alloc, image, &[], &[], &[], limit) {
         Ok(run) => Ok(run),
-        Err(refusal) => Err(Fault::Refused(refusal)),
+        Err(refusal) => Err(refused(image.len(), refusal)),
     }
 }
 
-/// Runs the image of a file.
+/// Runs the image of a file, and gives the image, too.
 #[tactic(auto, using(crate::proofs::Faults::run_unread, crate::proofs::Faults::run_refused))]
-fn run_file<R: Read>(alloc: Global, file: &mut R, limit: u64) -> Result<(ScriptMachine, End), Fault>
-    ensures ok { IfOk result (λ r. IfSome (R.remaining file.old) (λ bytes. RunsFile bytes limit r.0 r.1)) }
+fn run_file<R: Read>(
+    alloc: Global,
+    file: &mut R,
+    limit: u64,
+) -> Result<(Vec<u8>, ScriptMachine, End), Fault>
+    ensures ok { IfOk result (λ r. IfSome (R.remaining file.old) (λ bytes. RunsFile bytes limit r.1 r.2)) }
     ensures err { IfErr result (λ f. IfSome (R.remaining file.old) (λ bytes. FaultsRun bytes f)) }
 {
     let image = read_image(alloc, file)?;
     match run_image(alloc, &image, limit) {
-        Ok(run) => Ok(run),
+        Ok((machine, end)) => Ok((image, machine, end)),
         Err(fault) => Err(fault),
     }
 }
 
-/// Runs the image of a file, and prints what the run prints.
-fn print_run<R: Read, W: Write>(
+/// Prints what a run printed, and then says how it ended, where that is to be explained.
+#[tactic(auto, using(crate::proofs::Faults::all_are_part))]
+fn print_end<W: Write, E: Write>(
     alloc: Global,
+    path: &str,
+    run: (Vec<u8>, ScriptMachine, End),
+    explain: bool,
+    out: &mut W,
+    errors: &mut E,
+) -> Result<End, Fault>
+    ensures ok { IfOk result (λ e. (e ≡ run.2) × Appends (W.contents out.old) (W.contents out.new)
+        run.1.eval.parts.console.text) }
+    ensures err { OnErr result (AppendsPart (W.contents out.old) (W.contents out.new)
+        run.1.eval.parts.console.text) }
+    ensures fault { IfErr result (λ f. IsUnwritten f ⊎ (f ≡ Fault.NoMemory)) }
+{
+    let (image, machine, end) = run;
+    write_whole(out, machine.console())?;
+    if !explain {
+        return Ok(end);
+    }
+    match say_end(alloc, path, &image, &machine, end, errors) {
+        Ok(()) => Ok(end),
+        Err(fault) => Err(fault),
+    }
+}
+
+/// Runs the image of a file, prints what the run prints, and explains how it ended, where that is asked for.
+#[tactic(auto, using(crate::proofs::Faults::run_printed))]
+fn print_run<R: Read, W: Write, E: Write>(
+    alloc: Global,
+    path: &str,
     file: &mut R,
     limit: u64,
+    explain: bool,
     out: &mut W,
+    errors: &mut E,
 ) -> Result<End, Fault>
     ensures { IfSome (R.remaining file.old) (λ bytes. Prints bytes limit (W.contents out.old) (W.contents out.new)
         result) }
 {
     match run_file(alloc, file, limit) {
-        Ok((machine, end)) => match write_whole(out, machine.console()) {
-            Ok(()) => Ok(end),
+        Ok(run) => match print_end(alloc, path, run, explain, out, errors) {
+            Ok(end) => Ok(end),
             Err(fault) => Err(fault),
         },
         Err(fault) => Err(fault),
@@ -68,73 +117,111 @@ fn print_run<R: Read, W: Write>(
 ///
 /// The file is the image as it stands where it begins with a start word, 0xF0 to 0xF3 or 0xFD, and
 /// else a text of hexadecimal digits. A fault is said on the error output, with the path of the file,
-/// and before the run nothing is printed.
+/// and before the run nothing is printed. How the run ended is said there, too, where it is to be explained.
 pub fn run<R: Read, W: Write, E: Write>(
     alloc: Global,
     path: &str,
     file: &mut R,
     limit: u64,
+    explain: bool,
     out: &mut W,
     errors: &mut E,
 ) -> Status
     ensures { IfSome (R.remaining file.old) (λ bytes. EndsWith bytes limit (W.contents out.old) (W.contents out.new)
         result) }
 {
-    match print_run(alloc, file, limit, out) {
+    match print_run(alloc, path, file, limit, explain, out, errors) {
         Ok(End::Done) => Status::Done,
         Ok(End::LimitReached) => Status::LimitReached,
         Err(fault) => report(path, fault, errors),
     }
 }
 
-/// The listing of an image.
-fn list_image(alloc: Global, image: &[u8]) -> Result<Vec<u8>, Fault>
-    ensures ok { IfOk result (λ lines. listed image.now ≡ Ok lines.items) }
-    ensures err { IfErr result (HasNoListing image.now) }
+/// The lines that are shown of an image, and what is wrong behind them, if anything.
+fn list_image(
+    alloc: Global,
+    image: &[u8],
+    extras: Extras,
+    partial: bool,
+) -> Result<(Vec<u8>, Option<StreamFault>), Fault>
+    ensures ok { IfOk result (λ r. shown_lines partial (listed_so_far extras image.now) ≡ (r.0.items, r.1)) }
+    ensures err { IfErr result (λ f. f ≡ Fault.NoMemory) }
 {
-    match listing(alloc, image) {
-        Ok(lines) => Ok(lines),
-        Err(fault) => Err(Fault::Unlisted(fault)),
+    match partial_listing(alloc, image, extras) {
+        Ok((_, Some(fault))) if !partial => Ok((Vec::new(alloc), Some(fault))),
+        Ok(listed) => Ok(listed),
+        Err(_) => Err(Fault::NoMemory),
     }
 }
 
-/// The listing of the image of a file.
-#[tactic(auto, using(crate::proofs::Faults::listing_unread, crate::proofs::Faults::listing_refused))]
-fn list_file<R: Read>(alloc: Global, file: &mut R) -> Result<Vec<u8>, Fault>
-    ensures ok { IfOk result (λ lines. IfSome (R.remaining file.old) (λ bytes. ListsFile bytes lines.items)) }
-    ensures err { IfErr result (λ f. IfSome (R.remaining file.old) (λ bytes. FaultsListing bytes f)) }
+/// The lines that are shown of the image of a file, and what is wrong behind them, if anything.
+#[tactic(auto, using(crate::proofs::Faults::no_memory_reading))]
+fn list_file<R: Read>(
+    alloc: Global,
+    file: &mut R,
+    extras: Extras,
+    partial: bool,
+) -> Result<(Vec<u8>, Option<StreamFault>), Fault>
+    ensures ok { IfOk result (λ r. IfSome (R.remaining file.old) (λ bytes.
+        ListsFile extras partial bytes (r.0.items, r.1))) }
+    ensures err { IfErr result (λ f. IfSome (R.remaining file.old) (λ bytes. FaultsReading bytes f)) }
 {
     let image = read_image(alloc, file)?;
-    match list_image(alloc, &image) {
-        Ok(lines) => Ok(lines),
+    match list_image(alloc, &image, extras, partial) {
+        Ok(listed) => Ok(listed),
+        Err(fault) => Err(fault),
+    }
+}
+
+/// Prints lines, and answers what is wrong behind them, if anything.
+fn print_lines<W: Write>(lines: &[u8], wrong: Option<StreamFault>, out: &mut W) -> Result<(), Fault>
+    ensures ok { OnOk result ((wrong ≡ None) × Appends (W.contents out.old) (W.contents out.new) lines.now) }
+    ensures err { IfErr result (λ f. ListsPart (lines.now, wrong) (W.contents out.old) (W.contents out.new) f) }
+{
+    match write_whole(out, lines) {
+        Ok(()) => match wrong {
+            None => Ok(()),
+            Some(fault) => Err(Fault::Unlisted(fault)),
+        },
         Err(fault) => Err(fault),
     }
 }
 
 /// Lists the image of a file, and prints the listing.
-fn print_listing<R: Read, W: Write>(alloc: Global, file: &mut R, out: &mut W) -> Result<(), Fault>
-    ensures { IfSome (R.remaining file.old) (λ bytes. Lists bytes (W.contents out.old) (W.contents out.new) result) }
+fn print_listing<R: Read, W: Write>(
+    alloc: Global,
+    file: &mut R,
+    extras: Extras,
+    partial: bool,
+    out: &mut W,
+) -> Result<(), Fault>
+    ensures { IfSome (R.remaining file.old) (λ bytes.
+        Lists extras partial bytes (W.contents out.old) (W.contents out.new) result) }
 {
-    match list_file(alloc, file) {
-        Ok(lines) => write_whole(out, &lines),
+    match list_file(alloc, file, extras, partial) {
+        Ok((lines, wrong)) => print_lines(&lines, wrong, out),
         Err(fault) => Err(fault),
     }
 }
 
 /// Prints the listing of the image of a file, and gives the status.
 ///
-/// The file is read as for `run`. A fault is said on the error output, with the path of the file, and
-/// before the listing nothing is printed.
+/// The file is read as for `run`. A fault is said on the error output, with the path of the file, and before the
+/// listing nothing is printed. Where a token can't be read, nothing is printed either, unless a part is asked for: then
+/// the lines before it are.
 pub fn detok<R: Read, W: Write, E: Write>(
     alloc: Global,
     path: &str,
     file: &mut R,
+    extras: Extras,
+    partial: bool,
     out: &mut W,
     errors: &mut E,
 ) -> Status
-    ensures { IfSome (R.remaining file.old) (λ bytes. ListsWith bytes (W.contents out.old) (W.contents out.new) result) }
+    ensures { IfSome (R.remaining file.old) (λ bytes.
+        ListsWith extras partial bytes (W.contents out.old) (W.contents out.new) result) }
 {
-    match print_listing(alloc, file, out) {
+    match print_listing(alloc, file, extras, partial, out) {
         Ok(()) => Status::Done,
         Err(fault) => report(path, fault, errors),
     }
@@ -251,8 +338,16 @@ pub fn answer<R: Read, W: Write, E: Write>(
         (W.contents out.new) result) }
 {
     match request {
-        Request::Run { image, limit } => run(alloc, image, file, limit, out, errors),
+        Request::Run {
+            image,
+            limit,
+            explain,
+        } => run(alloc, image, file, limit, explain, out, errors),
         Request::Tok { source, .. } => tok(alloc, source, file, out, errors),
-        Request::Detok { image } => detok(alloc, image, file, out, errors),
+        Request::Detok {
+            image,
+            extras,
+            partial,
+        } => detok(alloc, image, file, extras, partial, out, errors),
     }
 }

@@ -3,7 +3,6 @@ ghost use Rattle.ofw.specs.Runs.{start_byte_of};
 
 use crate::place::Place;
 use crate::status::Status;
-use of_detok::DetokFault;
 use of_machine::Refusal;
 use of_source::SourceFault;
 use of_stream::StreamFault;
@@ -36,12 +35,15 @@ pub enum Fault {
     /// The last byte of the image has one digit.
     #[error("an odd number of hexadecimal digits")]
     OddDigits,
-    /// The monitor refuses the image.
+    /// An image has so many bytes, more than the monitor takes.
+    #[error("image of {0} bytes, of which 262144 fit")]
+    TooLong(usize),
+    /// The monitor refuses the image for another reason.
     #[error(transparent)]
     Refused(Refusal),
     /// The image has no listing.
     #[error(transparent)]
-    Unlisted(DetokFault),
+    Unlisted(StreamFault),
     /// A text is no source.
     #[error(transparent)]
     NoSource(SourceFault),
@@ -75,7 +77,7 @@ impl Fault {
     {
         match self {
             Fault::Refused(Refusal::BadStart(fault)) => start_byte(fault),
-            Fault::Unlisted(DetokFault::Stream(fault)) => start_byte(fault),
+            Fault::Unlisted(fault) => start_byte(fault),
             _ => None,
         }
     }
@@ -88,8 +90,14 @@ impl Fault {
             Fault::NoSource(SourceFault::Unclosed(line)) => Some((line, "unclosed")),
             Fault::NoSource(SourceFault::Unknown(line)) => Some((line, "unknown word")),
             Fault::NoSource(SourceFault::BadNumber(line)) => Some((line, "bad number")),
-            Fault::NoSource(SourceFault::TooLong(line)) => Some((line, "too long")),
-            Fault::NoImage(TokFault::OffsetTooLong(line)) => Some((line, "offset too long")),
+            Fault::NoSource(SourceFault::TooLong(line)) => Some((
+                line,
+                "too long: a name has at most 31 bytes, a string 255",
+            )),
+            Fault::NoImage(TokFault::OffsetTooLong(line)) => Some((
+                line,
+                "offset too long: 16 bits hold -32768 to 32767, 8 bits -128 to 127",
+            )),
             _ => None,
         }
     }
@@ -102,7 +110,6 @@ impl Fault {
             Fault::ArgumentNotText => Status::Usage,
             Fault::NoMemory => Status::NoMemory,
             Fault::Refused(Refusal::NoMemory) => Status::NoMemory,
-            Fault::Unlisted(DetokFault::NoMemory) => Status::NoMemory,
             Fault::NoSource(SourceFault::NoMemory) => Status::NoMemory,
             Fault::NoImage(TokFault::NoMemory) => Status::NoMemory,
             Fault::Unopened(_) => Status::Fault,
@@ -110,12 +117,12 @@ impl Fault {
             Fault::Endless => Status::Fault,
             Fault::BadDigit { .. } => Status::Fault,
             Fault::OddDigits => Status::Fault,
+            Fault::TooLong(_) => Status::Fault,
             Fault::Refused(Refusal::Busy) => Status::Fault,
             Fault::Refused(Refusal::ImageTooLong) => Status::Fault,
             Fault::Refused(Refusal::BadStart(_)) => Status::Fault,
             Fault::Refused(Refusal::NoNode) => Status::Fault,
-            Fault::Unlisted(DetokFault::Stream(_)) => Status::Fault,
-            Fault::Unlisted(DetokFault::BadLine(_)) => Status::Fault,
+            Fault::Unlisted(_) => Status::Fault,
             Fault::NoSource(_) => Status::Fault,
             Fault::NoImage(_) => Status::Fault,
             Fault::Unwritten(_) => Status::Fault,

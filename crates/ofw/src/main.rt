@@ -3,6 +3,7 @@
 
 mod arguments;
 pub mod engine;
+mod explain;
 mod fault;
 mod input;
 mod laws;
@@ -47,7 +48,7 @@ fn answer(rt: &HostRuntime, request: Request) -> Status {
     let path = match request {
         Request::Run { image, .. } => image,
         Request::Tok { source, .. } => source,
-        Request::Detok { image } => image,
+        Request::Detok { image, .. } => image,
     };
     let mut file = match File::open(rt, path) {
         Ok(file) => file,

@@ -5,6 +5,7 @@ use crate::input::MOST_READS;
 use crate::laws::lines_ask;
 use crate::output::report;
 use crate::status::Status;
+use of_detok::Extras;
 use std::alloc::Global;
 use std::io::{Error, ErrorKind, Read, Result, Write};
 use std::test::Fail;
@@ -87,6 +88,21 @@ fn without_newline(text: &[u8]) -> &[u8] {
     text.strip_suffix(b"\n").unwrap_or(text)
 }
 
+/// Lists an image, with all that a listing can say or with nothing beyond names and operands.
+fn listed(
+    alloc: Global,
+    all: bool,
+    file: &mut Paper<'_>,
+    out: &mut Screen,
+    errors: &mut Screen,
+) -> Status {
+    let extras = Extras {
+        names: all,
+        indents: all,
+    };
+    detok(alloc, "a.hex", file, extras, all, out, errors)
+}
+
 /// Runs an image with a limit, lists it where the limit is empty, or makes the image of a source
 /// where it is `tok`, and gives the number of the status.
 fn code_of(
@@ -97,9 +113,17 @@ fn code_of(
     errors: &mut Screen,
 ) -> std::result::Result<u8, Fail> {
     let status = match limit {
-        "" => detok(alloc, "a.hex", file, out, errors),
+        "" => listed(alloc, false, file, out, errors),
+        "all" => listed(alloc, true, file, out, errors),
         "tok" => tok(alloc, "card.fs", file, out, errors),
-        _ => run(alloc, "a.hex", file, limit.parse::<u64>()?, out, errors),
+        _ => {
+            let (limit, explain) = match limit.strip_suffix('?') {
+                Some(limit) => (limit, true),
+                None => (limit, false),
+            };
+            let limit = limit.parse::<u64>()?;
+            run(alloc, "a.hex", file, limit, explain, out, errors)
+        }
     };
     Ok(status.code())
 }
@@ -113,6 +137,12 @@ const CASES: &str = "\
 ;
 4|99|99|3||5 |f108020a0000000da7a81e9d00;
 0|99|99|3|||f108020a0000000da7a81e9d00;
+9?|99|99|0|ofw: a.hex: done after 5 steps
+ofw: a.hex: stack:|5 |f108020a0000000da7a81e9d00;
+3?|99|99|3|ofw: a.hex: limit reached after 3 steps; next: `.` at 00000b
+ofw: a.hex: stack: 5||f108020a0000000da7a81e9d00;
+9?|99|99|0|ofw: a.hex: `@` at 000009: fault -9: invalid memory address
+ofw: a.hex: stack:|fault -9: invalid memory address|f10800000000000ba76d00;
 9|99|99|1|ofw: bad start byte ff||ffffffffffffffff;
 9|99|99|1|ofw: a.hex: image shorter than its header||f108;
 9|99|99|1|ofw: a.hex: image shorter than its header||;
@@ -133,6 +163,19 @@ const CASES: &str = "\
 00000b: 9d  .
 00000c: 00  end0|f108020a0000000da7a81e9d00;
 |99|999|1|ofw: a.hex: image ended in the token at 000009||f10800a700000009a7;
+all|99|999|1|ofw: a.hex: image ended in the token at 00001c|\
+000000: fd08000000000000  version1 (sum 071c) (bytes 0000001c)
+000008: b604616464330800  named-token \"add3\" 800
+000010: b7  b(:)
+000011: a8    3
+000012: 1e    +
+000013: c2  b(;)
+000014: a7  2
+000015: 1406  b?branch -> 00001c
+000017: a7    2
+000018: 0800    fcode-800 add3
+00001a: b2  b(>resolve)
+00001b: 9d  .|fd08000000000000b604616464330800b7a81ec2a71406a70800b29d;
 |99|999|1|ofw: a.hex:2:1: 'x' is no hexadecimal digit||f108
 x;
 |99|2|1|ofw: the output can't be written: other error|00|f108020a0000000da7a81e9d00;
@@ -140,6 +183,8 @@ tok|99|999|0||f108075c000000211204636172640201b604616464330800b7a81ec2a708009d00
 \" card\" device-name : add3 3 + ; 2 add3 . fcode-end;
 tok|99|999|1|card.fs:2: unknown word||fcode-version2
 zork fcode-end;
+tok|99|999|1|card.fs:2: too long: a name has at most 31 bytes, a string 255||fcode-version2
+: a23456789b123456789c123456789d12 fcode-end;
 tok|99|999|1|card.fs:3: unclosed||fcode-version2
 5
 then fcode-end;
@@ -181,7 +226,15 @@ fn binary_images(rt: HostRuntime) {
         reads: 0,
         fails_at: 99,
     };
-    let status = run(rt.alloc(), "five.rom", &mut file, 9, &mut out, &mut errors);
+    let status = run(
+        rt.alloc(),
+        "five.rom",
+        &mut file,
+        9,
+        false,
+        &mut out,
+        &mut errors,
+    );
     assert_eq!(rt; status, Status::Done);
     assert_eq!(rt; out.text.as_slice(), b"5 ".as_slice());
 }
@@ -208,7 +261,15 @@ fn endless_zeros(rt: HostRuntime) {
     let mut file = Endless { byte: 0, reads: 0 };
     let mut out = blank_screen(rt.alloc(), 0);
     let mut errors = blank_screen(rt.alloc(), 999);
-    let status = run(rt.alloc(), "/dev/zero", &mut file, 9, &mut out, &mut errors);
+    let status = run(
+        rt.alloc(),
+        "/dev/zero",
+        &mut file,
+        9,
+        false,
+        &mut out,
+        &mut errors,
+    );
     assert_eq!(rt; status, Status::Fault);
     assert_eq!(rt; file.reads, 1);
     let said = b"ofw: /dev/zero:1:1: byte 00 is no hexadecimal digit\n";
@@ -223,7 +284,15 @@ fn endless_file(rt: HostRuntime) {
     };
     let mut out = blank_screen(rt.alloc(), 0);
     let mut errors = blank_screen(rt.alloc(), 999);
-    let status = run(rt.alloc(), "a.hex", &mut file, 9, &mut out, &mut errors);
+    let status = run(
+        rt.alloc(),
+        "a.hex",
+        &mut file,
+        9,
+        false,
+        &mut out,
+        &mut errors,
+    );
     assert_eq!(rt; status, Status::Fault);
     assert_eq!(rt; file.reads, MOST_READS);
     let said = b"ofw: a.hex: doesn't end after 16777216 reads\n";
@@ -236,6 +305,13 @@ fn reports(rt: HostRuntime) {
     assert_eq!(rt; report("", Fault::NoMemory, &mut errors).code(), 5);
     assert_eq!(rt; errors.text.as_slice(), b"ofw: no memory\n".as_slice());
     assert_eq!(rt; report("", Fault::ArgumentNotText, &mut errors).code(), 2);
+    let mut errors = blank_screen(rt.alloc(), 999);
+    assert_eq!(rt;
+        report("a.rom", Fault::TooLong(262_145), &mut errors).code(),
+        1
+    );
+    let said = b"ofw: a.rom: image of 262145 bytes, of which 262144 fit\n";
+    assert_eq!(rt; errors.text.as_slice(), said.as_slice());
 }
 
 /// Words of a command line, and behind `:` what they ask for, if anything: the image, and for a
@@ -247,6 +323,11 @@ ofw run a.hex --limit 1000000000:a.hex 1000000000
 ofw run a.hex --limit 1000000001:
 ofw run a.hex --steps 5:
 ofw detok a.hex:a.hex
+ofw detok a.hex --names:a.hex names
+ofw detok --indent a.hex --partial:a.hex indents partial
+ofw detok a.hex --names --names:
+ofw run --explain a.hex --limit 5:a.hex 5 explained
+ofw run a.hex --names:
 ofw tok a.fs:a.fs
 ofw tok:
 ofw tok a.fs --limit 5:
@@ -264,12 +345,36 @@ ofw:";
 /// What the words of a line ask for, as it stands behind `:`.
 fn asked(alloc: Global, line: &[String]) -> std::result::Result<String, Fail> {
     match parse(alloc, line) {
-        Ok(Some(Request::Run { image, limit })) => Ok(format!(in alloc; "{image} {limit}")?),
+        Ok(
+            Some(
+                Request::Run {
+                    image,
+                    limit,
+                    explain,
+                },
+            ),
+        ) => match explain {
+            true => Ok(format!(in alloc; "{image} {limit} explained")?),
+            false => Ok(format!(in alloc; "{image} {limit}")?),
+        },
         Ok(Some(Request::Tok { source, output })) => match output {
             Some(output) => Ok(format!(in alloc; "{source} {output}")?),
             None => Ok(String::from_str(alloc, source)?),
         },
-        Ok(Some(Request::Detok { image })) => Ok(String::from_str(alloc, image)?),
+        Ok(
+            Some(
+                Request::Detok {
+                    image,
+                    extras,
+                    partial,
+                },
+            ),
+        ) => {
+            let names = if extras.names { " names" } else { "" };
+            let indents = if extras.indents { " indents" } else { "" };
+            let partial = if partial { " partial" } else { "" };
+            Ok(format!(in alloc; "{image}{names}{indents}{partial}")?)
+        }
         _ => Ok(String::new(alloc)),
     }
 }
