@@ -15,6 +15,7 @@ mod status;
 mod tests;
 
 use arguments::{Request, parse, status_of};
+use clap::Error;
 use fault::Fault;
 use output::report;
 use status::Status;
@@ -36,11 +37,11 @@ fn keep(rt: &HostRuntime, source: &str, file: &mut File, output: &str) -> Status
 
 /// Says why the file at a path can't be opened.
 fn unopened(rt: &HostRuntime, path: &str, error: &io::Error) -> Status {
-    report(
-        path,
-        Fault::Unopened(error.raw_os_error()),
-        &mut rt.stderr(),
-    )
+    let fault = match error.kind() {
+        io::ErrorKind::OutOfMemory => Fault::NoMemory,
+        _ => Fault::Unopened(error.raw_os_error()),
+    };
+    report(path, fault, &mut rt.stderr())
 }
 
 /// Opens the file, and does with it what was asked for.
@@ -82,15 +83,27 @@ fn words(rt: &HostRuntime) -> Result<Vec<String>, Fault> {
     }
 }
 
+/// Says what a command line that asks for nothing gets: help, the version, or what is wrong with it.
+fn answer_nothing(rt: &HostRuntime, error: &Error) -> Status {
+    let status = status_of(error);
+    if status == Status::NoMemory {
+        return report("", Fault::NoMemory, &mut rt.stderr());
+    }
+    match error.print(rt) {
+        Ok(()) => status,
+        Err(fault) => match fault.kind() {
+            io::ErrorKind::OutOfMemory => report("", Fault::NoMemory, &mut rt.stderr()),
+            _ => Status::Fault,
+        },
+    }
+}
+
 /// Does what the words ask for, or says why it can't be done.
 fn obey(rt: &HostRuntime, words: &[String]) -> Status {
     match parse(rt.alloc(), words) {
         Ok(Some(request)) => answer(rt, request),
         Ok(None) => Status::Usage,
-        Err(error) => match (status_of(&error), error.print(rt)) {
-            (Status::Done, Err(_)) => Status::Fault,
-            (status, _) => status,
-        },
+        Err(error) => answer_nothing(rt, &error),
     }
 }
 
