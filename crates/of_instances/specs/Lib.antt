@@ -1,0 +1,11 @@
+pub mod Site
+pub mod Faults
+pub mod Active
+pub mod Reading
+pub mod Encoding
+pub mod Setting
+pub mod Finding
+pub mod PropertyWords
+pub mod TreeWords
+pub mod Listed
+pub mod Images

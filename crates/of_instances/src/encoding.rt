@@ -1,0 +1,213 @@
+ghost use Rattle.std.specs.Prelude.{◌≡◌, ◌<◌, ◌≤◌, ◌+◌, length, OnOk, IfErr};
+ghost use Rattle.of_memory.specs.Regions.{data_limit};
+ghost use Rattle.of_stacks.specs.Stacks.{Becomes};
+ghost use Rattle.of_stacks.specs.Throws.{dictionary_overflow};
+ghost use Rattle.of_instances.specs.Encoding.{decode_int_entry, decode_phys_entry, decode_string_entry};
+ghost use Rattle.of_instances.specs.Encoding.{encode_bytes_entry, encode_int_entry, encode_phys_entry};
+ghost use Rattle.of_instances.specs.Encoding.{encode_plus_entry, encode_string_entry};
+ghost use Rattle.of_instances.specs.Site.{site_of};
+
+use crate::active::Active;
+use crate::cells::{cells_under, push_all};
+use crate::faults::{array_throw, of_array};
+use crate::reading::active_cells;
+use of_cells::Cell;
+use of_memory::Memory;
+use of_nodes::Tree;
+use of_props as props;
+use of_props::Array;
+use of_stacks::{DataStack, Throw};
+
+/// Where the data region ends.
+const DATA_LIMIT: u32 = 0x14_0000;
+
+/// Throws -8 where so many bytes have no room at `here`.
+fn check_room(memory: &Memory, count: u32) -> Result<(), Throw>
+    requires { count ≤ 16 }
+    ensures ok { OnOk result (memory.now.here + count ≤ data_limit) }
+    ensures full { IfErr result (λ t. (data_limit < memory.now.here + count) × (t ≡ dictionary_overflow)) }
+{
+    if memory.here().0 + count > DATA_LIMIT {
+        return Err(Throw::DICTIONARY_OVERFLOW);
+    }
+    Ok(())
+}
+
+/// `encode-int` ( x -- p n ) puts 4 bytes at `here`; -8 where they have no room.
+#[inline(never)]
+pub(crate) fn encode_int(
+    stack: &mut DataStack,
+    memory: &mut Memory,
+    tree: &Tree,
+    active: &Active,
+) -> Result<(), Throw>
+    ensures { Becomes (encode_int_entry stack.old (site_of stack.old memory.old tree.now active.now))
+        (site_of stack.old memory.old tree.now active.now) (site_of stack.new memory.new tree.now active.now) result }
+{
+    let x = stack.peek()?;
+    check_room(memory, 4)?;
+    stack.room_for(1)?;
+    let array = of_array(props::encode_int(memory, x))?;
+    stack.replace_top(array.address);
+    stack.push(array.length);
+    Ok(())
+}
+
+/// `encode-string` ( s n -- p n ) copies a text and a zero byte to `here`; -9 where it can't be read, -8
+/// where there is no room.
+#[inline(never)]
+pub(crate) fn encode_string(
+    stack: &mut DataStack,
+    memory: &mut Memory,
+    tree: &Tree,
+    active: &Active,
+) -> Result<(), Throw>
+    ensures { Becomes (encode_string_entry stack.old (site_of stack.old memory.old tree.now active.now))
+        (site_of stack.old memory.old tree.now active.now) (site_of stack.new memory.new tree.now active.now) result }
+{
+    let (address, length) = stack.top_two()?;
+    let array = of_array(props::encode_string(memory, address, length))?;
+    stack.replace_two(array.address);
+    stack.push(array.length);
+    Ok(())
+}
+
+/// `encode-bytes` ( a n -- p n ) copies bytes to `here`; -9 where one can't be read, -8 where there is no
+/// room.
+#[inline(never)]
+pub(crate) fn encode_bytes(
+    stack: &mut DataStack,
+    memory: &mut Memory,
+    tree: &Tree,
+    active: &Active,
+) -> Result<(), Throw>
+    ensures { Becomes (encode_bytes_entry stack.old (site_of stack.old memory.old tree.now active.now))
+        (site_of stack.old memory.old tree.now active.now) (site_of stack.new memory.new tree.now active.now) result }
+{
+    let (address, length) = stack.top_two()?;
+    let array = of_array(props::encode_bytes(memory, address, length))?;
+    stack.replace_two(array.address);
+    stack.push(array.length);
+    Ok(())
+}
+
+/// `encode-phys` ( lo .. hi -- p n ) puts the cells of an address of the active package at `here`, the high
+/// cell first; -259 without one, -8 where there is no room.
+#[inline(never)]
+pub(crate) fn encode_phys(
+    stack: &mut DataStack,
+    memory: &mut Memory,
+    tree: &Tree,
+    active: &Active,
+) -> Result<(), Throw>
+    ensures { Becomes (encode_phys_entry stack.old (site_of stack.old memory.old tree.now active.now))
+        (site_of stack.old memory.old tree.now active.now) (site_of stack.new memory.new tree.now active.now) result }
+{
+    let _ = stack.peek()?;
+    let count = active_cells(memory, tree, active)?;
+    let cells = cells_under(stack, 0, count)?;
+    check_room(memory, 4 * count as u32)?;
+    if stack.depth() - count + 2 > of_stacks::CAPACITY {
+        return Err(Throw::STACK_OVERFLOW);
+    }
+    let array = of_array(props::encode_phys(memory, cells.as_slice()))?;
+    stack.drop_top(count);
+    stack.push(array.address);
+    stack.push(array.length);
+    Ok(())
+}
+
+/// `encode+` ( p n p n -- p n ) joins two arrays; -24 where the second isn't directly behind the first.
+#[inline(never)]
+pub(crate) fn encode_plus(
+    stack: &mut DataStack,
+    memory: &Memory,
+    tree: &Tree,
+    active: &Active,
+) -> Result<(), Throw>
+    ensures { Becomes (encode_plus_entry stack.old (site_of stack.old memory.now tree.now active.now))
+        (site_of stack.old memory.now tree.now active.now) (site_of stack.new memory.now tree.now active.now) result }
+{
+    let (address, length, second, more) = stack.top_four()?;
+    let first = Array { address, length };
+    let second = Array {
+        address: second,
+        length: more,
+    };
+    let whole = of_array(props::join(first, second))?;
+    stack.drop_top(4);
+    stack.push(whole.address);
+    stack.push(whole.length);
+    Ok(())
+}
+
+/// `decode-int` ( p n -- p n x ) takes a number off an array; -9 where a byte can't be read, -262 where it
+/// has less than 4.
+#[inline(never)]
+pub(crate) fn decode_int(
+    stack: &mut DataStack,
+    memory: &Memory,
+    tree: &Tree,
+    active: &Active,
+) -> Result<(), Throw>
+    ensures { Becomes (decode_int_entry stack.old (site_of stack.old memory.now tree.now active.now))
+        (site_of stack.old memory.now tree.now active.now) (site_of stack.new memory.now tree.now active.now) result }
+{
+    let (address, length) = stack.top_two()?;
+    let (x, rest) = of_array(props::decode_int(memory, Array { address, length }))?;
+    stack.room_for(1)?;
+    stack.drop_top(2);
+    stack.push(rest.address);
+    stack.push(rest.length);
+    stack.push(x);
+    Ok(())
+}
+
+/// `decode-string` ( p n -- p n s n ) takes a string off an array, up to its first zero byte; -9 where a byte
+/// can't be read, -262 where none is zero.
+#[inline(never)]
+pub(crate) fn decode_string(
+    stack: &mut DataStack,
+    memory: &Memory,
+    tree: &Tree,
+    active: &Active,
+) -> Result<(), Throw>
+    ensures { Becomes (decode_string_entry stack.old (site_of stack.old memory.now tree.now active.now))
+        (site_of stack.old memory.now tree.now active.now) (site_of stack.new memory.now tree.now active.now) result }
+{
+    let (address, length) = stack.top_two()?;
+    let (text, rest) = of_array(props::decode_string(memory, Array { address, length }))?;
+    stack.room_for(2)?;
+    stack.drop_top(2);
+    stack.push(rest.address);
+    stack.push(rest.length);
+    stack.push(text.address);
+    stack.push(text.length);
+    Ok(())
+}
+
+/// `decode-phys` ( p n -- p n lo .. hi ) takes an address of the active package off an array; -259 without
+/// one, -9 where a byte can't be read, -262 where there are too few.
+#[inline(never)]
+pub(crate) fn decode_phys(
+    stack: &mut DataStack,
+    memory: &Memory,
+    tree: &Tree,
+    active: &Active,
+) -> Result<(), Throw>
+    ensures { Becomes (decode_phys_entry stack.old (site_of stack.old memory.now tree.now active.now))
+        (site_of stack.old memory.now tree.now active.now) (site_of stack.new memory.now tree.now active.now) result }
+{
+    let (address, length) = stack.top_two()?;
+    let count = active_cells(memory, tree, active)?;
+    let (cells, rest) = match props::decode_phys(memory, Array { address, length }, count) {
+        Ok(found) => found,
+        Err(fault) => return Err(array_throw(fault)),
+    };
+    stack.room_for(cells.len())?;
+    stack.drop_top(2);
+    stack.push(rest.address);
+    stack.push(rest.length);
+    push_all(stack, cells.as_slice());
+    Ok(())
+}

@@ -1,0 +1,13 @@
+// A law has no parameters and does nothing: its contract is the law.
+ghost use Rattle.of_instances.specs.Images.{ImagesStay};
+ghost use Rattle.of_instances.specs.Listed.{ThrowListedNumbers};
+
+/// What these words throw has one of the numbers that words raise of themselves.
+pub fn tree_words_throw_listed()
+    ensures { ThrowListedNumbers }
+{}
+
+/// A word that doesn't throw leaves the images that run and the bytes of the latest as they were.
+pub fn images_stay()
+    ensures { ImagesStay }
+{}

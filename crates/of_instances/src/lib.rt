@@ -1,0 +1,20 @@
+//! The words over the device tree: properties, packages and `new-device`.
+#![tactic(auto)]
+
+mod active;
+mod cells;
+mod encoding;
+mod faults;
+mod finding;
+mod laws;
+mod property_words;
+mod reading;
+mod setting;
+#[cfg(test)]
+mod tests;
+mod tree_words;
+
+pub use active::{Active, NewDevice, NewDevices};
+pub use laws::{images_stay, tree_words_throw_listed};
+pub use property_words::run_properties_word;
+pub use tree_words::run_tree_word;
