@@ -10,12 +10,12 @@ use Rattle.of_instances.specs.declared.active.NewDevice.{NewDevice}
 
 -- no package is active, and no `new-device` open
 abbrev pub nothing_active : Active
-nothing_active = record { package = None; new_devices = [] }
+nothing_active = record { «package» = None; new_devices = [] }
 
 -- a child is active, and a `new-device` open that found the package before
 abbrev pub device_opened : Active → Phandle → Phandle → Active
 device_opened a found child =
-    record { package = Some child; new_devices = a.new_devices ++ record { package = found } ∷ [] }
+    record { «package» = Some child; new_devices = a.new_devices ++ record { «package» = found } ∷ [] }
 
 -- the one of the open `new-device`s that was opened last
 abbrev pub latest : List NewDevice → Option NewDevice
@@ -28,19 +28,19 @@ without_latest ds = take (length ds - 1) ds
 -- what finishing the latest `new-device` leaves: the package that it found is active again
 abbrev pub finished : Active → Option NewDevice → Result Active Throw
 finished a None = Err no_node
-finished a (Some d) = Ok (record { package = Some d.package; new_devices = without_latest a.new_devices })
+finished a (Some d) = Ok (record { «package» = Some d.«package»; new_devices = without_latest a.new_devices })
 
 abbrev pub device_finished : Active → Result Active Throw
 device_finished a = finished a (latest a.new_devices)
 
 -- at the end of a loaded image: what was open before it is open, and the package that was active before is active
 abbrev pub image_left : Active → ℕ → Option Phandle → Active
-image_left a count package = record { package = package; new_devices = take count a.new_devices }
+image_left a count before = record { «package» = before; new_devices = take count a.new_devices }
 
 -- after all are finished, the latest first: the package that the oldest found is active
 abbrev pub finished_from : Active → List NewDevice → Active
 finished_from a [] = a
-finished_from a (d ∷ ds) = record { package = Some d.package; new_devices = [] }
+finished_from a (d ∷ ds) = record { «package» = Some d.«package»; new_devices = [] }
 
 abbrev pub all_finished : Active → Active
 all_finished a = finished_from a a.new_devices

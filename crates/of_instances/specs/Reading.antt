@@ -38,7 +38,7 @@ package_in ns (Some ph) = package_at ns ph.0
 
 -- the active package
 abbrev pub active_package : Site → Result Phandle Throw
-active_package w = package_in w.tree w.active.package
+active_package w = package_in w.tree w.active.«package»
 
 -- how many cells an address of a package has: as its parent says, and 2 for the root
 abbrev pub cells_by : DataSpace → List Node → Result (Option Phandle) NodeFault → Result ℕ Throw

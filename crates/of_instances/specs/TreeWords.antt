@@ -92,7 +92,7 @@ find_method_entry _ w = Err stack_underflow
 
 -- the table, a word a line; the words over instances are as unassigned
 unfoldable pub tree_entry : TreeWord → Site → Result Site Throw
-tree_entry NewDevice w = new_device_entry w w.active.package
+tree_entry NewDevice w = new_device_entry w w.active.«package»
 tree_entry FinishDevice w = active_left w (device_finished w.active)
 tree_entry Child w = child_entry w.stack w
 tree_entry Peer w = peer_entry w.stack w

@@ -65,12 +65,12 @@ impl NewDevices {
     /// Opens one that found a package.
     ///
     /// NoMemory; then nothing changes.
-    pub(crate) fn open(&mut self, package: Phandle) -> Result<(), Stop>
-        ensures opened { OnOk result (self.new ≡ self.old ++ record { package = package } ∷ []) }
+    pub(crate) fn open(&mut self, found: Phandle) -> Result<(), Stop>
+        ensures opened { OnOk result (self.new ≡ self.old ++ record { «package» = found } ∷ []) }
         ensures refused { OnErr result (self.new ≡ self.old) }
         ensures memory { IfErr result (λ e. e ≡ Stop.NoMemory) }
     {
-        match self.opened.push(NewDevice { package }) {
+        match self.opened.push(NewDevice { package: found }) {
             Ok(()) => Ok(()),
             Err(_) => Err(Stop::NoMemory),
         }
@@ -105,11 +105,11 @@ impl Active {
 
     /// At the end of a loaded image: the `new-device`s beyond the first `count` are open no more, and
     /// the package is active.
-    pub fn cut_to(&mut self, count: usize, package: Option<Phandle>)
-        ensures { self.new ≡ image_left self.old count package }
+    pub fn cut_to(&mut self, count: usize, before: Option<Phandle>)
+        ensures { self.new ≡ image_left self.old count before }
     {
         self.new_devices.opened.truncate(count);
-        self.package = package;
+        self.package = before;
     }
 
     /// Finishes all open `new-device`s, the latest first: the package is active that the oldest found, or

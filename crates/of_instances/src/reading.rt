@@ -37,7 +37,7 @@ pub(crate) fn package_at(tree: &Tree, handle: Cell) -> Result<Phandle, Throw>
 
 /// The active package, or -259 where there is none.
 pub(crate) fn active_package(tree: &Tree, active: &Active) -> Result<Phandle, Throw>
-    ensures { result ≡ package_in tree.now active.now.package }
+    ensures { result ≡ package_in tree.now active.now.«package» }
 {
     match active.package {
         Some(package) => package_at(tree, package.0),
@@ -46,11 +46,11 @@ pub(crate) fn active_package(tree: &Tree, active: &Active) -> Result<Phandle, Th
 }
 
 /// How many cells an address of a package has: as its parent says, and 2 for the root.
-pub(crate) fn cells_of(memory: &Memory, tree: &Tree, package: Phandle) -> Result<usize, Throw>
-    ensures value { result ≡ cells_of memory.now tree.now package }
+pub(crate) fn cells_of(memory: &Memory, tree: &Tree, node: Phandle) -> Result<usize, Throw>
+    ensures value { result ≡ cells_of memory.now tree.now node }
     ensures few { IfOk result (λ count. count ≤ 4) }
 {
-    match tree.parent(package) {
+    match tree.parent(node) {
         Ok(Some(above)) => match tree.address_cells(memory, above) {
             Ok(count) => Ok(count),
             Err(fault) => Err(node_throw(fault)),
@@ -62,7 +62,7 @@ pub(crate) fn cells_of(memory: &Memory, tree: &Tree, package: Phandle) -> Result
 
 /// How many cells an address of the active package has, or -259 where there is none.
 pub(crate) fn active_cells(memory: &Memory, tree: &Tree, active: &Active) -> Result<usize, Throw>
-    ensures value { result ≡ cells_in memory.now tree.now (package_in tree.now active.now.package) }
+    ensures value { result ≡ cells_in memory.now tree.now (package_in tree.now active.now.«package») }
     ensures few { IfOk result (λ count. count ≤ 4) }
 {
     let package = active_package(tree, active)?;

@@ -31,16 +31,16 @@ fn put_property(
     memory: &mut Memory,
     tree: &mut Tree,
     active: &Active,
-    package: Phandle,
+    node: Phandle,
     name: &[u8],
     value: &[u8],
 ) -> Result<(), Stop>
     requires { count ≤ length stack.old }
     ensures { Makes true
-        (property_put (drop count stack.old) (site_of stack.old memory.old tree.old active.now) package name.now value.now)
+        (property_put (drop count stack.old) (site_of stack.old memory.old tree.old active.now) node name.now value.now)
         (site_of stack.old memory.old tree.old active.now) (site_of stack.new memory.new tree.new active.now) result }
 {
-    if let Err(fault) = tree.set_property(memory, package, name, value) {
+    if let Err(fault) = tree.set_property(memory, node, name, value) {
         return Err(stop_of(fault));
     }
     stack.drop_top(count);
@@ -62,7 +62,10 @@ pub(crate) fn set_property(
     let (from, count, address, length) = stack.top_four()?;
     let package = active_package(tree, active)?;
     let value = Vec::from_slice(active.new_devices.alloc(), text_at(memory, from, count)?)?;
-    let name = Vec::from_slice(active.new_devices.alloc(), text_at(memory, address, length)?)?;
+    let name = Vec::from_slice(
+        active.new_devices.alloc(),
+        text_at(memory, address, length)?,
+    )?;
     put_property(
         4,
         stack,

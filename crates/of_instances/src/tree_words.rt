@@ -24,7 +24,7 @@ fn new_device(
     active: &mut Active,
 ) -> Result<(), Stop>
     ensures { Makes true
-        (new_device_entry (site_of stack.now memory.now tree.old active.old) active.old.package)
+        (new_device_entry (site_of stack.now memory.now tree.old active.old) active.old.«package»)
         (site_of stack.now memory.now tree.old active.old) (site_of stack.now memory.now tree.new active.new) result }
 {
     let Some(found) = active.package else {
