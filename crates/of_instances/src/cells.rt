@@ -8,13 +8,15 @@ use byteorder::{BigEndian, ByteOrder};
 use of_cells::Cell;
 use of_stacks::{DataStack, Throw};
 
-/// So many cells under some others, the top first, or -4 where there are fewer.
+/// So many cells under some others, which must be there, the top first, or -4 where there are fewer.
+#[tactic(auto, using(crate::proofs::Under::past, crate::proofs::Under::one_more))]
 pub(crate) fn cells_under(
     stack: &DataStack,
     others: usize,
     count: usize,
 ) -> Result<ArrayVec<Cell, 5>, Throw>
-    requires others { others ≤ 1 }
+    requires others { others ≤ length stack.now }
+    requires near { others ≤ 1 }
     requires few { count ≤ 4 }
     ensures cells { IfOk result (λ c. c.items ≡ take count (drop others stack.now)) }
     ensures len { IfOk result (λ c. array_vec_len c ≡ count) }
@@ -23,7 +25,10 @@ pub(crate) fn cells_under(
 {
     let mut cells = ArrayVec::new();
     for i in 0..count {
-        cells.push(stack.under(others + i)?);
+        let Ok(x) = stack.under(others + i) else {
+            return Err(Throw::STACK_UNDERFLOW);
+        };
+        cells.push(x);
     }
     Ok(cells)
 }

@@ -3,6 +3,7 @@ ghost use Rattle.of_instances.specs.Images.{ImagesStay};
 ghost use Rattle.of_instances.specs.Listed.{ThrowListedNumbers};
 
 /// What these words throw has one of the numbers that words raise of themselves.
+#[tactic(auto, using(crate::proofs::ListedWords::throw_listed_numbers))]
 pub fn tree_words_throw_listed()
     ensures { ThrowListedNumbers }
 {}
