@@ -93,6 +93,7 @@ pub(crate) fn encode_bytes(
 
 /// `encode-phys` ( lo .. hi -- p n ) puts the cells of an address of the active package at `here`, the high
 /// cell first; -259 without one, -8 where there is no room.
+#[tactic(auto, using(crate::proofs::NoRoom::phys_full))]
 #[inline(never)]
 pub(crate) fn encode_phys(
     stack: &mut DataStack,

@@ -10,8 +10,6 @@ mod laws;
 mod property_words;
 mod reading;
 mod setting;
-#[cfg(test)]
-mod tests;
 mod tree_words;
 
 pub use active::{Active, NewDevice, NewDevices};
