@@ -1,0 +1,147 @@
+//! Words that don't throw.
+
+use crate::running::{Parts, differing};
+use of_cells::Cell;
+use of_instances::{images_stay, tree_words_throw_listed};
+use of_nodes::Phandle;
+use of_stacks::Stop;
+use std::test::Fail;
+
+/// Values at `here`, and what is read of them.
+const ENCODED: &str = "\
+%12345678 encode-int|100000 4|
+\"ab encode-string|100002 3|
+\"ab encode-bytes|100002 2|
+%0 %0 encode-bytes|100000 0|
+\"ab >3fffc encode-bytes|13fffe 2|
+\"ab encode-bytes %7 encode-int encode+|100002 6|
+%1 encode-int %2 encode-int encode+ decode-int|100004 4 1|
+\"ab encode-string decode-string|100005 0 100002 2|
+%ff encode-int decode-string|100001 3 100000 0|
+@2 %1 %2 encode-phys|100000 8|name=736c6f7400
+@2 %1 %2 encode-phys decode-int|100004 4 2|name=736c6f7400
+@2 %1 %2 encode-phys decode-phys|100008 0 1 2|name=736c6f7400
+@0 %1 %2 encode-phys|100000 8|name=626f61726400
+@0 %1 encode-int \"#address-cells property @2 %7 encode-phys decode-phys|100016 0 7|name=736c6f7400
+@2 %1 encode-int \"#address-cells property %7 %8 encode-phys|100012 8|name=736c6f7400 #address-cells=00000001
+@2 %1 encode-int \"#address-cells property new-device %7 encode-phys|100012 4|
+*fd %1 encode-int decode-int|256 cells|
+";
+
+#[test]
+fn encoded(rt: HostRuntime) -> Result<(), Fail> {
+    assert_eq!(rt; differing(rt.alloc(), ENCODED)?.as_str(), "");
+    Ok(())
+}
+
+/// Properties that are set and deleted. Those that `reg`, `model`, `device-type` and `device-name` set leave `here`
+/// where it is.
+const SET: &str = "\
+@2 %5 encode-int \"x property||name=736c6f7400 x=00000005
+@2 %0 %0 \"x property||name=736c6f7400 x=
+@2 \"v \"x property \"wy \"y property \"u \"x property||name=736c6f7400 x=75 y=7779
+@0 \"v \"x property @2||name=736c6f7400
+@2 %1 %2 %100 reg||name=736c6f7400 reg=000000020000000100000100
+@2 %1 %2 %100 reg %5 encode-int|100000 4|name=736c6f7400 reg=000000020000000100000100
+@0 %1 encode-int \"#address-cells property @2 %9 %7 %3 reg|9|name=736c6f7400 reg=0000000700000003
+@2 \"m1 model||name=736c6f7400 model=6d3100
+@2 \"block device-type||name=736c6f7400 device_type=626c6f636b00
+@2 \"disk device-name||name=6469736b00
+@2 \"m model \"d device-name %5 encode-int|100002 4|name=6400 model=6d00
+@2 %0 %0 model||name=736c6f7400 model=00
+@2 \"m model \"name delete-property||model=6d00
+@2 \"x delete-property||name=736c6f7400
+@2 \"a/b delete-property %0 %0 delete-property||name=736c6f7400
+";
+
+#[test]
+fn set(rt: HostRuntime) -> Result<(), Fail> {
+    assert_eq!(rt; differing(rt.alloc(), SET)?.as_str(), "");
+    Ok(())
+}
+
+/// Properties that are found. The names and values of the first nodes lie from 0x200010 to 0x200035.
+const FOUND: &str = "\
+@2 \"name get-my-property|200030 5 0|name=736c6f7400
+@2 \"y get-my-property|ffffffff|name=736c6f7400
+@2 %0 %0 get-my-property|ffffffff|name=736c6f7400
+@2 \"a/b get-my-property|ffffffff|name=736c6f7400
+@2 \"m model \"n model \"model get-my-property|200044 2 0|name=736c6f7400 model=6e00
+@2 *fe \"y get-my-property|255 cells|name=736c6f7400
+\"name %d0000004 get-package-property|200020 9 0|
+\"x %d0000000 get-package-property|ffffffff|
+*fd \"name %d0000004 get-package-property|256 cells|
+%0 %0 %d0000008 next-property|20002c 4 ffffffff|
+@2 \"m model \"name %d0000008 next-property|200038 5 ffffffff|name=736c6f7400 model=6d00
+@2 \"m model \"model %d0000008 next-property|0|name=736c6f7400 model=6d00
+\"x %d0000008 next-property|0|
+@2 new-device %0 %0 %d000000c next-property|0|
+";
+
+#[test]
+fn found(rt: HostRuntime) -> Result<(), Fail> {
+    assert_eq!(rt; differing(rt.alloc(), FOUND)?.as_str(), "");
+    Ok(())
+}
+
+/// Nodes that are made and found.
+const NODES: &str = "\
+@2 new-device||
+@2 new-device \"v \"x property||x=76
+@2 new-device finish-device||name=736c6f7400
+@2 new-device new-device finish-device \"m model||model=6d00
+@2 new-device @0 new-device finish-device||name=626f61726400
+@2 new-device @0 new-device finish-device finish-device||name=736c6f7400
+%d0000000 child|d0000004|
+%d0000004 peer|d0000008|
+%d0000008 peer|0|
+%d0000008 child|0|
+%d0000000 peer|0|
+%0 peer|d0000000|
+@2 new-device %d0000008 child|d000000c|
+@2 new-device finish-device new-device %d000000c peer|d0000010|
+%0 %0 find-package|d0000004 ffffffff|
+\"x find-package|0|
+@1 new-device \"disk device-name \"disk find-package|d000000c ffffffff|name=6469736b00
+\"open %d0000008 find-method|0|
+";
+
+#[test]
+fn nodes(rt: HostRuntime) -> Result<(), Fail> {
+    assert_eq!(rt; differing(rt.alloc(), NODES)?.as_str(), "");
+    Ok(())
+}
+
+/// A method is found whatever the case of its name.
+#[test]
+fn methods(rt: HostRuntime) -> Result<(), Fail> {
+    let mut parts = Parts::new(rt.alloc())?;
+    parts
+        .tree
+        .add_method(Phandle::of(2), b"open", Cell(0xc000_052c))?;
+    assert_eq!(rt; parts.run_all("\"OPEN %d0000008 find-method"), Ok(()));
+    assert_eq!(rt; parts.stack.top_two(), Ok((Cell(0xc000_052c), Cell::TRUE)));
+    Ok(())
+}
+
+/// There are at most 1,024 nodes, three of them from the beginning.
+#[test]
+fn many_nodes(rt: HostRuntime) -> Result<(), Fail> {
+    let mut parts = Parts::new(rt.alloc())?;
+    parts.active.package = Some(Phandle::of(2));
+    for _ in 0..1021 {
+        assert_eq!(rt; parts.run("new-device"), Ok(()));
+        assert_eq!(rt; parts.run("finish-device"), Ok(()));
+    }
+    let ended = parts.run("new-device");
+    assert_eq!(rt; ended, Err(Stop::Thrown(of_stacks::Throw(-8))));
+    assert_eq!(rt; parts.active.package, Some(Phandle::of(2)));
+    assert_eq!(rt; parts.active.new_devices.len(), 0);
+    Ok(())
+}
+
+#[test]
+fn laws() {
+    tree_words_throw_listed();
+    images_stay();
+}
