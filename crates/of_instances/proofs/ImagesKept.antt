@@ -1,14 +1,15 @@
 -- The law `images_stay`: these words write into the data and property regions alone, which lie below the images.
-use Rattle.std.proofs.Common.{◌≡◌, ℕ, ◌+◌, ◌-◌, ◌≤◌, Bool, true, false, List, [], ◌∷◌, ◌++◌, length, take, drop}
-use Rattle.std.proofs.Common.{Option, Some, None, Result, Ok, Err, refl, ap, ◌∙◌, subst, arith, nat_le, if◌then◌else◌}
+use Rattle.std.proofs.Common.{◌≡◌, ℕ, ◌+◌, ◌-◌, ◌≤◌, Bool, true, false, List, [], ◌∷◌, length, take, drop}
+use Rattle.std.proofs.Common.{Result, Ok, Err, refl, ap, ◌∙◌, arith, nat_le, if◌then◌else◌}
 use Rattle.std.proofs.lemmas.Bool.{leb-true}
 use Rattle.std.proofs.lemmas.List.{places, same_lists}
 use Rattle.of_memory.specs.declared.fault.MemFault.{MemFault}
 use Rattle.of_memory.specs.declared.fault.MemFault.TheVariants.{Full}
 use Rattle.of_memory.specs.DataSpace.{AreStacked, DataSpace, IsSound, bytes_from, free_after, splice, written}
-use Rattle.of_memory.specs.Growth.{aligned, appended, named_put, property_put, property_put_at, value_put, with_name}
-use Rattle.of_memory.specs.Images.{latest_image, latest_start}
-use Rattle.of_memory.specs.Regions.{byte_count, data_limit, first_property, image_limit, image_start, place_of, property_limit}
+use Rattle.of_memory.specs.Growth.{aligned, appended, named_put, property_put, value_put, with_name}
+use Rattle.of_memory.specs.Images.{latest_start}
+use Rattle.of_memory.specs.Regions.{byte_count, data_limit, first_property, image_limit, image_start, place_of}
+use Rattle.of_memory.specs.Regions.{property_limit}
 use Rattle.of_instances.specs.Images.{KeepsImages}
 
 -- the images are the same, and so are all bytes from where they begin on

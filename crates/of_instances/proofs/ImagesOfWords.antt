@@ -1,6 +1,6 @@
 -- The law `images_stay`: what each word leaves of the images.
 use Rattle.std.proofs.Common.{◌≡◌, ℕ, Bool, true, false, List, [], ◌∷◌, ◌++◌, length, take, drop, nat_lt, Option, Some}
-use Rattle.std.proofs.Common.{None, Result, Ok, Err, refl, subst, if◌then◌else◌}
+use Rattle.std.proofs.Common.{None, Result, Ok, Err, subst, if◌then◌else◌}
 use Rattle.std.specs.Prelude.{◌==◌, codes}
 use Rattle.byteorder.specs.Endian.{big_bytes}
 use Rattle.of_cells.specs.declared.cells.Cell.{Cell}
@@ -9,7 +9,7 @@ use Rattle.of_stacks.specs.Order.{refused_if}
 use Rattle.of_stacks.specs.Throws.{stack_overflow, stack_underflow}
 use Rattle.of_memory.specs.declared.fault.MemFault.{MemFault}
 use Rattle.of_memory.specs.Access.{are_readable}
-use Rattle.of_memory.specs.DataSpace.{DataSpace, IsSound, bytes_from}
+use Rattle.of_memory.specs.DataSpace.{DataSpace, bytes_from}
 use Rattle.of_memory.specs.Growth.{appended, named_put, property_put}
 use Rattle.of_memory.specs.Regions.{byte_count}
 use Rattle.of_fcodes.specs.declared.words.PropertiesWord.{PropertiesWord}
@@ -30,7 +30,6 @@ use Rattle.of_props.specs.declared.fault.PropFault.TheVariants.{Address}
 use Rattle.of_props.specs.Decoding.{int_decoded, phys_decoded, string_decoded}
 use Rattle.of_props.specs.Encoding.{as_array, copy_encoded, encoded, phys_bytes, phys_encoded}
 use Rattle.of_instances.specs.declared.active.Active.{Active}
-use Rattle.of_instances.specs.declared.active.NewDevice.{NewDevice}
 use Rattle.of_instances.specs.Active.{finished, latest}
 use Rattle.of_instances.specs.Encoding.{cells_left, decode_int_entry, decode_phys_entry, decode_string_entry}
 use Rattle.of_instances.specs.Encoding.{encode_bytes_entry, encode_int_entry, encode_phys_entry, encode_plus_entry}
@@ -93,18 +92,21 @@ left_stands : (s : List Cell) (w : Site) (r : Result (Array × DataSpace) PropFa
 left_stands s w (Ok x) h = h
 left_stands s w (Err fault) h = tt
 
-encode_int : (s : List Cell) (w : Site) → length w.memory.bytes ≡ byte_count → SiteStands w.memory (encode_int_entry s w)
+encode_int : (s : List Cell) (w : Site) → length w.memory.bytes ≡ byte_count
+    → SiteStands w.memory (encode_int_entry s w)
 encode_int [] w full = tt
 encode_int (x ∷ s) w full =
     let r = encoded w.memory (big_bytes 4 x.0) in
     room_stands w.memory (encoded_left s w (of_array r))
     (left_stands s w r (encoded_stands w.memory (big_bytes 4 x.0) full))
 
-encode_string : (s : List Cell) (w : Site) → length w.memory.bytes ≡ byte_count → SiteStands w.memory (encode_string_entry s w)
+encode_string : (s : List Cell) (w : Site) → length w.memory.bytes ≡ byte_count
+    → SiteStands w.memory (encode_string_entry s w)
 encode_string (n ∷ a ∷ s) w full = left_stands s w _ (copied_stands w.memory a n (0 ∷ []) full)
 encode_string _ w full = tt
 
-encode_bytes : (s : List Cell) (w : Site) → length w.memory.bytes ≡ byte_count → SiteStands w.memory (encode_bytes_entry s w)
+encode_bytes : (s : List Cell) (w : Site) → length w.memory.bytes ≡ byte_count
+    → SiteStands w.memory (encode_bytes_entry s w)
 encode_bytes (n ∷ a ∷ s) w full = left_stands s w _ (copied_stands w.memory a n [] full)
 encode_bytes _ w full = tt
 
@@ -117,11 +119,13 @@ phys_if false count s w full =
     room_stands w.memory (encoded_left (drop count s) w (of_array r))
     (left_stands (drop count s) w r (encoded_stands w.memory (phys_bytes (take count s)) full))
 
-phys_stands : (s : List Cell) (w : Site) (r : Result ℕ Throw) → length w.memory.bytes ≡ byte_count → SiteStands w.memory (phys_left s w r)
+phys_stands : (s : List Cell) (w : Site) (r : Result ℕ Throw) → length w.memory.bytes ≡ byte_count
+    → SiteStands w.memory (phys_left s w r)
 phys_stands s w (Ok count) full = phys_if (nat_lt (length s) count) count s w full
 phys_stands s w (Err t) full = tt
 
-encode_phys : (s : List Cell) (w : Site) → length w.memory.bytes ≡ byte_count → SiteStands w.memory (encode_phys_entry s w)
+encode_phys : (s : List Cell) (w : Site) → length w.memory.bytes ≡ byte_count
+    → SiteStands w.memory (encode_phys_entry s w)
 encode_phys [] w full = tt
 encode_phys (hi ∷ s) w full = phys_stands (hi ∷ s) w _ full
 
@@ -282,8 +286,8 @@ put_stands_at s w ph name value ready =
     tree_stands s w (tree_property_set w.memory w.tree ph name value)
     (at_stands w.memory w.tree name value (number_of (length w.tree) ph) ready)
 
-made_stands : (s : List Cell) (w : Site) (ph : Result Phandle Throw) (value name : Result (List ℕ) Throw) → IsReady w.memory
-    → SiteStands w.memory (property_made s w ph value name)
+made_stands : (s : List Cell) (w : Site) (ph : Result Phandle Throw) (value name : Result (List ℕ) Throw)
+    → IsReady w.memory → SiteStands w.memory (property_made s w ph value name)
 made_stands s w (Err t) value name ready = tt
 made_stands s w (Ok ph) (Err t) name ready = tt
 made_stands s w (Ok ph) (Ok value) (Err t) ready = tt
@@ -432,7 +436,8 @@ tree node.MySpace w = tt
 pub images_stay : ImagesStay
 images_stay = record {
   properties = λ p w after sound e.
-      images_kept w.memory after.memory sound (subst (λ r. SiteStands w.memory r) e (properties p w (sound.bytes, sound.properties_from)));
+      images_kept w.memory after.memory sound
+      (subst (λ r. SiteStands w.memory r) e (properties p w (sound.bytes, sound.properties_from)));
   tree = λ p w after sound e.
       images_kept w.memory after.memory sound (subst (λ r. SiteStands w.memory r) e (tree p w));
 }

@@ -1,5 +1,5 @@
 -- What these words throw has a listed number: each table's own throws, line by line.
-use Rattle.std.proofs.Common.{◌≡◌, ℕ, Bool, true, false, List, [], ◌∷◌, length, nat_lt, Option, Some, None, Result, Ok}
+use Rattle.std.proofs.Common.{ℕ, Bool, true, false, List, [], ◌∷◌, length, nat_lt, Option, Some, None, Result, Ok}
 use Rattle.std.proofs.Common.{Err, refl}
 use Rattle.std.specs.Prelude.{◌==◌, ◌++◌, take, drop, codes, if◌then◌else◌}
 use Rattle.of_cells.specs.declared.cells.Cell.{Cell}
@@ -28,12 +28,12 @@ use Rattle.of_props.specs.Decoding.{int_decoded, phys_decoded, string_decoded}
 use Rattle.of_props.specs.Encoding.{int_encoded, phys_bytes, phys_encoded}
 use Rattle.of_instances.specs.declared.active.Active.{Active}
 use Rattle.of_instances.specs.declared.active.NewDevice.{NewDevice}
-use Rattle.of_instances.specs.Active.{device_finished, finished, latest}
+use Rattle.of_instances.specs.Active.{finished, latest}
 use Rattle.of_instances.specs.Encoding.{array, cells_left, decode_int_entry, decode_phys_entry, decode_string_entry}
 use Rattle.of_instances.specs.Encoding.{encode_bytes_entry, encode_int_entry, encode_phys_entry, encode_plus_entry}
 use Rattle.of_instances.specs.Encoding.{encode_string_entry, encoded_left, int_left, joined_left, phys_left, phys_read}
 use Rattle.of_instances.specs.Encoding.{string_left}
-use Rattle.of_instances.specs.Faults.{array_throw, node_throw, of_array, of_tree}
+use Rattle.of_instances.specs.Faults.{of_array, of_tree}
 use Rattle.of_instances.specs.Finding.{get_my_entry, get_package_entry, name_found, name_left, next_entry, value_found}
 use Rattle.of_instances.specs.Finding.{value_left}
 use Rattle.of_instances.specs.Listed.{ThrowListedNumbers}
@@ -159,7 +159,8 @@ decodes_cells s w p (Err t) h = h
 
 -- ---- setting
 
-sets : (s : List Cell) (w : Site) (r : Result (List Node × DataSpace) NodeFault) → ThrowsListed (set_left s w (of_tree r))
+sets : (s : List Cell) (w : Site) (r : Result (List Node × DataSpace) NodeFault)
+    → ThrowsListed (set_left s w (of_tree r))
 sets s w (Ok x) = tt
 sets s w (Err fault) = nodes {A = List Node × DataSpace} (Err fault)
 

@@ -1,6 +1,6 @@
 -- What each word of the group Properties makes of the data stack, memory, the device tree and the active package, or
 -- what it throws (IEEE 1275-1994, annex A).
-use Rattle.std.specs.Prelude.{Bool, true, false, codes, Result, Ok, Err}
+use Rattle.std.specs.Prelude.{Bool, true, false, codes, Result, Err}
 use Rattle.of_fcodes.specs.declared.words.PropertiesWord.{PropertiesWord}
 use Rattle.of_fcodes.specs.declared.words.PropertiesWord.TheVariants.{Property, EncodeInt, EncodeString, EncodeBytes}
 use Rattle.of_fcodes.specs.declared.words.PropertiesWord.TheVariants.{EncodePhys, EncodePlus, DecodeInt, DecodeString}
