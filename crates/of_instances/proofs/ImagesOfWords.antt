@@ -94,6 +94,7 @@ left_stands s w (Err fault) h = tt
 
 encode_int : (s : List Cell) (w : Site) → length w.memory.bytes ≡ byte_count
     → SiteStands w.memory (encode_int_entry s w)
+unfolding encode_int_entry
 encode_int [] w full = tt
 encode_int (x ∷ s) w full =
     let r = encoded w.memory (big_bytes 4 x.0) in
@@ -102,11 +103,13 @@ encode_int (x ∷ s) w full =
 
 encode_string : (s : List Cell) (w : Site) → length w.memory.bytes ≡ byte_count
     → SiteStands w.memory (encode_string_entry s w)
+unfolding encode_string_entry
 encode_string (n ∷ a ∷ s) w full = left_stands s w _ (copied_stands w.memory a n (0 ∷ []) full)
 encode_string _ w full = tt
 
 encode_bytes : (s : List Cell) (w : Site) → length w.memory.bytes ≡ byte_count
     → SiteStands w.memory (encode_bytes_entry s w)
+unfolding encode_bytes_entry
 encode_bytes (n ∷ a ∷ s) w full = left_stands s w _ (copied_stands w.memory a n [] full)
 encode_bytes _ w full = tt
 
@@ -126,6 +129,7 @@ phys_stands s w (Err t) full = tt
 
 encode_phys : (s : List Cell) (w : Site) → length w.memory.bytes ≡ byte_count
     → SiteStands w.memory (encode_phys_entry s w)
+unfolding encode_phys_entry
 encode_phys [] w full = tt
 encode_phys (hi ∷ s) w full = phys_stands (hi ∷ s) w _ full
 
@@ -136,6 +140,7 @@ joined_stands s w (Ok p) = same w.memory
 joined_stands s w (Err t) = tt
 
 encode_plus : (s : List Cell) (w : Site) → SiteStands w.memory (encode_plus_entry s w)
+unfolding encode_plus_entry
 encode_plus (k ∷ q ∷ n ∷ p ∷ s) w = joined_stands s w _
 encode_plus _ w = tt
 
@@ -144,6 +149,7 @@ int_stands s w (Ok x) = same w.memory
 int_stands s w (Err t) = tt
 
 decode_int : (s : List Cell) (w : Site) → SiteStands w.memory (decode_int_entry s w)
+unfolding decode_int_entry
 decode_int (n ∷ p ∷ s) w =
     let r = of_array (int_decoded w.memory (array p n)) in room_stands w.memory (int_left s w r) (int_stands s w r)
 decode_int _ w = tt
@@ -153,6 +159,7 @@ string_stands s w (Ok x) = same w.memory
 string_stands s w (Err t) = tt
 
 decode_string : (s : List Cell) (w : Site) → SiteStands w.memory (decode_string_entry s w)
+unfolding decode_string_entry
 decode_string (n ∷ p ∷ s) w =
     let r = of_array (string_decoded w.memory (array p n)) in
     room_stands w.memory (string_left s w r) (string_stands s w r)
@@ -169,6 +176,7 @@ read_stands s w p (Ok count) =
 read_stands s w p (Err t) = tt
 
 decode_phys : (s : List Cell) (w : Site) → SiteStands w.memory (decode_phys_entry s w)
+unfolding decode_phys_entry
 decode_phys (n ∷ p ∷ s) w = read_stands s w (array p n) _
 decode_phys _ w = tt
 
@@ -184,6 +192,7 @@ cut_stands s w (Ok ph) (Err t) = tt
 cut_stands s w (Ok ph) (Ok name) = deleted_stands s w _
 
 delete : (s : List Cell) (w : Site) → SiteStands w.memory (delete_entry s w)
+unfolding delete_entry
 delete (n ∷ a ∷ s) w = cut_stands s w (active_package w) (text_at w.memory a n)
 delete _ w = tt
 
@@ -199,6 +208,7 @@ found_stands s w (Ok ph) (Err t) = tt
 found_stands s w (Ok ph) (Ok name) = value_stands s w _
 
 get_my : (s : List Cell) (w : Site) → SiteStands w.memory (get_my_entry s w)
+unfolding get_my_entry
 get_my (n ∷ a ∷ s) w =
     let ph = active_package w in
     let name = text_at w.memory a n in
@@ -206,6 +216,7 @@ get_my (n ∷ a ∷ s) w =
 get_my _ w = tt
 
 get_package : (s : List Cell) (w : Site) → SiteStands w.memory (get_package_entry s w)
+unfolding get_package_entry
 get_package (ph ∷ n ∷ a ∷ s) w = found_stands s w (package_at w.tree ph) (text_at w.memory a n)
 get_package _ w = tt
 
@@ -221,6 +232,7 @@ next_stands s w (Ok ph) (Err t) = tt
 next_stands s w (Ok ph) (Ok name) = name_stands s w _
 
 next : (s : List Cell) (w : Site) → SiteStands w.memory (next_entry s w)
+unfolding next_entry
 next (ph ∷ n ∷ a ∷ s) w = next_stands s w (package_at w.tree ph) (text_at w.memory a n)
 next _ w = tt
 
@@ -294,6 +306,7 @@ made_stands s w (Ok ph) (Ok value) (Err t) ready = tt
 made_stands s w (Ok ph) (Ok value) (Ok name) ready = put_stands_at s w ph name value ready
 
 property : (s : List Cell) (w : Site) → IsReady w.memory → SiteStands w.memory (property_entry s w)
+unfolding property_entry
 property (n ∷ a ∷ k ∷ p ∷ s) w ready =
     made_stands s w (active_package w) (text_at w.memory p k) (text_at w.memory a n) ready
 property _ w ready = tt
@@ -305,6 +318,7 @@ text_stands name s w (Ok ph) (Err t) ready = tt
 text_stands name s w (Ok ph) (Ok text) ready = put_stands_at s w ph name (text ++ 0 ∷ []) ready
 
 string : (name : List ℕ) (s : List Cell) (w : Site) → IsReady w.memory → SiteStands w.memory (string_entry name s w)
+unfolding string_entry
 string name (n ∷ a ∷ s) w ready = text_stands name s w (active_package w) (text_at w.memory a n) ready
 string name _ w ready = tt
 
@@ -326,6 +340,7 @@ reg_made_stands size s w (Ok ph) ready = reg_stands size s w ph (cells_of w.memo
 reg_made_stands size s w (Err t) ready = tt
 
 reg : (s : List Cell) (w : Site) → IsReady w.memory → SiteStands w.memory (reg_entry s w)
+unfolding reg_entry
 reg (size ∷ hi ∷ s) w ready = reg_made_stands size (hi ∷ s) w (active_package w) ready
 reg _ w ready = tt
 
@@ -360,6 +375,7 @@ opened_stands w ph (Ok x) = same w.memory
 opened_stands w ph (Err t) = tt
 
 new_device : (w : Site) (ph : Option Phandle) → SiteStands w.memory (new_device_entry w ph)
+unfolding new_device_entry
 new_device w None = tt
 new_device w (Some ph) = opened_stands w ph _
 
@@ -372,6 +388,7 @@ handle_stands s w (Ok x) = same w.memory
 handle_stands s w (Err t) = tt
 
 child : (s : List Cell) (w : Site) → SiteStands w.memory (child_entry s w)
+unfolding child_entry
 child [] w = tt
 child (x ∷ s) w = handle_stands s w _
 
@@ -381,6 +398,7 @@ peer_if true m left r h k = h
 peer_if false m left r h k = k
 
 peer : (s : List Cell) (w : Site) → SiteStands w.memory (peer_entry s w)
+unfolding peer_entry
 peer [] w = tt
 peer (x ∷ s) w = peer_if (x.0 == 0) w.memory _ _ (same w.memory) (handle_stands s w _)
 
@@ -393,6 +411,7 @@ package_stands s w (Ok path) = found_cell s w _
 package_stands s w (Err t) = tt
 
 find_package : (s : List Cell) (w : Site) → SiteStands w.memory (find_package_entry s w)
+unfolding find_package_entry
 find_package (n ∷ a ∷ s) w = package_stands s w (text_at w.memory a n)
 find_package _ w = tt
 
@@ -407,6 +426,7 @@ method_found_stands s w (Ok ph) (Err t) = tt
 method_found_stands s w (Ok ph) (Ok name) = method_stands s w _
 
 find_method : (s : List Cell) (w : Site) → SiteStands w.memory (find_method_entry s w)
+unfolding find_method_entry
 find_method (ph ∷ n ∷ a ∷ s) w = method_found_stands s w (package_at w.tree ph) (text_at w.memory a n)
 find_method _ w = tt
 

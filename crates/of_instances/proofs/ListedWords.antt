@@ -181,7 +181,7 @@ makes_string name s w (Ok ph) (Err t) h k = k
 makes_string name s w (Ok ph) (Ok text) h k = puts s w ph name (text ++ 0 ∷ [])
 
 sets_string : (name : List ℕ) (s : List Cell) (w : Site) → ThrowsListed (string_entry name s w)
-unfolding is_listed listed_numbers
+unfolding string_entry is_listed listed_numbers
 sets_string name (n ∷ a ∷ s) w = makes_string name s w _ _ (active w) (text w.memory a n)
 sets_string name _ w = refl
 
@@ -241,75 +241,75 @@ finds_name s w (Ok ph) (Ok name) h k = names s w _
 -- ---- the group Properties, a word at a time
 
 property : (s : List Cell) (w : Site) → ThrowsListed (property_entry s w)
-unfolding is_listed listed_numbers
+unfolding property_entry is_listed listed_numbers
 property (n ∷ a ∷ k ∷ p ∷ s) w = makes s w _ _ _ (active w) (text w.memory p k) (text w.memory a n)
 property _ w = refl
 
 encode_int : (s : List Cell) (w : Site) → ThrowsListed (encode_int_entry s w)
-unfolding is_listed listed_numbers
+unfolding encode_int_entry is_listed listed_numbers
 encode_int [] w = refl
 encode_int (x ∷ s) w =
     let r = int_encoded w.memory x in fits (encoded_left s w (of_array r)) (encodes s w r)
 
 encode_string : (s : List Cell) (w : Site) → ThrowsListed (encode_string_entry s w)
-unfolding is_listed listed_numbers
+unfolding encode_string_entry is_listed listed_numbers
 encode_string (n ∷ a ∷ s) w = encodes s w _
 encode_string _ w = refl
 
 encode_bytes : (s : List Cell) (w : Site) → ThrowsListed (encode_bytes_entry s w)
-unfolding is_listed listed_numbers
+unfolding encode_bytes_entry is_listed listed_numbers
 encode_bytes (n ∷ a ∷ s) w = encodes s w _
 encode_bytes _ w = refl
 
 encode_phys : (s : List Cell) (w : Site) → ThrowsListed (encode_phys_entry s w)
-unfolding is_listed listed_numbers
+unfolding encode_phys_entry is_listed listed_numbers
 encode_phys [] w = refl
 encode_phys (hi ∷ s) w = encodes_cells (hi ∷ s) w _ (counts w)
 
 encode_plus : (s : List Cell) (w : Site) → ThrowsListed (encode_plus_entry s w)
-unfolding is_listed listed_numbers
+unfolding encode_plus_entry is_listed listed_numbers
 encode_plus (k ∷ q ∷ n ∷ p ∷ s) w = joins s w _
 encode_plus _ w = refl
 
 decode_int : (s : List Cell) (w : Site) → ThrowsListed (decode_int_entry s w)
-unfolding is_listed listed_numbers
+unfolding decode_int_entry is_listed listed_numbers
 decode_int (n ∷ p ∷ s) w =
     let r = int_decoded w.memory (array p n) in fits (int_left s w (of_array r)) (decodes_int s w r)
 decode_int _ w = refl
 
 decode_string : (s : List Cell) (w : Site) → ThrowsListed (decode_string_entry s w)
-unfolding is_listed listed_numbers
+unfolding decode_string_entry is_listed listed_numbers
 decode_string (n ∷ p ∷ s) w =
     let r = string_decoded w.memory (array p n) in fits (string_left s w (of_array r)) (decodes_string s w r)
 decode_string _ w = refl
 
 decode_phys : (s : List Cell) (w : Site) → ThrowsListed (decode_phys_entry s w)
-unfolding is_listed listed_numbers
+unfolding decode_phys_entry is_listed listed_numbers
 decode_phys (n ∷ p ∷ s) w = decodes_cells s w (array p n) _ (counts w)
 decode_phys _ w = refl
 
 reg : (s : List Cell) (w : Site) → ThrowsListed (reg_entry s w)
-unfolding is_listed listed_numbers
+unfolding reg_entry is_listed listed_numbers
 reg (size ∷ hi ∷ s) w = makes_reg size (hi ∷ s) w _ (active w)
 reg _ w = refl
 
 get_my : (s : List Cell) (w : Site) → ThrowsListed (get_my_entry s w)
-unfolding is_listed listed_numbers
+unfolding get_my_entry is_listed listed_numbers
 get_my (n ∷ a ∷ s) w = fits _ (finds_value s w _ _ (active w) (text w.memory a n))
 get_my _ w = refl
 
 get_package : (s : List Cell) (w : Site) → ThrowsListed (get_package_entry s w)
-unfolding is_listed listed_numbers
+unfolding get_package_entry is_listed listed_numbers
 get_package (ph ∷ n ∷ a ∷ s) w = finds_value s w _ _ (one_package w.tree ph) (text w.memory a n)
 get_package _ w = refl
 
 delete : (s : List Cell) (w : Site) → ThrowsListed (delete_entry s w)
-unfolding is_listed listed_numbers
+unfolding delete_entry is_listed listed_numbers
 delete (n ∷ a ∷ s) w = cuts s w _ _ (active w) (text w.memory a n)
 delete _ w = refl
 
 next : (s : List Cell) (w : Site) → ThrowsListed (next_entry s w)
-unfolding is_listed listed_numbers
+unfolding next_entry is_listed listed_numbers
 next (ph ∷ n ∷ a ∷ s) w = finds_name s w _ _ (one_package w.tree ph) (text w.memory a n)
 next _ w = refl
 
@@ -342,7 +342,7 @@ opens w ph (Ok x) = tt
 opens w ph (Err fault) = nodes {A = Phandle × List Node} (Err fault)
 
 new_device : (w : Site) (ph : Option Phandle) → ThrowsListed (new_device_entry w ph)
-unfolding is_listed listed_numbers
+unfolding new_device_entry is_listed listed_numbers
 new_device w None = refl
 new_device w (Some ph) = opens w ph _
 
@@ -357,7 +357,7 @@ handles s w (Ok x) = tt
 handles s w (Err fault) = nodes {A = Option Phandle} (Err fault)
 
 child : (s : List Cell) (w : Site) → ThrowsListed (child_entry s w)
-unfolding is_listed listed_numbers
+unfolding child_entry is_listed listed_numbers
 child [] w = refl
 child (x ∷ s) w = handles s w _
 
@@ -367,7 +367,7 @@ peer_if true left r h k = h
 peer_if false left r h k = k
 
 peer : (s : List Cell) (w : Site) → ThrowsListed (peer_entry s w)
-unfolding is_listed listed_numbers
+unfolding peer_entry is_listed listed_numbers
 peer [] w = refl
 peer (x ∷ s) w = peer_if (x.0 == 0) _ _ tt (handles s w _)
 
@@ -381,7 +381,7 @@ finds_package s w (Ok path) h = finds s w (as_cell (package_found w.memory w.tre
 finds_package s w (Err t) h = h
 
 find_package : (s : List Cell) (w : Site) → ThrowsListed (find_package_entry s w)
-unfolding is_listed listed_numbers
+unfolding find_package_entry is_listed listed_numbers
 find_package (n ∷ a ∷ s) w = finds_package s w _ (text w.memory a n)
 find_package _ w = refl
 
@@ -396,7 +396,7 @@ finds_method s w (Ok ph) (Err t) h k = k
 finds_method s w (Ok ph) (Ok name) h k = methods s w _
 
 find_method : (s : List Cell) (w : Site) → ThrowsListed (find_method_entry s w)
-unfolding is_listed listed_numbers
+unfolding find_method_entry is_listed listed_numbers
 find_method (ph ∷ n ∷ a ∷ s) w = finds_method s w _ _ (one_package w.tree ph) (text w.memory a n)
 find_method _ w = refl
 

@@ -27,17 +27,17 @@ encoded_left s w (Ok x) = Ok (site_of (pushed x.0 s) x.1 w.tree w.active)
 encoded_left s w (Err t) = Err t
 
 -- `encode-int` ( x -- p n )
-abbrev pub encode_int_entry : List Cell → Site → Result Site Throw
+unfoldable pub encode_int_entry : List Cell → Site → Result Site Throw
 encode_int_entry [] w = Err stack_underflow
 encode_int_entry (x ∷ s) w = with_room (encoded_left s w (of_array (int_encoded w.memory x)))
 
 -- `encode-string` ( s n -- p n )
-abbrev pub encode_string_entry : List Cell → Site → Result Site Throw
+unfoldable pub encode_string_entry : List Cell → Site → Result Site Throw
 encode_string_entry (n ∷ a ∷ s) w = encoded_left s w (of_array (string_encoded w.memory a n))
 encode_string_entry _ w = Err stack_underflow
 
 -- `encode-bytes` ( a n -- p n )
-abbrev pub encode_bytes_entry : List Cell → Site → Result Site Throw
+unfoldable pub encode_bytes_entry : List Cell → Site → Result Site Throw
 encode_bytes_entry (n ∷ a ∷ s) w = encoded_left s w (of_array (bytes_encoded w.memory a n))
 encode_bytes_entry _ w = Err stack_underflow
 
@@ -48,7 +48,7 @@ phys_left s w (Ok count) =
     if nat_lt (length s) count then Err stack_underflow
     else with_room (encoded_left (drop count s) w (of_array (phys_encoded w.memory (take count s))))
 
-abbrev pub encode_phys_entry : List Cell → Site → Result Site Throw
+unfoldable pub encode_phys_entry : List Cell → Site → Result Site Throw
 encode_phys_entry [] w = Err stack_underflow
 encode_phys_entry (hi ∷ s) w = phys_left (hi ∷ s) w (cells_in w.memory w.tree (active_package w))
 
@@ -58,7 +58,7 @@ joined_left s w (Ok p) = Ok (with_stack w (pushed p s))
 joined_left s w (Err t) = Err t
 
 -- `encode+` ( p n p n -- p n )
-abbrev pub encode_plus_entry : List Cell → Site → Result Site Throw
+unfoldable pub encode_plus_entry : List Cell → Site → Result Site Throw
 encode_plus_entry (k ∷ q ∷ n ∷ p ∷ s) w = joined_left s w (of_array (joined (array p n) (array q k)))
 encode_plus_entry _ w = Err stack_underflow
 
@@ -68,7 +68,7 @@ int_left s w (Ok x) = Ok (with_stack w (x.0 ∷ pushed x.1 s))
 int_left s w (Err t) = Err t
 
 -- `decode-int` ( p n -- p n x )
-abbrev pub decode_int_entry : List Cell → Site → Result Site Throw
+unfoldable pub decode_int_entry : List Cell → Site → Result Site Throw
 decode_int_entry (n ∷ p ∷ s) w = with_room (int_left s w (of_array (int_decoded w.memory (array p n))))
 decode_int_entry _ w = Err stack_underflow
 
@@ -78,7 +78,7 @@ string_left s w (Ok x) = Ok (with_stack w (pushed x.0 (pushed x.1 s)))
 string_left s w (Err t) = Err t
 
 -- `decode-string` ( p n -- p n s n )
-abbrev pub decode_string_entry : List Cell → Site → Result Site Throw
+unfoldable pub decode_string_entry : List Cell → Site → Result Site Throw
 decode_string_entry (n ∷ p ∷ s) w = with_room (string_left s w (of_array (string_decoded w.memory (array p n))))
 decode_string_entry _ w = Err stack_underflow
 
@@ -92,6 +92,6 @@ abbrev pub phys_read : List Cell → Site → Array → Result ℕ Throw → Res
 phys_read s w p (Err t) = Err t
 phys_read s w p (Ok count) = with_room (cells_left s w (of_array (phys_decoded w.memory p count)))
 
-abbrev pub decode_phys_entry : List Cell → Site → Result Site Throw
+unfoldable pub decode_phys_entry : List Cell → Site → Result Site Throw
 decode_phys_entry (n ∷ p ∷ s) w = phys_read s w (array p n) (cells_in w.memory w.tree (active_package w))
 decode_phys_entry _ w = Err stack_underflow

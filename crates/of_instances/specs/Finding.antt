@@ -27,12 +27,12 @@ value_found s w (Ok ph) (Err t) = Err t
 value_found s w (Ok ph) (Ok name) = value_left s w (of_tree (property_found w.tree ph name))
 
 -- `get-my-property` ( s n -- true, or p n false )
-abbrev pub get_my_entry : List Cell → Site → Result Site Throw
+unfoldable pub get_my_entry : List Cell → Site → Result Site Throw
 get_my_entry (n ∷ a ∷ s) w = with_room (value_found s w (active_package w) (text_at w.memory a n))
 get_my_entry _ w = Err stack_underflow
 
 -- `get-package-property` ( s n ph -- true, or p n false )
-abbrev pub get_package_entry : List Cell → Site → Result Site Throw
+unfoldable pub get_package_entry : List Cell → Site → Result Site Throw
 get_package_entry (ph ∷ n ∷ a ∷ s) w = value_found s w (package_at w.tree ph) (text_at w.memory a n)
 get_package_entry _ w = Err stack_underflow
 
@@ -48,6 +48,6 @@ name_found s w (Ok ph) (Err t) = Err t
 name_found s w (Ok ph) (Ok name) = name_left s w (of_tree (next_found w.tree ph name))
 
 -- `next-property` ( s n ph -- false, or s n true )
-abbrev pub next_entry : List Cell → Site → Result Site Throw
+unfoldable pub next_entry : List Cell → Site → Result Site Throw
 next_entry (ph ∷ n ∷ a ∷ s) w = name_found s w (package_at w.tree ph) (text_at w.memory a n)
 next_entry _ w = Err stack_underflow

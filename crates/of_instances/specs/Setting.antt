@@ -31,7 +31,7 @@ property_made s w (Ok ph) (Ok value) (Err t) = Err t
 property_made s w (Ok ph) (Ok value) (Ok name) = property_put s w ph name value
 
 -- `property` ( p n s n -- )
-abbrev pub property_entry : List Cell → Site → Result Site Throw
+unfoldable pub property_entry : List Cell → Site → Result Site Throw
 property_entry (n ∷ a ∷ k ∷ p ∷ s) w =
     property_made s w (active_package w) (text_at w.memory p k) (text_at w.memory a n)
 property_entry _ w = Err stack_underflow
@@ -43,7 +43,7 @@ string_made name s w (Ok ph) (Err t) = Err t
 string_made name s w (Ok ph) (Ok text) = property_put s w ph name (text ++ 0 ∷ [])
 
 -- `model`, `device-type` and `device-name` ( s n -- ), which set the property of this name
-abbrev pub string_entry : List ℕ → List Cell → Site → Result Site Throw
+unfoldable pub string_entry : List ℕ → List Cell → Site → Result Site Throw
 string_entry name (n ∷ a ∷ s) w = string_made name s w (active_package w) (text_at w.memory a n)
 string_entry name _ w = Err stack_underflow
 
@@ -58,7 +58,7 @@ abbrev pub reg_made : Cell → List Cell → Site → Result Phandle Throw → R
 reg_made size s w (Err t) = Err t
 reg_made size s w (Ok ph) = reg_put size s w ph (cells_of w.memory w.tree ph)
 
-abbrev pub reg_entry : List Cell → Site → Result Site Throw
+unfoldable pub reg_entry : List Cell → Site → Result Site Throw
 reg_entry (size ∷ hi ∷ s) w = reg_made size (hi ∷ s) w (active_package w)
 reg_entry _ w = Err stack_underflow
 
@@ -73,6 +73,6 @@ property_cut s w (Ok ph) (Err t) = Err t
 property_cut s w (Ok ph) (Ok name) = deleted_left s w (of_tree (property_deleted w.tree ph name))
 
 -- `delete-property` ( s n -- )
-abbrev pub delete_entry : List Cell → Site → Result Site Throw
+unfoldable pub delete_entry : List Cell → Site → Result Site Throw
 delete_entry (n ∷ a ∷ s) w = property_cut s w (active_package w) (text_at w.memory a n)
 delete_entry _ w = Err stack_underflow

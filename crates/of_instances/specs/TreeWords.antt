@@ -27,7 +27,7 @@ opened_left w found (Ok x) = Ok (site_of w.stack w.memory x.1 (device_opened w.a
 opened_left w found (Err t) = Err t
 
 -- `new-device` ( -- ) below the active package
-abbrev pub new_device_entry : Site → Option Phandle → Result Site Throw
+unfoldable pub new_device_entry : Site → Option Phandle → Result Site Throw
 new_device_entry w None = Err no_node
 new_device_entry w (Some ph) = opened_left w ph (of_tree (node_added w.tree ph))
 
@@ -47,12 +47,12 @@ handle_left s w (Ok x) = Ok (with_stack w (handle x ∷ s))
 handle_left s w (Err t) = Err t
 
 -- `child` ( ph -- ph or 0 )
-abbrev pub child_entry : List Cell → Site → Result Site Throw
+unfoldable pub child_entry : List Cell → Site → Result Site Throw
 child_entry [] w = Err stack_underflow
 child_entry (x ∷ s) w = handle_left s w (of_tree (child_found w.tree (record { 0 = x })))
 
 -- `peer` ( ph -- ph or 0 ): that of 0 is the root
-abbrev pub peer_entry : List Cell → Site → Result Site Throw
+unfoldable pub peer_entry : List Cell → Site → Result Site Throw
 peer_entry [] w = Err stack_underflow
 peer_entry (x ∷ s) w =
     if x.0 == 0 then Ok (with_stack w ((phandle_of 0).0 ∷ s))
@@ -72,7 +72,7 @@ package_left s w (Ok path) = found_left s w (as_cell (package_found w.memory w.t
 package_left s w (Err t) = Err t
 
 -- `find-package` ( s n -- false, or ph true )
-abbrev pub find_package_entry : List Cell → Site → Result Site Throw
+unfoldable pub find_package_entry : List Cell → Site → Result Site Throw
 find_package_entry (n ∷ a ∷ s) w = package_left s w (text_at w.memory a n)
 find_package_entry _ w = Err stack_underflow
 
@@ -86,7 +86,7 @@ method_of s w (Ok ph) (Err t) = Err t
 method_of s w (Ok ph) (Ok name) = method_left s w (of_tree (method_found w.tree ph name))
 
 -- `find-method` ( s n ph -- false, or xt true )
-abbrev pub find_method_entry : List Cell → Site → Result Site Throw
+unfoldable pub find_method_entry : List Cell → Site → Result Site Throw
 find_method_entry (ph ∷ n ∷ a ∷ s) w = method_of s w (package_at w.tree ph) (text_at w.memory a n)
 find_method_entry _ w = Err stack_underflow
 

@@ -34,6 +34,7 @@ fn check_room(memory: &Memory, count: u32) -> Result<(), Throw>
 }
 
 /// `encode-int` ( x -- p n ) puts 4 bytes at `here`; -8 where they have no room.
+#[tactic(auto, unfolding(crate::specs::Encoding::encode_int_entry))]
 #[inline(never)]
 pub(crate) fn encode_int(
     stack: &mut DataStack,
@@ -55,6 +56,7 @@ pub(crate) fn encode_int(
 
 /// `encode-string` ( s n -- p n ) copies a text and a zero byte to `here`; -9 where it can't be read, -8
 /// where there is no room.
+#[tactic(auto, unfolding(crate::specs::Encoding::encode_string_entry))]
 #[inline(never)]
 pub(crate) fn encode_string(
     stack: &mut DataStack,
@@ -74,6 +76,7 @@ pub(crate) fn encode_string(
 
 /// `encode-bytes` ( a n -- p n ) copies bytes to `here`; -9 where one can't be read, -8 where there is no
 /// room.
+#[tactic(auto, unfolding(crate::specs::Encoding::encode_bytes_entry))]
 #[inline(never)]
 pub(crate) fn encode_bytes(
     stack: &mut DataStack,
@@ -93,7 +96,7 @@ pub(crate) fn encode_bytes(
 
 /// `encode-phys` ( lo .. hi -- p n ) puts the cells of an address of the active package at `here`, the high
 /// cell first; -259 without one, -8 where there is no room.
-#[tactic(auto, using(crate::proofs::NoRoom::phys_full))]
+#[tactic(auto, using(crate::proofs::NoRoom::phys_full), unfolding(crate::specs::Encoding::encode_phys_entry))]
 #[inline(never)]
 pub(crate) fn encode_phys(
     stack: &mut DataStack,
@@ -119,6 +122,7 @@ pub(crate) fn encode_phys(
 }
 
 /// `encode+` ( p n p n -- p n ) joins two arrays; -24 where the second isn't directly behind the first.
+#[tactic(auto, unfolding(crate::specs::Encoding::encode_plus_entry))]
 #[inline(never)]
 pub(crate) fn encode_plus(
     stack: &mut DataStack,
@@ -144,6 +148,7 @@ pub(crate) fn encode_plus(
 
 /// `decode-int` ( p n -- p n x ) takes a number off an array; -9 where a byte can't be read, -262 where it
 /// has less than 4.
+#[tactic(auto, unfolding(crate::specs::Encoding::decode_int_entry))]
 #[inline(never)]
 pub(crate) fn decode_int(
     stack: &mut DataStack,
@@ -166,6 +171,7 @@ pub(crate) fn decode_int(
 
 /// `decode-string` ( p n -- p n s n ) takes a string off an array, up to its first zero byte; -9 where a byte
 /// can't be read, -262 where none is zero.
+#[tactic(auto, unfolding(crate::specs::Encoding::decode_string_entry))]
 #[inline(never)]
 pub(crate) fn decode_string(
     stack: &mut DataStack,
@@ -189,6 +195,7 @@ pub(crate) fn decode_string(
 
 /// `decode-phys` ( p n -- p n lo .. hi ) takes an address of the active package off an array; -259 without
 /// one, -9 where a byte can't be read, -262 where there are too few.
+#[tactic(auto, unfolding(crate::specs::Encoding::decode_phys_entry))]
 #[inline(never)]
 pub(crate) fn decode_phys(
     stack: &mut DataStack,

@@ -13,6 +13,7 @@ use of_stacks::{DataStack, Throw};
 
 /// `get-my-property` ( s n -- true, or p n false ) the value of a property of the active package; -259 without
 /// one, -9 where a byte can't be read.
+#[tactic(auto, unfolding(crate::specs::Finding::get_my_entry))]
 #[inline(never)]
 pub(crate) fn get_my_property(
     stack: &mut DataStack,
@@ -40,6 +41,7 @@ pub(crate) fn get_my_property(
 
 /// `get-package-property` ( s n ph -- true, or p n false ) the value of a property of a package; -263 where
 /// there is no such node, -9 where a byte can't be read.
+#[tactic(auto, unfolding(crate::specs::Finding::get_package_entry))]
 #[inline(never)]
 pub(crate) fn get_package_property(
     stack: &mut DataStack,
@@ -67,6 +69,7 @@ pub(crate) fn get_package_property(
 
 /// `next-property` ( s n ph -- false, or s n true ) the name of the property behind the one of a name, or of
 /// the first where the name is empty; -263 where there is no such node, -9 where a byte can't be read.
+#[tactic(auto, unfolding(crate::specs::Finding::next_entry))]
 #[inline(never)]
 pub(crate) fn next_property(
     stack: &mut DataStack,

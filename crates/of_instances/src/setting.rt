@@ -49,6 +49,7 @@ fn put_property(
 
 /// `property` ( p n s n -- ) sets a property of the active package to a copy of the value; -259 without a
 /// package, -9 where a byte can't be read, -32 for a bad name, -8 where there is no room.
+#[tactic(auto, unfolding(crate::specs::Setting::property_entry))]
 #[inline(never)]
 pub(crate) fn set_property(
     stack: &mut DataStack,
@@ -80,6 +81,7 @@ pub(crate) fn set_property(
 
 /// `model`, `device-type` and `device-name` ( s n -- ) set the property of a name to a string; -259 without a
 /// package, -9 where a byte can't be read, -32 for a bad name of the node, -8 where there is no room.
+#[tactic(auto, unfolding(crate::specs::Setting::string_entry))]
 #[inline(never)]
 pub(crate) fn set_string(
     name: &[u8],
@@ -109,6 +111,7 @@ pub(crate) fn set_string(
 
 /// `reg` ( lo .. hi size -- ) sets the property `reg` of the active package to an address and a size; -259
 /// without a package, -8 where there is no room.
+#[tactic(auto, unfolding(crate::specs::Setting::reg_entry))]
 #[inline(never)]
 pub(crate) fn set_reg(
     stack: &mut DataStack,
@@ -140,6 +143,7 @@ pub(crate) fn set_reg(
 
 /// `delete-property` ( s n -- ) takes a property out of the active package, if it has one of the name; -259
 /// without a package, -9 where a byte can't be read.
+#[tactic(auto, unfolding(crate::specs::Setting::delete_entry))]
 #[inline(never)]
 pub(crate) fn delete_property(
     stack: &mut DataStack,

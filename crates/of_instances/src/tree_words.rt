@@ -16,6 +16,7 @@ use of_stacks::{DataStack, Stop, Throw};
 
 /// `new-device` ( -- ) makes a child of the active package, which is active then; -259 without a package, -8
 /// where there are 1,024 nodes.
+#[tactic(auto, unfolding(crate::specs::TreeWords::new_device_entry))]
 #[inline(never)]
 fn new_device(
     stack: &DataStack,
@@ -74,6 +75,7 @@ fn handle(found: Option<Phandle>) -> Cell
 }
 
 /// `child` ( ph -- ph or 0 ) the oldest child of a node; -263 where there is no such node.
+#[tactic(auto, unfolding(crate::specs::TreeWords::child_entry))]
 #[inline(never)]
 fn child(stack: &mut DataStack, memory: &Memory, tree: &Tree, active: &Active) -> Result<(), Throw>
     ensures { Becomes (child_entry stack.old (site_of stack.old memory.now tree.now active.now))
@@ -87,6 +89,7 @@ fn child(stack: &mut DataStack, memory: &Memory, tree: &Tree, active: &Active) -
 
 /// `peer` ( ph -- ph or 0 ) the next younger child of the same parent, and of 0 the root; -263 where there is no
 /// such node.
+#[tactic(auto, unfolding(crate::specs::TreeWords::peer_entry))]
 #[inline(never)]
 fn peer(stack: &mut DataStack, memory: &Memory, tree: &Tree, active: &Active) -> Result<(), Throw>
     ensures { Becomes (peer_entry stack.old (site_of stack.old memory.now tree.now active.now))
@@ -104,6 +107,7 @@ fn peer(stack: &mut DataStack, memory: &Memory, tree: &Tree, active: &Active) ->
 
 /// `find-package` ( s n -- false, or ph true ) the node of a path below `/packages`; -9 where a byte can't be
 /// read.
+#[tactic(auto, unfolding(crate::specs::TreeWords::find_package_entry))]
 #[inline(never)]
 fn find_package(
     stack: &mut DataStack,
@@ -127,6 +131,7 @@ fn find_package(
 
 /// `find-method` ( s n ph -- false, or xt true ) the method of a package; -263 where there is no such node, -9
 /// where a byte can't be read.
+#[tactic(auto, unfolding(crate::specs::TreeWords::find_method_entry))]
 #[inline(never)]
 fn find_method(
     stack: &mut DataStack,
