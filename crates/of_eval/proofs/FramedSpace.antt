@@ -17,7 +17,7 @@ use Rattle.of_memory.specs.Images.{latest_start}
 use Rattle.of_memory.specs.RangeLaws.{PartsAreGood, RangesArePlaced, WritesJoin}
 use Rattle.of_memory.specs.Regions.{byte_count, heap_limit, heap_start, image_limit, image_start, may_write, place_of}
 use Rattle.of_memory.specs.Regions.{region_numbered, region_of, span}
-use Rattle.of_eval.specs.Images.{KeepsImages}
+use Rattle.of_instances.specs.Images.{KeepsImages}
 
 -- what of_memory's laws say
 pub record Given : Type 0 where

@@ -25,7 +25,7 @@ use Rattle.of_memory.specs.declared.width.Width.TheVariants.{One}
 use Rattle.of_memory.specs.Access.{read_fault, read_bytes}
 use Rattle.of_memory.specs.BlockCalls.{block_taken_at, heap_taken, heap_zeroed}
 use Rattle.of_memory.specs.Blocks.{least_free, rounded}
-use Rattle.of_memory.specs.DataSpace.{DataSpace, written}
+use Rattle.of_memory.specs.DataSpace.{DataSpace, IsSound, written}
 use Rattle.of_memory.specs.Regions.{byte_count, heap_limit, heap_start, place_of}
 use Rattle.of_format.specs.Pictured.{base_in, held, text_address}
 use Rattle.of_prims.specs.Data.{Data, Space, number, unless_fault}
@@ -34,12 +34,17 @@ use Rattle.of_prims.specs.Numbers.{all_digits, all_unsigned_digits, beside, hold
 use Rattle.of_prims.specs.Numbers.{number_parsed, numbers_entry, signed_with}
 use Rattle.of_prims.specs.Prims.{in_space, on_stack, prim_entry}
 use Rattle.of_prims.specs.Text.{text_entry}
+use Rattle.of_instances.specs.Images.{ImagesStay, KeepsImages}
+use Rattle.of_instances.specs.PropertyWords.{properties_entry}
+use Rattle.of_instances.specs.Site.{Site}
+use Rattle.of_instances.specs.TreeWords.{tree_entry}
 use Rattle.of_eval.specs.declared.parts.Parts.{Parts}
 use Rattle.of_eval.specs.declared.printing.Signs.{Signs}
 use Rattle.of_eval.specs.declared.printing.Signs.TheVariants.{Signed, Unsigned}
 use Rattle.of_eval.specs.Images.{ImagesStand}
 use Rattle.of_eval.specs.Words.{alloc_entry, block_taken, data_in, dot_stack_entry, emit_entry, number_entry}
-use Rattle.of_eval.specs.Words.{printing_entry, right_entry, type_entry, type_read, with_data, word_entry}
+use Rattle.of_eval.specs.Words.{printing_entry, right_entry, site_in, type_entry, type_read, with_data, with_site}
+use Rattle.of_eval.specs.Words.{word_entry}
 use Rattle.of_eval.proofs.FramedMemory.{DataStands, SpaceStands, memory_stands, text_stands}
 use Rattle.of_eval.proofs.FramedSpace.{AddressStands, Given, Stands, below_stands, free_place, images_kept, same}
 
@@ -236,27 +241,43 @@ alloc_stands (n ∷ s) m full =
     block_stands m (heap_taken m.memory n.0) s
     (zeroed_stands m.memory n.0 (least_free heap_start heap_limit m.memory.heap (rounded n.0)) refl full)
 
+-- ---- the words over the device tree
+
+abbrev PartsKeep : DataSpace → Result Parts Throw → Type 0
+PartsKeep m (Ok p) = KeepsImages m p.memory
+PartsKeep m (Err t) = Unit {0}
+
+site_keeps : (m : Parts) (r : Result Site Throw) → ((s : Site) → r ≡ Ok s → KeepsImages m.memory s.memory)
+    → PartsKeep m.memory (with_site m r)
+site_keeps m (Ok s) h = h s refl
+site_keeps m (Err t) h = tt
+
 -- ---- all words
 
-word_stands : (g : Given) (w : Word) (m : Parts) → length m.memory.bytes ≡ byte_count
-    → PartsStand m.memory (word_entry w m)
-word_stands g (word.Primitive w) m full =
-    data_stands m (prim_entry w (data_in m)) (prim_stands g w (data_in m) full)
-word_stands g (word.Printing w) m full = printing_stands w m
-word_stands g (word.Heap AllocMem) m full = alloc_stands m.stack m full
-word_stands g (word.Stream w) m full = tt
-word_stands g (word.Keys w) m full = tt
-word_stands g (word.Returns w) m full = tt
-word_stands g (word.Dictionary w) m full = tt
-word_stands g (word.Throws w) m full = tt
-word_stands g (word.Properties w) m full = tt
-word_stands g (word.Tree w) m full = tt
-word_stands g (word.Devices w) m full = tt
-word_stands g (word.Console w) m full = tt
-word_stands g (word.Parsing w) m full = tt
-word_stands g (word.Compiling w) m full = tt
+stand_keeps : (m : DataSpace) (r : Result Parts Throw) → IsSound m → PartsStand m r → PartsKeep m r
+stand_keeps m (Ok p) sound h = images_kept m p.memory sound h
+stand_keeps m (Err t) sound h = tt
 
-pub images_stand : Given → ImagesStand
-images_stand g w m after sound e =
-    images_kept m.memory after.memory sound
-    (subst (λ r. PartsStand m.memory r) e (word_stands g w m sound.bytes))
+word_keeps : (g : Given) (i : ImagesStay) (w : Word) (m : Parts) → IsSound m.memory
+    → PartsKeep m.memory (word_entry w m)
+word_keeps g i (word.Primitive w) m sound =
+    stand_keeps m.memory _ sound
+    (data_stands m (prim_entry w (data_in m)) (prim_stands g w (data_in m) sound.bytes))
+word_keeps g i (word.Printing w) m sound = stand_keeps m.memory (printing_entry w m) sound (printing_stands w m)
+word_keeps g i (word.Heap AllocMem) m sound = stand_keeps m.memory _ sound (alloc_stands m.stack m sound.bytes)
+word_keeps g i (word.Stream w) m sound = tt
+word_keeps g i (word.Keys w) m sound = tt
+word_keeps g i (word.Returns w) m sound = tt
+word_keeps g i (word.Dictionary w) m sound = tt
+word_keeps g i (word.Throws w) m sound = tt
+word_keeps g i (word.Properties w) m sound =
+    site_keeps m (properties_entry w (site_in m)) (λ s e. i.properties w (site_in m) s sound e)
+word_keeps g i (word.Tree w) m sound =
+    site_keeps m (tree_entry w (site_in m)) (λ s e. i.tree w (site_in m) s sound e)
+word_keeps g i (word.Devices w) m sound = tt
+word_keeps g i (word.Console w) m sound = tt
+word_keeps g i (word.Parsing w) m sound = tt
+word_keeps g i (word.Compiling w) m sound = tt
+
+pub images_stand : Given → ImagesStay → ImagesStand
+images_stand g i w m after sound e = subst (λ r. PartsKeep m.memory r) e (word_keeps g i w m sound)

@@ -5,7 +5,7 @@ use Rattle.of_stacks.specs.declared.throws.Throw.{Throw}
 use Rattle.of_stacks.specs.Throws.{ThrowsListed, is_listed, listed_numbers, invalid_argument}
 use Rattle.of_stacks.specs.Order.{refused_if}
 use Rattle.of_fcodes.specs.declared.words.Word.{Word}
-use Rattle.of_fcodes.specs.declared.words.Word.TheVariants.{Primitive, Printing, Heap}
+use Rattle.of_fcodes.specs.declared.words.Word.TheVariants.{Primitive, Printing, Heap, Properties, Tree}
 use Rattle.of_fcodes.specs.declared.words.HeapWord.TheVariants.{AllocMem}
 use Rattle.of_fcodes.specs.declared.words.PrintingWord.{PrintingWord}
 use Rattle.of_fcodes.specs.declared.words.PrintingWord.TheVariants as printing
@@ -17,11 +17,16 @@ use Rattle.of_format.specs.Pictured.{base_in}
 use Rattle.of_prims.specs.Data.{Data}
 use Rattle.of_prims.specs.Listed.{ThrowListedNumbers}
 use Rattle.of_prims.specs.Prims.{prim_entry}
+use Rattle.of_instances.specs.Listed.{ThrowListedNumbers as TreeWordsListed}
+use Rattle.of_instances.specs.PropertyWords.{properties_entry}
+use Rattle.of_instances.specs.Site.{Site}
+use Rattle.of_instances.specs.TreeWords.{tree_entry}
 use Rattle.of_eval.specs.declared.parts.Parts.{Parts}
 use Rattle.of_eval.specs.declared.printing.Signs.{Signs}
 use Rattle.of_eval.specs.declared.printing.Signs.TheVariants.{Signed, Unsigned}
 use Rattle.of_eval.specs.Words.{number_entry, right_entry, dot_stack_entry, emit_entry, type_read, type_entry}
-use Rattle.of_eval.specs.Words.{block_taken, alloc_entry, printing_entry, with_data, data_in, word_entry}
+use Rattle.of_eval.specs.Words.{block_taken, alloc_entry, printing_entry, with_data, data_in, site_in, with_site}
+use Rattle.of_eval.specs.Words.{word_entry}
 use Rattle.of_eval.specs.Listed.{WordsThrowListed}
 
 base_if : (b : Bool) (n : ℕ) → ThrowsListed (refused_if b invalid_argument n)
@@ -92,12 +97,18 @@ with : (m : Parts) (r : Result Data Throw) → ThrowsListed r → ThrowsListed (
 with m (Ok d) h = tt
 with m (Err t) h = h
 
-words : ThrowListedNumbers → (w : Word) (m : Parts) → ThrowsListed (word_entry w m)
-unfolding is_listed listed_numbers
-words law (Primitive w) m = with m (prim_entry w (data_in m)) (law.words w (data_in m))
-words law (Printing w) m = prints law w m
-words law (Heap AllocMem) m = allocates law m.stack m
-words law _ m = refl
+with_tree : (m : Parts) (r : Result Site Throw) → ThrowsListed r → ThrowsListed (with_site m r)
+with_tree m (Ok s) h = tt
+with_tree m (Err t) h = h
 
-pub words_throw_listed : ThrowListedNumbers → WordsThrowListed
-words_throw_listed law = record { words = words law }
+words : ThrowListedNumbers → TreeWordsListed → (w : Word) (m : Parts) → ThrowsListed (word_entry w m)
+unfolding is_listed listed_numbers
+words law tree (Primitive w) m = with m (prim_entry w (data_in m)) (law.words w (data_in m))
+words law tree (Printing w) m = prints law w m
+words law tree (Heap AllocMem) m = allocates law m.stack m
+words law tree (Properties w) m = with_tree m (properties_entry w (site_in m)) (tree.properties w (site_in m))
+words law tree (Tree w) m = with_tree m (tree_entry w (site_in m)) (tree.tree w (site_in m))
+words law tree _ m = refl
+
+pub words_throw_listed : ThrowListedNumbers → TreeWordsListed → WordsThrowListed
+words_throw_listed law tree = record { words = words law tree }

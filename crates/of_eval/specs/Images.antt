@@ -1,14 +1,10 @@
 -- The images that run stand as they are while words run (IEEE 1275-1994, 5.2.2).
 use Rattle.std.specs.Prelude.{◌≡◌, Ok}
 use Rattle.of_fcodes.specs.declared.words.Word.{Word}
-use Rattle.of_memory.specs.DataSpace.{DataSpace, IsSound}
-use Rattle.of_memory.specs.Images.{latest_image}
+use Rattle.of_memory.specs.DataSpace.{IsSound}
+use Rattle.of_instances.specs.Images.{KeepsImages}
 use Rattle.of_eval.specs.declared.parts.Parts.{Parts}
 use Rattle.of_eval.specs.Words.{word_entry}
-
--- the same images run, and the bytes of the latest are the same
-abbrev pub KeepsImages : DataSpace → DataSpace → Type 0
-KeepsImages m after = (after.images ≡ m.images) × (latest_image after ≡ latest_image m)
 
 -- What an ordinary word leaves keeps the images.
 abbrev pub ImagesStand : Type 0

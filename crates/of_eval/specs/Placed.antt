@@ -6,6 +6,7 @@ use Rattle.of_stacks.specs.declared.return_item.LoopExit.TheVariants as exit
 use Rattle.of_stacks.specs.declared.return_item.ReturnItem.{ReturnItem}
 use Rattle.of_stacks.specs.declared.return_item.ReturnItem.TheVariants.{Return, Loop, User, Handler, Source, Caller}
 use Rattle.of_memory.specs.DataSpace.{DataSpace}
+use Rattle.of_nodes.specs.declared.phandles.Phandle.{Phandle}
 use Rattle.of_dict.specs.declared.word.Kind.{Kind}
 use Rattle.of_dict.specs.declared.word.Kind.TheVariants as kind
 use Rattle.of_dict.specs.declared.word.Word.{Word}
@@ -84,7 +85,8 @@ pub record StatesStayPlaced : Type 0 where
   -- the evaluator as it is made
   pub first : AllPlaced (first_state no_definitions)
   -- an image that begins
-  pub begun : (image : List ℕ) (m : DataSpace) (s : State Definitions) → AllPlaced s → AllPlaced (image_begun image m s)
+  pub begun : (image : List ℕ) (node : Phandle) (m : DataSpace) (s : State Definitions) → AllPlaced s
+      → AllPlaced (image_begun image node m s)
   -- a step
   pub step : (s : State Definitions) → AllPlaced s → AllPlaced (stepped board_calls s)
   -- control goes on in what is read or in a finished definition

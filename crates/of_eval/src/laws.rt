@@ -8,6 +8,7 @@ ghost use Rattle.of_eval.specs.Listed.{StepsThrowListed, WordsThrowListed};
 ghost use Rattle.of_eval.specs.Placed.{StatesStayPlaced};
 
 use of_compile::{board_is_flat, compiles_reading};
+use of_instances::{images_stay, tree_words_throw_listed};
 use of_memory::{parts_are_good, ranges_are_placed, writes_join};
 use of_prims::prims_throw_listed;
 
@@ -17,6 +18,7 @@ pub fn words_throw_listed()
     ensures { WordsThrowListed }
 {
     prims_throw_listed();
+    tree_words_throw_listed();
 }
 
 /// What a token or an item throws has one of these numbers, too, or is the number of a cell on the data stack, as
@@ -66,6 +68,7 @@ pub fn frames_hold()
 pub fn images_stand()
     ensures { ImagesStand }
 {
+    images_stay();
     parts_are_good();
     ranges_are_placed();
     writes_join();

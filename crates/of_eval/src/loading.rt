@@ -2,7 +2,7 @@
 ghost use Rattle.std.specs.Prelude.{◌≡◌, [], Some, true, length, if◌then◌else◌, IfOk, IfErr, OnOk, OnErr};
 ghost use Rattle.of_memory.specs.Growth.{image_fits, image_pushed};
 ghost use Rattle.of_compile.specs.Coding.{coding_of};
-ghost use Rattle.of_eval.specs.Loading.{begun, first_state};
+ghost use Rattle.of_eval.specs.Loading.{begun, cell_of, first_state};
 
 use crate::console::Console;
 use crate::eval::Eval;
@@ -13,10 +13,22 @@ use of_cells::Cell;
 use of_code::CodeStore;
 use of_compile::{Coding, Words};
 use of_format::Pictured;
+use of_instances::Active;
 use of_memory::{MemFault, Memory};
+use of_nodes::{Phandle, Tree};
 use of_stacks::{Continuation, DataStack, Due, Input, Reading, ReturnItem, ReturnStack};
 use of_stream::{HEADER_LENGTH, Stream};
 use std::alloc::{AllocError, Global};
+
+/// The cell of a package, if there is one.
+fn cell_of(node: Option<Phandle>) -> Option<Cell>
+    ensures { result ≡ cell_of node }
+{
+    match node {
+        Some(node) => Some(node.0),
+        None => None,
+    }
+}
 
 impl<C: CodeStore + Drop> Eval<C> {
     /// Nothing runs, nothing is defined, over a store of code that holds nothing yet.
@@ -25,7 +37,10 @@ impl<C: CodeStore + Drop> Eval<C> {
     pub fn new(alloc: Global, code: C) -> Result<Eval<C>, AllocError>
         ensures { IfOk result (λ e. e ≡ first_state (coding_of (C.code code) (Some []))) }
     {
-        let memory = Memory::new(alloc)?;
+        let mut memory = Memory::new(alloc)?;
+        let Ok(tree) = Tree::new(alloc, &mut memory) else {
+            return Err(AllocError);
+        };
         let words = Words::new(alloc)?;
         Ok(Eval {
             parts: Parts {
@@ -33,6 +48,8 @@ impl<C: CodeStore + Drop> Eval<C> {
                 memory,
                 pictured: Pictured::new(),
                 console: Console::new(alloc),
+                tree,
+                active: Active::new(alloc),
             },
             flow: Flow {
                 items: ReturnStack::new(),
@@ -49,13 +66,13 @@ impl<C: CodeStore + Drop> Eval<C> {
 }
 
 impl<C: CodeStore> Eval<C> {
-    /// Begins to run an image, where nothing runs: its bytes are copied into the image region, and room is made for the
-    /// text of a throw.
+    /// Begins to run an image for a package, where nothing runs: its bytes are copied into the image region, the package
+    /// is active, and room is made for the text of a throw.
     ///
     /// Full where the image region has no room; then NoMemory. A refusal changes nothing.
-    pub fn begin_image(&mut self, image: &[u8]) -> Result<(), MemFault>
+    pub fn begin_image(&mut self, image: &[u8], node: Phandle) -> Result<(), MemFault>
         ensures begun { OnOk result
-            (self.new ≡ begun image.now (image_pushed self.old.parts.memory image.now) self.old) }
+            (self.new ≡ begun image.now node (image_pushed self.old.parts.memory image.now) self.old) }
         ensures ready { OnOk result (self.new.parts.console.ready ≡ true) }
         ensures room { OnOk result (image_fits self.old.parts.memory (length image.now) ≡ true) }
         ensures refused { IfErr result (λ e. e ≡
@@ -70,12 +87,14 @@ impl<C: CodeStore> Eval<C> {
         }
         let _ = self.parts.memory.image_push(image);
         let outer = self.flow.reading;
+        let before = self.parts.active.package;
+        self.parts.active.package = Some(node);
         self.flow.items = ReturnStack::new();
         self.flow.items.push(ReturnItem::Caller(Due::Load {
-            active: None,
+            active: cell_of(before),
             my_self: self.flow.my_self,
             instance: Cell::ZERO,
-            new_devices: 0,
+            new_devices: self.parts.active.new_devices.len(),
         }));
         self.flow.items.push(ReturnItem::Source(outer));
         self.flow.reading = Reading {

@@ -1,6 +1,8 @@
 use crate::console::Console;
 use of_format::Pictured;
+use of_instances::Active;
 use of_memory::Memory;
+use of_nodes::Tree;
 use of_stacks::DataStack;
 
 /// What words work on.
@@ -14,4 +16,8 @@ pub struct Parts {
     pub pictured: Pictured,
     /// What was printed.
     pub console: Console,
+    /// The device tree.
+    pub tree: Tree,
+    /// Where in the tree words work.
+    pub active: Active,
 }

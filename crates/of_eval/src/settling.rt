@@ -4,7 +4,7 @@ ghost use Rattle.of_stacks.specs.Returns.{has_due_top};
 ghost use Rattle.of_memory.specs.Growth.{with_state};
 ghost use Rattle.of_eval.specs.State.{Leaves, flat_calls, given_up, open_xt, with_compiling};
 ghost use Rattle.of_eval.specs.Settling.{caller_self, caught, cut_one, ended, given_back, given_up_since, going_back};
-ghost use Rattle.of_eval.specs.Settling.{is_same, or_nothing, reading_on, settled, source_ended, still_thrown};
+ghost use Rattle.of_eval.specs.Settling.{is_same, load_left, or_nothing, package_of, reading_on, settled, source_ended, still_thrown};
 ghost use Rattle.of_eval.specs.Settling.{thrown_in, uncaught, worked_one, nothing_read};
 
 use crate::eval::Eval;
@@ -13,6 +13,7 @@ use of_cells::Cell;
 use of_code::CodeStore;
 use of_compile::abandon_definition;
 use of_memory::Memory;
+use of_nodes::Phandle;
 use of_stacks::{
     Continuation, Due, ExceptionFrame, Input, Reading, ReturnItem, ReturnStack, Throw,
 };
@@ -43,6 +44,16 @@ fn caller_self(due: Due) -> Cell
         Due::Open { my_self, .. } => my_self,
         Due::Close { my_self, .. } => my_self,
         Due::Load { my_self, .. } => my_self,
+    }
+}
+
+/// The package of a cell, if there is one.
+fn package_of(active: Option<Cell>) -> Option<Phandle>
+    ensures { result ≡ package_of active }
+{
+    match active {
+        Some(cell) => Some(Phandle(cell)),
+        None => None,
     }
 }
 
@@ -114,6 +125,22 @@ impl<C: CodeStore> Eval<C> {
         self.flow.reading = reading;
     }
 
+    /// The run of a loaded image has ended: words work where they did before.
+    fn leave_load(&mut self, due: Due)
+        requires ready { self.old.parts.console.ready ≡ true }
+        ensures state { self.new ≡ load_left due self.old }
+        ensures ready { self.new.parts.console.ready ≡ true }
+    {
+        if let Due::Load {
+            active,
+            new_devices,
+            ..
+        } = due
+        {
+            self.parts.active.cut_to(new_devices, package_of(active));
+        }
+    }
+
     /// A handler takes a throw: control goes on behind its `catch` (Forth 2012, 9.6.1.2275).
     fn catch(&mut self, frame: ExceptionFrame, thrown: Throw)
         requires ready { self.old.parts.console.ready ≡ true }
@@ -137,6 +164,7 @@ impl<C: CodeStore> Eval<C> {
     {
         self.parts.stack.clear();
         self.parts.console.print_fault(thrown);
+        self.parts.active.finish_all();
         self.flow.items = ReturnStack::new();
         self.flow.reading = NOTHING_READ;
         self.flow.is_running = false;
@@ -161,10 +189,11 @@ impl<C: CodeStore> Eval<C> {
                 self.read_on(reading);
                 Some(thrown)
             }
-            ReturnItem::Return(_)
-            | ReturnItem::Loop(_)
-            | ReturnItem::User(_)
-            | ReturnItem::Caller(_) => Some(thrown),
+            ReturnItem::Return(_) | ReturnItem::Loop(_) | ReturnItem::User(_) => Some(thrown),
+            ReturnItem::Caller(due) => {
+                self.leave_load(due);
+                Some(thrown)
+            }
         }
     }
 
@@ -180,7 +209,10 @@ impl<C: CodeStore> Eval<C> {
                     self.catch(frame, Throw::STACK_OVERFLOW);
                 }
             }
-            ReturnItem::Caller(due) => self.flow.my_self = caller_self(due),
+            ReturnItem::Caller(due) => {
+                self.flow.my_self = caller_self(due);
+                self.leave_load(due);
+            }
             ReturnItem::Return(_)
             | ReturnItem::Loop(_)
             | ReturnItem::User(_)

@@ -7,6 +7,7 @@ use of_code::CodeStore;
 use of_compile::Words;
 use of_fcodes::FCode;
 use of_memory::Memory;
+use of_nodes::Tree;
 use of_stacks::{Continuation, Input};
 use of_stream::Stream;
 
@@ -30,6 +31,13 @@ impl<C: CodeStore> Eval<C> {
         ensures { result.now ≡ self.now.parts.memory }
     {
         &self.parts.memory
+    }
+
+    /// The device tree.
+    pub fn tree(&self) -> &Tree
+        ensures { result.now ≡ self.now.parts.tree }
+    {
+        &self.parts.tree
     }
 
     /// All bytes printed so far.

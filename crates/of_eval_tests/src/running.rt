@@ -4,6 +4,7 @@ ghost use Rattle.std.specs.Prelude.{◌≡◌, true};
 use hex::decode;
 use of_code::ListCode;
 use of_eval::{Eval, Pause};
+use of_nodes::Phandle;
 use std::alloc::{AllocError, Global};
 use std::test::Fail;
 
@@ -25,7 +26,7 @@ fn run(eval: &mut Eval<ListCode>, limit: u64) -> Result<u64, Fail>
 /// A new evaluator after an image has run for so many steps at most, and how many it made.
 pub(crate) fn ran(alloc: Global, image: &[u8], limit: u64) -> Result<(Eval<ListCode>, u64), Fail> {
     let mut eval = Eval::new(alloc, ListCode::new(alloc))?;
-    eval.begin_image(image)?;
+    eval.begin_image(image, Phandle::of(2))?;
     let made = run(&mut eval, limit)?;
     Ok((eval, made))
 }

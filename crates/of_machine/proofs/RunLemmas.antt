@@ -4,7 +4,7 @@ use Rattle.std.proofs.Common.{Some, None, refl}
 use Rattle.std.proofs.Common.{ap, sym, subst, ◌∙◌, add-one, nat_lt, nat_le, arith, Result, Ok, Err}
 use Rattle.std.specs.Prelude.{codes, if◌then◌else◌, option_and_then, ◌<◌, ◌≤◌, ◌^◌, ◌-◌, ◌&&◌}
 use Rattle.std.proofs.lemmas.Bool.Decides.{nat_tests}
-use Rattle.of_memory.specs.DataSpace.{DataSpace, fresh}
+use Rattle.of_memory.specs.DataSpace.{DataSpace}
 use Rattle.of_memory.specs.Growth.{image_fits, image_pushed}
 use Rattle.of_memory.specs.declared.fault.MemFault.{MemFault}
 use Rattle.of_stream.specs.Image.{header_fault}
@@ -12,37 +12,40 @@ use Rattle.of_compile.specs.Board.{Definitions, flat_of}
 use Rattle.of_compile.specs.Coding.{Coding}
 use Rattle.of_eval.specs.State.{State, flat_calls}
 use Rattle.of_eval.specs.Steps.{stepped, steps_from}
-use Rattle.of_eval.specs.Loading.{begun, first_state}
+use Rattle.of_eval.specs.Loading.{begun, first_parts, first_state}
 use Rattle.of_eval.specs.Board.{StepsAgree, board_calls, flat_state, no_definitions}
 use Rattle.of_eval.specs.Placed.{AllPlaced, StatesStayPlaced}
 use Rattle.of_machine.specs.declared.answers.Refusal.{Refusal}
+use Rattle.of_machine.specs.declared.answers.Refusal.TheVariants.{ImageTooLong}
 use Rattle.of_machine.specs.declared.answers.End.TheVariants.{LimitReached, Done}
 use Rattle.of_machine.specs.States.{HasMoved, MachineState, can_step, flat_machine, idle, image_refusal, is_running}
-use Rattle.of_machine.specs.States.{load_refusal, loaded, moved, or_next, start_refusal}
+use Rattle.of_machine.specs.States.{loaded, moved, slot, start_refusal}
+use Rattle.of_machine.proofs.FirstLemmas.{first_images}
 use Rattle.of_machine.specs.Runs.{Feed, RunsAgree, RunsTo, States, after, beginning, next}
 
 -- ---- what is refused
 
-or_none : (r : Option Refusal) → or_next r None ≡ r
-or_none None = refl
-or_none (Some e) = refl
-
 -- an image that isn't too long finds room in an image region without images
-fits_fresh : (image : List ℕ) → nat_lt 0x40000 (length image) ≡ false → image_fits fresh (length image) ≡ true
-unfolding fresh
-fits_fresh image short =
-    let room : nat_le (0x60_0000 + length image) 0x64_0000 ≡ true = grind (arith, nat_tests) in
-    rw room refl
+fits_empty : (m : DataSpace) (n : ℕ) → m.images ≡ [] → nat_lt 0x40000 n ≡ false → image_fits m n ≡ true
+fits_empty m n none short =
+    let room : nat_le (0x60_0000 + n) 0x64_0000 ≡ true = grind (arith, nat_tests) in
+    rw (none, room) refl
 
-slot_refusal_by : (image : List ℕ) (long : Bool) → nat_lt 0x40000 (length image) ≡ long
-    → load_refusal (flat_machine (idle no_definitions)) image (codes "/slot") ≡ image_refusal image
-slot_refusal_by image true e = rw e refl
-slot_refusal_by image false e = rw (e, fits_fresh image e) (or_none (start_refusal (header_fault image)))
+no_some : {A : Type 0} {x : A} → ◌≡◌ {A = Option A} (Some x) None → ⊥
+no_some e = absurd cc
 
--- an idle machine refuses an image for `/slot` for the image alone
-pub slot_refusal : (image : List ℕ)
-    → load_refusal (flat_machine (idle no_definitions)) image (codes "/slot") ≡ image_refusal image
-slot_refusal image = slot_refusal_by image (nat_lt 0x40000 (length image)) refl
+short_by : (image : List ℕ) (long : Bool) → nat_lt 0x40000 (length image) ≡ long
+    → ◌≡◌ {A = Option Refusal} (if long then Some ImageTooLong else start_refusal (header_fault image)) None
+    → long ≡ false
+short_by image true e h = absurd (no_some h)
+short_by image false e h = refl
+
+-- an image that is accepted finds room on a new machine
+pub fits_first : (image : List ℕ) → image_refusal image ≡ None
+    → image_fits (flat_machine (idle no_definitions)).eval.parts.memory (length image) ≡ true
+fits_first image accepted =
+    fits_empty first_parts.memory (length image) first_images
+    (short_by image (nat_lt 0x40000 (length image)) refl accepted)
 
 -- ---- runs over cells
 
@@ -130,13 +133,13 @@ feeds_agree (suc n) f agree stay placed =
     ∙ turned (can_step (after board_calls n f).machine) (after board_calls n f) agree stay (all_placed n f stay placed)
 
 begun_flat : (image : List ℕ) (r : Result (ℕ × DataSpace) MemFault) (s : State Definitions)
-    → begun image r (flat_state s) ≡ flat_state (begun image r s)
+    → begun image slot r (flat_state s) ≡ flat_state (begun image slot r s)
 begun_flat image (Ok x) s = refl
 begun_flat image (Err fault) s = refl
 
 begun_placed : (image : List ℕ) (r : Result (ℕ × DataSpace) MemFault) (s : State Definitions) →
-    StatesStayPlaced → AllPlaced s → AllPlaced (begun image r s)
-begun_placed image (Ok x) s stay placed = stay.begun image x.1 s placed
+    StatesStayPlaced → AllPlaced s → AllPlaced (begun image slot r s)
+begun_placed image (Ok x) s stay placed = stay.begun image slot x.1 s placed
 begun_placed image (Err fault) s stay placed = placed
 
 pub runs_agree : StepsAgree → StatesStayPlaced → RunsAgree
@@ -160,11 +163,11 @@ ends true image limit m runs same few small why = (same, runs, stopped m limit s
 ends false image limit m runs same few small why = (same, runs, few)
 
 pub run_ends : RunsAgree → (image : List ℕ) (limit : ℕ) (start m : MachineState Coding)
-    → start ≡ loaded (flat_machine (idle no_definitions)) image → limit < 2 ^ 64 → m.steps ≤ start.steps + limit
+    → start ≡ loaded (flat_machine (idle no_definitions)) image slot → limit < 2 ^ 64 → m.steps ≤ start.steps + limit
     → HasMoved start m → (m.steps ≡ start.steps + limit) ⊎ (can_step m ≡ false)
     → RunsTo image [] [] [] limit m (if is_running m then LimitReached else Done)
 run_ends agree image limit start m e small few moved why =
-    let first = loaded (flat_machine (idle no_definitions)) image in
+    let first = loaded (flat_machine (idle no_definitions)) image slot in
     let none : start.steps ≡ 0 = ap (λ (s : MachineState Coding). s.steps) e in
     let within : m.steps ≤ limit = omega (arith, none) in
     let at_limit : start.steps + limit ≡ limit = omega (arith, none) in

@@ -8,7 +8,7 @@ use Rattle.of_machine.specs.declared.answers.Answer.{Answer}
 use Rattle.of_machine.specs.declared.answers.ClientCall.{ClientCall}
 use Rattle.of_machine.specs.declared.answers.End.{End}
 use Rattle.of_machine.specs.declared.answers.End.TheVariants.{Done, LimitReached}
-use Rattle.of_machine.specs.States.{MachineState, can_step, flat_machine, idle, is_running, loaded, moved}
+use Rattle.of_machine.specs.States.{MachineState, can_step, flat_machine, idle, is_running, loaded, moved, slot}
 
 -- a machine, and the console lines, answers and client calls that are left; nothing takes them yet
 pub record Feed (S : Type 0) : Type 0 where
@@ -17,11 +17,11 @@ pub record Feed (S : Type 0) : Type 0 where
   pub answers : List Answer
   pub calls : List (ℕ × ClientCall)
 
--- a new machine over this code, on which an image has just been loaded
+-- a new machine over this code, on which an image has just been loaded for `/slot`
 abbrev pub beginning :
     {S : Type 0} → S → List ℕ → List (List ℕ) → List Answer → List (ℕ × ClientCall) → Feed S
 beginning code image lines answers calls =
-    record { machine = loaded (idle code) image; lines = lines; answers = answers; calls = calls }
+    record { machine = loaded (idle code) image slot; lines = lines; answers = answers; calls = calls }
 
 -- one turn of a run: a step, where one can be made
 unfoldable pub next : {S : Type 0} → Calls S → Feed S → Feed S

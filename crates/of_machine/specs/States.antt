@@ -1,11 +1,13 @@
 -- The machine's states, and what each of its calls makes of them. They are the same whether the code of definitions is
 -- structured bodies or their cells.
 use Rattle.std.specs.Prelude.{◌≡◌, ◌≤◌, ◌⊎◌, ℕ, ◌+◌, ◌-◌, ◌^◌, Bool, true, false, List, length, Option, Some, None}
-use Rattle.std.specs.Prelude.{nat_lt, ◌&&◌, if◌then◌else◌, codes}
-use Rattle.std.specs.Str.{bytes_eq}
+use Rattle.std.specs.Prelude.{nat_lt, ◌&&◌, if◌then◌else◌}
 use Rattle.of_stream.specs.declared.fault.StreamFault.{StreamFault}
 use Rattle.of_stream.specs.Image.{header_fault}
 use Rattle.of_memory.specs.Growth.{image_fits, image_pushed}
+use Rattle.of_nodes.specs.declared.phandles.Phandle.{Phandle}
+use Rattle.of_nodes.specs.Lookup.{found}
+use Rattle.of_nodes.specs.Nodes.{phandle_of}
 use Rattle.of_compile.specs.Coding.{Coding}
 use Rattle.of_compile.specs.Board.{Definitions}
 use Rattle.of_eval.specs.State.{Calls, State, flat_calls}
@@ -61,9 +63,22 @@ HasMoved old new = (old.steps ≤ new.steps) × (steps_from flat_calls (new.step
 
 -- ---- loading
 
--- a machine with an image that has just been loaded
-abbrev pub loaded : {S : Type 0} → MachineState S → List ℕ → MachineState S
-loaded m image = record m { eval = begun image (image_pushed m.eval.parts.memory image) m.eval }
+-- a machine with an image that has just been loaded for a node
+abbrev pub loaded : {S : Type 0} → MachineState S → List ℕ → Phandle → MachineState S
+loaded m image node = record m { eval = begun image node (image_pushed m.eval.parts.memory image) m.eval }
+
+-- the node at a path, if there is one
+abbrev pub node_at : {S : Type 0} → MachineState S → List ℕ → Option Phandle
+node_at m path = found m.eval.parts.memory m.eval.parts.tree path
+
+-- a machine with an image that has just been loaded for the node that was found
+abbrev pub loaded_for : {S : Type 0} → MachineState S → List ℕ → Option Phandle → MachineState S
+loaded_for m image (Some node) = loaded m image node
+loaded_for m image None = m
+
+-- `/slot`, the third node that is made
+abbrev pub slot : Phandle
+slot = phandle_of 2
 
 abbrev pub start_refusal : Option StreamFault → Option Refusal
 start_refusal (Some f) = Some (BadStart f)
@@ -73,9 +88,10 @@ start_refusal None = None
 abbrev pub image_refusal : List ℕ → Option Refusal
 image_refusal image = if nat_lt 0x40000 (length image) then Some ImageTooLong else start_refusal (header_fault image)
 
--- the only package for which images are loaded yet
-abbrev pub path_refusal : List ℕ → Option Refusal
-path_refusal path = if bytes_eq path (codes "/slot") then None else Some NoNode
+-- no image is loaded for a node that isn't there
+abbrev pub node_refusal : Option Phandle → Option Refusal
+node_refusal (Some node) = None
+node_refusal None = Some NoNode
 
 -- an image that finds no room beside others is too long, too
 abbrev pub room_refusal : Bool → Option Refusal
@@ -86,12 +102,12 @@ abbrev pub or_next : Option Refusal → Option Refusal → Option Refusal
 or_next (Some e) next = Some e
 or_next None next = next
 
--- why a load is refused, memory aside: the first of busy, the image, the path and the room
+-- why a load is refused, memory aside: the first of busy, the image, the node and the room
 abbrev pub load_refusal : {S : Type 0} → MachineState S → List ℕ → List ℕ → Option Refusal
 load_refusal m image path =
     if is_running m then Some Busy
     else or_next (image_refusal image)
-    (or_next (path_refusal path) (room_refusal (image_fits m.eval.parts.memory (length image))))
+    (or_next (node_refusal (node_at m path)) (room_refusal (image_fits m.eval.parts.memory (length image))))
 
 -- a refusal is for that reason, or for memory where there is no other
 abbrev pub Refuses : Option Refusal → Refusal → Type 0

@@ -1,12 +1,14 @@
-ghost use Rattle.std.specs.Prelude.{◌≡◌, ◌≤◌, ◌+◌, ◌⊎◌, [], false, true, IfOk, IfErr, OnOk, OnErr, None, Some};
+ghost use Rattle.std.specs.Prelude.{◌≡◌, length, ◌≤◌, ◌+◌, ◌⊎◌, [], false, true, IfOk, IfErr, OnOk, OnErr, None, Some};
 ghost use Rattle.of_eval.specs.Board.{no_definitions};
 ghost use Rattle.of_machine.specs.States.{MayGrow, Refuses, Steps, flat_machine, idle, image_refusal, loaded};
-ghost use Rattle.of_machine.specs.States.{HasMoved, can_step, load_refusal};
+ghost use Rattle.of_machine.specs.States.{HasMoved, can_step, load_refusal, loaded_for, node_at, room_refusal};
+ghost use Rattle.of_memory.specs.Growth.{image_fits};
 
 use crate::answers::{Progress, Refusal};
 use of_code::CodeStore;
 use of_eval::{Eval, Pause};
 use of_memory::MemFault;
+use of_nodes::Phandle;
 use of_stream::{Stream, open};
 use std::alloc::{AllocError, Global};
 use std::marker::Model;
@@ -15,9 +17,6 @@ mod views;
 
 /// How many bytes an image has at most: the size of the region that running images stand in.
 pub const LONGEST_IMAGE: usize = 0x4_0000;
-
-/// The path of the package for which images are loaded.
-const SLOT: &str = "/slot";
 
 /// A boot monitor on its board, over a store of code.
 ///
@@ -117,12 +116,12 @@ impl<C: CodeStore> Machine<C> {
     /// into the image region of the data space.
     ///
     /// Busy where something runs; then ImageTooLong over 256 KiB, BadStart where its header can't
-    /// be read, NoNode where the path is another than `/slot`, and ImageTooLong where the image
-    /// region has no room left; and NoMemory where none is found for the text of a throw. A refusal
-    /// changes nothing.
+    /// be read, NoNode where there is none at the path, and ImageTooLong where the image region has
+    /// no room left; and NoMemory where none is found for the text of a throw. A refusal changes
+    /// nothing.
     pub fn load(&mut self, image: &[u8], path: &str) -> Result<(), Refusal>
-        ensures ok { OnOk result ((load_refusal self.old image.now path.now ≡ None)
-            × (self.new ≡ loaded self.old image.now)) }
+        ensures accepted { OnOk result (load_refusal self.old image.now path.now ≡ None) }
+        ensures ok { OnOk result (self.new ≡ loaded_for self.old image.now (node_at self.old path.now)) }
         ensures err { IfErr result (λ e. Refuses (load_refusal self.old image.now path.now) e) }
         ensures unchanged { OnErr result (self.new ≡ self.old) }
     {
@@ -130,10 +129,25 @@ impl<C: CodeStore> Machine<C> {
             return Err(Refusal::Busy);
         }
         let _ = check_image(image)?;
-        if path != SLOT {
+        let found = self.eval.tree().find(self.eval.memory(), path.as_bytes());
+        let Some(node) = found else {
             return Err(Refusal::NoNode);
-        }
-        match self.eval.begin_image(image) {
+        };
+        self.begin(image, node)
+    }
+
+    /// Makes a machine on which nothing runs ready to run an image for a node.
+    ///
+    /// ImageTooLong where the image region has no room left, then NoMemory; a refusal changes nothing.
+    pub(crate) fn begin(&mut self, image: &[u8], node: Phandle) -> Result<(), Refusal>
+        requires idle { self.old.eval.flow.is_running ≡ false }
+        ensures room { OnOk result (image_fits self.old.eval.parts.memory (length image.now) ≡ true) }
+        ensures ok { OnOk result (self.new ≡ loaded self.old image.now node) }
+        ensures err { IfErr result (λ e.
+            Refuses (room_refusal (image_fits self.old.eval.parts.memory (length image.now))) e) }
+        ensures unchanged { OnErr result (self.new ≡ self.old) }
+    {
+        match self.eval.begin_image(image, node) {
             Ok(()) => Ok(()),
             Err(MemFault::NoMemory) => Err(Refusal::NoMemory),
             Err(_) => Err(Refusal::ImageTooLong),

@@ -6,10 +6,14 @@ use crate::answers::{Answer, ClientCall, End, Refusal};
 use crate::laws::runs_agree;
 use crate::machine::{Machine, check_image};
 use of_code::ListCode;
+use of_nodes::Phandle;
 use std::alloc::Global;
 
 /// The machine on which scripts run.
 pub type ScriptMachine = Machine<ListCode>;
+
+/// The number of the node `/slot`, the third that is made.
+const SLOT: usize = 2;
 
 /// Runs an image for `/slot` on a new machine, for at most `limit` steps. There are no console lines, answers and
 /// client calls to be handed in yet.
@@ -17,7 +21,7 @@ pub type ScriptMachine = Machine<ListCode>;
 /// The machine that it gives back is the abstract machine after as many steps as were made. The
 /// end is Done where nothing runs any more, else LimitReached. Refused are ImageTooLong over
 /// 256 KiB, then BadStart where the header can't be read, and NoMemory, which gives no machine.
-#[tactic(auto, using(crate::proofs::RunLemmas::slot_refusal))]
+#[tactic(auto, using(crate::proofs::RunLemmas::fits_first))]
 pub fn run_script(
     alloc: Global,
     image: &[u8],
@@ -40,7 +44,7 @@ pub fn run_script(
     let Ok(mut machine) = Machine::new(alloc, ListCode::new(alloc)) else {
         return Err(Refusal::NoMemory);
     };
-    machine.load(image, "/slot")?;
+    machine.begin(image, Phandle::of(SLOT))?;
     if machine.run(limit).is_err() {
         return Err(Refusal::NoMemory);
     }

@@ -109,7 +109,7 @@ pub enum Due {
         /// The instance of the image's node.
         instance: Cell,
         /// How many `new-device`s were open before.
-        new_devices: u16,
+        new_devices: usize,
     },
 }
 

@@ -7,6 +7,8 @@ use super::Machine;
 use of_cells::Cell;
 use of_code::CodeStore;
 use of_fcodes::{FCode, word_with_name};
+use of_memory::Memory;
+use of_nodes::Tree;
 
 impl<C: CodeStore> Machine<C> {
     /// The cells of the data stack, the bottom first.
@@ -24,6 +26,20 @@ impl<C: CodeStore> Machine<C> {
             Ok(byte) => Some(byte),
             Err(_) => None,
         }
+    }
+
+    /// The data space.
+    pub fn memory(&self) -> &Memory
+        ensures { result.now ≡ self.now.eval.parts.memory }
+    {
+        self.eval.memory()
+    }
+
+    /// The device tree (IEEE 1275-1994, 3.2.1).
+    pub fn tree(&self) -> &Tree
+        ensures { result.now ≡ self.now.eval.parts.tree }
+    {
+        self.eval.tree()
     }
 
     /// All bytes printed so far.

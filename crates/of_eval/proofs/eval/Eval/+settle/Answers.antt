@@ -1,11 +1,28 @@
-use Rattle.std.proofs.Common.{rules, ◌≡◌, drop, true, Some, None}
+use Rattle.std.proofs.Common.{rules, ◌≡◌, [], drop, true, Some, None}
 use Rattle.of_stacks.specs.Returns.{is_due, top_item}
 use Rattle.of_eval.specs.State.{flat_calls, with_items}
-use Rattle.of_eval.specs.Settling.{cut_one, settled, still_thrown, worked_one}
-use Rattle.of_eval.proofs.Settled.{cuts_on, works_on}
+use Rattle.of_eval.specs.Settling.{cut_one, settled, still_thrown, uncaught, worked_one}
+use Rattle.of_eval.proofs.Settled.{cuts_on, falls_on, stops_on, works_on}
 use Rattle.of_eval.proofs.eval.Eval.+settle.Goals as goal
 
--- src/settling.rt:177:5
+-- nothing is left to cut
+pub returns-in_default-clause-state : goal.returns-in_default-clause-state
+returns-in_default-clause-state g t c =
+    let s = c.args.self.now in
+    let empty : s.flow.items ≡ [] = search rules in
+    let fallen : c.fall.new.self ≡ uncaught flat_calls c.in-Some.fault s = search rules in
+    let thrown : c.args.thrown ≡ Some c.in-Some.fault = search rules in
+    falls_on flat_calls c.in-Some.fault c.args.thrown s c.fall.new.self empty fallen thrown
+
+-- nothing is left that could be due
+pub returns-in_default-peek-clause-state : goal.returns-in_default-peek-clause-state
+returns-in_default-peek-clause-state g t c =
+    let s = c.args.self.now in
+    let empty : s.flow.items ≡ [] = search rules in
+    let thrown : c.args.thrown ≡ None = search rules in
+    stops_on flat_calls c.args.thrown s empty thrown
+
+-- an item is cut
 pub returns-in-Some-pop-clause-state : goal.returns-in-Some-pop-clause-state
 returns-in-Some-pop-clause-state g t c =
     let s = c.args.self.now in
@@ -20,7 +37,7 @@ returns-in-Some-pop-clause-state g t c =
     cuts_on flat_calls c.pop.new.self c.in-Some-pop.item c.in-Some.fault c.cut-left.result c.args.thrown s
     c.cut-left.new.self c.settle.new.self top rest cut left on thrown
 
--- src/settling.rt:177:5
+-- an item is worked off
 pub returns-else-not-is_due-clause-state : goal.returns-else-not-is_due-clause-state
 returns-else-not-is_due-clause-state g t c =
     let s = c.args.self.now in

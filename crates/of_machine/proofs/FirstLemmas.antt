@@ -1,0 +1,94 @@
+-- The device tree at first: making it puts names and values, and keeps the images.
+use Rattle.std.proofs.Common.{◌≡◌, ℕ, ◌+◌, Bool, true, false, List, [], length, Result, Ok, Err, refl, ◌∙◌}
+use Rattle.std.specs.Prelude.{codes, if◌then◌else◌, ◌++◌, ◌∷◌}
+use Rattle.of_memory.specs.DataSpace.{DataSpace, fresh, written}
+use Rattle.of_memory.specs.Growth.{named_put, property_put, value_put, with_name}
+use Rattle.of_memory.specs.declared.fault.MemFault.{MemFault}
+use Rattle.of_memory.specs.declared.fault.MemFault.TheVariants.{Full}
+use Rattle.of_nodes.specs.declared.fault.NodeFault.{NodeFault}
+use Rattle.of_nodes.specs.declared.properties.Property.{Property}
+use Rattle.of_nodes.specs.declared.tree.Node.{Node}
+use Rattle.of_nodes.specs.Nodes.{first_tree, named_child, then_child, with_node}
+use Rattle.of_nodes.specs.Properties.{new_property, set_to}
+use Rattle.of_eval.specs.Loading.{first_parts, made_or_none}
+
+-- what a call leaves keeps the images
+abbrev PutKeeps : {A : Type 0} → DataSpace → Result (A × DataSpace) MemFault → Type 0
+PutKeeps m (Ok x) = x.1.images ≡ m.images
+PutKeeps m (Err fault) = Unit {0}
+
+abbrev NamedKeeps : DataSpace → Result (ℕ × ℕ × DataSpace) MemFault → Type 0
+NamedKeeps m (Ok x) = x.2.images ≡ m.images
+NamedKeeps m (Err fault) = Unit {0}
+
+abbrev NodesKeep : {A : Type 0} → DataSpace → Result (A × DataSpace) NodeFault → Type 0
+NodesKeep m (Ok x) = x.1.images ≡ m.images
+NodesKeep m (Err fault) = Unit {0}
+
+put_if : (b : Bool) (m : DataSpace) (xs : List ℕ) (a : ℕ)
+    → PutKeeps m (if b then Ok (a, record (written m a xs) { properties_end = a + length xs }) else Err Full)
+put_if true m xs a = refl
+put_if false m xs a = tt
+
+name_keeps : (m before : DataSpace) (a : ℕ) (r : Result (ℕ × DataSpace) MemFault) → before.images ≡ m.images
+    → PutKeeps before r → NamedKeeps m (with_name a r)
+name_keeps m before a (Ok x) e h = h ∙ e
+name_keeps m before a (Err fault) e h = tt
+
+value_keeps : (m : DataSpace) (value : List ℕ) (r : Result (ℕ × DataSpace) MemFault) → PutKeeps m r
+    → NamedKeeps m (value_put value r)
+value_keeps m value (Ok x) h = name_keeps m x.1 x.0 (property_put x.1 value) h (put_if _ x.1 value _)
+value_keeps m value (Err fault) h = tt
+
+named_keeps : (m : DataSpace) (name value : List ℕ) → NamedKeeps m (named_put m name value)
+named_keeps m name value = value_keeps m value (property_put m name) (put_if _ m name _)
+
+new_keeps : (m : DataSpace) (k n : ℕ) (r : Result (ℕ × ℕ × DataSpace) MemFault) → NamedKeeps m r
+    → NodesKeep m (new_property k n r)
+new_keeps m k n (Ok x) h = h
+new_keeps m k n (Err fault) h = tt
+
+set_keeps : (m : DataSpace) (ps : List (List ℕ × Property)) (name : List ℕ)
+    (r : Result (Property × DataSpace) NodeFault) → NodesKeep m r → NodesKeep m (set_to ps name r)
+set_keeps m ps name (Ok x) h = h
+set_keeps m ps name (Err fault) h = tt
+
+node_keeps : (m : DataSpace) (ns : List Node) (parent : ℕ)
+    (r : Result (List (List ℕ × Property) × DataSpace) NodeFault) → NodesKeep m r
+    → NodesKeep m (with_node ns parent r)
+node_keeps m ns parent (Ok x) h = h
+node_keeps m ns parent (Err fault) h = tt
+
+child_keeps : (m : DataSpace) (ns : List Node) (parent : ℕ) (value : List ℕ)
+    → NodesKeep m (named_child ns m parent value)
+child_keeps m ns parent value =
+    node_keeps m ns parent _
+    (set_keeps m [] (codes "name") _
+    (new_keeps m _ _ (named_put m (codes "name") value) (named_keeps m (codes "name") value)))
+
+moved_keeps : (m before : DataSpace) (r : Result (List Node × DataSpace) NodeFault) → before.images ≡ m.images
+    → NodesKeep before r → NodesKeep m r
+moved_keeps m before (Ok x) e h = h ∙ e
+moved_keeps m before (Err fault) e h = tt
+
+then_keeps : (m : DataSpace) (r : Result (List Node × DataSpace) NodeFault) (value : List ℕ) → NodesKeep m r
+    → NodesKeep m (then_child r value)
+then_keeps m (Ok x) value h = moved_keeps m x.1 (named_child x.0 x.1 0 value) h (child_keeps x.1 x.0 0 value)
+then_keeps m (Err fault) value h = tt
+
+tree_keeps : (m : DataSpace) → NodesKeep m (first_tree m)
+tree_keeps m =
+    then_keeps m _ (codes "slot" ++ 0 ∷ [])
+    (then_keeps m _ (codes "packages" ++ 0 ∷ []) (child_keeps m [] 0 (codes "board" ++ 0 ∷ [])))
+
+none_fresh : fresh.images ≡ []
+unfolding fresh
+none_fresh = refl
+
+made_keeps : (r : Result (List Node × DataSpace) NodeFault) → NodesKeep fresh r → (made_or_none r).1.images ≡ []
+made_keeps (Ok x) h = h ∙ none_fresh
+made_keeps (Err fault) h = none_fresh
+
+-- no image stands in the data space at first
+pub first_images : first_parts.memory.images ≡ []
+first_images = made_keeps (first_tree fresh) (tree_keeps fresh)
