@@ -33,7 +33,7 @@ fn loads_are_refused(rt: HostRuntime) -> Result<(), Fail> {
     let erased = [0xffu8; 16];
     let image = decode(rt.alloc(), FIVE)?;
     let mut machine = Machine::new(rt.alloc(), ListCode::new(rt.alloc()))?;
-    assert_eq!(rt; machine.load(&image, "/"), Err(Refusal::NoNode));
+    assert_eq!(rt; machine.load(&image, "/slots"), Err(Refusal::NoNode));
     assert_eq!(rt; machine.load(&erased, "/slots"), Err(BAD_START));
     assert_eq!(rt; machine.load(&image, "/slot"), Ok(()));
     assert_eq!(rt; machine.load(&erased, "/slot"), Err(Refusal::Busy));

@@ -5,3 +5,5 @@
 mod calls;
 #[cfg(test)]
 mod runs;
+#[cfg(test)]
+mod tree;

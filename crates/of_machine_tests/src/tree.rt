@@ -1,0 +1,155 @@
+//! Images that build the device tree, and the tree that they leave.
+use hex::decode;
+use of_code::ListCode;
+use of_machine::{Machine, ScriptMachine};
+use of_nodes::{Phandle, Property, Span};
+use std::alloc::Global;
+use std::test::Fail;
+
+/// Tokens as an image of them with a header, in hexadecimal digits, among which blanks may stand.
+fn image_of(alloc: Global, tokens: &str) -> Result<Vec<u8>, Fail> {
+    let packed: String = tokens.chars().filter(|c| *c != ' ').collect(alloc)?;
+    let digits = format!(in alloc; "f108000000000000{packed}")?;
+    Ok(decode(alloc, digits)?)
+}
+
+/// The bytes of a span.
+fn bytes<'a>(machine: &'a ScriptMachine, span: Span) -> &'a [u8] {
+    machine
+        .memory()
+        .slice(span.address, span.length)
+        .unwrap_or(b"")
+}
+
+/// Appends characters.
+fn push_bytes(text: &mut String, bytes: &[u8]) -> Result<(), Fail> {
+    for byte in bytes {
+        text.push(if *byte == b'\n' {
+            '$'
+        } else {
+            char::from(*byte)
+        })?;
+    }
+    Ok(())
+}
+
+/// Appends a property as ` name=digits`.
+fn push_property(
+    alloc: Global,
+    text: &mut String,
+    machine: &ScriptMachine,
+    property: Property,
+) -> Result<(), Fail> {
+    text.push(' ')?;
+    push_bytes(text, bytes(machine, property.name))?;
+    text.push('=')?;
+    for byte in bytes(machine, property.value) {
+        text.push_str(format!(in alloc; "{byte:02x}")?.as_str())?;
+    }
+    Ok(())
+}
+
+/// Appends the path of a node and its properties, in their order.
+fn push_node(
+    alloc: Global,
+    text: &mut String,
+    machine: &ScriptMachine,
+    node: Phandle,
+) -> Result<(), Fail> {
+    push_bytes(
+        text,
+        machine.tree().path_of(machine.memory(), node)?.as_slice(),
+    )?;
+    let mut next = machine.tree().next_property(node, b"")?;
+    for _ in 0..9 {
+        let Some(property) = next else {
+            return Ok(());
+        };
+        push_property(alloc, text, machine, property)?;
+        let name = bytes(machine, property.name);
+        next = machine.tree().next_property(node, name)?;
+    }
+    Ok(())
+}
+
+/// What is on the console, and the nodes from `/slot` on in the order of making, each behind `;`.
+fn shown(alloc: Global, machine: &ScriptMachine) -> Result<String, Fail> {
+    let mut text = String::new(alloc);
+    push_bytes(&mut text, machine.console())?;
+    for number in 2..9 {
+        let node = Phandle::of(number);
+        if machine.tree().parent(node).is_err() {
+            return Ok(text);
+        }
+        text.push(';')?;
+        push_node(alloc, &mut text, machine, node)?;
+    }
+    Ok(text)
+}
+
+/// What images make on one machine, loaded one after another, with `+` between, each behind the path of its node.
+fn made(alloc: Global, loads: &str) -> Result<String, Fail> {
+    let mut machine = Machine::new(alloc, ListCode::new(alloc))?;
+    for load in loads.split('+') {
+        let (path, tokens) = load.trim().split_once(' ').unwrap_or(("", ""));
+        machine.load(image_of(alloc, tokens)?.as_slice(), path)?;
+        machine.run(999)?;
+    }
+    shown(alloc, &machine)
+}
+
+/// Images, each behind the path of the node that it is loaded for, and behind `|` what they print and the nodes that
+/// are there then.
+const TREES: &str = "\
+/slot 011f 120170 0201 0127 00|;/slot name=736c6f7400;/slot/p name=7000
+/slot 1204 63617264 0201 b6 04 61646433 0800 b7 a8 1e c2 a7 0800 9d 00|5 ;/card name=6361726400
+/packages 011f 120170 0201 0127 00|;/slot name=736c6f7400;/packages/p name=7000
+/ 011f 120161 0201 011f 120162 0201 0127 0127 011f 120163 0201 00|;/slot name=736c6f7400;/a name=6100;/a/b name=6200\
+;/c name=6300
+/slot a6 0111 120161 0110 a7 0111 120162 0110 a8 0111 120163 0110 1000000004 0111 120161 0110 00|\
+;/slot name=736c6f7400 a=00000004 b=00000002 c=00000003
+/slot a6 0111 48 30 120161 0110 1000000009 31 72 00|;/slot name=736c6f7400 a=00000001
+/slot a6 0111 120161 0110 00 + /slot 1000000009 120161 021a 46 46 72 00|\
+fault -20: write to a read-only location$;/slot name=736c6f7400 a=00000001
+/slot 120163 0201 1203612f62 0201 00|fault -32: invalid name argument$;/c name=6300
+/slot 011f 120170 0201 00 + /slot 0127 00|fault -259: no such node$;/slot name=736c6f7400;/slot/p name=7000
+/slot 011f 120170 0201 a4 0218 00 + /slot 0127 00|fault -1: abort$fault -259: no such node$\
+;/slot name=736c6f7400;/slot/p name=7000
+/slot 011f 011f 120170 0201 0127 120171 0201 00|;/slot name=736c6f7400;/slot/q name=7100;/slot/q/p name=7000
+/slot 10d0000000 023b 9b 10d0000004 023c 9b a5 023c 9b 1200 0204 9b 9b 00|\
+d0000004 d0000008 d0000000 ffffffff d0000004 ;/slot name=736c6f7400
+/slot a5 a6 a7 0116 120163 0201 00 + /c@1,0 120161 120162 0110 00|\
+;/c@1,0 name=6300 reg=000000010000000000000002 b=61
+";
+
+#[test]
+fn images_build_trees(rt: HostRuntime) -> Result<(), Fail> {
+    for line in TREES.lines() {
+        let (loads, wanted) = line.split_once('|').unwrap_or(("", ""));
+        assert_eq!(rt; made(rt.alloc(), loads)?.as_str(), wanted, "{loads}");
+    }
+    Ok(())
+}
+
+/// A device of the tree whose node is made while each growth is refused in turn.
+#[test]
+fn refused_memory(rt: HostRuntime) -> Result<(), Fail> {
+    let image = image_of(rt.alloc(), "a6 0111 120161 0110 011f 120170 0201 0127 00")?;
+    let Ok(mut machine) = Machine::new(rt.alloc(), ListCode::new(rt.alloc())) else {
+        return Ok(());
+    };
+    for _ in 0..9 {
+        if machine.load(&image, "/slot").is_ok() {
+            break;
+        }
+    }
+    for _ in 0..99 {
+        let before = machine.steps();
+        if machine.step().is_err() {
+            assert_eq!(rt; machine.steps(), before);
+        }
+    }
+    let wanted = ";/slot name=736c6f7400 a=00000001;/slot/p name=7000";
+    assert_eq!(rt; shown(rt.alloc(), &machine)?.as_str(), wanted);
+    Ok(())
+}
