@@ -2,8 +2,7 @@ ghost use Rattle.std.specs.Prelude.{◌≡◌, ◌+◌, ◌-◌, ◌/◌, ◌≤
 ghost use Rattle.std.specs.Prelude.{OnOk, slice_range};
 ghost use Rattle.std.specs.List.{flat_map};
 ghost use Rattle.of_stream.specs.Decoding.{token_shown};
-ghost use Rattle.of_stream.specs.Image.{header_length};
-ghost use Rattle.of_stream.specs.Image.{first_size};
+ghost use Rattle.of_stream.specs.Image.{first_size, header_length};
 ghost use Rattle.of_detok.specs.Listing.{header_line, line_text, token_line, trailing_from, lines_from};
 ghost use Rattle.of_detok.specs.Listing.{text_behind, listed, listed_so_far, IsRefused};
 

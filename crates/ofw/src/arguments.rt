@@ -123,46 +123,6 @@ fn flag<'a>(alloc: Global, name: &'a str, help: &'a str) -> Arg<'a>
         .action(ArgAction::SetTrue)
 }
 
-/// `--explain`
-fn explain_argument<'a>(alloc: Global) -> Arg<'a>
-    ensures { (rule_of result ≡ flag_rule (codes "explain")) × (result.global ≡ false) }
-{
-    flag(
-        alloc,
-        "explain",
-        "says on the error output how the run ended",
-    )
-}
-
-/// `--names`
-fn names_argument<'a>(alloc: Global) -> Arg<'a>
-    ensures { (rule_of result ≡ flag_rule (codes "names")) × (result.global ≡ false) }
-{
-    flag(
-        alloc,
-        "names",
-        "says the names that the image gives to its words",
-    )
-}
-
-/// `--indent`
-fn indent_argument<'a>(alloc: Global) -> Arg<'a>
-    ensures { (rule_of result ≡ flag_rule (codes "indent")) × (result.global ≡ false) }
-{
-    flag(
-        alloc,
-        "indent",
-        "indents definitions and control structures",
-    )
-}
-
-/// `--partial`
-fn partial_argument<'a>(alloc: Global) -> Arg<'a>
-    ensures { (rule_of result ≡ flag_rule (codes "partial")) × (result.global ≡ false) }
-{
-    flag(alloc, "partial", "lists a damaged image up to its fault")
-}
-
 /// `ofw run IMAGE [--limit N] [--explain]`
 fn run_command<'a>(alloc: Global) -> Result<Command<'a>, AllocError>
     ensures { IfOk result (IsBuilt run_app) }
@@ -172,7 +132,11 @@ fn run_command<'a>(alloc: Global) -> Result<Command<'a>, AllocError>
         .after_help(RUN_HELP)
         .arg(image_argument(alloc))?
         .arg(limit_argument(alloc))?
-        .arg(explain_argument(alloc))
+        .arg(flag(
+            alloc,
+            "explain",
+            "says on the error output how the run ended",
+        ))
 }
 
 /// `ofw tok SOURCE [--output FILE]`
@@ -194,9 +158,17 @@ fn detok_command<'a>(alloc: Global) -> Result<Command<'a>, AllocError>
         .about("Prints the listing of an image, a line for each token")
         .after_help(DETOK_HELP)
         .arg(image_argument(alloc))?
-        .arg(names_argument(alloc))?
-        .arg(indent_argument(alloc))?
-        .arg(partial_argument(alloc))
+        .arg(flag(
+            alloc,
+            "names",
+            "says the names that the image gives to its words",
+        ))?
+        .arg(flag(
+            alloc,
+            "indent",
+            "indents definitions and control structures",
+        ))?
+        .arg(flag(alloc, "partial", "lists a damaged image up to its fault"))
 }
 
 /// `ofw`, with one of its subcommands
@@ -250,32 +222,11 @@ fn is_true(value: Option<&str>) -> bool
     }
 }
 
-/// Whether `--explain` was given.
-fn explains(matches: &ArgMatches) -> bool
-    ensures { result ≡ has_flag (codes "explain") (rows_of (found_of matches.now)) }
+/// Whether a flag was given; its value is read as its text.
+fn has_flag(matches: &ArgMatches, name: &str) -> bool
+    ensures { result ≡ has_flag name.now (rows_of (found_of matches.now)) }
 {
-    is_true(matches.get_str("explain"))
-}
-
-/// Whether `--partial` was given.
-fn is_partial(matches: &ArgMatches) -> bool
-    ensures { result ≡ has_flag (codes "partial") (rows_of (found_of matches.now)) }
-{
-    is_true(matches.get_str("partial"))
-}
-
-/// Whether `--names` was given.
-fn says_names(matches: &ArgMatches) -> bool
-    ensures { result ≡ has_flag (codes "names") (rows_of (found_of matches.now)) }
-{
-    is_true(matches.get_str("names"))
-}
-
-/// Whether `--indent` was given.
-fn indents(matches: &ArgMatches) -> bool
-    ensures { result ≡ has_flag (codes "indent") (rows_of (found_of matches.now)) }
-{
-    is_true(matches.get_str("indent"))
+    is_true(matches.get_str(name))
 }
 
 /// What a subcommand asks for.
@@ -293,15 +244,15 @@ fn request_of<'a>(name: &str, matches: &ArgMatches<'a>) -> Option<Request<'a>>
         "run" => Some(Request::Run {
             image,
             limit: step_limit(matches),
-            explain: explains(matches),
+            explain: has_flag(matches, "explain"),
         }),
         "detok" => Some(Request::Detok {
             image,
             extras: Extras {
-                names: says_names(matches),
-                indents: indents(matches),
+                names: has_flag(matches, "names"),
+                indents: has_flag(matches, "indent"),
             },
-            partial: is_partial(matches),
+            partial: has_flag(matches, "partial"),
         }),
         _ => None,
     }

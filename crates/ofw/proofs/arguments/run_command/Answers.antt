@@ -8,7 +8,7 @@ returns c =
     let new_is : app_of c.after_help.result ≡ new_app (codes "run") = search rules in
     let image = c.image_argument.ensures in
     let limit = c.limit_argument.ensures in
-    let explain = c.explain_argument.ensures in
+    let explain = c.flag.ensures in
     let with_image = c.in_ok-arg.ensures.shape image.1 ∙ ap₂ with_rule new_is image.0 in
     let with_limit = c.in_ok-arg-2.ensures.shape limit.1 ∙ ap₂ with_rule with_image limit.0 in
     IfOk-weaker c.arg-3.result _ _ (λ r h. (h.shape explain.1 ∙ ap₂ with_rule with_limit explain.0, search rules))
