@@ -79,8 +79,8 @@ impl<C: CodeStore> Machine<C> {
     /// what is due then (IEEE 1275-1994, 5.2).
     ///
     /// An error is for memory alone, and then nothing has changed. It comes only where the token or item prints, takes
-    /// a block of the heap, defines a word, or is appended to the open definition: the other steps ask for no memory,
-    /// also where they throw.
+    /// a block of the heap, sets a property, makes a node, defines a word, or is appended to the open definition: the
+    /// other steps ask for no memory, also where they throw.
     pub fn step(&mut self) -> Result<Progress, AllocError>
         ensures ok { IfOk result (λ p. Steps p self.old self.new) }
         ensures grows { OnErr result (MayGrow self.old) }
