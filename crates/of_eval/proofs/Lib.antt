@@ -5,7 +5,7 @@
 -- Settled: the end of a step, item by item.
 -- Runs: runs, step by step.
 -- Strings: strings that are compiled.
--- Squares, SquareWords, SquareTokens: the law `steps_agree`, from what a part leaves up to a step.
+-- Squares, SquareEnds, SquareWords, SquareTokens: the law `steps_agree`, from what a part leaves up to a step.
 -- Placed, PlacedParts, PlacedWords, PlacedTokens: the law `states_stay_placed`, from what stays placed up to a step.
 -- Mismatch: the law `mismatch_is_no_body`.
 -- Frames, FramedTurns, FramedWords, FramedTokens: the law `frames_hold`.
@@ -20,6 +20,7 @@ pub mod Settled
 pub mod Runs
 pub mod Strings
 pub mod Squares
+pub mod SquareEnds
 pub mod SquareWords
 pub mod SquareTokens
 pub mod Placed
