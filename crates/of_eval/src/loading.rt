@@ -66,8 +66,8 @@ impl<C: CodeStore + Drop> Eval<C> {
 }
 
 impl<C: CodeStore> Eval<C> {
-    /// Begins to run an image for a package, where nothing runs: its bytes are copied into the image region, the package
-    /// is active, and room is made for the text of a throw.
+    /// Begins to run an image for a package, where nothing runs: its bytes are copied into the image region, the
+    /// package is active, and room is made for the text of a throw.
     ///
     /// Full where the image region has no room; then NoMemory. A refusal changes nothing.
     pub fn begin_image(&mut self, image: &[u8], node: Phandle) -> Result<(), MemFault>
