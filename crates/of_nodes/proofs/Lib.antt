@@ -11,3 +11,5 @@ mod Shown
 mod Fitting
 mod Ways
 mod Standing
+mod Led
+mod PathTo

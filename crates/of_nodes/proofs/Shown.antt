@@ -28,7 +28,7 @@ test_false i = grind (arith, nat_tests)
 test_true : (k count : ℕ) → k < count → nat_lt k count ≡ true
 test_true k count l = grind (arith, nat_tests)
 
-number_is : (k count : ℕ) → k < count → number_of count (phandle_of k) ≡ Some k
+pub number_is : (k count : ℕ) → k < count → number_of count (phandle_of k) ≡ Some k
 number_is k count l =
     let distance : first_phandle + 4 * k - first_phandle ≡ 4 * k = omega arith in
     let quarter : 4 * k / 4 ≡ k = omega arith in

@@ -67,7 +67,7 @@ stands_under full q p k i (n ∷ ns) h l w above s =
     (stands_under full q p (suc k) i ns at.rest l w above) s
 
 -- each node stands in the tree, by those above it
-below_root :
+pub below_root :
     (ns : List Node) (n : Node) (p : ℕ) → 1 ≤ p → Stands p (tree_of (n ∷ ns)) → Stands p (below 0 1 ns)
 below_root ns n p one (inl e) = absurd (omega (arith, one, e))
 below_root ns n p one (inr (inl s)) = s

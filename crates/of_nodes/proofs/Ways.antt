@@ -116,7 +116,7 @@ levels m ns (suc k) (suc j) i h l a b =
     let older : parent_in ns i < i = parent_older ns i h l one in
     levels m ns k j (parent_in ns i) h (omega (arith, older, l)) (omega (arith, older, a)) (omega (arith, older, b)))
 
-path_step :
+pub path_step :
     (m : DataSpace) (ns : List Node) (i : ℕ) → AreNodes ns → i < length ns → 1 ≤ i
     → components_to m ns i i
     ≡ components_to m ns (parent_in ns i) (parent_in ns i) ++ 47 ∷ component_in m ns i

@@ -8,4 +8,5 @@ pub mod Paths
 pub mod Texts
 pub mod Lookup
 pub mod Tree
+pub mod TreePaths
 pub mod Ways

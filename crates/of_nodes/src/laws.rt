@@ -1,5 +1,6 @@
 //! What the calls over the nodes say of the tree.
 ghost use Rattle.of_nodes.specs.Tree.{TreeIsShown};
+ghost use Rattle.of_nodes.specs.TreePaths.{TreeFinds};
 ghost use Rattle.of_nodes.specs.Ways.{PathsFind};
 
 /// Each node stands in the tree; its parent is the one round it there, its child the first of its children,
@@ -14,4 +15,11 @@ pub fn tree_is_shown()
 #[tactic(auto, using(crate::proofs::Ways::paths_find))]
 pub fn paths_find()
     ensures { PathsFind }
+{}
+
+/// `find` and `find_package` find what the path leads to in the tree, and `path_of` gives the node's path
+/// there.
+#[tactic(auto, using(crate::proofs::PathTo::tree_finds))]
+pub fn tree_finds()
+    ensures { TreeFinds }
 {}

@@ -1,5 +1,6 @@
 use crate::{
-    NodeFault, Phandle, Properties, Property, Span, Tree, is_name, paths_find, tree_is_shown,
+    NodeFault, Phandle, Properties, Property, Span, Tree, is_name, paths_find, tree_finds,
+    tree_is_shown,
 };
 use of_cells::Cell;
 use of_memory::Memory;
@@ -120,6 +121,7 @@ d000002c /packages/p
 #[test]
 fn nodes_by_their_paths(rt: HostRuntime) -> Result<(), Fail> {
     paths_find();
+    tree_finds();
     tree_is_shown();
     let mut memory = Memory::new(rt.alloc())?;
     let mut tree = Tree::new(rt.alloc(), &mut memory)?;
