@@ -13,3 +13,5 @@ mod Ways
 mod Standing
 mod Led
 mod PathTo
+mod Put
+mod FirstFound

@@ -10,3 +10,4 @@ pub mod Lookup
 pub mod Tree
 pub mod TreePaths
 pub mod Ways
+pub mod FirstPaths

@@ -1,4 +1,5 @@
 //! What the calls over the nodes say of the tree.
+ghost use Rattle.of_nodes.specs.FirstPaths.{FirstPathsFind};
 ghost use Rattle.of_nodes.specs.Tree.{TreeIsShown};
 ghost use Rattle.of_nodes.specs.TreePaths.{TreeFinds};
 ghost use Rattle.of_nodes.specs.Ways.{PathsFind};
@@ -22,4 +23,10 @@ pub fn paths_find()
 #[tactic(auto, using(crate::proofs::PathTo::tree_finds))]
 pub fn tree_finds()
     ensures { TreeFinds }
+{}
+
+/// In the tree that is made first, `/packages` finds the second node, and `/slot` the third.
+#[tactic(auto, using(crate::proofs::FirstFound::first_paths_find))]
+pub fn first_paths_find()
+    ensures { FirstPathsFind }
 {}
