@@ -1,7 +1,7 @@
 # Counts instructions of a program by callgrind; to be sourced, with `program` set.
 
-# KIND COUNT: the instructions of a run
+# ARGUMENTS: the instructions of a run
 instructions() {
-    valgrind --tool=callgrind --callgrind-out-file=/dev/null "$program" "$1" "$2" 2>&1 >/dev/null |
+    valgrind --tool=callgrind --callgrind-out-file=/dev/null "$program" "$@" 2>&1 >/dev/null |
         sed -n 's/.*Collected : \([0-9]*\).*/\1/p'
 }
