@@ -8,9 +8,9 @@ use Rattle.std.proofs.lemmas.Bool.{ltb-true}
 use Rattle.std.specs.Prelude.{slice_set, slice_index_or}
 use Rattle.of_fcodes.specs.Tokens.{Table, entry_in}
 use Rattle.of_dict.specs.declared.word.Word.{Word}
-use Rattle.of_dict.specs.Words.{capacity, newest, newest_below, word_at, xt_of}
+use Rattle.of_dict.specs.Words.{capacity, name_in, newest, newest_below, word_at, xt_of}
 use Rattle.of_dict.specs.Calls.{changed, changed_in}
-use Rattle.of_compile.specs.Words.{own_number}
+use Rattle.of_compile.specs.Words.{named_at, named_next, own_number}
 
 set-push : {A : Type 0} (xs : List A) (y z : A) → slice_set (xs ++ y ∷ []) (length xs) z ≡ xs ++ z ∷ []
 set-push [] y z = refl
@@ -93,3 +93,18 @@ pub no_entry : (t : Table) (n : ℕ) → length t ≤ n → entry_in t n ≡ Non
 no_entry [] n l = refl
 no_entry (e ∷ t) zero l = absurd (omega (arith, l))
 no_entry (e ∷ t) (suc n) l = no_entry t n (omega (arith, l))
+
+-- a change leaves a word its name
+pub name_changed : (f : Word → Word) (words : List (Option Word)) (n : ℕ) → ((w : Word) → (f w).name ≡ w.name)
+    → name_in (word_at (changed f words n) n) ≡ name_in (word_at words n)
+name_changed f [] n h = refl
+name_changed f (None ∷ words) zero h = refl
+name_changed f (Some w ∷ words) zero h = h w
+name_changed f (w ∷ words) (suc n) h = name_changed f words n h
+
+-- the word that was made has the name that was announced
+pub pushed_named : (words : List (Option Word)) (w : Word) (name : Option (List ℕ)) → length words < capacity
+    → w.name ≡ name → named_next words name ≡ named_at (words ++ Some w ∷ []) (length words)
+pushed_named words w None small e = rw (at-push words (Some w) None, e) refl
+pushed_named words w (Some name) small e =
+    rw (at-push words (Some w) None, e, lt-ltb (length words) capacity small) refl

@@ -121,3 +121,9 @@ dropped (Some n) w =
 
 abbrev pub abandoned : WordsState → WordsState
 abandoned w = dropped w.defining w
+
+-- ---- methods
+
+-- the words with one that is found as a method of its package, and by no search of the dictionary
+abbrev pub hidden_word : ℕ → WordsState → WordsState
+hidden_word n w = record w { dictionary = changed (λ x. record x { hidden = true }) w.dictionary n }

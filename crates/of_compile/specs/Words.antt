@@ -4,6 +4,7 @@ use Rattle.std.specs.Prelude.{ℕ, ◌≡◌, ◌≤◌, ◌<◌, ◌+◌, ◌-�
 use Rattle.std.specs.Prelude.{◌||◌, not}
 use Rattle.std.specs.Prelude.{List, [], ◌∷◌, length, Option, Some, None, Result, option_and_then, is_some}
 use Rattle.std.specs.Prelude.{if◌then◌else◌}
+use Rattle.std.specs.Option.{option_map}
 use Rattle.of_stacks.specs.declared.throws.Throw.{Throw}
 use Rattle.of_stacks.specs.Throws.{compiler_nesting, empty_name, invalid_argument, long_name}
 use Rattle.of_stacks.specs.Order.{counting, fault_if, unless}
@@ -14,7 +15,7 @@ use Rattle.of_memory.specs.Access.{number_at}
 use Rattle.of_memory.specs.DataSpace.{DataSpace}
 use Rattle.of_memory.specs.Regions.{scratch_start}
 use Rattle.of_dict.specs.declared.word.Word.{Word}
-use Rattle.of_dict.specs.Words.{capacity, longest_name, newest, word_at, xt_of}
+use Rattle.of_dict.specs.Words.{capacity, longest_name, name_in, newest, word_at, xt_of}
 use Rattle.of_compile.specs.declared.words.Pending.{Pending}
 use Rattle.of_compile.specs.declared.words.TokenMaker.{TokenMaker}
 use Rattle.of_compile.specs.declared.words.TokenMaker.TheVariants.{New, Named, External}
@@ -67,6 +68,25 @@ abbrev pub name_given : DataSpace → TokenMaker → Option (List ℕ)
 name_given m New = None
 name_given m (Named name) = if is_debugging m then Some name.now else None
 name_given m (External name) = Some name.now
+
+-- the name that the next word gets, if it gets one
+abbrev pub name_pending : Option Pending → Option (List ℕ)
+name_pending None = None
+name_pending (Some p) = p.name
+
+-- the next word's number and name, if it gets a name and one more word can be made
+abbrev pub named_next : List (Option Word) → Option (List ℕ) → Option (ℕ × List ℕ)
+named_next words None = None
+named_next words (Some name) = if nat_lt (length words) capacity then Some (length words, name) else None
+
+-- a word's number and name, if it has one
+abbrev pub named_at : List (Option Word) → ℕ → Option (ℕ × List ℕ)
+named_at words n = option_map (λ name. (n, name)) (name_in (word_at words n))
+
+-- the same of the open word, if one is open
+abbrev pub named_open : List (Option Word) → Option ℕ → Option (ℕ × List ℕ)
+named_open words None = None
+named_open words (Some n) = named_at words n
 
 -- the faults of a token maker, in their order
 abbrev pub number_faults : WordsState → FCode → Option (List ℕ) → List (Option Throw)

@@ -1,17 +1,18 @@
 //! The words that define, and the open definition's word.
-ghost use Rattle.std.specs.Prelude.{◌≡◌, ◌≤◌, ◌<◌, ◌⊎◌, length, is_ok, IfOk, IfErr, OnErr, None, Some};
+ghost use Rattle.std.specs.Prelude.{◌≡◌, ◌≤◌, ◌<◌, ◌⊎◌, length, is_ok, IfOk, IfErr, OnErr, OnOk, None, Some};
 ghost use Rattle.of_stacks.specs.Stacks.{Makes};
 ghost use Rattle.of_stacks.specs.Throws.{stack_underflow};
 ghost use Rattle.of_code.specs.Code.{end_of};
 ghost use Rattle.of_memory.specs.Growth.{aligned};
 ghost use Rattle.of_dict.specs.Words.{capacity};
-ghost use Rattle.of_compile.specs.Defining.{abandoned, closed, defining_entry, made_by, making, opens};
+ghost use Rattle.of_compile.specs.Defining.{abandoned, closed, defining_entry, hidden_word, made_by, making, opens};
 ghost use Rattle.of_compile.specs.Products.{made_of, with_pending};
+ghost use Rattle.of_compile.specs.Words.{name_pending, named_at, named_next};
 
 use crate::words::Words;
 use of_cells::Cell;
 use of_code::{CodeStore, Place};
-use of_dict::{CAPACITY, Kind, Name};
+use of_dict::{CAPACITY, Kind, Name, OwnWord};
 use of_fcodes::TokenEntry;
 use of_memory::Memory;
 use of_stacks::{DataStack, Stop, Throw};
@@ -142,9 +143,11 @@ impl Words {
         stack: &mut DataStack,
         memory: &mut Memory,
     ) -> Result<(), Stop>
-        ensures { let old = making self.old stack.old memory.old in
+        ensures made { let old = making self.old stack.old memory.old in
             let entry = defining_entry word (end_of (C.code code.now)).cell old in
             Makes (is_ok entry) entry old (making self.new stack.new memory.new) result }
+        ensures named { OnOk result (named_next self.old.dictionary (name_pending self.old.pending)
+            ≡ named_at self.new.dictionary (length self.old.dictionary)) }
     {
         if self.defining.is_some() || self.pending.is_none() {
             return Err(Stop::Thrown(Throw::COMPILER_NESTING));
@@ -200,6 +203,14 @@ impl Words {
             self.dictionary.reveal(word);
             self.defining = None;
         }
+    }
+
+    /// Leaves a word out of every search of the dictionary, since it is found as a method of its package.
+    #[tactic(auto, using(crate::proofs::WordsLemmas::newest_changed))]
+    pub fn hide(&mut self, word: OwnWord)
+        ensures { self.new ≡ hidden_word word.0 self.old }
+    {
+        self.dictionary.hide(word);
     }
 
     /// The open definition is given up: its word is no more, and the FCodes that name it are unassigned.

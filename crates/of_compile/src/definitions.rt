@@ -1,6 +1,7 @@
 //! The open definition, as a word and as code: its end, giving it up, and calls that a word appends to it.
-ghost use Rattle.std.specs.Prelude.{◌≡◌, ◌≤◌, ◌+◌};
+ghost use Rattle.std.specs.Prelude.{◌≡◌, ◌≤◌, ◌+◌, IfSome};
 ghost use Rattle.of_stacks.specs.Stacks.{Becomes};
+ghost use Rattle.of_dict.specs.Words.{name_in, word_at};
 ghost use Rattle.of_compile.specs.Definitions.{closing_entry, compile_entry, given_up};
 
 use crate::coding::Coding;
@@ -21,6 +22,8 @@ pub fn end_definition<C: CodeStore>(words: &mut Words, coding: &mut Coding<C>) -
     requires { 1 ≤ coding.old.spare }
     ensures outcome { Becomes (closing_entry words.old coding.old.coding) (words.old, coding.old.coding)
         (words.new, coding.new.coding) result }
+    ensures named { IfSome words.old.defining (λ n.
+        name_in (word_at words.new.dictionary n) ≡ name_in (word_at words.old.dictionary n)) }
     ensures spare { coding.old.spare ≤ coding.new.spare + 1 }
 {
     let Some(word) = words.open_word() else {

@@ -4,10 +4,11 @@ ghost use Rattle.std.specs.Option.{option_copied, option_map};
 ghost use Rattle.of_stacks.specs.Stacks.{Becomes};
 ghost use Rattle.of_fcodes.specs.Tokens.{first_table};
 ghost use Rattle.of_dict.specs.Words.{capacity, xt_of};
-ghost use Rattle.of_compile.specs.Words.{is_debugging, is_own_code, name_fault, name_given, numbered};
+ghost use Rattle.of_compile.specs.Words.{is_debugging, is_own_code, name_fault, name_given, name_pending, named_next};
+ghost use Rattle.of_compile.specs.Words.{named_open, numbered};
 
 use of_cells::Cell;
-use of_dict::{Dict, LONGEST_NAME, Name, OwnWord};
+use of_dict::{CAPACITY, Dict, LONGEST_NAME, Name, OwnWord};
 use of_fcodes::{FCode, TokenTable};
 use of_memory::{Memory, scratch_is_open};
 use of_stacks::Throw;
@@ -155,6 +156,31 @@ impl Words {
             Some(word) => Some(word.xt()),
             None => None,
         }
+    }
+
+    /// The next word that is defined, and the name that it gets. None where it gets no name, or no word can be made.
+    pub fn named_next(&self) -> Option<(OwnWord, &[u8])>
+        ensures next { option_map (λ word. (word.0.0, word.1.now)) result
+            ≡ named_next self.now.dictionary (name_pending self.now.pending) }
+        ensures fits { IfSome result (λ word. word.0.0 < capacity) }
+    {
+        let name = self.pending.as_ref()?.name.as_ref()?;
+        let number = self.dictionary.made();
+        if number >= CAPACITY {
+            return None;
+        }
+        Some((OwnWord(number as u32), name.as_bytes()))
+    }
+
+    /// The word whose definition is open, and its name. None where none is open, or it has no name.
+    pub fn named_open(&self) -> Option<(OwnWord, &[u8])>
+        ensures named { option_map (λ word. (word.0.0, word.1.now)) result
+            ≡ named_open self.now.dictionary self.now.defining }
+        ensures fits { IfSome result (λ word. word.0.0 < capacity) }
+    {
+        let word = self.open_word()?;
+        let name = self.dictionary.name_of(word)?;
+        Some((word, name))
     }
 
     /// The word whose definition is open: the newest one.

@@ -3,6 +3,7 @@
 -- Executed: executing a word, one word at a time, and following its defers.
 -- Endings: what calls on definitions leave of the whole state.
 -- Settled: the end of a step, item by item.
+-- MethodLemmas: words that become methods of a package.
 -- Runs: runs, step by step.
 -- Strings: strings that are compiled.
 -- Squares, SquareEnds, SquareWords, SquareTokens: the law `steps_agree`, from what a part leaves up to a step.
@@ -17,6 +18,7 @@ pub mod Raised
 pub mod Executed
 pub mod Endings
 pub mod Settled
+pub mod MethodLemmas
 pub mod Runs
 pub mod Strings
 pub mod Squares

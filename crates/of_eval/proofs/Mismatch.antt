@@ -11,6 +11,9 @@ use Rattle.of_dict.specs.Words.{xt_of}
 use Rattle.of_compile.specs.declared.element.PlainItem.{PlainItem}
 use Rattle.of_compile.specs.Board.{Definitions, Told, finished_told, has_room, refused, told}
 use Rattle.of_eval.specs.Board.{MismatchIsNoBody}
+use Rattle.of_eval.specs.Board.{board_calls}
+use Rattle.of_eval.specs.Tokens.{definition_ended}
+use Rattle.of_eval.proofs.MethodLemmas.{known_code}
 
 -- the number of what was thrown, without its sign
 number_of : Result (Unit {0}) Throw → ℕ
@@ -51,5 +54,8 @@ finished_is (Some b) xt c d e room =
 pub mismatch_is_no_body : MismatchIsNoBody
 mismatch_is_no_body = record {
   mismatch = λ n s. ended_is (body_in 32 s.code.elements) (record { 0 = xt_of n }) s.code;
-  finished = λ n s b e room. finished_is (body_in 32 s.code.elements) (record { 0 = xt_of n }) b s.code e room;
+  finished = λ n s b e room.
+      let o = definition_ended board_calls (Some n) s in
+      let is = finished_is (body_in 32 s.code.elements) (record { 0 = xt_of n }) b s.code e room in
+      (is.0, ap (λ d. d.finished) (known_code o.ended n o.state) ∙ is.1);
 }

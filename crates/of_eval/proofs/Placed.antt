@@ -28,6 +28,8 @@ use Rattle.of_eval.specs.Tokens.{opened}
 use Rattle.of_eval.specs.Board.{IsPlacedIn, board_calls}
 use Rattle.of_eval.specs.Placed.{AllPlaced, AreItemsIn, ArePlaced, IsExitIn, IsItemIn, code_start, finished_end}
 use Rattle.of_eval.specs.Placed.{start_at}
+use Rattle.of_nodes.specs.declared.tree.Node.{Node}
+use Rattle.of_eval.specs.Methods.{as_method}
 
 -- ---- control goes on elsewhere
 
@@ -146,6 +148,20 @@ kind_placed s n k new old p =
     set_placed s n (changed_in (λ x. record x { kind = k }) (word_at s.words.dictionary n))
     (some_changed (λ x. record x { kind = k }) (word_at s.words.dictionary n))
     (start_changed k (word_at s.words.dictionary n) new old) p
+
+start_hidden : (w : Option Word)
+    → code_start (kind_in (changed_in (λ x. record x { hidden = true }) w)) ≡ code_start (kind_in w)
+start_hidden None = refl
+start_hidden (Some w) = refl
+
+-- a word becomes a method, or doesn't
+pub method_placed : (x : Option (List Node)) (n : ℕ) (s : State Definitions) → AllPlaced s
+    → AllPlaced (as_method x n s)
+method_placed None n s p = p
+method_placed (Some nodes) n s p =
+    set_placed s n (changed_in (λ x. record x { hidden = true }) (word_at s.words.dictionary n))
+    (some_changed (λ x. record x { hidden = true }) (word_at s.words.dictionary n))
+    (start_hidden (word_at s.words.dictionary n)) p
 
 -- the number of an own word's execution token
 abbrev is_own : ℕ → Bool

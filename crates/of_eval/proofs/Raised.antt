@@ -90,6 +90,8 @@ use Rattle.of_eval.proofs.ListedFaults.{to_body_listed, within_listed}
 use Rattle.of_eval.proofs.ListedParts.{Lists, both_left, byte_load_listed, comma_fault, control_listed, exited_listed}
 use Rattle.of_eval.proofs.ListedParts.{flow_left, leave_item_listed, leave_listed, outcome_if, own_listed, parts_left}
 use Rattle.of_eval.proofs.ListedParts.{place_left, stack_left, stacks_left, stacks_listed, turn_left, words_left}
+use Rattle.of_eval.specs.Methods.{then_known}
+use Rattle.of_eval.specs.Tokens.{known_at_once, word_defined}
 
 -- ---- what a program throws
 
@@ -246,8 +248,14 @@ makings : {S : Type 0} (d : DefiningWord) (r : Result Making Throw) (s : State S
 makings d (Ok g) s h = tt
 makings d (Err t) s h = h
 
+knows : {S : Type 0} (o : Option ℕ) (a : Outcome S) → Lists a → Lists (then_known o a)
+knows None a h = h
+knows (Some n) a h = h
+
 defines : {S : Type 0} (c : Calls S) (d : DefiningWord) (s : State S) → Lists (define_entry c d s)
-defines c d s = makings d _ s (defining_listed d (c.ends_at s.code) (making s.words s.parts.stack s.parts.memory))
+defines c d s =
+    knows (known_at_once d s.words.dictionary) (word_defined c d s)
+    (makings d _ s (defining_listed d (c.ends_at s.code) (making s.words s.parts.stack s.parts.memory)))
 
 closes : {S : Type 0} (c : Calls S) → CallsThrowListed S c → (n : Option ℕ) (s : State S)
     → Lists (semicolon_entry c n s)

@@ -1,24 +1,37 @@
 //! What tokens of the stream do: they define, compile, and go on elsewhere in the image.
-ghost use Rattle.std.specs.Prelude.{◌≡◌, true};
+ghost use Rattle.std.specs.Prelude.{◌≡◌, true, length, List, is_some, IfSome, OnErr, OnOk};
 ghost use Rattle.of_stacks.specs.Loops.{loop_on_top};
 ghost use Rattle.of_compile.specs.Elements.{CanBeStored, element_of, own_item};
+ghost use Rattle.of_dict.specs.Words.{name_in, word_at};
+ghost use Rattle.of_compile.specs.Words.{name_pending, named_at, named_next};
+ghost use Rattle.of_nodes.specs.declared.tree.Node.{Node};
+ghost use Rattle.of_eval.specs.Methods.{hidden_if, with_tree};
 ghost use Rattle.of_eval.specs.State.{Ends, Leaves, flat_calls};
-ghost use Rattle.of_eval.specs.Tokens.{at_position, compiled, define_entry, leave_done, semicolon_entry, turn_at};
+ghost use Rattle.of_eval.specs.Tokens.{at_position, compiled, define_entry, definition_ended, leave_done};
+ghost use Rattle.of_eval.specs.Tokens.{semicolon_entry, turn_at, word_defined};
 
 use crate::control::{ControlWord, run_control};
 use crate::eval::Eval;
+use crate::methods::{Former, make_method, take_back};
 use of_code::CodeStore;
 use of_compile::{DefiningWord, Element, end_definition};
+use of_dict::OwnWord;
 use of_stacks::{Continuation, Input, LoopExit, Stop, Throw};
 use of_stream::HEADER_LENGTH;
 
 impl<C: CodeStore> Eval<C> {
     // ---- defining and compiling
 
-    /// A defining word: `b(:)` to `b(field)`.
-    pub(crate) fn define(&mut self, word: DefiningWord) -> Result<(), Stop>
+    /// Makes a word, which is no method yet.
+    fn make_word(&mut self, word: DefiningWord) -> Result<(), Stop>
         requires ready { self.old.parts.console.ready ≡ true }
-        ensures outcome { Ends true (define_entry flat_calls word self.old) self.old self.new result }
+        ensures outcome { (t : List Node) → Ends true (word_defined flat_calls word (with_tree t self.old))
+            (with_tree t self.old) (with_tree t self.new) result }
+        ensures named { OnOk result (named_next self.old.words.dictionary (name_pending self.old.words.pending)
+            ≡ named_at self.new.words.dictionary (length self.old.words.dictionary)) }
+        ensures stopped { OnErr result (self.new.words ≡ self.old.words) }
+        ensures tree { self.new.parts.tree ≡ self.old.parts.tree }
+        ensures active { self.new.parts.active ≡ self.old.parts.active }
         ensures ready { self.new.parts.console.ready ≡ true }
     {
         self.words.define(
@@ -33,12 +46,56 @@ impl<C: CodeStore> Eval<C> {
         Ok(())
     }
 
-    /// `b(;)` ( -- ) ends the open definition.
-    #[tactic(auto, using(crate::proofs::Endings::closing_leaves))]
-    pub(crate) fn semicolon(&mut self) -> Result<(), Stop>
+    /// A defining word: `b(:)` to `b(field)`. Its word becomes a method, unless it opens a definition.
+    pub(crate) fn define(&mut self, word: DefiningWord) -> Result<(), Stop>
         requires ready { self.old.parts.console.ready ≡ true }
-        ensures outcome { Ends true (semicolon_entry flat_calls self.old.words.defining self.old) self.old self.new
-            result }
+        ensures outcome { Ends true (define_entry flat_calls word self.old) self.old self.new result }
+        ensures ready { self.new.parts.console.ready ≡ true }
+    {
+        if word == DefiningWord::Colon {
+            return self.make_word(word);
+        }
+        let Some((next, name)) = self.words.named_next() else {
+            return self.make_word(word);
+        };
+        let home = self.parts.active.package;
+        let former = make_method(&mut self.parts.tree, home, name, next.xt())?;
+        match self.make_word(word) {
+            Ok(()) => {
+                self.hide_method(next, former);
+                Ok(())
+            }
+            Err(stop) => {
+                if let Some((_, name)) = self.words.named_next() {
+                    take_back(&mut self.parts.tree, name, former);
+                }
+                Err(stop)
+            }
+        }
+    }
+
+    /// Leaves a word that became a method out of every search of the dictionary.
+    fn hide_method(&mut self, word: OwnWord, former: Option<Former>)
+        requires ready { self.old.parts.console.ready ≡ true }
+        ensures state { self.new ≡ hidden_if (is_some former) word.0 self.old }
+        ensures ready { self.new.parts.console.ready ≡ true }
+    {
+        if former.is_some() {
+            self.words.hide(word);
+        }
+    }
+
+    /// Ends the open definition, whose word is no method yet.
+    #[tactic(auto, using(crate::proofs::Endings::closing_leaves))]
+    fn end_open(&mut self) -> Result<(), Stop>
+        requires ready { self.old.parts.console.ready ≡ true }
+        ensures outcome { (t : List Node) → Ends true (definition_ended flat_calls self.old.words.defining
+            (with_tree t self.old)) (with_tree t self.old) (with_tree t self.new) result }
+        ensures named { IfSome self.old.words.defining (λ n. name_in (word_at self.new.words.dictionary n)
+            ≡ name_in (word_at self.old.words.dictionary n)) }
+        ensures stopped { OnErr result (self.new.words ≡ self.old.words) }
+        ensures tree { self.new.parts.tree ≡ self.old.parts.tree }
+        ensures active { self.new.parts.active ≡ self.old.parts.active }
         ensures ready { self.new.parts.console.ready ≡ true }
     {
         self.coding.reserve(1)?;
@@ -48,6 +105,32 @@ impl<C: CodeStore> Eval<C> {
                 Ok(())
             }
             Err(fault) => Err(Stop::Thrown(fault)),
+        }
+    }
+
+    /// `b(;)` ( -- ) ends the open definition, whose word becomes a method.
+    pub(crate) fn semicolon(&mut self) -> Result<(), Stop>
+        requires ready { self.old.parts.console.ready ≡ true }
+        ensures outcome { Ends true (semicolon_entry flat_calls self.old.words.defining self.old) self.old self.new
+            result }
+        ensures ready { self.new.parts.console.ready ≡ true }
+    {
+        let Some((word, name)) = self.words.named_open() else {
+            return self.end_open();
+        };
+        let home = self.parts.active.package;
+        let former = make_method(&mut self.parts.tree, home, name, word.xt())?;
+        match self.end_open() {
+            Ok(()) => {
+                self.hide_method(word, former);
+                Ok(())
+            }
+            Err(stop) => {
+                if let Some((_, name)) = self.words.named_open() {
+                    take_back(&mut self.parts.tree, name, former);
+                }
+                Err(stop)
+            }
         }
     }
 

@@ -11,6 +11,7 @@ mod flow;
 mod heap;
 mod laws;
 mod loading;
+mod methods;
 mod often;
 mod parts;
 mod printing;

@@ -1,6 +1,6 @@
 -- A node that was found by its phandle, read and written.
 use Rattle.std.proofs.Common.{◌≡◌, ℕ, ◌<◌, suc, zero, Bool, true, List, [], ◌∷◌, length, get_or, set, Some, Result}
-use Rattle.std.proofs.Common.{Ok, Err}
+use Rattle.std.proofs.Common.{Ok, Err, Option}
 use Rattle.std.proofs.Common.{inl, inr, if◌then◌else◌, refl, ap, sym, ◌∙◌, arith}
 use Rattle.of_memory.specs.DataSpace.{DataSpace}
 use Rattle.of_cells.specs.declared.cells.Cell.{Cell}
@@ -9,13 +9,13 @@ use Rattle.of_nodes.specs.declared.phandles.Phandle.{Phandle}
 use Rattle.of_nodes.specs.declared.properties.Property.{Property}
 use Rattle.of_nodes.specs.declared.fault.NodeFault.{NodeFault}
 use Rattle.of_nodes.specs.declared.fault.NodeFault.TheVariants.{BadName}
-use Rattle.of_nodes.specs.Methods.{is_method_name, method_in, with_method}
+use Rattle.of_nodes.specs.Methods.{is_method_name, method_in, with_former, with_method}
 use Rattle.of_nodes.specs.Names.{may_hold}
 use Rattle.of_nodes.specs.Outcomes.{Sets}
 use Rattle.of_nodes.specs.Properties.{property_set, value_in, value_next, without}
 use Rattle.of_nodes.specs.Nodes.{AreNodes, next_at, next_found, deleted_at, number_of, properties_in, property_at}
 use Rattle.of_nodes.specs.Nodes.{added_at, method_added, method_at, method_found, methods_in, property_deleted}
-use Rattle.of_nodes.specs.Nodes.{with_methods}
+use Rattle.of_nodes.specs.Nodes.{former_at, method_taken_back, with_methods}
 use Rattle.of_nodes.specs.Nodes.{property_found, set_at, set_in, tree_property_set, with_properties}
 use Rattle.of_nodes.proofs.Rooted.{changed, changed_methods, methods_read, properties_read, with_methods_is}
 use Rattle.of_nodes.proofs.Rooted.{with_properties_is}
@@ -174,3 +174,20 @@ added_is (Err e) ns old i count ph m name xt ms f good h =
     ap (λ (l : List (List ℕ × Cell)). set ns i (record m { methods = l })) h.0
     ∙ (set_same ns i m f.within f.node ∙ f.same) in
     (nodes, elim h.1 [ inl z ↦ inl z | inr z ↦ absurd (never (with_method m.methods name xt) e z) ])
+
+former_if : (t : Bool) (l ns : List Node) → t ≡ true → (if t then l else ns) ≡ l
+former_if t l ns e = rw e refl
+
+-- what taking a method back leaves is what it leaves of the node
+pub former_is :
+    (ns old : List Node) (i count : ℕ) (ph : Phandle) (m : Node) (name : List ℕ) (before : Option Cell)
+    (ms : List (List ℕ × Cell)) → IsFound ns old i count ph m → is_method_name name ≡ true
+    → ms ≡ with_former m.methods name before
+    → set ns i (record m { methods = ms }) ≡ method_taken_back old ph name before
+former_is ns old i count ph m name before ms f good e =
+    let after = with_former (methods_in old i) name before in
+    let same : ms ≡ after =
+    e ∙ ap (λ (l : List (List ℕ × Cell)). with_former l name before) (sym (methods_is ns old i count ph m f)) in
+    sym (ap (former_at old name before) (number_is ns old i count ph m f)
+    ∙ (former_if (is_method_name name) (with_methods old i after) old good
+    ∙ (ap (with_methods old i) (sym same) ∙ methods_written ns old i count ph m ms f)))

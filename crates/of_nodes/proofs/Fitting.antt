@@ -156,7 +156,7 @@ clear_component name (Some unit) h u = (
   list_all-append (λ x. not (x == 58)) name (64 ∷ unit) ∙ rw (h.colon, u.colon) refl,
 )
 
-same_self : (xs : List ℕ) → same_name xs xs ≡ true
+pub same_self : (xs : List ℕ) → same_name xs xs ≡ true
 same_self [] = refl
 same_self (x ∷ xs) = rw (itself x, same_self xs) refl
 

@@ -15,3 +15,4 @@ mod Led
 mod PathTo
 mod Put
 mod FirstFound
+mod TakenBack

@@ -9,7 +9,7 @@ use Rattle.of_nodes.specs.declared.properties.Property.{Property}
 use Rattle.of_nodes.specs.declared.phandles.Phandle.{Phandle}
 use Rattle.of_nodes.specs.declared.fault.NodeFault.{NodeFault}
 use Rattle.of_nodes.specs.declared.fault.NodeFault.TheVariants.{BadName, NoNode, TooManyNodes}
-use Rattle.of_nodes.specs.Methods.{is_method_name, method_in, with_method}
+use Rattle.of_nodes.specs.Methods.{is_method_name, method_in, with_former, with_method}
 use Rattle.of_nodes.specs.Names.{may_hold}
 use Rattle.of_nodes.specs.Properties.{property_set, value_in, value_next, without}
 
@@ -138,6 +138,15 @@ added_at ns name xt (Some i) =
 
 abbrev pub method_added : List Node → Phandle → List ℕ → Cell → Result (List Node) NodeFault
 method_added ns ph name xt = added_at ns name xt (number_of (length ns) ph)
+
+-- the nodes with what the node with a phandle had as the method of a name before that was added
+abbrev pub former_at : List Node → List ℕ → Option Cell → Option ℕ → List Node
+former_at ns name before None = ns
+former_at ns name before (Some i) =
+    if is_method_name name then with_methods ns i (with_former (methods_in ns i) name before) else ns
+
+abbrev pub method_taken_back : List Node → Phandle → List ℕ → Option Cell → List Node
+method_taken_back ns ph name before = former_at ns name before (number_of (length ns) ph)
 
 -- the nodes with one more, which has these properties, and what making these left
 abbrev pub with_node :

@@ -24,6 +24,11 @@ abbrev pub with_entry : {V : Type 0} → List (List ℕ × V) → List ℕ → V
 with_entry [] name v = (name, v) ∷ []
 with_entry (e ∷ es) name v = if same_name name e.0 then (e.0, v) ∷ es else e ∷ with_entry es name v
 
+-- the entries with another value under a name, if it is there
+abbrev pub replaced : {V : Type 0} → List (List ℕ × V) → List ℕ → V → List (List ℕ × V)
+replaced [] name v = []
+replaced (e ∷ es) name v = if same_name name e.0 then (e.0, v) ∷ es else e ∷ replaced es name v
+
 -- the value under a name
 abbrev pub value_in : {V : Type 0} → List (List ℕ × V) → List ℕ → Option V
 value_in [] name = None

@@ -1,8 +1,8 @@
 ghost use Rattle.std.specs.Prelude.{◌≡◌, ◌≤◌, [], length, map, Ok};
 ghost use Rattle.std.specs.Char.{to_ascii_lowercase};
-ghost use Rattle.of_nodes.specs.Methods.{is_method_name, lower, method_in, with_method};
+ghost use Rattle.of_nodes.specs.Methods.{is_method_name, lower, method_in, with_former, with_method};
 ghost use Rattle.of_nodes.specs.Outcomes.{Sets};
-ghost use Rattle.of_nodes.specs.Properties.{value_in};
+ghost use Rattle.of_nodes.specs.Properties.{replaced, value_in, without};
 
 use crate::fault::NodeFault;
 use arrayvec::ArrayVec;
@@ -86,5 +86,34 @@ impl Methods {
         let key = name.to_ascii_lowercase(alloc)?;
         self.entries.insert(key, xt)?;
         Ok(())
+    }
+
+    /// Gives the name the word that it had before a word was made its method, or takes it out if it had none.
+    pub(crate) fn take_back(&mut self, name: &[u8], before: Option<Cell>)
+        requires { length name.now ≤ 31 }
+        ensures { self.new ≡ with_former self.old name.now before }
+    {
+        let key = key_of(name);
+        match before {
+            Some(xt) => self.replace(key.as_slice(), xt),
+            None => self.remove(key.as_slice()),
+        }
+    }
+
+    /// Gives a name in lower case another word, if it is there.
+    fn replace(&mut self, key: &[u8], xt: Cell)
+        ensures { self.new ≡ replaced self.old key.now xt }
+    {
+        match self.entries.get_mut(key) {
+            Some(kept) => *kept = xt,
+            None => {}
+        }
+    }
+
+    /// Takes a name in lower case out, if it is there. The others keep their order.
+    fn remove(&mut self, key: &[u8])
+        ensures { self.new ≡ without self.old key.now }
+    {
+        let _ = self.entries.shift_remove(key);
     }
 }

@@ -228,6 +228,10 @@ fn a_newer_method_takes_the_place_of_its_name(rt: HostRuntime) -> Result<(), Fai
     tree.add_method(slot, b"OPEN", Cell(0xc000_0004))?;
     assert_eq!(rt; tree.method(slot, b"open"), Ok(Some(Cell(0xc000_0004))));
     assert_eq!(rt; tree.method(slot, b""), Ok(None));
+    tree.take_back_method(slot, b"open", Some(Cell(0xc000_0000)));
+    assert_eq!(rt; tree.method(slot, b"OPEN"), Ok(Some(Cell(0xc000_0000))));
+    tree.take_back_method(slot, b"Open", None);
+    assert_eq!(rt; tree.method(slot, b"open"), Ok(None));
     let refused = tree.add_method(slot, b"", Cell(0xc000_0008));
     assert_eq!(rt; refused, Err(NodeFault::BadName));
     assert_eq!(rt;

@@ -1,5 +1,6 @@
-ghost use Rattle.std.specs.Prelude.{◌≡◌, ◌<◌, ◌≤◌, ◌+◌, ◌⊎◌, max, length, drop, Ok, Err, IfSome, IfOk, IfErr, OnOk};
+ghost use Rattle.std.specs.Prelude.{◌≡◌, ◌<◌, ◌≤◌, ◌+◌, ◌⊎◌, List, max, length, drop, Ok, Err, IfSome, IfOk, IfErr, OnOk};
 ghost use Rattle.of_nodes.specs.Nodes.{AreRooted, child_from, child_found, first_tree, method_added, method_found};
+ghost use Rattle.of_nodes.specs.Nodes.{method_taken_back};
 ghost use Rattle.of_nodes.specs.Nodes.{named_child, next_found, node_added, parent_found, parent_in, peer_found};
 ghost use Rattle.of_nodes.specs.Nodes.{property_deleted, property_found, tree_property_set};
 ghost use Rattle.of_nodes.specs.Lookup.{found, package_found};
@@ -304,6 +305,23 @@ impl Tree {
         }
         let node = &mut self.nodes[number];
         node.methods.set(self.alloc, name, xt)
+    }
+
+    /// Undoes the latest `add_method`, of this name and node, where the name had this method before, if any.
+    ///
+    /// Where there is no such node, or the name can't be a method's, nothing changes.
+    pub fn take_back_method(&mut self, node: Phandle, name: &[u8], before: Option<Cell>)
+        ensures value { self.new ≡ method_taken_back self.old node name.now before }
+        ensures undone { (t : List Node) (xt : Cell) → method_found t node name.now ≡ Ok before
+            → method_added t node name.now xt ≡ Ok self.old → self.new ≡ t }
+    {
+        let Some(number) = node.number(self.nodes.len()) else {
+            return;
+        };
+        if is_method_name(name) {
+            let node = &mut self.nodes[number];
+            node.methods.take_back(name, before);
+        }
     }
 
     /// The path of a node: `/` and, from the root's child on down, the components with `/` between. A

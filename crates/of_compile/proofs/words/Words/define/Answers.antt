@@ -9,8 +9,8 @@ use Rattle.of_compile.proofs.words.Words.define.Goals.{then-is_some-via-else-is_
 use Rattle.of_compile.proofs.words.Words.define.Goals as goal
 
 -- src/defining.rt:150:13
-pub returns-then-is_some : goal.returns-then-is_some
-returns-then-is_some g c =
+pub returns-then-is_some-clause-made : goal.returns-then-is_some-clause-made
+returns-then-is_some-clause-made g c =
     let old = making c.args.self.now c.args.stack.now c.args.memory.now in
     let e : (is_some old.words.defining || is_none old.words.pending) ≡ true = elim c.then-is_some.branch [
       | then-is_some-via-then-is_some w ↦ search rules
@@ -19,8 +19,8 @@ returns-then-is_some g c =
     (entry_nested c.args.word (end_of (g.C.CodeStore.code c.args.code.now)).cell old e, refl {a = old})
 
 -- src/defining.rt:154:27
-pub returns-in-Err : goal.returns-in-Err
-returns-in-Err g c =
+pub returns-in-Err-clause-made : goal.returns-in-Err-clause-made
+returns-in-Err-clause-made g c =
     let old = making c.args.self.now c.args.stack.now c.args.memory.now in
     let e : is_some old.words.defining ≡ false = search rules in
     let p : is_none old.words.pending ≡ false = search rules in

@@ -1,0 +1,94 @@
+use Rattle.std.proofs.Common.{◌≡◌, ℕ, List, Option, None, Some, Ok, Err, OnOk, true, false, sym, ap, subst, ◌∙◌, length, rules}
+use Rattle.std.specs.Option.{option_map}
+use Rattle.of_compile.specs.Words.{name_pending, named_at, named_next}
+use Rattle.of_compile.specs.declared.defining.DefiningWord.TheVariants as defining
+use Rattle.of_dict.specs.Words.{name_in, word_at}
+use Rattle.of_compile.specs.Defining.{opens}
+use Rattle.of_eval.specs.Methods.{MayMake, then_known, with_tree, xt_cell}
+use Rattle.of_eval.specs.State.{Ends, done, flat_calls}
+use Rattle.of_eval.specs.Tokens.{define_entry, known_at_once, word_defined}
+use Rattle.of_eval.proofs.MethodLemmas.{its_name, known_other, method_ends, method_undone, nameless_known}
+use Rattle.of_eval.proofs.MethodLemmas.{nothing_or_next, opens_later, over_its_tree, same_names}
+use Rattle.of_eval.proofs.eval.Eval.define.Goals as goal
+
+pub returns-then-eq-clause-outcome : goal.returns-then-eq-clause-outcome
+returns-then-eq-clause-outcome g c =
+    let d = c.args.word in
+    let old = c.args.self.now in
+    let new = c.make_word.new.self in
+    let is : d ≡ defining.Colon = search rules in
+    subst (λ o. Ends true o old new c.make_word.result) (sym (opens_later d old is))
+    (over_its_tree (word_defined flat_calls d) old new c.make_word.result c.make_word.ensures.tree
+    c.make_word.ensures.outcome)
+
+pub returns-in_default-clause-outcome : goal.returns-in_default-clause-outcome
+returns-in_default-clause-outcome g c =
+    let d = c.args.word in
+    let old = c.args.self.now in
+    let new = c.make_word-in_default.new.self in
+    let r = c.make_word-in_default.result in
+    let words = old.words.dictionary in
+    let none : None ≡ named_next words (name_pending old.words.pending) = search rules in
+    nameless_known (known_at_once d words) (length words) (word_defined flat_calls d old) old new r
+    (nothing_or_next d words)
+    (subst (λ x. OnOk r (x ≡ named_at new.words.dictionary (length words))) (sym none)
+    c.make_word-in_default.ensures.named)
+    (over_its_tree (word_defined flat_calls d) old new r c.make_word-in_default.ensures.tree
+    c.make_word-in_default.ensures.outcome)
+
+pub returns-in-Ok-clause-outcome : goal.returns-in-Ok-clause-outcome
+returns-in-Ok-clause-outcome g c =
+    let d = c.args.word in
+    let old = c.args.self.now in
+    let n = c.in-Some.next.0 in
+    let name = c.in-Some.name.now in
+    let former = c.in_ok-former.former in
+    let new = c.make_word-2.new.self in
+    let is : opens d ≡ false = search rules in
+    let active = c.in-Ok.ensures.active ∙ ap (λ s. s.parts.active) c.self.view_is in
+    let tree = c.in-Ok.ensures.tree in
+    let made =
+    subst (λ s. MayMake s.parts.active.«package» name c.xt.result former s.parts.tree new.parts.tree) c.self.view_is
+    (subst (λ t. MayMake c.self.inside.parts.active.«package» name c.xt.result former c.self.inside.parts.tree t)
+    (sym tree) c.in_ok-former.ensures.made) in
+    let xt : c.xt.result ≡ xt_cell n = ap (λ k. record { 0 = k }) c.xt.ensures in
+    let left = subst (λ s. word_defined flat_calls d (with_tree old.parts.tree s)
+    ≡ done (with_tree old.parts.tree new)) c.self.view_is (c.in-Ok.ensures.outcome old.parts.tree) in
+    let named = c.in-Some.ensures.next ∙ c.in-Ok.ensures.named in
+    let its = its_name (length c.self.inside.words.dictionary) n name
+    (name_in (word_at new.words.dictionary (length c.self.inside.words.dictionary))) named in
+    let number = its.0 ∙ ap (λ s. length s.words.dictionary) c.self.view_is in
+    let its_own = ap (λ k. name_in (word_at new.words.dictionary k)) its.0 ∙ its.1 in
+    let method =
+    subst (λ x. MayMake old.parts.active.«package» name x former old.parts.tree new.parts.tree) xt made in
+    known_other d old is
+    ∙ (ap (λ k. then_known (Some k) (word_defined flat_calls d old)) (sym number)
+    ∙ (method_ends (word_defined flat_calls d) n old new former name method left active its_own
+    ∙ ap done (sym c.hide_method.ensures.state)))
+
+pub returns-in-Some-named_next-clause-outcome : goal.returns-in-Some-named_next-clause-outcome
+returns-in-Some-named_next-clause-outcome g c =
+    let d = c.args.word in
+    let old = c.args.self.now in
+    let name = c.in-Some.name.now in
+    let former = c.in_ok-former.former in
+    let new = c.make_word-2.new.self in
+    let stop = c.in-Err.stop in
+    let is : opens d ≡ false = search rules in
+    let left = subst (λ s. Ends true (word_defined flat_calls d (with_tree old.parts.tree s))
+    (with_tree old.parts.tree s) (with_tree old.parts.tree new) (Err stop)) c.self.view_is
+    (c.in-Err.ensures.outcome old.parts.tree) in
+    let undone = method_undone (word_defined flat_calls d) (known_at_once d old.words.dictionary) old new stop left in
+    let words = ap (λ s. s.words) c.self-in-Err.view_is ∙ c.in-Err.ensures.stopped in
+    let text = c.in-Some-named_next.name.now in
+    let again = c.in-Some-named_next.ensures.next
+    ∙ (ap (λ w. named_next w.dictionary (name_pending w.pending)) words ∙ sym c.in-Some.ensures.next) in
+    let same = same_names c.in-Some.next.0 c.in-Some-named_next.field-0-0.0 name text again in
+    let made = subst (λ x. MayMake c.self.inside.parts.active.«package» x c.xt.result former c.self.inside.parts.tree
+    c.self-in-Err.inside.parts.tree) (sym same)
+    (subst (λ t. MayMake c.self.inside.parts.active.«package» name c.xt.result former c.self.inside.parts.tree t)
+    (sym (ap (λ s. s.parts.tree) c.self-in-Err.view_is ∙ c.in-Err.ensures.tree)) c.in_ok-former.ensures.made) in
+    let back = c.take_back.ensures c.self.inside.parts.active.«package» c.xt.result c.self.inside.parts.tree made
+    ∙ ap (λ s. s.parts.tree) c.self.view_is in
+    let final = ap (λ s. with_tree c.take_back.new.tree s) c.self-in-Err.view_is ∙ ap (λ t. with_tree t new) back in
+    subst (λ s. Ends true (define_entry flat_calls d old) old s (Err stop)) (sym final) undone

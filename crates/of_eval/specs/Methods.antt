@@ -1,0 +1,65 @@
+-- A named word becomes a method of the active package, or a global word where none is active (IEEE 1275-1994, 3.2.2
+-- and 5.3.3.1).
+use Rattle.std.specs.Prelude.{◌≡◌, ℕ, Bool, true, false, List, Option, Some, None, Result, Ok, Err}
+use Rattle.of_cells.specs.declared.cells.Cell.{Cell}
+use Rattle.of_stacks.specs.declared.throws.Throw.{Throw}
+use Rattle.of_dict.specs.Words.{name_in, word_at, xt_of}
+use Rattle.of_compile.specs.Defining.{hidden_word}
+use Rattle.of_nodes.specs.declared.tree.Node.{Node}
+use Rattle.of_nodes.specs.declared.phandles.Phandle.{Phandle}
+use Rattle.of_nodes.specs.declared.fault.NodeFault.{NodeFault}
+use Rattle.of_nodes.specs.Nodes.{method_added, method_found}
+use Rattle.of_eval.specs.declared.methods.Former.{Former}
+use Rattle.of_eval.specs.State.{Outcome, State}
+
+-- the nodes with a method, if it could be added
+abbrev pub nodes_with : Result (List Node) NodeFault → Option (List Node)
+nodes_with (Ok nodes) = Some nodes
+nodes_with (Err fault) = None
+
+-- the nodes with a word as the method of a name, where a package is active and there is a name
+abbrev pub method_made : Option Phandle → Option (List ℕ) → Cell → List Node → Option (List Node)
+method_made (Some node) (Some name) xt nodes = nodes_with (method_added nodes node name xt)
+method_made (Some node) None xt nodes = None
+method_made None name xt nodes = None
+
+abbrev pub with_tree : {S : Type 0} → List Node → State S → State S
+with_tree nodes s = record s { parts = record s.parts { tree = nodes } }
+
+-- no search of the dictionary finds word n, if it is a method
+abbrev pub hidden_if : {S : Type 0} → Bool → ℕ → State S → State S
+hidden_if true n s = record s { words = hidden_word n s.words }
+hidden_if false n s = s
+
+-- word n is a method from now on, and no search of the dictionary finds it; or it is a global word
+abbrev pub as_method : {S : Type 0} → Option (List Node) → ℕ → State S → State S
+as_method (Some nodes) n s = hidden_if true n (with_tree nodes s)
+as_method None n s = s
+
+abbrev pub xt_cell : ℕ → Cell
+xt_cell n = record { 0 = xt_of n }
+
+-- word n was made, and can be found by its name from now on
+abbrev pub known : {S : Type 0} → ℕ → State S → State S
+known n s =
+    as_method
+    (method_made s.parts.active.«package» (name_in (word_at s.words.dictionary n)) (xt_cell n) s.parts.tree) n s
+
+abbrev pub known_if : {S : Type 0} → Result (Unit {0}) Throw → ℕ → State S → State S
+known_if (Ok x) n s = known n s
+known_if (Err t) n s = s
+
+-- what making a word came to, which can be found by its name if nothing was thrown
+abbrev pub then_known : {S : Type 0} → Option ℕ → Outcome S → Outcome S
+then_known None o = o
+then_known (Some n) o = record { state = known_if o.ended n o.state; ended = o.ended }
+
+-- the word that a name meant in the package before
+abbrev pub WasFormer : Option Phandle → List ℕ → Former → List Node → Type 0
+WasFormer home name f old = (home ≡ Some f.node) × (method_found old f.node name ≡ Ok f.before)
+
+-- a word was made the method of a name, or couldn't be, and the nodes are as they were
+abbrev pub MayMake : Option Phandle → List ℕ → Cell → Option Former → List Node → List Node → Type 0
+MayMake home name xt None old new = (method_made home (Some name) xt old ≡ None) × (new ≡ old)
+MayMake home name xt (Some f) old new =
+    (method_made home (Some name) xt old ≡ Some new) × WasFormer home name f old
