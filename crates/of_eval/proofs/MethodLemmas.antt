@@ -1,7 +1,6 @@
 -- Words that become methods: what stays as it was, and what adding a method first comes to.
-use Rattle.std.proofs.Common.{◌≡◌, ℕ, Bool, true, false, List, Option, Some, None, Result, Ok, Err, is_some, length}
+use Rattle.std.proofs.Common.{◌≡◌, ℕ, true, false, List, Option, Some, None, Result, Ok, Err, is_some, length}
 use Rattle.std.proofs.Common.{refl, sym, ap, subst, ◌∙◌, ◌⊎◌, inl, inr, IfSome, OnOk}
-use Rattle.std.proofs.Common.{if◌then◌else◌}
 use Rattle.std.specs.Option.{option_map}
 use Rattle.of_cells.specs.declared.cells.Cell.{Cell}
 use Rattle.of_stacks.specs.declared.stop.Stop.{Stop}
@@ -20,7 +19,7 @@ use Rattle.of_eval.specs.declared.methods.Former.{Former}
 use Rattle.of_eval.specs.Methods.{MayMake, as_method, hidden_if, known, known_if, method_made, then_known, with_tree}
 use Rattle.of_eval.specs.Methods.{xt_cell}
 use Rattle.of_eval.specs.State.{Ends, Outcome, State, done, flat_calls}
-use Rattle.of_eval.specs.Tokens.{define_entry, definition_ended, known_at_once, semicolon_entry, word_defined}
+use Rattle.of_eval.specs.Tokens.{define_entry, known_at_once, word_defined}
 
 -- ---- what stays as it was
 

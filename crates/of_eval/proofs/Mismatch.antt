@@ -1,6 +1,6 @@
 -- The law `mismatch_is_no_body`.
 use Rattle.std.proofs.Common.{◌≡◌, ◌↔◌, ℕ, nat_abs, Bool, true, false, [], ◌∷◌, Option, Some, None, Result, Ok}
-use Rattle.std.proofs.Common.{Err, refl, ap, arith, if◌then◌else◌}
+use Rattle.std.proofs.Common.{Err, refl, ap, ◌∙◌, arith, if◌then◌else◌}
 use Rattle.of_cells.specs.declared.cells.Cell.{Cell}
 use Rattle.of_code.specs.declared.item.Item.TheVariants as item
 use Rattle.of_control.specs.Body.{Body}

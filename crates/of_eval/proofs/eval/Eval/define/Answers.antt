@@ -1,5 +1,4 @@
-use Rattle.std.proofs.Common.{◌≡◌, ℕ, List, Option, None, Some, Ok, Err, OnOk, true, false, sym, ap, subst, ◌∙◌, length, rules}
-use Rattle.std.specs.Option.{option_map}
+use Rattle.std.proofs.Common.{◌≡◌, None, Some, Err, OnOk, true, false, sym, ap, subst, ◌∙◌, length, rules}
 use Rattle.of_compile.specs.Words.{name_pending, named_at, named_next}
 use Rattle.of_compile.specs.declared.defining.DefiningWord.TheVariants as defining
 use Rattle.of_dict.specs.Words.{name_in, word_at}

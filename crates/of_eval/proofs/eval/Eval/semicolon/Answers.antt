@@ -1,4 +1,4 @@
-use Rattle.std.proofs.Common.{◌≡◌, ℕ, List, Option, None, Some, Ok, Err, IfSome, true, sym, ap, subst, ◌∙◌, rules}
+use Rattle.std.proofs.Common.{◌≡◌, None, Err, IfSome, true, sym, ap, subst, ◌∙◌, rules}
 use Rattle.of_compile.specs.Words.{named_open}
 use Rattle.of_dict.specs.Words.{name_in, word_at}
 use Rattle.of_eval.specs.Methods.{MayMake, then_known, with_tree, xt_cell}
