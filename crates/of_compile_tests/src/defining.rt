@@ -125,7 +125,6 @@ impl Bench {
         let code = FCode(u16::from_str_radix(text, 16).unwrap_or(0));
         let name = parts.next().unwrap_or("").as_bytes();
         let xt = self.xt_of(code);
-        let flag = self.flag_of(text);
         match kind {
             "new" => Ok(self.words.announce(TokenMaker::New, code, &self.memory)?),
             "named" => Ok(
@@ -139,15 +138,24 @@ impl Bench {
             "to" => Ok(self.words.store(xt, &mut self.stack)?),
             "kind" => self.push_kind(xt),
             "word" => Ok(self.stack.try_push(Cell::flag(self.words.is_word(xt)))?),
-            "open" => Ok(
-                self.stack
-                    .try_push(self.words.open_xt().unwrap_or(Cell::ZERO))?,
-            ),
-            "find" => Ok(
-                self.stack
-                    .try_push(xt_of(self.words.dictionary().find(text.as_bytes())))?,
-            ),
-            _ => Ok(self.stack.try_push(flag)?),
+            "hide" => {
+                if let Some(word) = self.words.dictionary().find(text.as_bytes()) {
+                    self.words.hide(word);
+                }
+                Ok(())
+            }
+            _ => Ok(self.stack.try_push(self.asked(kind, text))?),
+        }
+    }
+
+    /// What a line asks of the words: an execution token, or 0, or whether a word is immediate.
+    fn asked(&self, kind: &str, text: &str) -> Cell {
+        match kind {
+            "open" => self.words.open_xt().unwrap_or(Cell::ZERO),
+            "opened" => xt_of(self.words.named_open().map(|word| word.0)),
+            "next" => xt_of(self.words.named_next().map(|word| word.0)),
+            "find" => xt_of(self.words.dictionary().find(text.as_bytes())),
+            _ => self.flag_of(text),
         }
     }
 
@@ -236,8 +244,10 @@ new:80d -> throw -29
 compile, -> throw -4
 c0000080 compile, ; find:loop flag:loop kind:80c -> c0000558 0 0 1
 immediate flag:loop 80c get-token -> ffffffff c0000558 0
+next: opened: hide:loop find:loop -> 0 0 0
 external:80d:gone colon c0000558 compile, give-up 80d get-token -> throw -256
-external:80e:next colon ; kind:80e -> 2 1
+external:80e:next next: colon opened: next: ; kind:80e -> c0000560 c0000560 0 2 1
+new:80f next: -> 0
 find:gone new:80d 1 constant 80d get-token -> 0 c0000564 0
 c0000080 1 810 set-token 810 get-token -> c0000080 ffffffff
 c0000530 0 810 set-token 810 get-token -> c0000530 0

@@ -87,15 +87,20 @@ fn shown(alloc: Global, machine: &ScriptMachine) -> Result<String, Fail> {
     Ok(text)
 }
 
-/// What images make on one machine, loaded one after another, with `+` between, each behind the path of its node.
-fn made(alloc: Global, loads: &str) -> Result<String, Fail> {
+/// A machine on which images have run, loaded one after another, with `+` between, each behind the path of its node.
+fn run_loads(alloc: Global, loads: &str) -> Result<ScriptMachine, Fail> {
     let mut machine = Machine::new(alloc, ListCode::new(alloc))?;
     for load in loads.split('+') {
         let (path, tokens) = load.trim().split_once(' ').unwrap_or(("", ""));
         machine.load(image_of(alloc, tokens)?.as_slice(), path)?;
         machine.run(999)?;
     }
-    shown(alloc, &machine)
+    Ok(machine)
+}
+
+/// What such images print, and the tree that they leave.
+fn made(alloc: Global, loads: &str) -> Result<String, Fail> {
+    shown(alloc, &run_loads(alloc, loads)?)
 }
 
 /// Images, each behind the path of the node that it is loaded for, and behind `|` what they print and the nodes that
@@ -121,6 +126,42 @@ d0000004 d0000008 d0000000 ffffffff d0000004 ;/slot name=736c6f7400
 /slot a5 a6 a7 0116 120163 0201 00 + /c@1,0 120161 120162 0110 00|\
 ;/c@1,0 name=6300 reg=000000010000000000000002 b=61
 ";
+
+/// Images that define words, each behind the path of its node, and behind `|` what they print. `find-method` (0207)
+/// finds a named word in the package that was active, with its execution token, and in no other.
+const METHODS: &str = "\
+/slot ca 03 666f6f 0801 b7 c2 1203 464f4f 10d0000008 0207 9b 9b 00|ffffffff c000052c
+/slot ca 03 666f6f 0801 b7 c2 1203 666f6f 10d0000004 0207 9b 00|0
+/slot b6 03 666f6f 0801 b7 c2 1203 666f6f 10d0000008 0207 9b 00|0
+/slot b5 0801 b7 c2 1203 666f6f 10d0000008 0207 9b 00|0
+/slot ca 03 666f6f 0801 b7 c2 ca 03 666f6f 0802 b7 c2 00 + /slot 1203 666f6f 10d0000008 0207 9b 9b 00|\
+ffffffff c0000530
+/slot 1000000005 ca 03 666f6f 0801 b8 1203 666f6f 10d0000008 0207 46 1d 9b 00|5
+/packages ca 03 666f6f 0801 b9 00 + /slot 1203 666f6f 10d0000004 0207 9b 9b 00|ffffffff c000052c
+/slot 011f ca 03 666f6f 0801 b9 0127 1203 666f6f 10d000000c 0207 9b 9b 00|ffffffff c000052c
+/slot 1000000005 ca 03 666f6f 0801 b8 ca 03 666f6f 0802 ba 00 + /slot 1203 666f6f 10d0000008 0207 9b 9b 00|\
+fault -4: stack underflow$ffffffff c000052c
+/slot ca 03 666f6f 0801 ba 00 + /slot 1203 666f6f 10d0000008 0207 9b 00|fault -4: stack underflow$0
+/slot ca 03 666f6f 0801 b7 13 0006 c2 00 + /slot 1203 666f6f 10d0000008 0207 9b 00|\
+fault -22: control structure mismatch$0
+";
+
+/// What images print on one machine, loaded one after another.
+fn said(alloc: Global, loads: &str) -> Result<String, Fail> {
+    let machine = run_loads(alloc, loads)?;
+    let mut text = String::new(alloc);
+    push_bytes(&mut text, machine.console())?;
+    Ok(text)
+}
+
+#[test]
+fn named_words_become_methods(rt: HostRuntime) -> Result<(), Fail> {
+    for line in METHODS.lines() {
+        let (loads, wanted) = line.split_once('|').unwrap_or(("", ""));
+        assert_eq!(rt; said(rt.alloc(), loads)?.trim_end(), wanted, "{loads}");
+    }
+    Ok(())
+}
 
 #[test]
 fn images_build_trees(rt: HostRuntime) -> Result<(), Fail> {
