@@ -73,9 +73,8 @@ fn call(name: &str, n: u32, stack: &mut ReturnStack) -> Result<u32, Throw> {
             Ok(0)
         }
         "r@" => Ok(stack.user()?.0),
-        "r>" => Ok(stack.take_user()?.0),
-        "i" => Ok(stack.index()?.0),
-        "j" => Ok(stack.outer_index()?.0),
+        "i" => Ok(stack.index(0)?.0),
+        "j" => Ok(stack.index(1)?.0),
         "+loop" => Ok(u32::from(stack.turn_loop(Cell(n))?)),
         "unloop" => Ok(stack.take_loop()?.index.0),
         "exit" => match stack.take_return()? {
@@ -99,11 +98,9 @@ const WORDS: &str = "\
 r@ 0 : u1 u2 : 2 : u1 u2
 r@ 0 : : -6 :
 r@ 0 : u1 return : -25 : u1 return
-r> 0 : u1 u2 : 2 : u1
-r> 0 : : -6 :
-r> 0 : u1 l5/9 : -25 : u1 l5/9
-r> 0 : u1 h0 : -25 : u1 h0
-r> 0 : source : -25 : source
+r@ 0 : u1 l5/9 : -25 : u1 l5/9
+r@ 0 : u1 h0 : -25 : u1 h0
+r@ 0 : source : -25 : source
 exit 0 : u1 return : 3 : u1
 exit 0 : return u1 : -25 : return u1
 exit 0 : return l5/9 : -25 : return l5/9

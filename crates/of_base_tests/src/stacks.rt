@@ -14,7 +14,6 @@ fn call(stack: &mut DataStack, name: &str, n: u32) -> Result<Cell, Throw> {
         "pop" => return stack.pop(),
         "peek" => return stack.peek(),
         "under" => return stack.under(n as usize),
-        "clear" => stack.clear(),
         "replace-top" if depth >= 1 => stack.replace_top(Cell(n)),
         "replace-two" if depth >= 2 => stack.replace_two(Cell(n)),
         "drop" if n as usize <= depth => stack.drop_top(n as usize),
@@ -49,8 +48,6 @@ replace-two 6 0 7 6
 push 3 0 7 6 3
 drop 2 0 7
 pop 0 7
-push 1 0 1
-clear 0 0
 ";
 
 /// Makes the call of a line, and answers what it gives.
@@ -178,17 +175,6 @@ fn faults_of(alloc: Global, faults: &str) -> Result<Vec<Option<Throw>>, Fail> {
     Ok(found)
 }
 
-/// The fault of a list that counts, two by two.
-fn first_of(faults: &[Option<Throw>]) -> Option<Throw> {
-    faults
-        .iter()
-        .fold(None, |first, fault| match (first, *fault) {
-            (Some(first), Some(fault)) => Some(first.first_of(fault)),
-            (first, None) => first,
-            (None, fault) => fault,
-        })
-}
-
 #[test]
 fn the_first_fault_counts(rt: HostRuntime) -> Result<(), Fail> {
     for line in FAULTS.lines() {
@@ -196,7 +182,6 @@ fn the_first_fault_counts(rt: HostRuntime) -> Result<(), Fail> {
         let faults = faults_of(rt.alloc(), faults)?;
         let wanted = Some(Throw(wanted.parse()?));
         assert_eq!(rt; Throw::counting(&faults), wanted, "{line}");
-        assert_eq!(rt; first_of(&faults), wanted, "{line}");
     }
     Ok(())
 }

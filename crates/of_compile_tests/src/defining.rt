@@ -300,7 +300,7 @@ fn holds(bench: &mut Bench, line: &str) -> bool {
     let Some((words, expected)) = line.split_once(" -> ") else {
         return false;
     };
-    bench.stack.clear();
+    bench.stack.cut_to(0);
     let thrown = run_words(bench, words);
     match expected.strip_prefix("throw ") {
         Some(number) => number.parse() == Ok(thrown),

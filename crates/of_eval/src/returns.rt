@@ -57,8 +57,8 @@ pub fn run_stacks_word(
             let _ = items.take_loop()?;
             Ok(())
         }
-        ReturnsWord::Index => stack.try_push(items.index()?),
-        ReturnsWord::OuterIndex => stack.try_push(items.outer_index()?),
+        ReturnsWord::Index => stack.try_push(items.index(0)?),
+        ReturnsWord::OuterIndex => stack.try_push(items.index(1)?),
         ReturnsWord::Exit | ReturnsWord::Execute => Err(Throw::NOT_ASSIGNED),
     }
 }

@@ -16,7 +16,7 @@ use of_compile::abandon_definition;
 use of_memory::Memory;
 use of_nodes::Phandle;
 use of_stacks::{
-    Continuation, Due, ExceptionFrame, Input, Reading, ReturnItem, ReturnStack, Throw,
+    Continuation, DataStack, Due, ExceptionFrame, Input, Reading, ReturnItem, ReturnStack, Throw,
 };
 
 /// Nothing is read.
@@ -163,7 +163,7 @@ impl<C: CodeStore> Eval<C> {
         ensures state { self.new ≡ uncaught flat_calls thrown self.old }
         ensures ended { self.new.flow.is_running ≡ false }
     {
-        self.parts.stack.clear();
+        self.parts.stack = DataStack::new();
         self.parts.console.print_fault(thrown);
         self.parts.active.finish_all();
         self.flow.items = ReturnStack::new();

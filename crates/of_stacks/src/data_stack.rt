@@ -251,11 +251,4 @@ impl DataStack {
             self.fill(count - 1);
         }
     }
-
-    /// Drops every cell.
-    pub fn clear(&mut self)
-        ensures { self.new ≡ [] }
-    {
-        self.cells.clear();
-    }
 }

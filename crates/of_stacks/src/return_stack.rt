@@ -127,7 +127,7 @@ impl ReturnStack {
         }
     }
 
-    /// The program's cell on top, as `r@` copies it (Forth 2012, 6.1.2070).
+    /// The program's cell on top, as `r@` and `r>` read it (Forth 2012, 6.1.2070, 6.1.2060).
     ///
     /// Throws -6 where no item is there, and -25 where the top item is no cell.
     #[inline]
@@ -143,20 +143,6 @@ impl ReturnStack {
             Some(ReturnItem::Caller(_)) => Err(Throw::RETURN_STACK_IMBALANCE),
             None => Err(Throw::RETURN_STACK_UNDERFLOW),
         }
-    }
-
-    /// Takes the program's cell on top, as `r>` does (Forth 2012, 6.1.2060).
-    ///
-    /// Throws -6 where no item is there, and -25 where the top item is no cell.
-    #[inline]
-    pub fn take_user(&mut self) -> Result<Cell, Throw>
-        ensures cell { result ≡ user_on_top self.old }
-        ensures rest { OnOk result (self.new ≡ drop 1 self.old) }
-        ensures unchanged { OnErr result (self.new ≡ self.old) }
-    {
-        let x = self.user()?;
-        let _ = self.pop();
-        Ok(x)
     }
 
     /// Takes the return on top, as `exit` does (Forth 2012, 6.1.1380), or throws -25 where the top
@@ -181,27 +167,20 @@ impl ReturnStack {
         }
     }
 
-    /// The index of the innermost loop of the running word, as `i` reads it (Forth 2012,
-    /// 6.1.1680): that of the topmost loop above the latest return, source or caller. Throws -26
-    /// where there is none.
+    /// The index of the loop of the running word in which so many other ones stand: `i` reads it
+    /// with 0, `j` with 1 (Forth 2012, 6.1.1680, 6.1.1730).
+    ///
+    /// The word's loops are those above the latest return, source or caller. Throws -26 where they
+    /// are too few.
     #[tactic(auto, unfolding(crate::specs::Loops::open_loops))]
     #[inline]
-    pub fn index(&self) -> Result<Cell, Throw>
-        ensures { result ≡ index_of (slice_get (open_loops self.now) 0) }
+    pub fn index(&self, inner: usize) -> Result<Cell, Throw>
+        ensures { result ≡ index_of (slice_get (open_loops self.now) inner) }
     {
         match self.peek() {
-            Some(ReturnItem::Loop(found)) => Ok(found.index),
-            _ => index_inside(self.items(), 0),
+            Some(ReturnItem::Loop(found)) if inner == 0 => Ok(found.index),
+            _ => index_inside(self.items(), inner),
         }
-    }
-
-    /// The index of the next outer loop of the running word, as `j` reads it (Forth 2012,
-    /// 6.1.1730), or -26 where there is none.
-    #[inline]
-    pub fn outer_index(&self) -> Result<Cell, Throw>
-        ensures { result ≡ index_of (slice_get (open_loops self.now) 1) }
-    {
-        index_inside(self.items(), 1)
     }
 
     /// The loop on top, or -26 where the top item is none. Nothing is changed.
@@ -310,7 +289,7 @@ impl ReturnStack {
                 cells.cut_to(frame.depth);
                 cells.push(Cell(thrown.0.cast_unsigned()));
             }
-            None => cells.clear(),
+            None => *cells = DataStack::new(),
         }
         found
     }

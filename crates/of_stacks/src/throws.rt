@@ -104,7 +104,7 @@ impl Throw {
     ///
     /// A word used where it can't be comes first, then what is missing on a stack, then handles,
     /// addresses, names and numbers; what finds no room comes last.
-    pub fn first_of(self, other: Throw) -> Throw
+    fn first_of(self, other: Throw) -> Throw
         ensures { result ≡ first_of self other }
     {
         if rank(self.0) <= rank(other.0) {

@@ -22,7 +22,9 @@ fn put(x: Cell, stack: &mut ReturnStack) -> Result<(), Throw> {
 /// `r>`, as a word calls it.
 #[inline(never)]
 fn take(stack: &mut ReturnStack) -> Result<Cell, Throw> {
-    stack.take_user()
+    let x = stack.user()?;
+    let _ = stack.pop();
+    Ok(x)
 }
 
 /// Puts cells on the stack and takes them.
@@ -96,7 +98,7 @@ pub fn steps(count: u32, step: u32) -> Result<u32, Throw> {
 /// `i`, as a word calls it.
 #[inline(never)]
 fn index(stack: &ReturnStack) -> Result<Cell, Throw> {
-    stack.index()
+    stack.index(0)
 }
 
 /// Turns a loop without end, and reads its index.
@@ -114,7 +116,7 @@ pub fn indices(count: u32) -> Result<u32, Throw> {
 /// `j`, as a word calls it.
 #[inline(never)]
 fn outer_index(stack: &ReturnStack) -> Result<Cell, Throw> {
-    stack.outer_index()
+    stack.index(1)
 }
 
 /// Turns a loop without end, and reads the index of the one that it stands in.
