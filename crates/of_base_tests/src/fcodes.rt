@@ -103,19 +103,19 @@ fn written(rt: HostRuntime) -> Result<(), Fail> {
     Ok(())
 }
 
-/// The number of the written word of a name, or 0xffff.
-fn number_with(name: &[u8]) -> u16 {
+/// The execution token of the written word of a name, or 0.
+fn xt_with(name: &[u8]) -> u32 {
     match word_with_name(name) {
-        Some(word) => word.number(),
-        None => 0xffff,
+        Some(word) => word.xt(),
+        None => 0,
     }
 }
 
 #[test]
 fn written_names(rt: HostRuntime) {
     assert_eq!(rt; FIRST_WRITTEN + 4 * 331, FIRST_OWN);
-    assert_eq!(rt; number_with(b"EXECUTE"), 99);
-    assert_eq!(rt; number_with(b"to,"), 330);
-    assert_eq!(rt; number_with(b"nothing"), 0xffff);
+    assert_eq!(rt; xt_with(b"EXECUTE"), 0xc000_018c);
+    assert_eq!(rt; xt_with(b"to,"), 0xc000_0528);
+    assert_eq!(rt; xt_with(b"nothing"), 0);
     written_words_are_found();
 }

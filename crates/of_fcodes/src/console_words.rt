@@ -2,7 +2,7 @@
 
 /// Further ordinary words of the console, which have no FCode.
 /// Each has its number in the list of written words.
-#[derive(Clone, Copy, Debug, PartialEq, Eq)]
+#[derive(Clone, Copy)]
 pub enum ConsoleWord {
     /// `1+`
     OnePlus = 256,
@@ -66,7 +66,7 @@ pub enum ConsoleWord {
 
 /// Words of the console that read more of its text.
 /// Each has its number in the list of written words.
-#[derive(Clone, Copy, Debug, PartialEq, Eq)]
+#[derive(Clone, Copy)]
 pub enum ParsingWord {
     /// `:`
     Colon = 285,
@@ -112,7 +112,7 @@ pub enum ParsingWord {
 
 /// Words of the console that serve while a definition is compiled, and only then.
 /// Each has its number in the list of written words.
-#[derive(Clone, Copy, Debug, PartialEq, Eq)]
+#[derive(Clone, Copy)]
 pub enum CompilingWord {
     /// `;`
     Semicolon = 305,

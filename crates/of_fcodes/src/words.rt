@@ -1,7 +1,7 @@
 use crate::console_words::{CompilingWord, ConsoleWord, ParsingWord};
 
 /// A written word, by its group.
-#[derive(Clone, Copy, Debug, PartialEq, Eq)]
+#[derive(Clone, Copy)]
 pub enum Word {
     /// Stream, control and defining tokens: they act on the image that is read.
     Stream(StreamWord),
@@ -34,7 +34,7 @@ pub enum Word {
 }
 
 /// A word over the data stack, the data space and the pictured text, by its group.
-#[derive(Clone, Copy, Debug, PartialEq, Eq)]
+#[derive(Clone, Copy)]
 pub enum PrimitiveWord {
     /// Arithmetic and logic over the data stack.
     Arithmetic(ArithmeticWord),
@@ -56,7 +56,7 @@ pub enum PrimitiveWord {
 
 /// Stream, control and defining tokens: they act on the image that is read.
 /// Each has its number in the list of written words.
-#[derive(Clone, Copy, Debug, PartialEq, Eq)]
+#[derive(Clone, Copy)]
 pub enum StreamWord {
     /// `end0`
     End0 = 0,
@@ -126,7 +126,7 @@ pub enum StreamWord {
 
 /// Arithmetic and logic over the data stack.
 /// Each has its number in the list of written words.
-#[derive(Clone, Copy, Debug, PartialEq, Eq)]
+#[derive(Clone, Copy)]
 pub enum ArithmeticWord {
     /// `+`
     Plus = 32,
@@ -182,7 +182,7 @@ pub enum ArithmeticWord {
 
 /// Comparisons, which give flags.
 /// Each has its number in the list of written words.
-#[derive(Clone, Copy, Debug, PartialEq, Eq)]
+#[derive(Clone, Copy)]
 pub enum ComparingWord {
     /// `0=`
     IsZero = 57,
@@ -224,7 +224,7 @@ pub enum ComparingWord {
 
 /// The data stack alone.
 /// Each has its number in the list of written words.
-#[derive(Clone, Copy, Debug, PartialEq, Eq)]
+#[derive(Clone, Copy)]
 pub enum StacksWord {
     /// `drop`
     Drop = 75,
@@ -264,7 +264,7 @@ pub enum StacksWord {
 
 /// Sizes and addresses.
 /// Each has its number in the list of written words.
-#[derive(Clone, Copy, Debug, PartialEq, Eq)]
+#[derive(Clone, Copy)]
 pub enum AddressesWord {
     /// `/c`
     ByteSize = 100,
@@ -308,7 +308,7 @@ pub enum AddressesWord {
 
 /// Reads and writes of the data space.
 /// Each has its number in the list of written words.
-#[derive(Clone, Copy, Debug, PartialEq, Eq)]
+#[derive(Clone, Copy)]
 pub enum MemoryWord {
     /// `on`
     On = 119,
@@ -358,7 +358,7 @@ pub enum MemoryWord {
 
 /// Splits and joins of cells.
 /// Each has its number in the list of written words.
-#[derive(Clone, Copy, Debug, PartialEq, Eq)]
+#[derive(Clone, Copy)]
 pub enum SplittingWord {
     /// `lwsplit`
     Lwsplit = 142,
@@ -382,7 +382,7 @@ pub enum SplittingWord {
 
 /// Characters and strings.
 /// Each has its number in the list of written words.
-#[derive(Clone, Copy, Debug, PartialEq, Eq)]
+#[derive(Clone, Copy)]
 pub enum TextWord {
     /// `upc`
     UpperCase = 151,
@@ -406,7 +406,7 @@ pub enum TextWord {
 
 /// Numbers as text, and the numbers that have FCodes of their own.
 /// Each has its number in the list of written words.
-#[derive(Clone, Copy, Debug, PartialEq, Eq)]
+#[derive(Clone, Copy)]
 pub enum NumbersWord {
     /// `<#`
     Begin = 165,
@@ -450,7 +450,7 @@ pub enum NumbersWord {
 
 /// What prints to the console.
 /// Each has its number in the list of written words.
-#[derive(Clone, Copy, Debug, PartialEq, Eq)]
+#[derive(Clone, Copy)]
 pub enum PrintingWord {
     /// `emit`
     Emit = 157,
@@ -472,7 +472,7 @@ pub enum PrintingWord {
 
 /// What takes a block of the heap.
 /// Each has its number in the list of written words.
-#[derive(Clone, Copy, Debug, PartialEq, Eq)]
+#[derive(Clone, Copy)]
 pub enum HeapWord {
     /// `alloc-mem`
     AllocMem = 140,
@@ -480,7 +480,7 @@ pub enum HeapWord {
 
 /// What asks for input.
 /// Each has its number in the list of written words.
-#[derive(Clone, Copy, Debug, PartialEq, Eq)]
+#[derive(Clone, Copy)]
 pub enum KeysWord {
     /// `key?`
     KeyReady = 155,
@@ -490,7 +490,7 @@ pub enum KeysWord {
 
 /// The return stack, and what begins or ends a word.
 /// Each has its number in the list of written words.
-#[derive(Clone, Copy, Debug, PartialEq, Eq)]
+#[derive(Clone, Copy)]
 pub enum ReturnsWord {
     /// `>r`
     ToReturn = 92,
@@ -512,7 +512,7 @@ pub enum ReturnsWord {
 
 /// Words, tokens and their tables.
 /// Each has its number in the list of written words.
-#[derive(Clone, Copy, Debug, PartialEq, Eq)]
+#[derive(Clone, Copy)]
 pub enum DictionaryWord {
     /// `body>`
     FromBody = 189,
@@ -542,7 +542,7 @@ pub enum DictionaryWord {
 
 /// `abort`, `catch` and `throw`.
 /// Each has its number in the list of written words.
-#[derive(Clone, Copy, Debug, PartialEq, Eq)]
+#[derive(Clone, Copy)]
 pub enum ThrowsWord {
     /// `abort`
     Abort = 201,
@@ -554,7 +554,7 @@ pub enum ThrowsWord {
 
 /// Properties of packages.
 /// Each has its number in the list of written words.
-#[derive(Clone, Copy, Debug, PartialEq, Eq)]
+#[derive(Clone, Copy)]
 pub enum PropertiesWord {
     /// `property`
     Property = 204,
@@ -596,7 +596,7 @@ pub enum PropertiesWord {
 
 /// Packages and instances.
 /// Each has its number in the list of written words.
-#[derive(Clone, Copy, Debug, PartialEq, Eq)]
+#[derive(Clone, Copy)]
 pub enum TreeWord {
     /// `new-device`
     NewDevice = 222,
@@ -642,7 +642,7 @@ pub enum TreeWord {
 
 /// Accesses to devices, and time.
 /// Each has its number in the list of written words.
-#[derive(Clone, Copy, Debug, PartialEq, Eq)]
+#[derive(Clone, Copy)]
 pub enum DevicesWord {
     /// `cpeek`
     PeekByte = 242,

@@ -55,7 +55,7 @@ impl PrimitiveWord {
 impl Word {
     /// The place of the word in the list of written words, from 0 to 330.
     #[inline]
-    pub fn number(self) -> u16
+    fn number(self) -> u16
         ensures value { result ≡ number_of self }
         ensures fits { result < 331 }
     {
