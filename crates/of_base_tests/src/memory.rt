@@ -71,9 +71,7 @@ fn put(memory: &mut Memory, word: &str, x: Cell, y: Cell, text: &[u8]) -> Result
         "append-copy" => memory.append_copy(x, y, text),
         "store" => nothing(memory.write_bytes(x, text)),
         "property" => memory.put_property(text),
-        "property-copy" => memory.copy_property(x, y, text),
         "named" => second(memory.put_named(text, b"val")),
-        "named-copy" => second(memory.copy_named(text, x, y, b"\0")),
         "is-latest" => Ok(Cell(u32::from(memory.latest_image() == text))),
         _ => memory.image_push(text),
     }
@@ -289,33 +287,13 @@ region allot fffc0000 0 0 - 0
 region here 0 0 0 - 100000
 ";
 
-/// Properties: a name and a value are put together or not at all, and a value is copied as it was
-/// before its name was put.
+/// Properties: their names and values stand one behind another.
 const PROPERTIES: &str = "\
 put property 0 0 0 name 200010
 put property 0 0 0 board 200014
 put named 0 0 0 ab 200020
 access read16 20001c 0 0 - 6162
 access read32 200020 0 0 - 76616c00
-put property-copy 200014 5 0 ! 200024
-access read32 200024 0 0 - 626f6172
-access read16 200028 0 0 - 6421
-put named-copy 200010 4 0 xyz 200030
-access read32 20002c 0 0 - 78797a00
-access read32 200030 0 0 - 6e616d65
-access read8 200034 0 0 - 0
-put named-copy 200038 8 0 pqrs 20003c
-access read32 200038 0 0 - 70717273
-access read32 20003c 0 0 - 0
-put property-copy 440000 1 0 - Address
-put named-copy 440000 1 0 a Address
-put property-copy 100000 1ffb9 0 - Full
-put property-copy 100000 1ffb4 0 - 200048
-put named 0 0 0 ab Full
-access read32 21fffc 0 0 - 0
-put property 0 0 0 a 21fffc
-put property 0 0 0 a Full
-put property-copy c0000000 0 0 - 220000
 region state 1 0 0 - 0
 access read32 200000 0 0 - ffffffff
 region state 0 0 0 - 0
@@ -386,6 +364,19 @@ fn what_grows(rt: HostRuntime) -> Result<(), Fail> {
     run(&rt, rt.alloc(), DATA)?;
     run(&rt, rt.alloc(), PROPERTIES)?;
     run(&rt, rt.alloc(), IMAGES)
+}
+
+/// A name and a value are put together or not at all.
+#[test]
+fn properties_of_a_full_region(rt: HostRuntime) -> Result<(), Fail> {
+    let mut memory = Memory::new(rt.alloc())?;
+    let zeros = Vec::from_slice(rt.alloc(), memory.slice(Cell(0x10_0000), Cell(0x1_ffec))?)?;
+    assert_eq!(rt; memory.put_property(&zeros), Ok(Cell(0x20_0010)));
+    assert_eq!(rt; memory.put_named(b"ab", b"val"), Err(Full));
+    assert_eq!(rt; memory.read32(Cell(0x21_fffc)), Ok(Cell(0)));
+    assert_eq!(rt; memory.put_property(b"a"), Ok(Cell(0x21_fffc)));
+    assert_eq!(rt; memory.put_property(b"a"), Err(Full));
+    Ok(())
 }
 
 /// Two instances with blocks of 8, 16 and 8 bytes where 48 are free: the first finds room, and the

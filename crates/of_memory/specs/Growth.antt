@@ -61,10 +61,6 @@ property_put_at m xs a =
 abbrev pub property_put : DataSpace → List ℕ → Result (ℕ × DataSpace) MemFault
 property_put m xs = property_put_at m xs (aligned m.properties_end)
 
--- what storing n bytes of memory and then a tail, as a property's value, answers and leaves
-abbrev pub property_copied : DataSpace → ℕ → ℕ → List ℕ → Result (ℕ × DataSpace) MemFault
-property_copied m a n tail = with_read (read_bytes m a n) (λ xs. property_put m (xs ++ tail))
-
 -- one address before another, where there is one
 abbrev pub with_name : ℕ → Result (ℕ × DataSpace) MemFault → Result (ℕ × ℕ × DataSpace) MemFault
 with_name a (Err fault) = Err fault
@@ -78,10 +74,6 @@ value_put value (Ok x) = with_name x.0 (property_put x.1 value)
 -- what storing a property's name and then its value answers and leaves
 abbrev pub named_put : DataSpace → List ℕ → List ℕ → Result (ℕ × ℕ × DataSpace) MemFault
 named_put m name value = value_put value (property_put m name)
-
--- the same where the value is n bytes of memory, as they were before, and then a tail
-abbrev pub named_copied : DataSpace → List ℕ → ℕ → ℕ → List ℕ → Result (ℕ × ℕ × DataSpace) MemFault
-named_copied m name a n tail = with_read (read_bytes m a n) (λ xs. named_put m name (xs ++ tail))
 
 -- the data space with the cell `state` true or false
 abbrev pub with_state : DataSpace → Bool → DataSpace
