@@ -1,8 +1,8 @@
 -- What fits in the property and image regions.
-use Rattle.std.proofs.Common.{◌≡◌, ℕ, ◌+◌, ◌<◌, ◌≤◌, nat_le, nat_lt, true, false, ◌&&◌, ◌⊎◌, List, [], ◌∷◌, ◌++◌}
+use Rattle.std.proofs.Common.{◌≡◌, ℕ, ◌+◌, ◌<◌, ◌≤◌, nat_le, nat_lt, true, false, ◌&&◌, ◌⊎◌, List, [], ◌∷◌}
 use Rattle.std.proofs.Common.{length, Result, Ok, Err, lit≤, refl, arith}
 use Rattle.std.proofs.lemmas.Bool.Decides.{nat_tests}
-use Rattle.of_memory.specs.Regions.{place_of, property_limit, image_limit, image_count}
+use Rattle.of_memory.specs.Regions.{image_limit, image_count}
 use Rattle.of_memory.specs.declared.fault.MemFault.{MemFault}
 use Rattle.of_memory.specs.declared.fault.MemFault.TheVariants.{Full}
 use Rattle.of_memory.specs.DataSpace.{DataSpace, AreStacked, written, free_after}
