@@ -7,7 +7,7 @@ use of_code::CodeStore;
 use of_compile::Words;
 use of_fcodes::FCode;
 use of_memory::Memory;
-use of_nodes::Tree;
+use of_nodes::{Phandle, Tree};
 use of_stacks::{Continuation, Input};
 use of_stream::Stream;
 
@@ -38,6 +38,13 @@ impl<C: CodeStore> Eval<C> {
         ensures { result.now ≡ self.now.parts.tree }
     {
         &self.parts.tree
+    }
+
+    /// The active package, if there is one.
+    pub fn active_package(&self) -> Option<Phandle>
+        ensures { result ≡ self.now.parts.active.«package» }
+    {
+        self.parts.active.package
     }
 
     /// All bytes printed so far.
