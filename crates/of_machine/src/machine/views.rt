@@ -1,7 +1,7 @@
 ghost use Rattle.std.specs.Prelude.{◌≡◌, length, reverse};
 ghost use Rattle.of_eval.specs.Views.{next_token};
 ghost use Rattle.of_machine.specs.States.{is_running};
-ghost use Rattle.of_machine.specs.Views.{byte_of, xt_named, xt_numbered};
+ghost use Rattle.of_machine.specs.Views.{active_method, byte_of, xt_named, xt_numbered};
 
 use super::Machine;
 use of_cells::Cell;
@@ -63,11 +63,28 @@ impl<C: CodeStore> Machine<C> {
         self.eval.is_running()
     }
 
-    /// The execution token of the word that a name finds, if there is one: the newest own word of that name comes
-    /// before the written one. The case of letters doesn't count (Forth 2012, 3.4.2).
-    pub fn word(&self, name: &[u8]) -> Option<Cell>
-        ensures { result ≡ xt_named self.now.eval.words name.now }
+    /// The execution token of the method that a name has in the active package, if there is one.
+    fn active_method(&self, name: &[u8]) -> Option<Cell>
+        ensures { result ≡ active_method self.now.eval.parts.tree self.now.eval.parts.active.«package» name.now }
     {
+        let Some(package) = self.eval.active_package() else {
+            return None;
+        };
+        match self.eval.tree().method(package, name) {
+            Ok(method) => method,
+            Err(_) => None,
+        }
+    }
+
+    /// The execution token of the word that a name finds, if there is one. The search order is the active package,
+    /// whose methods come first, then own words, the newest first, then written words (IEEE 1275-1994, 5.3.2 and
+    /// 5.3.3.1; Forth 2012, 16.3.3). The case of ASCII letters doesn't count (Forth 2012, 3.4.2).
+    pub fn word(&self, name: &[u8]) -> Option<Cell>
+        ensures { result ≡ xt_named self.now.eval name.now }
+    {
+        if let Some(method) = self.active_method(name) {
+            return Some(method);
+        }
         match self.eval.words().dictionary().find(name) {
             Some(word) => Some(word.xt()),
             None => match word_with_name(name) {
