@@ -16,3 +16,4 @@ mod PathTo
 mod Put
 mod FirstFound
 mod TakenBack
+mod MethodLaw

@@ -11,3 +11,4 @@ pub mod Tree
 pub mod TreePaths
 pub mod Ways
 pub mod FirstPaths
+pub mod MethodLaw

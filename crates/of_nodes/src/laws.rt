@@ -1,5 +1,6 @@
 //! What the calls over the nodes say of the tree.
 ghost use Rattle.of_nodes.specs.FirstPaths.{FirstPathsFind};
+ghost use Rattle.of_nodes.specs.MethodLaw.{MethodsAreFound};
 ghost use Rattle.of_nodes.specs.Tree.{TreeIsShown};
 ghost use Rattle.of_nodes.specs.TreePaths.{TreeFinds};
 ghost use Rattle.of_nodes.specs.Ways.{PathsFind};
@@ -29,4 +30,11 @@ pub fn tree_finds()
 #[tactic(auto, using(crate::proofs::FirstFound::first_paths_find))]
 pub fn first_paths_find()
     ensures { FirstPathsFind }
+{}
+
+/// A method that was added is found by its name, other names find what they did, and all is as before once it is
+/// taken back.
+#[tactic(auto, using(crate::proofs::MethodLaw::methods_are_found))]
+pub fn methods_are_found()
+    ensures { MethodsAreFound }
 {}

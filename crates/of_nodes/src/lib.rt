@@ -15,7 +15,7 @@ mod tests;
 mod tree;
 
 pub use fault::NodeFault;
-pub use laws::{first_paths_find, paths_find, tree_finds, tree_is_shown};
+pub use laws::{first_paths_find, methods_are_found, paths_find, tree_finds, tree_is_shown};
 pub use methods::Methods;
 pub use names::is_name;
 pub use phandles::Phandle;

@@ -1,0 +1,143 @@
+-- The law `methods_are_found`.
+use Rattle.std.proofs.Common.{◌≡◌, ◌≢◌, ℕ, zero, suc, Bool, true, false, List, [], ◌∷◌, length, Option, Some, None}
+use Rattle.std.proofs.Common.{Result, Ok, Err, ◌<◌, ◌-◌, ◌%◌, ◌/◌, ◌&&◌, nat_eq, nat_lt, if◌then◌else◌, refl, ap, sym}
+use Rattle.std.proofs.Common.{◌∙◌, arith}
+use Rattle.std.specs.Prelude.{◌==◌}
+use Rattle.std.proofs.lemmas.Bool.{and_parts, eqb-true, false_from_ne_true, ltb-true}
+use Rattle.of_cells.specs.declared.cells.Cell.{Cell}
+use Rattle.of_nodes.specs.declared.tree.Node.{Node}
+use Rattle.of_nodes.specs.declared.phandles.Phandle.{Phandle}
+use Rattle.of_nodes.specs.declared.fault.NodeFault.{NodeFault}
+use Rattle.of_nodes.specs.declared.fault.NodeFault.TheVariants.{BadName, NoNode}
+use Rattle.of_nodes.specs.Methods.{is_method_name, lower, method_in, with_method}
+use Rattle.of_nodes.specs.MethodLaw.{MethodsAreFound}
+use Rattle.of_nodes.specs.Nodes.{added_at, first_phandle, method_added, method_at, method_found, methods_in}
+use Rattle.of_nodes.specs.Nodes.{number_at, number_of, with_methods}
+use Rattle.of_nodes.specs.Properties.{same_name, value_in, with_entry}
+use Rattle.of_nodes.proofs.Fitting.{same_self}
+use Rattle.of_nodes.proofs.Rooted.{length-with_methods}
+use Rattle.of_nodes.proofs.TakenBack.{undone}
+
+same_is : (a b : List ℕ) → same_name a b ≡ true → a ≡ b
+same_is [] [] e = refl
+same_is [] (y ∷ ys) e = absurd cc
+same_is (x ∷ xs) [] e = absurd cc
+same_is (x ∷ xs) (y ∷ ys) e =
+    let parts = and_parts (nat_eq x y) (same_name xs ys) e in
+    ap (λ z. z ∷ xs) (eqb-true x y parts.0) ∙ ap (λ (l : List ℕ). y ∷ l) (same_is xs ys parts.1)
+
+not_same : (a b : List ℕ) → a ≢ b → same_name a b ≡ false
+not_same a b apart = false_from_ne_true (same_name a b) (λ e. apart (same_is a b e))
+
+module _ {V : Type 0} where
+  found_step : (b : Bool) (e : List ℕ × V) (es : List (List ℕ × V)) (name : List ℕ) (x : V) → same_name name e.0 ≡ b
+      → value_in (with_entry es name x) name ≡ Some x → value_in (with_entry (e ∷ es) name x) name ≡ Some x
+  found_step true e es name x h ih = rw h (rw h refl)
+  found_step false e es name x h ih = rw h (rw h ih)
+
+  entry_found : (es : List (List ℕ × V)) (name : List ℕ) (x : V) → value_in (with_entry es name x) name ≡ Some x
+  entry_found [] name x = rw (same_self name) refl
+  entry_found (e ∷ es) name x = found_step (same_name name e.0) e es name x refl (entry_found es name x)
+
+  other_step : (b c : Bool) (e : List ℕ × V) (es : List (List ℕ × V)) (name other : List ℕ) (x : V)
+      → same_name name e.0 ≡ b → same_name other e.0 ≡ c → other ≢ name
+      → value_in (with_entry es name x) other ≡ value_in es other
+      → value_in (with_entry (e ∷ es) name x) other ≡ value_in (e ∷ es) other
+  other_step true true e es name other x h k apart ih =
+      absurd (apart (same_is other e.0 k ∙ sym (same_is name e.0 h)))
+  other_step true false e es name other x h k apart ih = rw h (rw k refl)
+  other_step false true e es name other x h k apart ih = rw h (rw k refl)
+  other_step false false e es name other x h k apart ih = rw h (rw k ih)
+
+  others_found : (es : List (List ℕ × V)) (name other : List ℕ) (x : V) → other ≢ name
+      → value_in (with_entry es name x) other ≡ value_in es other
+  others_found [] name other x apart = rw (not_same other name apart) refl
+  others_found (e ∷ es) name other x apart =
+      other_step (same_name name e.0) (same_name other e.0) e es name other x refl refl apart
+      (others_found es name other x apart)
+
+method_kept : (ns : List Node) (i : ℕ) (name other : List ℕ) (xt : Cell) → lower other ≢ lower name
+    → method_in (methods_in (with_methods ns i (with_method (methods_in ns i) name xt)) i) other
+    ≡ method_in (methods_in ns i) other
+method_kept [] i name other xt apart = refl
+method_kept (n ∷ ns) zero name other xt apart =
+    ap (λ (v : Option Cell). if is_method_name other then v else None)
+    (others_found n.methods (lower name) (lower other) xt apart)
+method_kept (n ∷ ns) (suc i) name other xt apart = method_kept ns i name other xt apart
+
+method_there : (ns : List Node) (i : ℕ) (name : List ℕ) (xt : Cell) → i < length ns → is_method_name name ≡ true
+    → method_in (methods_in (with_methods ns i (with_method (methods_in ns i) name xt)) i) name ≡ Some xt
+method_there [] i name xt l good = absurd (omega arith)
+method_there (n ∷ ns) zero name xt l good =
+    ap (λ b. if b then value_in (with_method n.methods name xt) (lower name) else None) good
+    ∙ entry_found n.methods (lower name) xt
+method_there (n ∷ ns) (suc i) name xt l good = method_there ns i name xt (omega arith) good
+
+-- ---- the node of a phandle
+
+some_if : (b : Bool) (x i : ℕ) → ◌≡◌ {A = Option ℕ} (if b then Some x else None) (Some i) → (b ≡ true) × (x ≡ i)
+some_if true x i e = (refl, cc)
+some_if false x i e = absurd cc
+
+number_within_at : (count d i : ℕ) → number_at count d ≡ Some i → i < count
+number_within_at count d i e =
+    let is = some_if (d % 4 == 0 && nat_lt (d / 4) count) (d / 4) i e in
+    let l = ltb-true (d / 4) count (and_parts (d % 4 == 0) (nat_lt (d / 4) count) is.0).1 in
+    omega (arith, l, is.1)
+
+number_if : (b : Bool) (count d i : ℕ) → ◌≡◌ {A = Option ℕ} (if b then None else number_at count d) (Some i) → i < count
+number_if true count d i e = absurd cc
+number_if false count d i e = number_within_at count d i e
+
+number_within : (count : ℕ) (ph : Phandle) (i : ℕ) → number_of count ph ≡ Some i → i < count
+number_within count ph i e = number_if (nat_lt ph.0.0 first_phandle) count (ph.0.0 - first_phandle) i e
+
+-- ---- what was added
+
+never_bad : (ns : List Node) → ◌≡◌ {A = Result (List Node) NodeFault} (Err BadName) (Ok ns) → ⊥
+never_bad ns e = cc
+
+never_none : (ns : List Node) → ◌≡◌ {A = Result (List Node) NodeFault} (Err NoNode) (Ok ns) → ⊥
+never_none ns e = cc
+
+added_if : (b : Bool) (ns after : List Node) → (if b then Ok ns else Err BadName) ≡ Ok after → (b ≡ true) × (ns ≡ after)
+added_if true ns after e = (refl, cc)
+added_if false ns after e = absurd (never_bad after e)
+
+-- the nodes with the method, by the number of its node
+abbrev with_it : List Node → ℕ → List ℕ → Cell → List Node
+with_it ns i name xt = with_methods ns i (with_method (methods_in ns i) name xt)
+
+same_count : (ns after : List Node) (i : ℕ) (name : List ℕ) (xt : Cell) → with_it ns i name xt ≡ after
+    → length after ≡ length ns
+same_count ns after i name xt e =
+    ap length (sym e) ∙ length-with_methods ns i (with_method (methods_in ns i) name xt)
+
+found_at : (o : Option ℕ) (ns after : List Node) (ph : Phandle) (name : List ℕ) (xt : Cell)
+    → number_of (length ns) ph ≡ o → added_at ns name xt o ≡ Ok after → method_found after ph name ≡ Ok (Some xt)
+found_at None ns after ph name xt at e = absurd (never_none after e)
+found_at (Some i) ns after ph name xt at e =
+    let is = added_if (is_method_name name) (with_it ns i name xt) after e in
+    let number = ap (λ k. number_of k ph) (same_count ns after i name xt is.1) ∙ at in
+    ap (method_at after name) number
+    ∙ (ap (λ l. Ok (method_in (methods_in l i) name)) (sym is.1)
+    ∙ ap Ok (method_there ns i name xt (number_within (length ns) ph i at) is.0))
+
+kept_at : (o : Option ℕ) (ns after : List Node) (ph : Phandle) (name other : List ℕ) (xt : Cell)
+    → number_of (length ns) ph ≡ o → added_at ns name xt o ≡ Ok after → lower other ≢ lower name
+    → method_found after ph other ≡ method_found ns ph other
+kept_at None ns after ph name other xt at e apart = absurd (never_none after e)
+kept_at (Some i) ns after ph name other xt at e apart =
+    let is = added_if (is_method_name name) (with_it ns i name xt) after e in
+    let number = ap (λ k. number_of k ph) (same_count ns after i name xt is.1) ∙ at in
+    ap (method_at after other) number
+    ∙ (ap (λ l. Ok (method_in (methods_in l i) other)) (sym is.1)
+    ∙ (ap Ok (method_kept ns i name other xt apart) ∙ sym (ap (method_at ns other) at)))
+
+pub methods_are_found : MethodsAreFound
+methods_are_found = record {
+  added = λ ns after ph name xt e. found_at (number_of (length ns) ph) ns after ph name xt refl e;
+  others = λ ns after ph name other xt e apart.
+      kept_at (number_of (length ns) ph) ns after ph name other xt refl e apart;
+  taken_back = λ ns after ph name xt before found e. undone ns after ph name xt before found e;
+}
