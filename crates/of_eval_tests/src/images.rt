@@ -7,6 +7,7 @@ use of_eval::{
     steps_throw_listed, words_throw_listed,
 };
 use of_fcodes::FCode;
+use of_nodes::Phandle;
 use std::alloc::Global;
 use std::test::Fail;
 
@@ -94,6 +95,17 @@ fn limits(rt: HostRuntime) -> Result<(), Fail> {
     assert_eq!(rt; shown(rt.alloc(), &image, 0)?.as_str(), "0+ 0/2 ");
     assert_eq!(rt; shown(rt.alloc(), &image, 45)?.as_str(), "45+ 0/2 2 ");
     assert_eq!(rt; shown(rt.alloc(), &image, 46)?.as_str(), "46 0/0 2 ");
+    Ok(())
+}
+
+/// The node that an image runs for is the active package until its run has ended.
+#[test]
+fn packages(rt: HostRuntime) -> Result<(), Fail> {
+    let image = bytes_of(rt.alloc(), TWO_WHILES)?;
+    let (running, _) = ran(rt.alloc(), &image, 45)?;
+    assert_eq!(rt; running.active_package(), Some(Phandle::of(2)));
+    let (ended, _) = ran(rt.alloc(), &image, 46)?;
+    assert_eq!(rt; ended.active_package(), None);
     Ok(())
 }
 

@@ -2,7 +2,7 @@ use hex::decode;
 use of_cells::Cell;
 use of_code::ListCode;
 use of_fcodes::FCode;
-use of_machine::{LONGEST_IMAGE, Machine, Progress, Refusal, ScriptMachine, run_script};
+use of_machine::{End, LONGEST_IMAGE, Machine, Progress, Refusal, ScriptMachine, run_script};
 use of_stream::StreamFault;
 use std::alloc::Global;
 use std::test::Fail;
@@ -115,12 +115,11 @@ fn images_are_given_back(rt: HostRuntime) -> Result<(), Fail> {
     Ok(())
 }
 
-/// Names, or numbers behind a `#`, and the execution tokens that they find once an image has defined `foo` as 0x801.
+/// Names, or numbers behind a `#`, and the execution tokens that they find once an image has defined `foo` as 0x801, a
+/// method of its node, which is active no more.
 const NAMES: &str = "\
 + c0000080
-foo c000052c
-FOO c000052c
-fooo none
+foo none
 #34 c00000e4
 #800 none
 #801 c000052c
@@ -130,18 +129,49 @@ fooo none
 /// `external-token foo 0x801 b(:) b(;)` in an image.
 const FOO: &str = "f10800000000000aca03666f6f0801b7c200";
 
+/// What a name finds, or a number behind a `#`.
+fn found(machine: &ScriptMachine, name: &str) -> Result<Option<Cell>, Fail> {
+    match name.strip_prefix('#') {
+        Some(number) => Ok(machine.token(FCode(u16::from_str_radix(number, 16)?))),
+        None => Ok(machine.word(name.as_bytes())),
+    }
+}
+
 #[test]
 fn names_and_numbers_find_words(rt: HostRuntime) -> Result<(), Fail> {
     let image = decode(rt.alloc(), FOO)?;
     let (machine, _) = run_script(rt.alloc(), &image, &[], &[], &[], 9)?;
     for line in NAMES.lines() {
         let (name, wanted) = line.split_once(' ').unwrap_or(("", ""));
-        let found = match name.strip_prefix('#') {
-            Some(number) => machine.token(FCode(u16::from_str_radix(number, 16)?)),
-            None => machine.word(name.as_bytes()),
-        };
         let wanted = u32::from_str_radix(wanted, 16).ok();
-        assert_eq!(rt; found.map(|xt| xt.0), wanted, "{name}");
+        assert_eq!(rt; found(&machine, name)?.map(|xt| xt.0), wanted, "{name}");
+    }
+    Ok(())
+}
+
+/// `external-token probe 0x801 b(:) b(;) external-token + 0x802 b(:) b(;)` in an image.
+const PROBE: &str = "f10800000000001bca0570726f62650801b7c2ca012b0802b7c200";
+
+/// Names, and the execution tokens that they find for the image that has defined `probe` and `+` and still runs.
+const NAMES_INSIDE: &str = "\
+probe c000052c
+PROBE c000052c
+probes none
++ c0000530
+- c0000084
+#802 c0000530
+#1e c0000080
+";
+
+#[test]
+fn names_find_words_while_an_image_runs(rt: HostRuntime) -> Result<(), Fail> {
+    let image = decode(rt.alloc(), PROBE)?;
+    let (machine, end) = run_script(rt.alloc(), &image, &[], &[], &[], 6)?;
+    assert_eq!(rt; end, End::LimitReached);
+    for line in NAMES_INSIDE.lines() {
+        let (name, wanted) = line.split_once(' ').unwrap_or(("", ""));
+        let wanted = u32::from_str_radix(wanted, 16).ok();
+        assert_eq!(rt; found(&machine, name)?.map(|xt| xt.0), wanted, "{name}");
     }
     Ok(())
 }

@@ -1,6 +1,6 @@
 use crate::{
-    NodeFault, Phandle, Properties, Property, Span, Tree, first_paths_find, is_name, paths_find,
-    tree_finds, tree_is_shown,
+    NodeFault, Phandle, Properties, Property, Span, Tree, first_paths_find, is_name,
+    methods_are_found, paths_find, tree_finds, tree_is_shown,
 };
 use of_cells::Cell;
 use of_memory::Memory;
@@ -121,6 +121,7 @@ d000002c /packages/p
 #[test]
 fn nodes_by_their_paths(rt: HostRuntime) -> Result<(), Fail> {
     first_paths_find();
+    methods_are_found();
     paths_find();
     tree_finds();
     tree_is_shown();
