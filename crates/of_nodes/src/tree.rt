@@ -1,4 +1,5 @@
-ghost use Rattle.std.specs.Prelude.{◌≡◌, ◌<◌, ◌≤◌, ◌+◌, ◌⊎◌, List, max, length, drop, Ok, Err, IfSome, IfOk, IfErr, OnOk};
+ghost use Rattle.std.specs.Prelude.{◌≡◌, ◌<◌, ◌≤◌, ◌+◌, ◌⊎◌, List, max, length, drop, Ok, Err, IfSome, IfOk, IfErr};
+ghost use Rattle.std.specs.Prelude.{OnOk};
 ghost use Rattle.of_nodes.specs.Nodes.{AreRooted, child_from, child_found, first_tree, method_added, method_found};
 ghost use Rattle.of_nodes.specs.Nodes.{method_taken_back};
 ghost use Rattle.of_nodes.specs.Nodes.{named_child, next_found, node_added, parent_found, parent_in, peer_found};
