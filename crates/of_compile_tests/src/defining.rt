@@ -144,7 +144,10 @@ impl Bench {
                 }
                 Ok(())
             }
-            _ => Ok(self.stack.try_push(self.asked(kind, text))?),
+            _ => {
+                let asked = self.asked(kind, text);
+                Ok(self.stack.try_push(asked)?)
+            }
         }
     }
 
