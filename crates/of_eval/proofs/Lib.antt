@@ -1,6 +1,8 @@
 -- ListedLemmas: the law `words_throw_listed`.
 -- ListedFaults, ListedParts, Raised: the law `steps_throw_listed`, from one fault of several up to a step.
 -- Executed: executing a word, one word at a time, and following its defers.
+-- AtOnce: words of one group that are run at once.
+-- Rests: behind which words nothing is due where nothing was.
 -- Endings: what calls on definitions leave of the whole state.
 -- Settled: the end of a step, item by item.
 -- MethodLemmas: words that become methods of a package.
@@ -16,6 +18,8 @@ pub mod ListedFaults
 pub mod ListedParts
 pub mod Raised
 pub mod Executed
+pub mod AtOnce
+pub mod Rests
 pub mod Endings
 pub mod Settled
 pub mod MethodLemmas

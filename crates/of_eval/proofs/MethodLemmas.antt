@@ -183,8 +183,8 @@ method_ends a n old new former name made h same e =
 
 -- no word was made
 pub method_undone : (a : State Coding → Outcome Coding) (o : Option ℕ) (old new : State Coding) (stop : Stop)
-    → Ends true (a old) old (with_tree old.parts.tree new) (Err stop)
-    → Ends true (then_known o (a old)) old (with_tree old.parts.tree new) (Err stop)
+    → Ends {A = Unit {0}} true (a old) old (with_tree old.parts.tree new) (Err stop)
+    → Ends {A = Unit {0}} true (then_known o (a old)) old (with_tree old.parts.tree new) (Err stop)
 method_undone a None old new stop h = h
 method_undone a (Some n) old new (Thrown t) h = ap (then_known (Some n)) h
 method_undone a (Some n) old new NoMemory h = h

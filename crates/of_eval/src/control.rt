@@ -2,7 +2,7 @@
 ghost use Rattle.std.specs.Prelude.{◌≡◌, Ok, Err, OnOk, OnErr, if◌then◌else◌, true};
 ghost use Rattle.of_stacks.specs.Throws.{image_ended};
 ghost use Rattle.of_stacks.specs.Loops.{goes_on, turned};
-ghost use Rattle.of_eval.specs.Control.{Turns, control_entry, repeated};
+ghost use Rattle.of_eval.specs.Control.{Turns, control_entry, keeps_rest, repeated};
 
 use of_cells::Cell;
 use of_stacks::{DataStack, LoopExit, LoopParameters, ReturnItem, ReturnStack, Throw};
@@ -197,5 +197,23 @@ pub fn run_control(
             let _ = stack.pop()?;
             Ok(false)
         }
+    }
+}
+
+/// Whether nothing is due on top of the return stack behind a word of control if nothing was before, where control goes
+/// to its target or doesn't.
+#[inline(always)]
+pub fn keeps_rest(word: ControlWord, goes: bool) -> bool
+    ensures { result ≡ keeps_rest word goes }
+{
+    match word {
+        ControlWord::Loop | ControlWord::PlusLoop => goes,
+        ControlWord::Branch
+        | ControlWord::BranchIfZero
+        | ControlWord::Do
+        | ControlWord::QuestionDo
+        | ControlWord::Of
+        | ControlWord::EndOf
+        | ControlWord::EndCase => true,
     }
 }

@@ -1,7 +1,7 @@
 //! The words over the return stack, and what begins and ends a word.
-ghost use Rattle.std.specs.Prelude.{◌≡◌, ◌∷◌};
+ghost use Rattle.std.specs.Prelude.{◌≡◌, ◌∷◌, false, OnOk};
 ghost use Rattle.of_stacks.specs.Stacks.{Becomes};
-ghost use Rattle.of_stacks.specs.Returns.{fitting};
+ghost use Rattle.of_stacks.specs.Returns.{fitting, has_due_top};
 ghost use Rattle.of_eval.specs.Executing.{entered, exited, stacks_entry};
 
 use crate::flow::Flow;
@@ -67,9 +67,11 @@ pub fn run_stacks_word(
 ///
 /// -5 where the return stack has no room. A throw changes nothing.
 #[inline]
+#[tactic(auto, using(crate::proofs::Rests::entered_rests))]
 pub fn enter(start: u32, flow: &mut Flow) -> Result<(), Throw>
-    ensures { Becomes (entered start flow.old (fitting (ReturnItem.Return flow.old.next ∷ flow.old.items)))
+    ensures value { Becomes (entered start flow.old (fitting (ReturnItem.Return flow.old.next ∷ flow.old.items)))
         flow.old flow.new result }
+    ensures rests { OnOk result (has_due_top flow.new.items ≡ false) }
 {
     flow.items.try_push(ReturnItem::Return(flow.next))?;
     flow.next = Continuation::Code(start);

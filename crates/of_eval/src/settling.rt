@@ -1,5 +1,5 @@
 //! The end of a step: what is worked off beneath a finished word, and what a throw cuts.
-ghost use Rattle.std.specs.Prelude.{◌≡◌, true, false};
+ghost use Rattle.std.specs.Prelude.{◌≡◌, [], true, false};
 ghost use Rattle.of_stacks.specs.Returns.{has_due_top};
 ghost use Rattle.of_memory.specs.Growth.{with_state};
 ghost use Rattle.of_eval.specs.State.{Leaves, flat_calls, given_up, open_xt, with_compiling};
@@ -96,6 +96,7 @@ impl<C: CodeStore> Eval<C> {
         ensures state { self.new ≡ given_up flat_calls self.old }
         ensures console { self.new.parts.console ≡ self.old.parts.console }
         ensures running { self.new.flow.is_running ≡ self.old.flow.is_running }
+        ensures items { self.new.flow.items ≡ self.old.flow.items }
     {
         if self.words.defining().is_none() {
             return;
@@ -162,6 +163,7 @@ impl<C: CodeStore> Eval<C> {
         requires ready { self.old.parts.console.ready ≡ true }
         ensures state { self.new ≡ uncaught flat_calls thrown self.old }
         ensures ended { self.new.flow.is_running ≡ false }
+        ensures empty { self.new.flow.items ≡ [] }
     {
         self.parts.stack = DataStack::new();
         self.parts.console.print_fault(thrown);
@@ -237,6 +239,7 @@ impl<C: CodeStore> Eval<C> {
     pub(crate) fn settle(&mut self, thrown: Option<Throw>)
         requires ready { self.old.parts.console.ready ≡ true }
         ensures state { self.new ≡ settled flat_calls self.old.flow.items thrown self.old }
+        ensures rests { has_due_top self.new.flow.items ≡ false }
         ensures ready { self.new.flow.is_running ≡ true → self.new.parts.console.ready ≡ true }
     {
         match thrown {

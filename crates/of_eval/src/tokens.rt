@@ -246,7 +246,8 @@ impl<C: CodeStore> Eval<C> {
         };
         let xt = Cell(entry.xt);
         if !self.flow.is_compiling || entry.immediate {
-            return self.perform(xt);
+            self.perform(xt)?;
+            return Ok(());
         }
         if !self.words.is_word(xt) {
             return Err(Stop::Thrown(Throw::BAD_HANDLE));

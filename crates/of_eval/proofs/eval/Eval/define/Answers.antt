@@ -16,7 +16,7 @@ returns-then-eq-clause-outcome g c =
     let old = c.args.self.now in
     let new = c.make_word.new.self in
     let is : d ≡ defining.Colon = search rules in
-    subst (λ o. Ends true o old new c.make_word.result) (sym (opens_later d old is))
+    subst (λ o. Ends {A = Unit {0}} true o old new c.make_word.result) (sym (opens_later d old is))
     (over_its_tree (word_defined flat_calls d) old new c.make_word.result c.make_word.ensures.tree
     c.make_word.ensures.outcome)
 
@@ -74,7 +74,7 @@ returns-in-Some-named_next-clause-outcome g c =
     let new = c.make_word-2.new.self in
     let stop = c.in-Err.stop in
     let is : opens d ≡ false = search rules in
-    let left = subst (λ s. Ends true (word_defined flat_calls d (with_tree old.parts.tree s))
+    let left = subst (λ s. Ends {A = Unit {0}} true (word_defined flat_calls d (with_tree old.parts.tree s))
     (with_tree old.parts.tree s) (with_tree old.parts.tree new) (Err stop)) c.self.view_is
     (c.in-Err.ensures.outcome old.parts.tree) in
     let undone = method_undone (word_defined flat_calls d) (known_at_once d old.words.dictionary) old new stop left in
@@ -90,4 +90,4 @@ returns-in-Some-named_next-clause-outcome g c =
     let back = c.take_back.ensures c.self.inside.parts.active.«package» c.xt.result c.self.inside.parts.tree made
     ∙ ap (λ s. s.parts.tree) c.self.view_is in
     let final = ap (λ s. with_tree c.take_back.new.tree s) c.self-in-Err.view_is ∙ ap (λ t. with_tree t new) back in
-    subst (λ s. Ends true (define_entry flat_calls d old) old s (Err stop)) (sym final) undone
+    subst (λ s. Ends {A = Unit {0}} true (define_entry flat_calls d old) old s (Err stop)) (sym final) undone

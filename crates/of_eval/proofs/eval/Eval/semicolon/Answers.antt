@@ -54,7 +54,7 @@ returns-in-Some-named_open-clause-outcome g c =
     let former = c.in_ok-former.former in
     let new = c.end_open-2.new.self in
     let stop = c.in-Err.stop in
-    let left = subst (λ s. Ends true (definition_ended flat_calls s.words.defining (with_tree old.parts.tree s))
+    let left = subst (λ s. Ends {A = Unit {0}} true (definition_ended flat_calls s.words.defining (with_tree old.parts.tree s))
     (with_tree old.parts.tree s) (with_tree old.parts.tree new) (Err stop)) c.self.view_is
     (c.in-Err.ensures.outcome old.parts.tree) in
     let undone = method_undone (λ s. definition_ended flat_calls o s) o old new stop left in
@@ -70,4 +70,4 @@ returns-in-Some-named_open-clause-outcome g c =
     let back = c.take_back.ensures c.self.inside.parts.active.«package» c.xt.result c.self.inside.parts.tree made
     ∙ ap (λ s. s.parts.tree) c.self.view_is in
     let final = ap (λ s. with_tree c.take_back.new.tree s) c.self-in-Err.view_is ∙ ap (λ t. with_tree t new) back in
-    subst (λ s. Ends true (semicolon_entry flat_calls o old) old s (Err stop)) (sym final) undone
+    subst (λ s. Ends {A = Unit {0}} true (semicolon_entry flat_calls o old) old s (Err stop)) (sym final) undone
