@@ -13,6 +13,7 @@
 -- Mismatch: the law `mismatch_is_no_body`.
 -- Frames, FramedTurns, FramedWords, FramedTokens: the law `frames_hold`.
 -- FramedSpace, FramedMemory, FramedWriting: the law `images_stand`.
+-- ThrowsSettle: the law `throws_settle`.
 pub mod ListedLemmas
 pub mod ListedFaults
 pub mod ListedParts
@@ -41,3 +42,4 @@ pub mod FramedSpace
 pub mod FramedMemory
 pub mod FramedWriting
 pub mod Frames
+pub mod ThrowsSettle

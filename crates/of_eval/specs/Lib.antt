@@ -5,6 +5,7 @@ pub mod State
 pub mod ByteLoading
 pub mod Executing
 pub mod Settling
+pub mod Throws
 pub mod Methods
 pub mod Tokens
 pub mod Steps

@@ -6,6 +6,7 @@ ghost use Rattle.of_eval.specs.Frames.{FramesHold, TargetsCountLast};
 ghost use Rattle.of_eval.specs.Images.{ImagesStand};
 ghost use Rattle.of_eval.specs.Listed.{StepsThrowListed, WordsThrowListed};
 ghost use Rattle.of_eval.specs.Placed.{StatesStayPlaced};
+ghost use Rattle.of_eval.specs.Throws.{ThrowsSettle};
 
 use of_compile::{board_is_flat, compiles_reading};
 use of_instances::{images_stay, tree_words_throw_listed};
@@ -73,3 +74,11 @@ pub fn images_stand()
     ranges_are_placed();
     writes_join();
 }
+
+/// A throw ends all that runs, or control goes on behind the latest `catch` that waits, and what is due beneath it is
+/// worked off.
+#[tactic(auto, using(crate::proofs::ThrowsSettle::throws_settle))]
+pub fn throws_settle()
+    ensures cells { ThrowsSettle Coding }
+    ensures bodies { ThrowsSettle Definitions }
+{}
