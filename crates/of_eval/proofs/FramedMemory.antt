@@ -122,7 +122,7 @@ append_if true m xs e full =
     (kept.0, kept.1)
 append_if false m xs e full = tt
 
-append_stands : (m : DataSpace) (xs : List ℕ) → length m.bytes ≡ byte_count → AddressStands m (appended m xs)
+pub append_stands : (m : DataSpace) (xs : List ℕ) → length m.bytes ≡ byte_count → AddressStands m (appended m xs)
 append_stands m xs full = append_if (nat_le (m.here + length xs) data_limit) m xs refl full
 
 under_stands : (m : DataSpace) (s : List Cell) (r : Result (ℕ × DataSpace) MemFault) → AddressStands m r

@@ -154,7 +154,7 @@ space_stands : (d : Data) (r : Result Space Throw) → SpaceStands d.memory r �
 space_stands d (Ok x) h = h
 space_stands d (Err t) h = tt
 
-prim_stands : (g : Given) (w : PrimitiveWord) (d : Data) → length d.memory.bytes ≡ byte_count
+pub prim_stands : (g : Given) (w : PrimitiveWord) (d : Data) → length d.memory.bytes ≡ byte_count
     → DataStands d.memory (prim_entry w d)
 prim_stands g (primitive.Arithmetic w) d full = stack_stands d _
 prim_stands g (primitive.Comparing w) d full = stack_stands d _
@@ -167,11 +167,11 @@ prim_stands g (primitive.Text w) d full =
     space_stands d (text_entry w d.stack d.memory) (text_stands g w d.stack d.memory full)
 prim_stands g (primitive.Numbers w) d full = numbers_stand w d.stack d.memory d.pictured full
 
-abbrev PartsStand : DataSpace → Result Parts Throw → Type 0
+abbrev pub PartsStand : DataSpace → Result Parts Throw → Type 0
 PartsStand m (Ok x) = Stands m x.memory
 PartsStand m (Err t) = Unit {0}
 
-data_stands : (m : Parts) (r : Result Data Throw) → DataStands m.memory r → PartsStand m.memory (with_data m r)
+pub data_stands : (m : Parts) (r : Result Data Throw) → DataStands m.memory r → PartsStand m.memory (with_data m r)
 data_stands m (Ok d) h = h
 data_stands m (Err t) h = tt
 
@@ -208,7 +208,7 @@ type_stands [] m = tt
 type_stands (n ∷ []) m = tt
 type_stands (n ∷ a ∷ s) m = read_stands (read_bytes m.memory a.0 n.0) s m
 
-printing_stands : (w : PrintingWord) (m : Parts) → PartsStand m.memory (printing_entry w m)
+pub printing_stands : (w : PrintingWord) (m : Parts) → PartsStand m.memory (printing_entry w m)
 printing_stands printing.Dot m = number_stands Signed (base_in m.memory) m.stack m
 printing_stands printing.UnsignedDot m = number_stands Unsigned (base_in m.memory) m.stack m
 printing_stands printing.DotRight m = right_stands Signed (base_in m.memory) m.stack m
@@ -234,7 +234,7 @@ block_stands : (m : Parts) (r : Result (ℕ × DataSpace) MemFault) (s : List Ce
 block_stands m (Ok x) s h = h
 block_stands m (Err fault) s h = tt
 
-alloc_stands : (s : List Cell) (m : Parts) → length m.memory.bytes ≡ byte_count
+pub alloc_stands : (s : List Cell) (m : Parts) → length m.memory.bytes ≡ byte_count
     → PartsStand m.memory (alloc_entry s m)
 alloc_stands [] m full = tt
 alloc_stands (n ∷ s) m full =

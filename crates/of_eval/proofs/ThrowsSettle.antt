@@ -92,7 +92,8 @@ cuts_through c (Source r ∷ above) rest t s none e =
     ∙ ap (λ m. settled c rest (Some t) (with_memory m (cut_state (Source r ∷ above) rest s)))
     (popped_more s.flow.reading.input (images_ended r.input above) s.parts.memory)
 cuts_through c (Caller (due.Load active me instance count) ∷ above) rest t s none e =
-    cuts_through c above rest t (cut_state (Caller (due.Load active me instance count) ∷ []) (above ++ rest) s) none refl
+    let load = Caller (due.Load active me instance count) ∷ [] in
+    cuts_through c above rest t (cut_state load (above ++ rest) s) none refl
 cuts_through c (Caller (due.Method me) ∷ above) rest t s none e =
     cuts_through c above rest t (with_items (above ++ rest) s) none refl
 cuts_through c (Caller (due.Open me instance) ∷ above) rest t s none e =

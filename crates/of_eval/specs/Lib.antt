@@ -16,4 +16,5 @@ pub mod Listed
 pub mod Placed
 pub mod Frames
 pub mod Images
+pub mod Running
 pub mod Views

@@ -81,16 +81,16 @@ abbrev pub is_opened_since : {S : Type 0} → Option Cell → State S → Bool
 is_opened_since opened s = is_some s.words.defining && not (is_same (open_xt s) opened)
 
 -- What is left of the open definition, if it is given up, and of the memory, whose images have been given back.
-pub record LeavesDefinition {S : Type 0} (c : Calls S) (is_given_up : Bool) (freed : DataSpace) (before after : State S)
+pub record LeavesDefinition {S : Type 0} (c : Calls S) (given_up : Bool) (freed : DataSpace) (before after : State S)
     : Type 0 where
   -- a definition that is given up is no word any more
-  pub words : after.words ≡ (if is_given_up then abandoned before.words else before.words)
+  pub words : after.words ≡ (if given_up then abandoned before.words else before.words)
   -- and has no code
-  pub code : after.code ≡ (if is_given_up then c.abandon before.code else before.code)
+  pub code : after.code ≡ (if given_up then c.abandon before.code else before.code)
   -- words are executed then
-  pub compiling : after.flow.is_compiling ≡ (if is_given_up then false else before.flow.is_compiling)
+  pub compiling : after.flow.is_compiling ≡ (if given_up then false else before.flow.is_compiling)
   -- and `state` is false; but for that the bytes are as they were, without those of the images that ended
-  pub memory : after.parts.memory ≡ (if is_given_up then with_state freed false else freed)
+  pub memory : after.parts.memory ≡ (if given_up then with_state freed false else freed)
 
 -- ---- a throw that none takes
 

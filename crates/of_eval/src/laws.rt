@@ -6,11 +6,12 @@ ghost use Rattle.of_eval.specs.Frames.{FramesHold, TargetsCountLast};
 ghost use Rattle.of_eval.specs.Images.{ImagesStand};
 ghost use Rattle.of_eval.specs.Listed.{StepsThrowListed, WordsThrowListed};
 ghost use Rattle.of_eval.specs.Placed.{StatesStayPlaced};
+ghost use Rattle.of_eval.specs.Running.{ImagesRun};
 ghost use Rattle.of_eval.specs.Throws.{ThrowsSettle};
 
 use of_compile::{board_is_flat, compiles_reading};
 use of_instances::{images_stay, tree_words_throw_listed};
-use of_memory::{parts_are_good, ranges_are_placed, writes_join};
+use of_memory::{latest_is_pushed, parts_are_good, ranges_are_placed, writes_join};
 use of_prims::prims_throw_listed;
 
 /// What the ordinary words throw has one of the numbers that words raise of themselves.
@@ -82,3 +83,16 @@ pub fn throws_settle()
     ensures cells { ThrowsSettle Coding }
     ensures bodies { ThrowsSettle Definitions }
 {}
+
+/// The images that run are a stack, and each has the bytes that it had while it runs: a step ends some of the latest,
+/// or one more begins.
+pub fn images_run()
+    ensures cells { ImagesRun Coding }
+    ensures bodies { ImagesRun Definitions }
+{
+    images_stay();
+    latest_is_pushed();
+    parts_are_good();
+    ranges_are_placed();
+    writes_join();
+}

@@ -25,7 +25,7 @@ mod words;
 
 pub use eval::Eval;
 pub use laws::{
-    frames_hold, images_stand, mismatch_is_no_body, states_stay_placed, steps_agree,
+    frames_hold, images_run, images_stand, mismatch_is_no_body, states_stay_placed, steps_agree,
     steps_throw_listed, throws_settle, words_throw_listed,
 };
 pub use steps::Pause;

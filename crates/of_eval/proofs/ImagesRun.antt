@@ -1,0 +1,108 @@
+-- The law `images_run`: what comes next and the end of a step, taken together.
+use Rattle.std.proofs.Common.{◌≡◌, ◌⊎◌, inl, inr, Bool, true, false, Some, None}
+use Rattle.std.proofs.Common.{Result, Ok, Err, refl, subst, ◌∙◌, if◌then◌else◌}
+use Rattle.of_stacks.specs.declared.throws.Throw.{Throw}
+use Rattle.of_memory.specs.DataSpace.{AreStacked, DataSpace, IsSound}
+use Rattle.of_eval.specs.State.{Calls, State}
+use Rattle.of_eval.specs.Settling.{settled, thrown_in}
+use Rattle.of_eval.specs.Steps.{due, settled_of, stepped}
+use Rattle.of_eval.specs.Running.{DueLeaves, GoOn, ImagesRun, SomeEnd, is_at_end}
+use Rattle.of_eval.proofs.FramedSpace.{Stands, images_kept, then_stands}
+use Rattle.of_eval.proofs.RunningBytes.{all_run, pushed, ready}
+use Rattle.of_eval.proofs.RunningEnds.{cut_off, end_leaves, popped_ends, then_end, worked_off}
+use Rattle.of_eval.proofs.RunningTokens.{due_leaves}
+use Rattle.of_eval.proofs.RunningWords.{Kept, KeptBy, Laws}
+
+due_left : (b : Bool) (m after : DataSpace) (e : Result (Unit {0}) Throw) → AreStacked m.images → KeptBy b m after e
+    → DueLeaves b m after e
+due_left false m after (Ok x) stacked (inl h) = inl (all_run m after stacked h)
+due_left false m after (Ok x) stacked (inr h) = inr h.1
+due_left true m after (Ok x) stacked (inl h) = inr (inl (all_run m after stacked h))
+due_left true m after (Ok x) stacked (inr (s, inl e)) = inl e
+due_left true m after (Ok x) stacked (inr (s, inr k)) = inr (inr k)
+due_left b m after (Err t) stacked h = all_run m after stacked h
+
+-- ---- with what is worked off then
+
+goes_on : (m after last : DataSpace) → IsSound m → IsSound after → Kept false m after → Stands after last
+    → GoOn m last
+goes_on m after last sound whole (inl h) st = inl (all_run m last sound.images (then_stands m after last h st))
+goes_on m after last sound whole (inr (stacked, inl (image, e))) st =
+    inr (inl (image, all_run after last stacked st ∙ e))
+goes_on m after last sound whole (inr (stacked, inr k)) st =
+    let kept = images_kept after last whole st in inr (inr (kept.0 ∙ k.0, kept.1 ∙ k.1))
+
+-- what a whole step may leave
+abbrev StepLeaves : DataSpace → DataSpace → Type 0
+StepLeaves m after = SomeEnd m after ⊎ GoOn m after
+
+kept_then : (b : Bool) (m after last : DataSpace) → IsSound m → IsSound after → Kept b m after → Stands after last
+    → StepLeaves m last
+kept_then false m after last sound whole h st = inr (goes_on m after last sound whole h st)
+kept_then true m after last sound whole (inl h) st = inr (goes_on m after last sound whole (inl h) st)
+kept_then true m after last sound whole (inr (stacked, inl e)) st = inl (1, all_run after last stacked st ∙ e)
+kept_then true m after last sound whole (inr (stacked, inr k)) st =
+    inr (goes_on m after last sound whole (inr (stacked, k)) st)
+
+settles : {S : Type 0} (b : Bool) (c : Calls S) (m : DataSpace) (e : Result (Unit {0}) Throw) (s : State S)
+    → IsSound m → IsSound s.parts.memory → KeptBy b m s.parts.memory e
+    → StepLeaves m (settled c s.flow.items (thrown_in e) s).parts.memory
+settles b c m (Ok x) s sound whole h =
+    kept_then b m s.parts.memory (settled c s.flow.items None s).parts.memory sound whole h
+    (worked_off c s.flow.items s (ready s.parts.memory whole))
+settles b c m (Err t) s sound whole h =
+    inl
+    (then_end m s.parts.memory (settled c s.flow.items (Some t) s).parts.memory 0
+    (all_run m s.parts.memory sound.images h) (cut_off c s.flow.items t s (ready s.parts.memory whole)))
+
+nothing_ends : {S : Type 0} (c : Calls S) (m : DataSpace) (e : Result (Unit {0}) Throw) (s : State S) → IsSound m
+    → IsSound s.parts.memory → e ≡ Ok tt → KeptBy false m s.parts.memory e
+    → GoOn m (settled c s.flow.items (thrown_in e) s).parts.memory
+nothing_ends c m (Ok x) s sound whole done h =
+    goes_on m s.parts.memory (settled c s.flow.items None s).parts.memory sound whole h
+    (worked_off c s.flow.items s (ready s.parts.memory whole))
+nothing_ends c m (Err t) s sound whole done h = absurd cc
+
+-- ---- one step, or none where nothing runs
+
+either : {S : Type 0} (P : DataSpace → Type 0) (b : Bool) (x y : State S) → P x.parts.memory → P y.parts.memory
+    → P (if b then x else y).parts.memory
+either P true x y hx hy = hx
+either P false x y hx hy = hy
+
+step_leaves : {S : Type 0} (l : Laws) (c : Calls S) (s : State S) → IsSound s.parts.memory
+    → IsSound (due c s.flow.next s).state.parts.memory
+    → StepLeaves s.parts.memory (stepped c s).parts.memory
+unfolding stepped
+step_leaves l c s sound whole =
+    let o = due c s.flow.next s in
+    either (λ x. StepLeaves s.parts.memory x) s.flow.is_running (settled_of c o) s
+    (settles (is_at_end s.flow.next s) c s.parts.memory o.ended o.state sound whole
+    (due_leaves l c s.flow.next s sound))
+    (inr (inl refl))
+
+step_goes_on : {S : Type 0} (l : Laws) (c : Calls S) (s : State S) → IsSound s.parts.memory
+    → IsSound (due c s.flow.next s).state.parts.memory → is_at_end s.flow.next s ≡ false
+    → (due c s.flow.next s).ended ≡ Ok tt → GoOn s.parts.memory (stepped c s).parts.memory
+unfolding stepped
+step_goes_on l c s sound whole inside done =
+    let o = due c s.flow.next s in
+    either (λ x. GoOn s.parts.memory x) s.flow.is_running (settled_of c o) s
+    (nothing_ends c s.parts.memory o.ended o.state sound whole done
+    (subst (λ b. KeptBy b s.parts.memory o.state.parts.memory o.ended) inside (due_leaves l c s.flow.next s sound)))
+    (inl refl)
+
+-- ---- the law
+
+pub images_run : Laws → (S : Type 0) → ImagesRun S
+images_run l S = record {
+  begun = λ image node a m s sound e. (pushed l.pushes s.parts.memory m image a sound e).1;
+  given_back = λ n m sound. popped_ends n m (ready m sound);
+  done = λ c s sound.
+      let o = due c s.flow.next s in
+      due_left (is_at_end s.flow.next s) s.parts.memory o.state.parts.memory o.ended sound.images
+      (due_leaves l c s.flow.next s sound);
+  settled = λ c items thrown s sound. end_leaves c items thrown s (ready s.parts.memory sound);
+  go_on = λ c s sound whole inside done. step_goes_on l c s sound whole inside done;
+  step = λ c s sound whole. step_leaves l c s sound whole;
+}
