@@ -130,7 +130,7 @@ popped m r = popped_from m m.images refl r
 
 -- one more runs
 abbrev pub Pushed : DataSpace → ℕ → List ℕ → DataSpace → Type 0
-Pushed m a xs after = AreStacked after.images × (running after ≡ record { begin = a; bytes = xs } ∷ running m)
+Pushed m a xs after = IsReady after × (running after ≡ record { begin = a; bytes = xs } ∷ running m)
 
 abbrev with_image : DataSpace → List ℕ → DataSpace
 with_image m xs =
@@ -145,7 +145,7 @@ with_image_runs : (m : DataSpace) (xs : List ℕ) → IsReady m → free_after m
     → Pushed m (free_after m.images) xs (with_image m xs)
 with_image_runs m xs r to e =
     let from = free_from m.images r.1 in (
-      more_stacked m.images (length xs) r.1 to,
+      (written_full m (free_after m.images) xs r.0 from to, more_stacked m.images (length xs) r.1 to),
       ap (λ (x : List ℕ). record { begin = free_after m.images; bytes = x } ∷ images_to (with_image m xs) m.images) e
           ∙ ap (λ (x : List RunningImage). record { begin = free_after m.images; bytes = xs } ∷ x)
           (images_same m (with_image m xs) m.images r.1 (written_agrees m (free_after m.images) xs r.0 from to)),

@@ -1,6 +1,6 @@
 -- The law `images_run`: what executing a word leaves of the images that run.
 use Rattle.std.proofs.Common.{◌≡◌, ◌⊎◌, inl, inr, ℕ, ◌==◌, Bool, true, false, List, [], ◌∷◌, length, Option, Some}
-use Rattle.std.proofs.Common.{None, Result, Ok, Err, is_some, refl, subst, sym, if◌then◌else◌}
+use Rattle.std.proofs.Common.{None, Result, Ok, Err, is_some, refl, if◌then◌else◌}
 use Rattle.std.specs.Prelude.{nat_le}
 use Rattle.of_cells.specs.declared.cells.Cell.{Cell}
 use Rattle.of_stacks.specs.declared.throws.Throw.{Throw}
@@ -18,7 +18,7 @@ use Rattle.of_fcodes.specs.declared.words.ThrowsWord.TheVariants as throws
 use Rattle.of_fcodes.specs.declared.words.DictionaryWord.{DictionaryWord}
 use Rattle.of_fcodes.specs.declared.words.DictionaryWord.TheVariants as dictionary
 use Rattle.of_fcodes.specs.Finding.{word_with_xt}
-use Rattle.of_memory.specs.DataSpace.{AreStacked, DataSpace, IsSound}
+use Rattle.of_memory.specs.DataSpace.{DataSpace, IsSound}
 use Rattle.of_memory.specs.declared.fault.MemFault.{MemFault}
 use Rattle.of_memory.specs.Access.{read_spread, with_read}
 use Rattle.of_memory.specs.Growth.{image_pushed}
@@ -49,7 +49,7 @@ use Rattle.of_eval.specs.ByteLoading.{nested_in, spread_of, start_at}
 use Rattle.of_eval.specs.Running.{LatestEnd, OneBegins}
 use Rattle.of_eval.proofs.FramedSpace.{Given, Stands, same}
 use Rattle.of_eval.proofs.FramedWriting.{PartsStand, alloc_stands, data_stands, prim_stands, printing_stands}
-use Rattle.of_eval.proofs.RunningBytes.{pushed}
+use Rattle.of_eval.proofs.RunningBytes.{IsReady, pushed}
 
 -- what the laws of the layers below say
 pub record Laws : Type 0 where
@@ -59,12 +59,13 @@ pub record Laws : Type 0 where
 
 -- one more runs, or a word over the device tree kept them; at the end of an image the latest may have ended
 abbrev pub Changed : Bool → DataSpace → DataSpace → Type 0
-Changed false m after = OneBegins m after ⊎ KeepsImages m after
-Changed true m after = LatestEnd 1 m after ⊎ (OneBegins m after ⊎ KeepsImages m after)
+Changed false m after = (IsReady after × OneBegins m after) ⊎ KeepsImages m after
+Changed true m after =
+    (IsReady after × LatestEnd 1 m after) ⊎ ((IsReady after × OneBegins m after) ⊎ KeepsImages m after)
 
 -- the images stand, or have changed so
 abbrev pub Kept : Bool → DataSpace → DataSpace → Type 0
-Kept b m after = Stands m after ⊎ (AreStacked after.images × Changed b m after)
+Kept b m after = Stands m after ⊎ Changed b m after
 
 abbrev pub KeptBy : Bool → DataSpace → DataSpace → Result (Unit {0}) Throw → Type 0
 KeptBy b m after (Ok x) = Kept b m after
@@ -91,13 +92,10 @@ stand_leave : (m : DataSpace) (r : Result Parts Throw) → PartsStand m r → Pa
 stand_leave m (Ok p) h = inl h
 stand_leave m (Err t) h = tt
 
-keep_leave : (m after : DataSpace) → IsSound m → KeepsImages m after → Kept false m after
-keep_leave m after sound k = inr (subst (λ x. AreStacked x) (sym k.0) sound.images, inr k)
-
-site_leaves : (m : Parts) (r : Result Site Throw) → IsSound m.memory
+site_leaves : (m : Parts) (r : Result Site Throw)
     → ((s : Site) → r ≡ Ok s → KeepsImages m.memory s.memory) → PartsLeave m.memory (with_site m r)
-site_leaves m (Ok s) sound h = keep_leave m.memory s.memory sound (h s refl)
-site_leaves m (Err t) sound h = tt
+site_leaves m (Ok s) h = inr (inr (h s refl))
+site_leaves m (Err t) h = tt
 
 word_leaves : (l : Laws) (w : Word) (m : Parts) → IsSound m.memory → PartsLeave m.memory (word_entry w m)
 word_leaves l (word.Primitive w) m sound =
@@ -110,9 +108,9 @@ word_leaves l (word.Returns w) m sound = tt
 word_leaves l (word.Dictionary w) m sound = tt
 word_leaves l (word.Throws w) m sound = tt
 word_leaves l (word.Properties w) m sound =
-    site_leaves m (properties_entry w (site_in m)) sound (λ s e. l.tree.properties w (site_in m) s sound e)
+    site_leaves m (properties_entry w (site_in m)) (λ s e. l.tree.properties w (site_in m) s sound e)
 word_leaves l (word.Tree w) m sound =
-    site_leaves m (tree_entry w (site_in m)) sound (λ s e. l.tree.tree w (site_in m) s sound e)
+    site_leaves m (tree_entry w (site_in m)) (λ s e. l.tree.tree w (site_in m) s sound e)
 word_leaves l (word.Devices w) m sound = tt
 word_leaves l (word.Console w) m sound = tt
 word_leaves l (word.Parsing w) m sound = tt
@@ -210,7 +208,7 @@ comma_leaves c (xt ∷ cells) s =
 -- ---- `byte-load`
 
 abbrev AddressBegins : DataSpace → Result (ℕ × DataSpace) MemFault → Type 0
-AddressBegins m (Ok x) = AreStacked x.1.images × OneBegins m x.1
+AddressBegins m (Ok x) = IsReady x.1 × OneBegins m x.1
 AddressBegins m (Err fault) = Unit {0}
 
 pushed_begins : (l : Laws) (m : DataSpace) (xs : List ℕ) (r : Result (ℕ × DataSpace) MemFault) → IsSound m
@@ -227,7 +225,7 @@ read_begins l m (Err fault) sound = tt
 
 nested_leaves : {S : Type 0} (size : OffsetSize) (cells : List Cell) (r : Result (ℕ × DataSpace) MemFault)
     (s : State S) → AddressBegins s.parts.memory r → Leaves false s.parts.memory (nested_in size cells r s)
-nested_leaves size cells (Ok x) s h = inr (h.0, inl h.1)
+nested_leaves size cells (Ok x) s h = inr (inl h)
 nested_leaves size cells (Err fault) s h = same s.parts.memory
 
 loaded_leaves : {S : Type 0} (l : Laws) (f : Option Throw) (a : ℕ) (cells : List Cell) (s : State S)
