@@ -10,6 +10,7 @@ use Rattle.of_eval.specs.Running.{DueLeaves, GoOn, ImagesRun, SomeEnd, is_at_end
 use Rattle.of_eval.proofs.FramedSpace.{Stands, images_kept, then_stands}
 use Rattle.of_eval.proofs.RunningBytes.{IsReady, all_run, pushed, ready, stands_ready}
 use Rattle.of_eval.proofs.RunningEnds.{cut_off, end_leaves, popped_ends, then_end, worked_off}
+use Rattle.of_eval.proofs.RunningSound.{settled_sound}
 use Rattle.of_eval.proofs.RunningTokens.{due_leaves}
 use Rattle.of_eval.proofs.RunningWords.{Kept, KeptBy, Laws}
 
@@ -102,6 +103,14 @@ step_goes_on l c s sound whole inside done =
     (subst (λ b. KeptBy b s.parts.memory o.state.parts.memory o.ended) inside (due_leaves l c s.flow.next s sound)))
     (inl refl)
 
+step_sound : {S : Type 0} (c : Calls S) (s : State S) → IsSound s.parts.memory
+    → IsSound (due c s.flow.next s).state.parts.memory → IsSound (stepped c s).parts.memory
+unfolding stepped
+step_sound c s sound whole =
+    let o = due c s.flow.next s in
+    either IsSound s.flow.is_running (settled_of c o) s
+    (settled_sound c o.state.flow.items (thrown_in o.ended) o.state whole) sound
+
 -- ---- the law
 
 pub images_run : Laws → (S : Type 0) → ImagesRun S
@@ -113,6 +122,7 @@ images_run l S = record {
       due_left (is_at_end s.flow.next s) s.parts.memory o.state.parts.memory o.ended sound.images
       (due_leaves l c s.flow.next s sound);
   settled = λ c items thrown s sound. end_leaves c items thrown s (ready s.parts.memory sound);
+  sound = λ c s sound whole. step_sound c s sound whole;
   go_on = λ c s sound whole inside done. step_goes_on l c s sound whole inside done;
   step = λ c s sound whole. step_leaves l c s sound whole;
 }

@@ -14,7 +14,8 @@
 -- Frames, FramedTurns, FramedWords, FramedTokens: the law `frames_hold`.
 -- FramedSpace, FramedMemory, FramedWriting: the law `images_stand`.
 -- ThrowsSettle: the law `throws_settle`.
--- RunningBytes, RunningEnds, RunningWords, RunningTokens, ImagesRun: the law `images_run`, from bytes up to a step.
+-- RunningBytes, RunningEnds, RunningSound, RunningWords, RunningTokens, ImagesRun: the law `images_run`, from bytes up
+-- to a step.
 pub mod ListedLemmas
 pub mod ListedFaults
 pub mod ListedParts
@@ -46,6 +47,7 @@ pub mod Frames
 pub mod ThrowsSettle
 pub mod RunningBytes
 pub mod RunningEnds
+pub mod RunningSound
 pub mod RunningWords
 pub mod RunningTokens
 pub mod ImagesRun

@@ -116,6 +116,10 @@ pub record ImagesRun (S : Type 0) : Type 0 where
   pub settled :
       (c : Calls S) (items : List ReturnItem) (thrown : Option Throw) (s : State S) → IsSound s.parts.memory →
       EndLeaves s.parts.memory (settled c items thrown s).parts.memory thrown
+  -- A data space that is sound when what comes next was done is sound behind the step, too.
+  pub sound :
+      (c : Calls S) (s : State S) → IsSound s.parts.memory →
+      IsSound (due c s.flow.next s).state.parts.memory → IsSound (stepped c s).parts.memory
   -- In a step that isn't the end of an image and throws nothing they go on.
   pub go_on :
       (c : Calls S) (s : State S) → IsSound s.parts.memory →
