@@ -1,15 +1,13 @@
 -- The law `images_stay`: these words write into the data and property regions alone, which lie below the images.
-use Rattle.std.proofs.Common.{◌≡◌, ℕ, ◌+◌, ◌-◌, ◌≤◌, Bool, true, false, List, [], ◌∷◌, length, take, drop}
-use Rattle.std.proofs.Common.{Result, Ok, Err, refl, ap, ◌∙◌, arith, nat_le, if◌then◌else◌}
+use Rattle.std.proofs.Common.{◌≡◌, ℕ, ◌+◌, ◌≤◌, Bool, true, false, List, length, drop, Result, Ok, Err, refl, ◌∙◌}
+use Rattle.std.proofs.Common.{arith, nat_le, if◌then◌else◌}
 use Rattle.std.proofs.lemmas.Bool.{leb-true}
 use Rattle.std.proofs.lemmas.List.{places, same_lists}
 use Rattle.of_memory.specs.declared.fault.MemFault.{MemFault}
 use Rattle.of_memory.specs.declared.fault.MemFault.TheVariants.{Full}
-use Rattle.of_memory.specs.DataSpace.{AreStacked, DataSpace, IsSound, bytes_from, free_after, splice, written}
+use Rattle.of_memory.specs.DataSpace.{DataSpace, splice, written}
 use Rattle.of_memory.specs.Growth.{aligned, appended, named_put, property_put, value_put, with_name}
-use Rattle.of_memory.specs.Images.{latest_start}
-use Rattle.of_memory.specs.Regions.{byte_count, data_limit, first_property, image_limit, image_start, place_of}
-use Rattle.of_memory.specs.Regions.{property_limit}
+use Rattle.of_memory.specs.Regions.{byte_count, data_limit, first_property, image_start, place_of, property_limit}
 use Rattle.of_instances.specs.Images.{KeepsImages}
 
 -- the images are the same, and so are all bytes from where they begin on
@@ -113,19 +111,7 @@ pub named_stands : (m : DataSpace) (name value : List ℕ) → IsReady m
     → NamedStands m (named_put m name value)
 named_stands m name value ready = value_stands m value (property_put m name) (put_stands m name ready)
 
--- ---- the latest image
+-- ---- the image region
 
-image_place : (a : ℕ) → image_start ≤ a → a ≤ image_limit → 0x14_0000 ≤ place_of a
-image_place a from to = omega (arith, from, to)
-
-latest_place : (ends : List ℕ) → AreStacked ends → 0x14_0000 ≤ place_of (latest_start ends)
-latest_place [] h = image_place image_start (omega arith) (omega arith)
-latest_place (end ∷ ends) h = image_place (free_after ends) h.0 (omega (arith, h.1, h.2))
-
-pub images_kept : (m after : DataSpace) → IsSound m → Stands m after → KeepsImages m after
-images_kept m after sound stands = (
-  stands.0,
-  ap (λ i. bytes_from after (latest_start i) (free_after i - latest_start i)) stands.0
-      ∙ ap (λ l. take (free_after m.images - latest_start m.images) l)
-      (stands.1 (place_of (latest_start m.images)) (latest_place m.images sound.images)),
-)
+pub images_kept : (m after : DataSpace) → Stands m after → KeepsImages m after
+images_kept m after stands = (stands.0, stands.1 (place_of image_start) (omega arith))

@@ -456,8 +456,8 @@ tree node.MySpace w = tt
 pub images_stay : ImagesStay
 images_stay = record {
   properties = λ p w after sound e.
-      images_kept w.memory after.memory sound
+      images_kept w.memory after.memory
       (subst (λ r. SiteStands w.memory r) e (properties p w (sound.bytes, sound.properties_from)));
   tree = λ p w after sound e.
-      images_kept w.memory after.memory sound (subst (λ r. SiteStands w.memory r) e (tree p w));
+      images_kept w.memory after.memory (subst (λ r. SiteStands w.memory r) e (tree p w));
 }

@@ -8,7 +8,7 @@ pub fn tree_words_throw_listed()
     ensures { ThrowListedNumbers }
 {}
 
-/// A word that doesn't throw leaves the images that run and the bytes of the latest as they were.
+/// A word that doesn't throw leaves the images that run and their bytes as they were.
 #[tactic(auto, using(crate::proofs::ImagesOfWords::images_stay))]
 pub fn images_stay()
     ensures { ImagesStay }
