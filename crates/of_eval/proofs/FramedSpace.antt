@@ -1,9 +1,9 @@
 -- The law `images_stand`: writes below the image region leave the images as they were.
 use Rattle.std.proofs.Common.{◌≡◌, ℕ, zero, suc, ◌+◌, ◌-◌, ◌/◌, ◌%◌, ◌<◌, ◌≤◌, ◌==◌, ◌&&◌, Bool, true, false}
-use Rattle.std.proofs.Common.{List, [], ◌∷◌, length, take, drop, Option, Some, None, Result, Ok, Err}
+use Rattle.std.proofs.Common.{List, [], ◌∷◌, length, drop, Option, Some, None, Result, Ok, Err}
 use Rattle.std.proofs.Common.{inl, inr, refl, sym, ap, ◌∙◌, subst, arith, nat_le, if◌then◌else◌}
 use Rattle.std.proofs.lemmas.Bool.{and_parts, cases_lt, eqb-true, leb-true, false≢true}
-use Rattle.std.proofs.lemmas.List.{places, same_lists}
+use Rattle.std.proofs.lemmas.List.{drop-drop, places, same_lists}
 use Rattle.std.specs.Prelude.{◌||◌}
 use Rattle.std.specs.Int.{bytes_high_first}
 use Rattle.of_memory.specs.declared.blocks.Block.{Block}
@@ -12,10 +12,9 @@ use Rattle.of_memory.specs.declared.fault.MemFault.TheVariants.{ReadOnly}
 use Rattle.of_memory.specs.declared.width.Width.{Width}
 use Rattle.of_memory.specs.Access.{or_fault, read_fault, unless, write_fault}
 use Rattle.of_memory.specs.Blocks.{first_of_eighths, least_free, meets_none}
-use Rattle.of_memory.specs.DataSpace.{AreStacked, DataSpace, IsSound, bytes_from, free_after, splice, written}
-use Rattle.of_memory.specs.Images.{latest_start}
+use Rattle.of_memory.specs.DataSpace.{DataSpace, splice, written}
 use Rattle.of_memory.specs.RangeLaws.{PartsAreGood, RangesArePlaced, WritesJoin}
-use Rattle.of_memory.specs.Regions.{byte_count, heap_limit, heap_start, image_limit, image_start, may_write, place_of}
+use Rattle.of_memory.specs.Regions.{byte_count, heap_limit, heap_start, image_start, may_write, place_of}
 use Rattle.of_memory.specs.Regions.{region_numbered, region_of, span}
 use Rattle.of_instances.specs.Images.{KeepsImages}
 
@@ -151,19 +150,19 @@ free_place blocks size a e =
     (and_parts (nat_le (a + size) heap_limit) (meets_none blocks size a) found.0).0 in
     omega (arith, ends, found.1)
 
--- ---- the latest image
+-- ---- the image region
 
-image_place : (a : ℕ) → image_start ≤ a → a ≤ image_limit → 0x14_0000 ≤ place_of a
-image_place a from to = omega (arith, from, to)
+behind : (xs : List ℕ) (p : ℕ) → 0x14_0000 ≤ p → drop p xs ≡ drop (p - 0x14_0000) (drop 0x14_0000 xs)
+behind xs p l =
+    let whole : 0x14_0000 + (p - 0x14_0000) ≡ p = omega (arith, l) in
+    sym (drop-drop (p - 0x14_0000) 0x14_0000 xs ∙ ap (λ k. drop k xs) whole)
 
-latest_place : (ends : List ℕ) → AreStacked ends → 0x14_0000 ≤ place_of (latest_start ends)
-latest_place [] h = image_place image_start (omega arith) (omega arith)
-latest_place (end ∷ ends) h = image_place (free_after ends) h.0 (omega (arith, h.1, h.2))
-
-pub images_kept : (m after : DataSpace) → IsSound m → Stands m after → KeepsImages m after
-images_kept m after sound stands = (
-  stands.0,
-  ap (λ i. bytes_from after (latest_start i) (free_after i - latest_start i)) stands.0
-      ∙ ap (λ l. take (free_after m.images - latest_start m.images) l)
-      (stands.1 (place_of (latest_start m.images)) (latest_place m.images sound.images)),
+-- where the image region is as it was, so are all bytes from there on
+pub kept_stands : (m after : DataSpace) → KeepsImages m after → Stands m after
+kept_stands m after k = (
+  k.0,
+  λ p l. behind after.bytes p l ∙ ap (λ xs. drop (p - 0x14_0000) xs) k.1 ∙ sym (behind m.bytes p l),
 )
+
+pub images_kept : (m after : DataSpace) → Stands m after → KeepsImages m after
+images_kept m after stands = (stands.0, stands.1 (place_of image_start) (omega arith))

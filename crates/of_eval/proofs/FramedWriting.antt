@@ -254,17 +254,17 @@ site_keeps m (Err t) h = tt
 
 -- ---- all words
 
-stand_keeps : (m : DataSpace) (r : Result Parts Throw) → IsSound m → PartsStand m r → PartsKeep m r
-stand_keeps m (Ok p) sound h = images_kept m p.memory sound h
-stand_keeps m (Err t) sound h = tt
+stand_keeps : (m : DataSpace) (r : Result Parts Throw) → PartsStand m r → PartsKeep m r
+stand_keeps m (Ok p) h = images_kept m p.memory h
+stand_keeps m (Err t) h = tt
 
 word_keeps : (g : Given) (i : ImagesStay) (w : Word) (m : Parts) → IsSound m.memory
     → PartsKeep m.memory (word_entry w m)
 word_keeps g i (word.Primitive w) m sound =
-    stand_keeps m.memory _ sound
+    stand_keeps m.memory _
     (data_stands m (prim_entry w (data_in m)) (prim_stands g w (data_in m) sound.bytes))
-word_keeps g i (word.Printing w) m sound = stand_keeps m.memory (printing_entry w m) sound (printing_stands w m)
-word_keeps g i (word.Heap AllocMem) m sound = stand_keeps m.memory _ sound (alloc_stands m.stack m sound.bytes)
+word_keeps g i (word.Printing w) m sound = stand_keeps m.memory (printing_entry w m) (printing_stands w m)
+word_keeps g i (word.Heap AllocMem) m sound = stand_keeps m.memory _ (alloc_stands m.stack m sound.bytes)
 word_keeps g i (word.Stream w) m sound = tt
 word_keeps g i (word.Keys w) m sound = tt
 word_keeps g i (word.Returns w) m sound = tt

@@ -7,7 +7,7 @@ use Rattle.of_eval.specs.State.{Calls, State}
 use Rattle.of_eval.specs.Settling.{settled, thrown_in}
 use Rattle.of_eval.specs.Steps.{due, settled_of, stepped}
 use Rattle.of_eval.specs.Running.{DueLeaves, GoOn, ImagesRun, SomeEnd, is_at_end}
-use Rattle.of_eval.proofs.FramedSpace.{Stands, images_kept, then_stands}
+use Rattle.of_eval.proofs.FramedSpace.{Stands, then_stands}
 use Rattle.of_eval.proofs.RunningBytes.{IsReady, all_run, pushed, ready, stands_ready}
 use Rattle.of_eval.proofs.RunningEnds.{cut_off, end_leaves, popped_ends, then_end, worked_off}
 use Rattle.of_eval.proofs.RunningSound.{settled_sound}
@@ -17,62 +17,52 @@ use Rattle.of_eval.proofs.RunningWords.{Kept, KeptBy, Laws}
 due_left : (b : Bool) (m after : DataSpace) (e : Result (Unit {0}) Throw) → AreStacked m.images → KeptBy b m after e
     → DueLeaves b m after e
 due_left false m after (Ok x) stacked (inl h) = inl (all_run m after stacked h)
-due_left false m after (Ok x) stacked (inr (inl h)) = inr (inl h.1)
-due_left false m after (Ok x) stacked (inr (inr k)) = inr (inr k)
+due_left false m after (Ok x) stacked (inr h) = inr h.1
 due_left true m after (Ok x) stacked (inl h) = inr (inl (all_run m after stacked h))
-due_left true m after (Ok x) stacked (inr (inl h)) = inl h.1
-due_left true m after (Ok x) stacked (inr (inr (inl h))) = inr (inr (inl h.1))
-due_left true m after (Ok x) stacked (inr (inr (inr k))) = inr (inr (inr k))
+due_left true m after (Ok x) stacked (inr (r, inl e)) = inl e
+due_left true m after (Ok x) stacked (inr (r, inr one)) = inr (inr one)
 due_left b m after (Err t) stacked h = all_run m after stacked h
 
 -- ---- with what is worked off then
 
 -- what was left is ready for what is worked off
-kept_ready : (b : Bool) (m after : DataSpace) → IsReady m → IsSound after → Kept b m after → IsReady after
-kept_ready b m after r whole (inl h) = stands_ready m after r h
-kept_ready false m after r whole (inr (inl h)) = h.0
-kept_ready false m after r whole (inr (inr k)) = ready after whole
-kept_ready true m after r whole (inr (inl h)) = h.0
-kept_ready true m after r whole (inr (inr (inl h))) = h.0
-kept_ready true m after r whole (inr (inr (inr k))) = ready after whole
+kept_ready : (b : Bool) (m after : DataSpace) → IsReady m → Kept b m after → IsReady after
+kept_ready b m after r (inl h) = stands_ready m after r h
+kept_ready b m after r (inr h) = h.0
 
-goes_on : (m after last : DataSpace) → IsReady m → IsSound after → Kept false m after → Stands after last
-    → GoOn m last
-goes_on m after last r whole (inl h) st = inl (all_run m last r.1 (then_stands m after last h st))
-goes_on m after last r whole (inr (inl (full, (image, e)))) st =
-    inr (inl (image, all_run after last full.1 st ∙ e))
-goes_on m after last r whole (inr (inr k)) st =
-    let kept = images_kept after last whole st in inr (inr (kept.0 ∙ k.0, kept.1 ∙ k.1))
+goes_on : (m after last : DataSpace) → IsReady m → Kept false m after → Stands after last → GoOn m last
+goes_on m after last r (inl h) st = inl (all_run m last r.1 (then_stands m after last h st))
+goes_on m after last r (inr (full, (image, e))) st = inr (image, all_run after last full.1 st ∙ e)
 
 -- what a whole step may leave
 abbrev StepLeaves : DataSpace → DataSpace → Type 0
 StepLeaves m after = SomeEnd m after ⊎ GoOn m after
 
-kept_then : (b : Bool) (m after last : DataSpace) → IsReady m → IsSound after → Kept b m after → Stands after last
+kept_then : (b : Bool) (m after last : DataSpace) → IsReady m → Kept b m after → Stands after last
     → StepLeaves m last
-kept_then false m after last r whole h st = inr (goes_on m after last r whole h st)
-kept_then true m after last r whole (inl h) st = inr (goes_on m after last r whole (inl h) st)
-kept_then true m after last r whole (inr (inl h)) st = inl (1, all_run after last h.0.1 st ∙ h.1)
-kept_then true m after last r whole (inr (inr h)) st = inr (goes_on m after last r whole (inr h) st)
+kept_then false m after last r h st = inr (goes_on m after last r h st)
+kept_then true m after last r (inl h) st = inr (goes_on m after last r (inl h) st)
+kept_then true m after last r (inr (full, inl e)) st = inl (1, all_run after last full.1 st ∙ e)
+kept_then true m after last r (inr (full, inr one)) st = inr (goes_on m after last r (inr (full, one)) st)
 
 settles : {S : Type 0} (b : Bool) (c : Calls S) (m : DataSpace) (e : Result (Unit {0}) Throw) (s : State S)
-    → IsReady m → IsSound s.parts.memory → KeptBy b m s.parts.memory e
+    → IsReady m → KeptBy b m s.parts.memory e
     → StepLeaves m (settled c s.flow.items (thrown_in e) s).parts.memory
-settles b c m (Ok x) s r whole h =
-    kept_then b m s.parts.memory (settled c s.flow.items None s).parts.memory r whole h
-    (worked_off c s.flow.items s (kept_ready b m s.parts.memory r whole h))
-settles b c m (Err t) s r whole h =
+settles b c m (Ok x) s r h =
+    kept_then b m s.parts.memory (settled c s.flow.items None s).parts.memory r h
+    (worked_off c s.flow.items s (kept_ready b m s.parts.memory r h))
+settles b c m (Err t) s r h =
     inl
     (then_end m s.parts.memory (settled c s.flow.items (Some t) s).parts.memory 0 (all_run m s.parts.memory r.1 h)
     (cut_off c s.flow.items t s (stands_ready m s.parts.memory r h)))
 
 nothing_ends : {S : Type 0} (c : Calls S) (m : DataSpace) (e : Result (Unit {0}) Throw) (s : State S) → IsReady m
-    → IsSound s.parts.memory → e ≡ Ok tt → KeptBy false m s.parts.memory e
+    → e ≡ Ok tt → KeptBy false m s.parts.memory e
     → GoOn m (settled c s.flow.items (thrown_in e) s).parts.memory
-nothing_ends c m (Ok x) s r whole done h =
-    goes_on m s.parts.memory (settled c s.flow.items None s).parts.memory r whole h
-    (worked_off c s.flow.items s (kept_ready false m s.parts.memory r whole h))
-nothing_ends c m (Err t) s r whole done h = absurd cc
+nothing_ends c m (Ok x) s r done h =
+    goes_on m s.parts.memory (settled c s.flow.items None s).parts.memory r h
+    (worked_off c s.flow.items s (kept_ready false m s.parts.memory r h))
+nothing_ends c m (Err t) s r done h = absurd cc
 
 -- ---- one step, or none where nothing runs
 
@@ -82,24 +72,23 @@ either P true x y hx hy = hx
 either P false x y hx hy = hy
 
 step_leaves : {S : Type 0} (l : Laws) (c : Calls S) (s : State S) → IsSound s.parts.memory
-    → IsSound (due c s.flow.next s).state.parts.memory
     → StepLeaves s.parts.memory (stepped c s).parts.memory
 unfolding stepped
-step_leaves l c s sound whole =
+step_leaves l c s sound =
     let o = due c s.flow.next s in
     either (λ x. StepLeaves s.parts.memory x) s.flow.is_running (settled_of c o) s
-    (settles (is_at_end s.flow.next s) c s.parts.memory o.ended o.state (ready s.parts.memory sound) whole
+    (settles (is_at_end s.flow.next s) c s.parts.memory o.ended o.state (ready s.parts.memory sound)
     (due_leaves l c s.flow.next s sound))
     (inr (inl refl))
 
 step_goes_on : {S : Type 0} (l : Laws) (c : Calls S) (s : State S) → IsSound s.parts.memory
-    → IsSound (due c s.flow.next s).state.parts.memory → is_at_end s.flow.next s ≡ false
+    → is_at_end s.flow.next s ≡ false
     → (due c s.flow.next s).ended ≡ Ok tt → GoOn s.parts.memory (stepped c s).parts.memory
 unfolding stepped
-step_goes_on l c s sound whole inside done =
+step_goes_on l c s sound inside done =
     let o = due c s.flow.next s in
     either (λ x. GoOn s.parts.memory x) s.flow.is_running (settled_of c o) s
-    (nothing_ends c s.parts.memory o.ended o.state (ready s.parts.memory sound) whole done
+    (nothing_ends c s.parts.memory o.ended o.state (ready s.parts.memory sound) done
     (subst (λ b. KeptBy b s.parts.memory o.state.parts.memory o.ended) inside (due_leaves l c s.flow.next s sound)))
     (inl refl)
 
@@ -123,6 +112,6 @@ images_run l S = record {
       (due_leaves l c s.flow.next s sound);
   settled = λ c items thrown s sound. end_leaves c items thrown s (ready s.parts.memory sound);
   sound = λ c s sound whole. step_sound c s sound whole;
-  go_on = λ c s sound whole inside done. step_goes_on l c s sound whole inside done;
-  step = λ c s sound whole. step_leaves l c s sound whole;
+  go_on = λ c s sound inside done. step_goes_on l c s sound inside done;
+  step = λ c s sound. step_leaves l c s sound;
 }

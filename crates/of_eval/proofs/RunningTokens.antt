@@ -286,7 +286,7 @@ string_leaves c n here s r =
 back_kept : (i : Input) (m : DataSpace) → IsReady m → Kept true m (given_back i m)
 back_kept input.Nothing m r = inl (same m)
 back_kept (input.Text n) m r = inl (same m)
-back_kept (input.Image size n) m r = inr (inl (popped m r))
+back_kept (input.Image size n) m r = (let p = popped m r in inr (p.0, inl p.1))
 
 ended_leaves : {S : Type 0} (c : Calls S) (s : State S) → IsReady s.parts.memory
     → Leaves true s.parts.memory (ended c s)
@@ -347,7 +347,7 @@ weaken_by : (b : Bool) (m after : DataSpace) (e : Result (Unit {0}) Throw) → K
     → KeptBy b m after e
 weaken_by false m after e h = h
 weaken_by true m after (Ok x) (inl h) = inl h
-weaken_by true m after (Ok x) (inr h) = inr (inr h)
+weaken_by true m after (Ok x) (inr h) = inr (h.0, inr h.1)
 weaken_by true m after (Err t) h = h
 
 weaken : {S : Type 0} (b : Bool) (m : DataSpace) (o : Outcome S) → Leaves false m o → Leaves b m o

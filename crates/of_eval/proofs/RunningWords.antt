@@ -47,7 +47,7 @@ use Rattle.of_eval.specs.Executing.{returns_entry, stacks_entry, throw_entry, th
 use Rattle.of_eval.specs.ByteLoading.{byte_load_entry, length_at, loaded_unless, loading_entry, loading_faults}
 use Rattle.of_eval.specs.ByteLoading.{nested_in, spread_of, start_at}
 use Rattle.of_eval.specs.Running.{LatestEnd, OneBegins}
-use Rattle.of_eval.proofs.FramedSpace.{Given, Stands, same}
+use Rattle.of_eval.proofs.FramedSpace.{Given, Stands, kept_stands, same}
 use Rattle.of_eval.proofs.FramedWriting.{PartsStand, alloc_stands, data_stands, prim_stands, printing_stands}
 use Rattle.of_eval.proofs.RunningBytes.{IsReady, pushed}
 
@@ -57,15 +57,14 @@ pub record Laws : Type 0 where
   pub pushes : LatestIsPushed
   pub tree : ImagesStay
 
--- one more runs, or a word over the device tree kept them; at the end of an image the latest may have ended
+-- one more runs; at the end of an image the latest may have ended
 abbrev pub Changed : Bool → DataSpace → DataSpace → Type 0
-Changed false m after = (IsReady after × OneBegins m after) ⊎ KeepsImages m after
-Changed true m after =
-    (IsReady after × LatestEnd 1 m after) ⊎ ((IsReady after × OneBegins m after) ⊎ KeepsImages m after)
+Changed false m after = OneBegins m after
+Changed true m after = LatestEnd 1 m after ⊎ OneBegins m after
 
 -- the images stand, or have changed so
 abbrev pub Kept : Bool → DataSpace → DataSpace → Type 0
-Kept b m after = Stands m after ⊎ Changed b m after
+Kept b m after = Stands m after ⊎ (IsReady after × Changed b m after)
 
 abbrev pub KeptBy : Bool → DataSpace → DataSpace → Result (Unit {0}) Throw → Type 0
 KeptBy b m after (Ok x) = Kept b m after
@@ -94,7 +93,7 @@ stand_leave m (Err t) h = tt
 
 site_leaves : (m : Parts) (r : Result Site Throw)
     → ((s : Site) → r ≡ Ok s → KeepsImages m.memory s.memory) → PartsLeave m.memory (with_site m r)
-site_leaves m (Ok s) h = inr (inr (h s refl))
+site_leaves m (Ok s) h = inl (kept_stands m.memory s.memory (h s refl))
 site_leaves m (Err t) h = tt
 
 word_leaves : (l : Laws) (w : Word) (m : Parts) → IsSound m.memory → PartsLeave m.memory (word_entry w m)
@@ -225,7 +224,7 @@ read_begins l m (Err fault) sound = tt
 
 nested_leaves : {S : Type 0} (size : OffsetSize) (cells : List Cell) (r : Result (ℕ × DataSpace) MemFault)
     (s : State S) → AddressBegins s.parts.memory r → Leaves false s.parts.memory (nested_in size cells r s)
-nested_leaves size cells (Ok x) s h = inr (inl h)
+nested_leaves size cells (Ok x) s h = inr h
 nested_leaves size cells (Err fault) s h = same s.parts.memory
 
 loaded_leaves : {S : Type 0} (l : Laws) (f : Option Throw) (a : ℕ) (cells : List Cell) (s : State S)

@@ -13,7 +13,6 @@ use Rattle.of_memory.specs.DataSpace.{DataSpace, IsSound, bytes_from, free_after
 use Rattle.of_memory.specs.Growth.{image_pushed}
 use Rattle.of_memory.specs.Images.{latest_image}
 use Rattle.of_nodes.specs.declared.phandles.Phandle.{Phandle}
-use Rattle.of_instances.specs.Images.{KeepsImages}
 use Rattle.of_eval.specs.State.{Calls, State}
 use Rattle.of_eval.specs.Settling.{settled}
 use Rattle.of_eval.specs.Steps.{due, stepped}
@@ -75,10 +74,9 @@ SomeEnd m after = (n : ℕ) × LatestEnd n m after
 abbrev pub OneBegins : DataSpace → DataSpace → Type 0
 OneBegins m after = (image : RunningImage) × (running after ≡ image ∷ running m)
 
--- The same run, or one more, and the others as they were. A word over the device tree keeps them, too; there the bytes
--- of the latest are said to be the same.
+-- the same run, or one more, and the others as they were
 abbrev pub GoOn : DataSpace → DataSpace → Type 0
-GoOn m after = AllRun m after ⊎ (OneBegins m after ⊎ KeepsImages m after)
+GoOn m after = AllRun m after ⊎ OneBegins m after
 
 -- what is left where nothing was thrown: at the end of an image the latest may have ended
 abbrev pub WorkLeaves : Bool → DataSpace → DataSpace → Type 0
@@ -123,11 +121,9 @@ pub record ImagesRun (S : Type 0) : Type 0 where
   -- In a step that isn't the end of an image and throws nothing they go on.
   pub go_on :
       (c : Calls S) (s : State S) → IsSound s.parts.memory →
-      IsSound (due c s.flow.next s).state.parts.memory →
       is_at_end s.flow.next s ≡ false → (due c s.flow.next s).ended ≡ Ok tt →
       GoOn s.parts.memory (stepped c s).parts.memory
   -- In each step they go on, or some of the latest end: an image that still runs has the bytes that it had.
   pub step :
       (c : Calls S) (s : State S) → IsSound s.parts.memory →
-      IsSound (due c s.flow.next s).state.parts.memory →
       SomeEnd s.parts.memory (stepped c s).parts.memory ⊎ GoOn s.parts.memory (stepped c s).parts.memory
