@@ -3,8 +3,8 @@ ghost use Rattle.std.specs.Prelude.{◌≤◌};
 
 use crate::running::{bytes_of, ran, shown};
 use of_eval::{
-    frames_hold, images_stand, mismatch_is_no_body, states_stay_placed, steps_agree,
-    steps_throw_listed, words_throw_listed,
+    frames_hold, images_run, images_stand, mismatch_is_no_body, states_stay_placed, steps_agree,
+    steps_throw_listed, throws_settle, words_throw_listed,
 };
 use of_fcodes::FCode;
 use of_nodes::Phandle;
@@ -171,4 +171,6 @@ fn laws() {
     mismatch_is_no_body();
     frames_hold();
     images_stand();
+    throws_settle();
+    images_run();
 }
