@@ -1,3 +1,4 @@
 pub mod Items
 pub mod Code
+pub mod Numbering
 pub mod Laws

@@ -5,6 +5,7 @@ mod fault;
 mod item;
 mod laws;
 mod list_code;
+mod numbering;
 mod store;
 
 pub use fault::CodeFault;
@@ -14,4 +15,5 @@ pub use laws::{
     targets_change_alone,
 };
 pub use list_code::ListCode;
+pub use numbering::{ItemPlace, item_count, item_place};
 pub use store::{CAPACITY, CodeStore, MOST_CALLS, Start};

@@ -1,4 +1,4 @@
-ghost use Rattle.std.specs.Prelude.{◌≡◌, ◌==◌, [], find, option_copied, reverse};
+ghost use Rattle.std.specs.Prelude.{◌≡◌, ◌==◌, [], find, nat_le, option_copied, reverse};
 ghost use Rattle.of_code.specs.Code.{spare_calls};
 
 use crate::{CAPACITY, CodeFault, CodeStore, Item, Place, Start};
@@ -38,6 +38,16 @@ fn latest_start(starts: &[Start], xt: Cell) -> Option<&Start>
     ensures { option_copied result ≡ find (λ start. start.xt.0 == xt.0) (reverse starts.now) }
 {
     starts.iter().rev().find(|start| start.xt.0 == xt.0)
+}
+
+/// The latest start at a place or before it.
+fn latest_up_to(starts: &[Start], place: Place) -> Option<&Start>
+    ensures { option_copied result ≡ find (λ start. nat_le start.place.cell place.cell) (reverse starts.now) }
+{
+    starts
+        .iter()
+        .rev()
+        .find(|start| start.place.cell <= place.cell)
 }
 
 impl ListCode {
@@ -109,6 +119,13 @@ impl CodeStore for ListCode {
 
     fn start_of(&self, xt: Cell) -> Option<Place> {
         Some(latest_start(&self.starts, xt)?.place)
+    }
+
+    fn word_at(&self, place: Place) -> Option<Start> {
+        if place.cell >= self.opened.cell {
+            return None;
+        }
+        Some(*latest_up_to(&self.starts, place)?)
     }
 
     fn opened(&self) -> Place {

@@ -1,7 +1,7 @@
 ghost use Rattle.std.specs.Prelude.{◌≡◌, ◌≤◌, ◌<◌, ℕ, ◌+◌, OnOk, OnSome, Err};
 ghost use Rattle.of_code.specs.Items.{IsStorable, capacity};
 ghost use Rattle.of_code.specs.Code.{Appends, Code, Finishes, abandoned, end_of, fetched_in, item_in, retargeted};
-ghost use Rattle.of_code.specs.Code.{start_in};
+ghost use Rattle.of_code.specs.Code.{start_in, word_in};
 ghost use Rattle.of_code.specs.declared.fault.CodeFault.TheVariants.{NoMemory};
 
 use crate::{CodeFault, Item, Place};
@@ -78,6 +78,10 @@ pub trait CodeStore {
     /// Where the code of the word `xt` begins, if it was finished; of several the latest.
     fn start_of(&self, xt: Cell) -> Option<Place>
         ensures { result ≡ start_in (code self.now) xt };
+
+    /// The finished word in whose code a place lies, and where it begins, if it lies in one's.
+    fn word_at(&self, place: Place) -> Option<Start>
+        ensures { result ≡ word_in (code self.now) place };
 
     /// Where the open definition begins.
     fn opened(&self) -> Place
