@@ -38,7 +38,7 @@ use Rattle.of_compile.proofs.Fetching.{taken_is}
 
 -- ---- sizes
 
-body_length : (start : ℕ) (b : Body PlainItem) → length (laid_body start b) ≡ total (map item_cells (items_of b))
+pub body_length : (start : ℕ) (b : Body PlainItem) → length (laid_body start b) ≡ total (map item_cells (items_of b))
 body_length start b =
     length-laid_items (placed start b) ∙ ap total (code_sizes (item_place start (items_of b)) (items_of b))
 
@@ -248,7 +248,7 @@ items law runs d p l =
     ∙ ap (λ k. get_or k p.cell None) (law.before (code_of d.finished) d.elements) in
     ap (fetched_at p) same ∙ fetch_all runs d.finished p l
 
-total-take : (n : ℕ) (ns : List ℕ) → total (take n ns) ≤ total ns
+pub total-take : (n : ℕ) (ns : List ℕ) → total (take n ns) ≤ total ns
 total-take zero ns = omega arith
 total-take (suc n) [] = omega arith
 total-take (suc n) (m ∷ ns) = let rest = total-take n ns in omega (arith, rest)

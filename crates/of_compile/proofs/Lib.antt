@@ -10,6 +10,7 @@ mod Keeping
 mod LawLemmas
 mod Fetching
 mod BoardLemmas
+mod PlaceLemmas
 mod Pins
 mod FaultLemmas
 mod WordsLemmas

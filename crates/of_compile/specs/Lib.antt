@@ -4,6 +4,7 @@ pub mod Layout
 pub mod Law
 pub mod Board
 pub mod BoardLaw
+pub mod PlacesLaw
 pub mod Tokens
 pub mod Words
 pub mod Defining

@@ -2,6 +2,7 @@
 ghost use Rattle.of_compile.specs.BoardLaw.{BoardIsFlat};
 ghost use Rattle.of_compile.specs.Law.{CompilesReading};
 ghost use Rattle.of_compile.specs.LifeLaw.{DefinitionsComeAndGo};
+ghost use Rattle.of_compile.specs.PlacesLaw.{PlacesAreNumbered};
 
 use crate::PlainItem;
 use of_control::{calls_follow_matching, closed_is_read, compiled_is_flat, runs_by_places};
@@ -26,6 +27,16 @@ pub fn board_is_flat()
     compiles_reading();
     closed_is_read::<PlainItem, 32>();
     runs_by_places::<PlainItem>();
+}
+
+/// The items of a finished word's body are its items from number 0 on, its return the last, each at its own place, with
+/// the number by which the structure takes it there; no other place is one of an item. A finished word has the items of
+/// its body and the return; of several words with one execution token the latest counts.
+pub fn places_are_numbered()
+    ensures { PlacesAreNumbered }
+{
+    compiles_reading();
+    board_is_flat();
 }
 
 /// While a definition is open, its number names it and its name isn't found; once it is ended, its name is found and is
