@@ -1,9 +1,9 @@
 ghost use Rattle.std.specs.Prelude.{◌≡◌, length, reverse};
-ghost use Rattle.of_eval.specs.Views.{next_token};
+ghost use Rattle.of_eval.specs.Views.{items_of_word, next_item, next_token};
 
 use crate::eval::Eval;
 use of_cells::Cell;
-use of_code::CodeStore;
+use of_code::{CodeStore, ItemPlace, Place, item_count, item_place};
 use of_compile::Words;
 use of_fcodes::FCode;
 use of_memory::Memory;
@@ -87,5 +87,27 @@ impl<C: CodeStore> Eval<C> {
             Ok((token, _)) => Some((position, token.code)),
             Err(_) => None,
         }
+    }
+
+    /// The item of a definition that comes next, by its word and number. None where nothing runs, where a token of an
+    /// image comes next, and where no item of a finished definition begins.
+    pub fn place(&self) -> Option<ItemPlace>
+        ensures { result ≡ next_item self.now }
+    {
+        if !self.flow.is_running {
+            return None;
+        }
+        match self.flow.next {
+            Continuation::Source => None,
+            Continuation::Code(cell) => item_place(self.coding.code(), Place { cell }),
+        }
+    }
+
+    /// How many items the colon definition of an execution token has, its return counted. None for what is no colon
+    /// definition, and for one that isn't finished.
+    pub fn items(&self, xt: Cell) -> Option<usize>
+        ensures { result ≡ items_of_word self.now xt }
+    {
+        item_count(self.coding.code(), xt)
     }
 }
