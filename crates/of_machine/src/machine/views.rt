@@ -1,11 +1,11 @@
 ghost use Rattle.std.specs.Prelude.{◌≡◌, length, reverse};
-ghost use Rattle.of_eval.specs.Views.{next_token};
+ghost use Rattle.of_eval.specs.Views.{items_of_word, next_item, next_token};
 ghost use Rattle.of_machine.specs.States.{is_running};
 ghost use Rattle.of_machine.specs.Views.{active_method, byte_of, xt_named, xt_numbered};
 
 use super::Machine;
 use of_cells::Cell;
-use of_code::CodeStore;
+use of_code::{CodeStore, ItemPlace};
 use of_fcodes::{FCode, word_with_name};
 use of_memory::Memory;
 use of_nodes::Tree;
@@ -117,5 +117,21 @@ impl<C: CodeStore> Machine<C> {
         ensures { result ≡ next_token self.now.eval }
     {
         self.eval.next_token()
+    }
+
+    /// The item of a definition that comes next, by its word and number. None where nothing runs, where a token of an
+    /// image comes next, and where no item of a finished definition begins.
+    pub fn place(&self) -> Option<ItemPlace>
+        ensures { result ≡ next_item self.now.eval }
+    {
+        self.eval.place()
+    }
+
+    /// How many items the colon definition of an execution token has, its return counted. None for what is no colon
+    /// definition, and for one that isn't finished.
+    pub fn items(&self, xt: Cell) -> Option<usize>
+        ensures { result ≡ items_of_word self.now.eval xt }
+    {
+        self.eval.items(xt)
     }
 }
