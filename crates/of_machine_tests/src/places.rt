@@ -1,0 +1,91 @@
+//! Items that come next, and how many items words have: numbers counted by hand from what the tokens compile.
+use hex::decode;
+use of_cells::Cell;
+use of_code::ListCode;
+use of_machine::{Machine, ScriptMachine};
+use std::alloc::Global;
+use std::test::Fail;
+
+/// A machine that is to run tokens, which stand behind a header.
+fn loaded(alloc: Global, tokens: &str) -> Result<ScriptMachine, Fail> {
+    let image = decode(alloc, format!(in alloc; "f108000000000000{tokens}")?)?;
+    let mut machine = Machine::new(alloc, ListCode::new(alloc))?;
+    machine.load(&image, "/slot")?;
+    Ok(machine)
+}
+
+/// Tokens, and the item that comes next before each step and after the last: its word's execution token and its number,
+/// or `-` where none does. A word with two arms is run with 0, then with 1; then a word calls another one.
+const PLACES: &str = "\
+b50800b7140007a6130005b2a7b2c2a508009d00|- - - - - - - - - - - c000052c:0 c000052c:3 c000052c:4 - - - 
+b50800b7140007a6130005b2a7b2c2a608009d00|- - - - - - - - - - - c000052c:0 c000052c:1 c000052c:2 c000052c:4 - - - 
+b50800b7a6c2b50801b70800a7c2080100|- - - - - - - - - - c0000530:0 c000052c:0 c000052c:1 c0000530:1 c0000530:2 - - 
+";
+
+/// Appends the item that comes next.
+fn push_place(text: &mut String, machine: &ScriptMachine) -> Result<(), Fail> {
+    match machine.place() {
+        Some(place) => write!(text, "{xt:x}:{item} ", xt = place.xt.0, item = place.item)?,
+        None => text.push_str("- ")?,
+    }
+    Ok(())
+}
+
+/// The items that come next in a run.
+fn places(alloc: Global, tokens: &str) -> Result<String, Fail> {
+    let mut machine = loaded(alloc, tokens)?;
+    let mut text = String::new(alloc);
+    push_place(&mut text, &machine)?;
+    for _ in 0..99 {
+        if !machine.is_running() {
+            break;
+        }
+        machine.step()?;
+        push_place(&mut text, &machine)?;
+    }
+    Ok(text)
+}
+
+#[test]
+fn items_come_next(rt: HostRuntime) -> Result<(), Fail> {
+    for line in PLACES.lines() {
+        let (tokens, wanted) = line.split_once('|').unwrap_or(("", ""));
+        assert_eq!(rt; places(rt.alloc(), tokens)?.as_str(), wanted, "{tokens}");
+    }
+    Ok(())
+}
+
+/// Tokens, how many steps are made of them, an execution token, and how many items its word has then. A definition that
+/// is open has none, nor have a number that is no word, a written word, and a constant.
+const COUNTS: &str = "\
+b50800b7140007a6130005b2a7b2c2a508009d00 8 c000052c none
+b50800b7140007a6130005b2a7b2c2a508009d00 9 c000052c 5
+b50800b7140007a6130005b2a7b2c2a508009d00 16 c000052c 5
+b50800b7140007a6130005b2a7b2c2a508009d00 16 c0000530 none
+b50800b7140007a6130005b2a7b2c2a508009d00 16 c0000080 none
+b50800b7a6c2b50801b70800a7c2080100 16 c000052c 2
+b50800b7a6c2b50801b70800a7c2080100 16 c0000530 3
+b50800b7c200 4 c000052c 1
+a6b50800ba00 4 c000052c none
+";
+
+/// How many items the word of an execution token has after so many steps.
+fn count_after(alloc: Global, tokens: &str, steps: &str, xt: &str) -> Result<Option<usize>, Fail> {
+    let mut machine = loaded(alloc, tokens)?;
+    machine.run(steps.parse()?)?;
+    Ok(machine.items(Cell(u32::from_str_radix(xt, 16)?)))
+}
+
+#[test]
+fn words_have_items(rt: HostRuntime) -> Result<(), Fail> {
+    for line in COUNTS.lines() {
+        let mut words = line.split_whitespace();
+        let tokens = words.next().unwrap_or("");
+        let steps = words.next().unwrap_or("");
+        let xt = words.next().unwrap_or("");
+        let wanted: Option<usize> = words.next().unwrap_or("").parse().ok();
+        let count = count_after(rt.alloc(), tokens, steps, xt)?;
+        assert_eq!(rt; count, wanted, "{line}");
+    }
+    Ok(())
+}
