@@ -6,6 +6,7 @@ use of_cells::Cell;
 use of_code::{CodeStore, Item, ListCode, Place};
 use of_compile::{
     Coding, Element, PlainItem, board_is_flat, compiles_reading, definitions_come_and_go,
+    places_are_numbered,
 };
 use of_stacks::Throw;
 use std::alloc::Global;
@@ -491,4 +492,5 @@ fn laws() {
     compiles_reading();
     board_is_flat();
     definitions_come_and_go();
+    places_are_numbered();
 }
