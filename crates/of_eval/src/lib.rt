@@ -9,6 +9,7 @@ mod eval;
 mod executing;
 mod flow;
 mod heap;
+mod hot;
 mod laws;
 mod loading;
 mod methods;
