@@ -234,6 +234,7 @@ impl<C: CodeStore> Eval<C> {
     }
 
     /// An FCode that names a word: the word is executed, or a call of it is appended.
+    #[inline(always)]
     fn word_token(&mut self, code: FCode) -> Result<(), Stop>
         requires ready { self.old.parts.console.ready ≡ true }
         ensures outcome { Ends (word_grows (entry_in self.old.words.table code.0) self.old.flow.is_compiling
@@ -256,6 +257,7 @@ impl<C: CodeStore> Eval<C> {
     }
 
     /// An FCode with nothing behind it.
+    #[inline(always)]
     pub(crate) fn bare_token(&mut self, code: FCode, here: Spot) -> Result<(), Stop>
         requires position { here.position < 2 ^ 63 }
         requires ready { self.old.parts.console.ready ≡ true }
