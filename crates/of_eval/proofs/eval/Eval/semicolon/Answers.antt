@@ -54,7 +54,8 @@ returns-in-Some-named_open-clause-outcome g c =
     let former = c.in_ok-former.former in
     let new = c.end_open-2.new.self in
     let stop = c.in-Err.stop in
-    let left = subst (λ s. Ends {A = Unit {0}} true (definition_ended flat_calls s.words.defining (with_tree old.parts.tree s))
+    let left = subst
+    (λ s. Ends {A = Unit {0}} true (definition_ended flat_calls s.words.defining (with_tree old.parts.tree s))
     (with_tree old.parts.tree s) (with_tree old.parts.tree new) (Err stop)) c.self.view_is
     (c.in-Err.ensures.outcome old.parts.tree) in
     let undone = method_undone (λ s. definition_ended flat_calls o s) o old new stop left in
