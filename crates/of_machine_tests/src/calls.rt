@@ -1,8 +1,8 @@
+use crate::shared::{loaded, machine_if_room, new_machine, ran, run_on};
 use hex::decode;
 use of_cells::Cell;
-use of_code::ListCode;
 use of_fcodes::FCode;
-use of_machine::{End, LONGEST_IMAGE, Machine, Progress, Refusal, ScriptMachine, run_script};
+use of_machine::{End, LONGEST_IMAGE, Progress, Refusal, ScriptMachine, run_script};
 use of_stream::StreamFault;
 use std::alloc::Global;
 use std::test::Fail;
@@ -15,76 +15,160 @@ const TWO_ARMS: &str = "f10806640000001cb50800b7140007a6130005b2a7b2c2a508009d00
 
 const BAD_START: Refusal = Refusal::BadStart(StreamFault::BadStart(0xff));
 
+/// The refusal of an image, if it isn't run.
+fn refusal(alloc: Global, image: &[u8]) -> Option<Refusal> {
+    run_script(alloc, image, &[], &[], &[], 9).err()
+}
+
 #[test]
 fn images_are_refused(rt: HostRuntime) -> Result<(), Fail> {
     let erased = [0xffu8; 16];
-    assert_eq!(rt;
-        run_script(rt.alloc(), &erased, &[], &[], &[], 9).err(),
-        Some(BAD_START)
-    );
+    assert_eq!(rt; refusal(rt.alloc(), &erased), Some(BAD_START));
     let long = vec![in rt.alloc(); 0xf0u8; LONGEST_IMAGE + 1]?;
-    let refusal = run_script(rt.alloc(), &long, &[], &[], &[], 9).err();
-    assert_eq!(rt; refusal, Some(Refusal::ImageTooLong));
+    assert_eq!(rt; refusal(rt.alloc(), &long), Some(Refusal::ImageTooLong));
+    Ok(())
+}
+
+/// What the load of an image for a path is answered.
+fn answer(machine: &mut ScriptMachine, image: &[u8], path: &str) -> Result<(), Refusal> {
+    machine.load(image, path)
+}
+
+/// Loads on one machine: images, each behind the path that it is loaded for.
+const LOADS: &str = "\
+/slots f108020a0000000da7a81e9d00
+/slots ffffffffffffffffffffffffffffffff
+/slot f108020a0000000da7a81e9d00
+/slot ffffffffffffffffffffffffffffffff
+";
+
+/// What they are answered.
+const ANSWERS: &str = "\
+no such node
+bad start byte ff
+loaded
+busy
+";
+
+/// Appends the answer to a load.
+fn push_answer(text: &mut String, answer: Result<(), Refusal>) -> Result<(), Fail> {
+    match answer {
+        Ok(()) => text.push_str("loaded\n")?,
+        Err(refusal) => write!(text, "{refusal}\n")?,
+    }
+    Ok(())
+}
+
+/// Appends what loads are answered, each on a line.
+fn push_answers(alloc: Global, text: &mut String, machine: &mut ScriptMachine) -> Result<(), Fail> {
+    for load in LOADS.lines() {
+        let (path, digits) = load.split_once(' ').unwrap_or(("", ""));
+        let image = decode(alloc, digits)?;
+        push_answer(text, answer(machine, &image, path))?;
+    }
     Ok(())
 }
 
 #[test]
 fn loads_are_refused(rt: HostRuntime) -> Result<(), Fail> {
-    let erased = [0xffu8; 16];
-    let image = decode(rt.alloc(), FIVE)?;
-    let mut machine = Machine::new(rt.alloc(), ListCode::new(rt.alloc()))?;
-    assert_eq!(rt; machine.load(&image, "/slots"), Err(Refusal::NoNode));
-    assert_eq!(rt; machine.load(&erased, "/slots"), Err(BAD_START));
-    assert_eq!(rt; machine.load(&image, "/slot"), Ok(()));
-    assert_eq!(rt; machine.load(&erased, "/slot"), Err(Refusal::Busy));
+    let mut text = String::new(rt.alloc());
+    push_answers(rt.alloc(), &mut text, &mut new_machine(rt.alloc())?)?;
+    assert_eq!(rt; text.as_str(), ANSWERS);
     Ok(())
+}
+
+/// What a step of a machine on which nothing runs does, and whether something runs then.
+fn idle_step(alloc: Global) -> Result<(Progress, bool), Fail> {
+    let mut machine = new_machine(alloc)?;
+    let progress = machine.step()?;
+    Ok((progress, machine.is_running()))
 }
 
 #[test]
 fn nothing_to_do(rt: HostRuntime) -> Result<(), Fail> {
-    let mut machine = Machine::new(rt.alloc(), ListCode::new(rt.alloc()))?;
-    assert_eq!(rt; machine.step()?, Progress::Ended);
-    assert_eq!(rt; machine.is_running(), false);
+    let (progress, is_running) = idle_step(rt.alloc())?;
+    assert_eq!(rt; progress, Progress::Ended);
+    assert_eq!(rt; is_running, false);
     Ok(())
 }
 
 /// A machine that is to run `2 3 + .`.
-fn loaded(alloc: Global) -> Result<ScriptMachine, Fail> {
+fn five(alloc: Global) -> Result<ScriptMachine, Fail> {
     let image = decode(alloc, FIVE)?;
-    let mut machine = Machine::new(alloc, ListCode::new(alloc))?;
-    machine.load(&image, "/slot")?;
-    Ok(machine)
+    loaded(alloc, &image)
+}
+
+/// Appends the steps made, whether something runs, how many items the return stack has, and behind `:` the data stack.
+fn push_state(text: &mut String, machine: &ScriptMachine) -> Result<(), Fail> {
+    write!(text, "{} ", machine.steps())?;
+    text.push_str(if machine.is_running() {
+        "runs "
+    } else {
+        "idle "
+    })?;
+    write!(text, "{}:", machine.depth())?;
+    for cell in machine.stack() {
+        write!(text, " {}", cell.0)?;
+    }
+    Ok(())
+}
+
+/// Appends what a step does.
+fn push_step(text: &mut String, machine: &mut ScriptMachine) -> Result<(), Fail> {
+    text.push_str(match machine.step()? {
+        Progress::Done => "; step; ",
+        Progress::Ended => "; none; ",
+    })?;
+    Ok(())
+}
+
+/// Appends the states before and after a step, and after two more.
+fn push_states(text: &mut String, machine: &mut ScriptMachine) -> Result<(), Fail> {
+    push_state(text, machine)?;
+    push_step(text, machine)?;
+    push_state(text, machine)?;
+    text.push_str("; two; ")?;
+    run_on(machine, 2)?;
+    push_state(text, machine)
 }
 
 #[test]
 fn steps(rt: HostRuntime) -> Result<(), Fail> {
-    let mut machine = loaded(rt.alloc())?;
-    assert_eq!(rt; machine.is_running(), true);
-    assert_eq!(rt; machine.depth(), 2);
-    assert_eq!(rt; machine.step()?, Progress::Done);
-    assert_eq!(rt; machine.stack(), [Cell(2)].as_slice());
-    machine.run(2)?;
-    assert_eq!(rt; machine.stack(), [Cell(5)].as_slice());
-    assert_eq!(rt; machine.steps(), 3);
+    let mut seen = String::new(rt.alloc());
+    push_states(&mut seen, &mut five(rt.alloc())?)?;
+    assert_eq!(rt;
+        seen.as_str(),
+        "0 runs 2:; step; 1 runs 2: 2; two; 3 runs 2: 5"
+    );
     Ok(())
 }
 
-/// The token that comes next before each step: none while the definition runs, whose number and end are two steps.
+/// Appends the token that comes next, its number behind its position.
+fn push_token(text: &mut String, machine: &ScriptMachine) -> Result<(), Fail> {
+    match machine.next_token() {
+        Some((position, code)) => write!(text, "{position}:{number:x} ", number = code.0)?,
+        None => text.push_str("- ")?,
+    }
+    Ok(())
+}
+
+/// Appends the token that comes next before each of eight steps, and after the last.
+fn push_tokens(text: &mut String, machine: &mut ScriptMachine) -> Result<(), Fail> {
+    for _ in 0..8 {
+        push_token(text, machine)?;
+        run_on(machine, 1)?;
+    }
+    push_token(text, machine)
+}
+
+/// The token that comes next before each step: none while the definition runs, whose number and end are two steps, and
+/// none at the end.
 #[test]
 fn tokens_come_next(rt: HostRuntime) -> Result<(), Fail> {
     let image = decode(rt.alloc(), "f108000000000014b50800b7a7c2080000")?;
-    let mut machine = Machine::new(rt.alloc(), ListCode::new(rt.alloc()))?;
-    machine.load(&image, "/slot")?;
     let mut seen = String::new(rt.alloc());
-    for _ in 0..8 {
-        match machine.next_token() {
-            Some((position, code)) => write!(seen, "{position}:{number:x} ", number = code.0)?,
-            None => seen.push_str("- ")?,
-        }
-        machine.step()?;
-    }
-    assert_eq!(rt; seen.as_str(), "8:b5 11:b7 12:a7 13:c2 14:800 - - 16:0 ");
-    assert_eq!(rt; machine.next_token(), None);
+    push_tokens(&mut seen, &mut loaded(rt.alloc(), &image)?)?;
+    assert_eq!(rt; seen.as_str(), "8:b5 11:b7 12:a7 13:c2 14:800 - - 16:0 - ");
     Ok(())
 }
 
@@ -96,13 +180,18 @@ fn stands_in_the_region(machine: &ScriptMachine, bytes: &[u8]) -> bool {
         .all(|(byte, addr)| machine.byte(Cell(addr)) == Some(*byte))
 }
 
+/// The byte at an address.
+fn byte_at(machine: &ScriptMachine, addr: u32) -> Option<u8> {
+    machine.byte(Cell(addr))
+}
+
 /// A running image stands in the image region, and behind it are zeros.
 #[test]
 fn images_stand_in_the_data_space(rt: HostRuntime) -> Result<(), Fail> {
-    let machine = loaded(rt.alloc())?;
+    let machine = five(rt.alloc())?;
     let image = decode(rt.alloc(), "f108020a0000000da7a81e9d000000")?;
     assert!(rt; stands_in_the_region(&machine, &image));
-    assert_eq!(rt; machine.byte(Cell(0x64_0000)), None);
+    assert_eq!(rt; byte_at(&machine, 0x64_0000), None);
     Ok(())
 }
 
@@ -110,7 +199,7 @@ fn images_stand_in_the_data_space(rt: HostRuntime) -> Result<(), Fail> {
 #[test]
 fn images_are_given_back(rt: HostRuntime) -> Result<(), Fail> {
     let image = decode(rt.alloc(), FIVE)?;
-    let (machine, _) = run_script(rt.alloc(), &image, &[], &[], &[], 5)?;
+    let (machine, _) = ran(rt.alloc(), &image, 5)?;
     assert!(rt; stands_in_the_region(&machine, &[0; 14]));
     Ok(())
 }
@@ -130,21 +219,27 @@ foo none
 const FOO: &str = "f10800000000000aca03666f6f0801b7c200";
 
 /// What a name finds, or a number behind a `#`.
-fn found(machine: &ScriptMachine, name: &str) -> Result<Option<Cell>, Fail> {
-    match name.strip_prefix('#') {
-        Some(number) => Ok(machine.token(FCode(u16::from_str_radix(number, 16)?))),
-        None => Ok(machine.word(name.as_bytes())),
-    }
+fn found(machine: &ScriptMachine, name: &str) -> Result<Option<u32>, Fail> {
+    let xt = match name.strip_prefix('#') {
+        Some(number) => machine.token(FCode(u16::from_str_radix(number, 16)?)),
+        None => machine.word(name.as_bytes()),
+    };
+    Ok(xt.map(|xt| xt.0))
+}
+
+/// What a name finds, or a number behind a `#`, on a machine on which an image has run for so many steps at most.
+fn found_after(alloc: Global, digits: &str, limit: u64, name: &str) -> Result<Option<u32>, Fail> {
+    let image = decode(alloc, digits)?;
+    let (machine, _) = ran(alloc, &image, limit)?;
+    found(&machine, name)
 }
 
 #[test]
 fn names_and_numbers_find_words(rt: HostRuntime) -> Result<(), Fail> {
-    let image = decode(rt.alloc(), FOO)?;
-    let (machine, _) = run_script(rt.alloc(), &image, &[], &[], &[], 9)?;
     for line in NAMES.lines() {
         let (name, wanted) = line.split_once(' ').unwrap_or(("", ""));
         let wanted = u32::from_str_radix(wanted, 16).ok();
-        assert_eq!(rt; found(&machine, name)?.map(|xt| xt.0), wanted, "{name}");
+        assert_eq!(rt; found_after(rt.alloc(), FOO, 9, name)?, wanted, "{name}");
     }
     Ok(())
 }
@@ -163,40 +258,72 @@ probes none
 #1e c0000080
 ";
 
+/// How a run of so many steps at most ends.
+fn end_of(alloc: Global, digits: &str, limit: u64) -> Result<End, Fail> {
+    let image = decode(alloc, digits)?;
+    let (_, end) = ran(alloc, &image, limit)?;
+    Ok(end)
+}
+
 #[test]
 fn names_find_words_while_an_image_runs(rt: HostRuntime) -> Result<(), Fail> {
-    let image = decode(rt.alloc(), PROBE)?;
-    let (machine, end) = run_script(rt.alloc(), &image, &[], &[], &[], 6)?;
-    assert_eq!(rt; end, End::LimitReached);
+    assert_eq!(rt; end_of(rt.alloc(), PROBE, 6)?, End::LimitReached);
     for line in NAMES_INSIDE.lines() {
         let (name, wanted) = line.split_once(' ').unwrap_or(("", ""));
         let wanted = u32::from_str_radix(wanted, 16).ok();
-        assert_eq!(rt; found(&machine, name)?.map(|xt| xt.0), wanted, "{name}");
+        assert_eq!(rt; found_after(rt.alloc(), PROBE, 6, name)?, wanted, "{name}");
     }
     Ok(())
+}
+
+/// What a step does, if it isn't refused, and the steps that were made before it and are after it.
+fn count_step(machine: &mut ScriptMachine) -> (Option<Progress>, u64, u64) {
+    let before = machine.steps();
+    let progress = machine.step().ok();
+    (progress, before, machine.steps())
+}
+
+/// Loads an image for `/slot`, again where no memory is found for it.
+fn load_in_turn(machine: &mut ScriptMachine, image: &[u8]) {
+    for _ in 0..9 {
+        if answer(machine, image, "/slot") != Err(Refusal::NoMemory) {
+            break;
+        }
+    }
+}
+
+/// Makes steps to the end. False where a step that is refused is counted all the same.
+fn keeps_count(machine: &mut ScriptMachine) -> bool {
+    for _ in 0..99 {
+        let (progress, before, after) = count_step(machine);
+        match progress {
+            Some(Progress::Ended) => return true,
+            Some(Progress::Done) => {}
+            None => {
+                if after != before {
+                    return false;
+                }
+            }
+        }
+    }
+    true
+}
+
+/// Whether an image whose machine is refused growths in turn prints 2 at last, and no refused step is counted. True
+/// where there is no memory for a machine.
+fn goes_on(alloc: Global, image: &[u8]) -> bool {
+    let Some(mut machine) = machine_if_room(alloc) else {
+        return true;
+    };
+    load_in_turn(&mut machine, image);
+    keeps_count(&mut machine) && machine.console() == b"2 ".as_slice()
 }
 
 /// A machine whose growths are refused in turn goes on where it stood.
 #[test]
 fn refused_memory(rt: HostRuntime) -> Result<(), Fail> {
     let image = decode(rt.alloc(), TWO_ARMS)?;
-    let Ok(mut machine) = Machine::new(rt.alloc(), ListCode::new(rt.alloc())) else {
-        return Ok(());
-    };
-    for _ in 0..9 {
-        if machine.load(&image, "/slot") != Err(Refusal::NoMemory) {
-            break;
-        }
-    }
-    for _ in 0..99 {
-        let before = machine.steps();
-        match machine.step() {
-            Ok(Progress::Ended) => break,
-            Ok(Progress::Done) => {}
-            Err(_) => assert_eq!(rt; machine.steps(), before),
-        }
-    }
-    assert_eq!(rt; machine.console(), b"2 ".as_slice());
+    assert!(rt; goes_on(rt.alloc(), &image));
     Ok(())
 }
 

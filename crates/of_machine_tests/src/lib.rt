@@ -8,4 +8,6 @@ mod places;
 #[cfg(test)]
 mod runs;
 #[cfg(test)]
+mod shared;
+#[cfg(test)]
 mod tree;

@@ -1,18 +1,9 @@
 //! Items that come next, and how many items words have: numbers counted by hand from what the tokens compile.
-use hex::decode;
+use crate::shared::{image_of, loaded, run_on};
 use of_cells::Cell;
-use of_code::ListCode;
-use of_machine::{Machine, ScriptMachine};
+use of_machine::ScriptMachine;
 use std::alloc::Global;
 use std::test::Fail;
-
-/// A machine that is to run tokens, which stand behind a header.
-fn loaded(alloc: Global, tokens: &str) -> Result<ScriptMachine, Fail> {
-    let image = decode(alloc, format!(in alloc; "f108000000000000{tokens}")?)?;
-    let mut machine = Machine::new(alloc, ListCode::new(alloc))?;
-    machine.load(&image, "/slot")?;
-    Ok(machine)
-}
 
 /// Tokens, and the item that comes next before each step and after the last: its word's execution token and its number,
 /// or `-` where none does. A word with two arms is run with 0, then with 1; then a word calls another one.
@@ -31,18 +22,32 @@ fn push_place(text: &mut String, machine: &ScriptMachine) -> Result<(), Fail> {
     Ok(())
 }
 
-/// The items that come next in a run.
-fn places(alloc: Global, tokens: &str) -> Result<String, Fail> {
-    let mut machine = loaded(alloc, tokens)?;
-    let mut text = String::new(alloc);
-    push_place(&mut text, &machine)?;
+/// Makes a step, and appends the item that comes next then. False, and nothing else, where nothing runs.
+fn push_next_place(text: &mut String, machine: &mut ScriptMachine) -> Result<bool, Fail> {
+    if !machine.is_running() {
+        return Ok(false);
+    }
+    machine.step()?;
+    push_place(text, machine)?;
+    Ok(true)
+}
+
+/// Appends the items that come next in a run.
+fn push_places(text: &mut String, machine: &mut ScriptMachine) -> Result<(), Fail> {
+    push_place(text, machine)?;
     for _ in 0..99 {
-        if !machine.is_running() {
+        if !push_next_place(text, machine)? {
             break;
         }
-        machine.step()?;
-        push_place(&mut text, &machine)?;
     }
+    Ok(())
+}
+
+/// The items that come next in a run of tokens.
+fn places(alloc: Global, tokens: &str) -> Result<String, Fail> {
+    let image = image_of(alloc, tokens)?;
+    let mut text = String::new(alloc);
+    push_places(&mut text, &mut loaded(alloc, &image)?)?;
     Ok(text)
 }
 
@@ -71,8 +76,9 @@ a6b50800ba00 4 c000052c none
 
 /// How many items the word of an execution token has after so many steps.
 fn count_after(alloc: Global, tokens: &str, steps: &str, xt: &str) -> Result<Option<usize>, Fail> {
-    let mut machine = loaded(alloc, tokens)?;
-    machine.run(steps.parse()?)?;
+    let image = image_of(alloc, tokens)?;
+    let mut machine = loaded(alloc, &image)?;
+    run_on(&mut machine, steps.parse()?)?;
     Ok(machine.items(Cell(u32::from_str_radix(xt, 16)?)))
 }
 

@@ -1,26 +1,29 @@
+use crate::shared::{bytes_of, image_of, push_bytes, ran};
 use hex::decode;
-use of_machine::{End, run_script, runs_agree};
+use of_machine::{End, ScriptMachine, run_script, runs_agree};
 use std::alloc::Global;
 use std::test::Fail;
 
-/// What an image prints in a run of so many steps at most, with the steps made and the end; an end
-/// of line as `$`.
-fn shown(alloc: Global, digits: &str, limit: u64) -> Result<String, Fail> {
-    let packed: String = digits.chars().filter(|c| *c != ' ').collect(alloc)?;
-    let image = decode(alloc, packed)?;
-    let (machine, end) = run_script(alloc, &image, &[], &[], &[], limit)?;
-    let mut text = format!(in alloc; "{}", machine.steps())?;
-    text.push_str(match end {
+/// What stands behind the steps of a run.
+fn mark(end: End) -> &'static str {
+    match end {
         End::Done => " ",
         End::LimitReached => "+ ",
-    })?;
-    for byte in machine.console() {
-        text.push(if *byte == b'\n' {
-            '$'
-        } else {
-            char::from(*byte)
-        })?;
     }
+}
+
+/// Appends the steps that were made, the end of the run, and the console; an end of line as `$`.
+fn push_run(text: &mut String, machine: &ScriptMachine, end: End) -> Result<(), Fail> {
+    write!(text, "{}", machine.steps())?;
+    text.push_str(mark(end))?;
+    push_bytes(text, machine.console())
+}
+
+/// What an image prints in a run of so many steps at most, with the steps made and the end.
+fn shown(alloc: Global, image: &[u8], limit: u64) -> Result<String, Fail> {
+    let (machine, end) = ran(alloc, image, limit)?;
+    let mut text = String::new(alloc);
+    push_run(&mut text, &machine, end)?;
     Ok(text)
 }
 
@@ -45,7 +48,8 @@ f108024600000012b50800b70800c2080000|259 fault -5: return stack overflow$
 fn images(rt: HostRuntime) -> Result<(), Fail> {
     for line in IMAGES.lines() {
         let (image, wanted) = line.split_once('|').unwrap_or(("", ""));
-        assert_eq!(rt; shown(rt.alloc(), image, 999)?.as_str(), wanted, "{image}");
+        let bytes = bytes_of(rt.alloc(), image)?;
+        assert_eq!(rt; shown(rt.alloc(), &bytes, 999)?.as_str(), wanted, "{image}");
     }
     Ok(())
 }
@@ -90,7 +94,7 @@ a58c00|2 fault -4: stack underflow$
 fn tokens(rt: HostRuntime) -> Result<(), Fail> {
     for line in TOKENS.lines() {
         let (tokens, wanted) = line.split_once('|').unwrap_or(("", ""));
-        let image = format!(in rt.alloc(); "f108000000000000{tokens}")?;
+        let image = image_of(rt.alloc(), tokens)?;
         assert_eq!(rt; shown(rt.alloc(), &image, 99)?.as_str(), wanted, "{tokens}");
     }
     runs_agree();
@@ -107,13 +111,21 @@ const LIMITS: &str = "\
 
 #[test]
 fn limits(rt: HostRuntime) -> Result<(), Fail> {
+    let image = decode(rt.alloc(), "f108020a0000000da7a81e9d00")?;
     for line in LIMITS.lines() {
         let (limit, wanted) = line.split_once('|').unwrap_or(("", ""));
-        let limit: u64 = limit.parse()?;
-        let made = shown(rt.alloc(), "f108020a0000000da7a81e9d00", limit)?;
+        let made = shown(rt.alloc(), &image, limit.parse()?)?;
         assert_eq!(rt; made.as_str(), wanted, "{limit}");
     }
     Ok(())
+}
+
+/// Whether an image that is cut off throws -257, or has no whole header.
+fn is_cut(alloc: Global, image: &[u8]) -> bool {
+    match run_script(alloc, image, &[], &[], &[], 99) {
+        Ok((machine, _)) => machine.console().ends_with(b"fault -257: image ended\n"),
+        Err(_) => image.len() < 8,
+    }
 }
 
 /// An image cut at every length throws -257, or begins with no whole header.
@@ -121,11 +133,7 @@ fn limits(rt: HostRuntime) -> Result<(), Fail> {
 fn cuts(rt: HostRuntime) -> Result<(), Fail> {
     let image = decode(rt.alloc(), "f10803f700000012a5140005a69db2a79d00")?;
     for length in 0..image.len() {
-        let is_cut = match run_script(rt.alloc(), &image[..length], &[], &[], &[], 99) {
-            Ok((machine, _)) => machine.console().ends_with(b"fault -257: image ended\n"),
-            Err(_) => length < 8,
-        };
-        assert!(rt; is_cut, "{length}");
+        assert!(rt; is_cut(rt.alloc(), &image[..length]), "{length}");
     }
     Ok(())
 }
