@@ -30,6 +30,7 @@ fn own_word(words: &Dict, xt: Cell) -> Option<OwnWord>
 }
 
 /// What the own word of an execution token does, if there is one.
+#[inline(always)]
 #[tactic(auto, using(crate::proofs::WordsLemmas::own_is, crate::proofs::WordsLemmas::own_none))]
 fn kind_at(words: &Dict, xt: Cell) -> Option<Kind>
     ensures { result ≡ kind_in (own_word words.now xt.0) }
@@ -123,7 +124,7 @@ fn entry_in(table: &TokenTable, code: Cell) -> Option<TokenEntry>
 
 impl Words {
     /// What the own word of an execution token does, if there is one.
-    #[inline]
+    #[inline(always)]
     pub fn kind_at(&self, xt: Cell) -> Option<Kind>
         ensures { result ≡ kind_in (own_word self.now.dictionary xt.0) }
     {

@@ -23,6 +23,7 @@ pub mod Raised
 pub mod Executed
 pub mod AtOnce
 pub mod Rests
+pub mod TakenAtOnce
 pub mod Endings
 pub mod Settled
 pub mod MethodLemmas

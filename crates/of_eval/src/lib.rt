@@ -17,6 +17,7 @@ mod often;
 mod parts;
 mod printing;
 mod reading;
+mod reading_often;
 mod returns;
 mod settling;
 mod steps;

@@ -1,12 +1,11 @@
 //! Whole images, and what they make.
 ghost use Rattle.std.specs.Prelude.{◌≤◌};
 
-use crate::running::{bytes_of, ran, shown};
+use crate::running::{bytes_of, made, number_left, shown};
 use of_eval::{
     frames_hold, images_run, images_stand, mismatch_is_no_body, states_stay_placed, steps_agree,
     steps_throw_listed, throws_settle, words_throw_listed,
 };
-use of_fcodes::FCode;
 use of_nodes::Phandle;
 use std::alloc::Global;
 use std::test::Fail;
@@ -102,27 +101,34 @@ fn limits(rt: HostRuntime) -> Result<(), Fail> {
 #[test]
 fn packages(rt: HostRuntime) -> Result<(), Fail> {
     let image = bytes_of(rt.alloc(), TWO_WHILES)?;
-    let (running, _) = ran(rt.alloc(), &image, 45)?;
-    assert_eq!(rt; running.active_package(), Some(Phandle::of(2)));
-    let (ended, _) = ran(rt.alloc(), &image, 46)?;
-    assert_eq!(rt; ended.active_package(), None);
+    let running = made(rt.alloc(), &image, 45)?;
+    assert_eq!(rt; running.active, Some(Phandle::of(2)));
+    let ended = made(rt.alloc(), &image, 46)?;
+    assert_eq!(rt; ended.active, None);
     Ok(())
+}
+
+/// How long the least cut of an image is that doesn't print a part of what the whole prints, and then throw -257, with
+/// nothing on either stack; none where each cut does.
+fn cut_that_differs(alloc: Global, digits: &str) -> Result<Option<usize>, Fail> {
+    let image = bytes_of(alloc, digits)?;
+    let whole = made(alloc, &image, 999)?;
+    for length in 8..image.len() {
+        let cut = made(alloc, &image[..length], 999)?;
+        let printed = cut.console.strip_suffix(b"fault -257: image ended\n");
+        let is_part = printed.is_some_and(|part| whole.console.starts_with(part));
+        if !is_part || cut.cells != 0 || cut.items != 0 {
+            return Ok(Some(length));
+        }
+    }
+    Ok(None)
 }
 
 /// An image cut at each length behind its header prints a part of what the whole prints, and then throws -257.
 #[test]
 fn cuts(rt: HostRuntime) -> Result<(), Fail> {
     for digits in [TWO_ARMS, REBOUND_TOKEN, TWO_WHILES] {
-        let image = bytes_of(rt.alloc(), digits)?;
-        let (whole, _) = ran(rt.alloc(), &image, 999)?;
-        for length in 8..image.len() {
-            let (eval, _) = ran(rt.alloc(), &image[..length], 999)?;
-            let printed = eval.console().strip_suffix(b"fault -257: image ended\n");
-            let is_part = printed.is_some_and(|part| whole.console().starts_with(part));
-            assert!(rt; is_part, "{digits} {length}");
-            assert!(rt; eval.stack().is_empty(), "{digits} {length}");
-            assert_eq!(rt; eval.depth(), 0, "{digits} {length}");
-        }
+        assert_eq!(rt; cut_that_differs(rt.alloc(), digits)?, None, "{digits}");
     }
     Ok(())
 }
@@ -141,23 +147,25 @@ a6 b50fff b8 b50ffe ba|ffe|none
 b50801 b7 1000000800 da 46 1d c2 110801 a4 1000000801 db b50800 b7 0801|800|none
 ";
 
-/// What the end of an image, or a throw, leaves of an open definition's number.
-#[test]
-fn numbers(rt: HostRuntime) -> Result<(), Fail> {
-    for line in NUMBERS.lines() {
+/// The first line whose image leaves its number with something else; nothing where there is none.
+fn other_number(alloc: Global, lines: &str) -> Result<String, Fail> {
+    for line in lines.lines() {
         let mut parts = line.split('|');
         let tokens = parts.next().unwrap_or("");
         let code = u16::from_str_radix(parts.next().unwrap_or(""), 16)?;
-        let wanted = parts.next().unwrap_or("");
-        let digits = format!(in rt.alloc(); "f108000000000000{tokens}")?;
-        let image = bytes_of(rt.alloc(), &digits)?;
-        let (eval, _) = ran(rt.alloc(), &image, 999)?;
-        let found = match eval.words().table().get(FCode(code)) {
-            Some(entry) => format!(in rt.alloc(); "{:x}", entry.xt)?,
-            None => format!(in rt.alloc(); "none")?,
-        };
-        assert_eq!(rt; found.as_str(), wanted, "{line}");
+        let wanted = u32::from_str_radix(parts.next().unwrap_or(""), 16).ok();
+        let image = bytes_of(alloc, &format!(in alloc; "f108000000000000{tokens}")?)?;
+        if number_left(alloc, &image, code)? != wanted {
+            return Ok(line.to_string(alloc)?);
+        }
     }
+    Ok(String::new(alloc))
+}
+
+/// What the end of an image, or a throw, leaves of an open definition's number.
+#[test]
+fn numbers(rt: HostRuntime) -> Result<(), Fail> {
+    assert_eq!(rt; other_number(rt.alloc(), NUMBERS)?.as_str(), "");
     Ok(())
 }
 

@@ -4,6 +4,7 @@ ghost use Rattle.std.specs.Prelude.{◌≡◌, true};
 use hex::decode;
 use of_code::ListCode;
 use of_eval::{Eval, Pause};
+use of_fcodes::FCode;
 use of_nodes::Phandle;
 use std::alloc::{AllocError, Global};
 use std::test::Fail;
@@ -16,19 +17,70 @@ fn run(eval: &mut Eval<ListCode>, limit: u64) -> Result<u64, Fail>
         return Ok(0);
     }
     eval.step()?;
-    let (made, pause) = eval.run(limit - 1);
-    if pause == Pause::NoMemory {
-        return Err(AllocError.into());
+    match eval.run(limit - 1) {
+        (_, Pause::NoMemory) => Err(AllocError.into()),
+        (made, _) => Ok(made + 1),
     }
-    Ok(made + 1)
 }
 
 /// A new evaluator after an image has run for so many steps at most, and how many it made.
-pub(crate) fn ran(alloc: Global, image: &[u8], limit: u64) -> Result<(Eval<ListCode>, u64), Fail> {
+fn ran(alloc: Global, image: &[u8], limit: u64) -> Result<(Eval<ListCode>, u64), Fail> {
     let mut eval = Eval::new(alloc, ListCode::new(alloc))?;
     eval.begin_image(image, Phandle::of(2))?;
     let made = run(&mut eval, limit)?;
     Ok((eval, made))
+}
+
+/// What a run leaves, as plain values: so the proof of a test carries nothing of the evaluator.
+#[derive(Drop)]
+pub(crate) struct Made {
+    /// How many steps were made.
+    pub(crate) steps: u64,
+    /// Whether something still runs.
+    pub(crate) is_running: bool,
+    /// The depth of the data stack.
+    pub(crate) cells: usize,
+    /// The depth of the return stack.
+    pub(crate) items: usize,
+    /// The active package.
+    pub(crate) active: Option<Phandle>,
+    /// What was printed.
+    pub(crate) console: Vec<u8>,
+}
+
+/// The bytes that were printed.
+fn printed(alloc: Global, eval: &Eval<ListCode>) -> Result<Vec<u8>, AllocError> {
+    eval.console().to_vec(alloc)
+}
+
+/// What is read off an evaluator that has made so many steps.
+fn read_off(eval: &Eval<ListCode>, steps: u64, console: Vec<u8>) -> Made {
+    Made {
+        steps,
+        is_running: eval.is_running(),
+        cells: eval.stack().len(),
+        items: eval.depth(),
+        active: eval.active_package(),
+        console,
+    }
+}
+
+/// What an image makes in a run of so many steps at most.
+pub(crate) fn made(alloc: Global, image: &[u8], limit: u64) -> Result<Made, Fail> {
+    let (eval, steps) = ran(alloc, image, limit)?;
+    let console = printed(alloc, &eval)?;
+    Ok(read_off(&eval, steps, console))
+}
+
+/// What an FCode names behind a run, if it is assigned.
+fn named(eval: &Eval<ListCode>, code: u16) -> Option<u32> {
+    Some(eval.words().table().get(FCode(code))?.xt)
+}
+
+/// What an FCode names when an image has run, if it is assigned.
+pub(crate) fn number_left(alloc: Global, image: &[u8], code: u16) -> Result<Option<u32>, Fail> {
+    let (eval, _) = ran(alloc, image, 999)?;
+    Ok(named(&eval, code))
 }
 
 /// The bytes of an image in hexadecimal digits, among which blanks may stand.
@@ -37,19 +89,19 @@ pub(crate) fn bytes_of(alloc: Global, digits: &str) -> Result<Vec<u8>, Fail> {
     Ok(decode(alloc, packed)?)
 }
 
+/// A byte as a character, an end of line as `$`.
+fn shown_byte(byte: u8) -> char {
+    if byte == b'\n' { '$' } else { char::from(byte) }
+}
+
 /// What an image makes in a run of so many steps at most: the steps, with `+` where it still runs; the depths of the
 /// data stack and of the return stack; and what it printed, an end of line as `$`.
 pub(crate) fn shown(alloc: Global, image: &[u8], limit: u64) -> Result<String, Fail> {
-    let (eval, made) = ran(alloc, image, limit)?;
-    let more = if eval.is_running() { "+" } else { "" };
-    let depth = eval.stack().len();
-    let mut text = format!(in alloc; "{made}{more} {depth}/{} ", eval.depth())?;
-    for byte in eval.console() {
-        text.push(if *byte == b'\n' {
-            '$'
-        } else {
-            char::from(*byte)
-        })?;
+    let made = made(alloc, image, limit)?;
+    let more = if made.is_running { "+" } else { "" };
+    let mut text = format!(in alloc; "{}{more} {}/{} ", made.steps, made.cells, made.items)?;
+    for byte in &made.console {
+        text.push(shown_byte(*byte))?;
     }
     Ok(text)
 }

@@ -1,4 +1,4 @@
-ghost use Rattle.std.specs.Prelude.{◌≡◌, ◌<◌, [], ◌∷◌, length, MatchOption};
+ghost use Rattle.std.specs.Prelude.{◌≡◌, ◌<◌, [], ◌∷◌, length, reverse, MatchOption};
 ghost use Rattle.of_memory.specs.Regions.{image_count};
 ghost use Rattle.of_memory.specs.DataSpace.{free_after};
 ghost use Rattle.of_memory.specs.Images.{latest_start};
@@ -10,22 +10,40 @@ use std::marker::Model;
 /// How many images run at once at most: the return stack has an item for each.
 pub(crate) const LIMIT: usize = 256;
 
-/// Where each image that runs ends.
+/// Where each image that runs ends; and where the latest begins and ends, which each token asks for.
 #[derive(Drop)]
 pub(crate) struct ImageEnds {
     ends: ArrayVec<u32, LIMIT>,
+    start: u32,
+    free: u32,
 }
 
 // Clauses see the ends, the latest first.
 impl Model for ImageEnds {
-    ghost use Rattle.std.specs.Prelude.{List, ℕ, reverse, length, ◌≤◌};
+    ghost use Rattle.std.specs.Prelude.{List, ℕ, reverse, length, ◌≤◌, ◌≡◌};
     ghost use Rattle.of_memory.specs.Regions.{image_count};
+    ghost use Rattle.of_memory.specs.DataSpace.{free_after};
+    ghost use Rattle.of_memory.specs.Images.{latest_start};
 
     ghost Value = { List ℕ };
 
     ghost view = { λ s. reverse s.ends.items };
 
-    ghost invariant = { λ s. length s.ends.items ≤ image_count };
+    ghost invariant = { λ s. (length s.ends.items ≤ image_count)
+        × (s.start ≡ latest_start (reverse s.ends.items))
+        × (s.free ≡ free_after (reverse s.ends.items)) };
+}
+
+/// Where the latest image begins, by the ends of those that run; the beginning of the region where none runs.
+#[tactic(auto, using(crate::proofs::Latest::start_of_latest))]
+fn start_of(ends: &ArrayVec<u32, LIMIT>) -> u32
+    ensures { result ≡ latest_start (reverse ends.now.items) }
+{
+    let count = ends.len();
+    if count < 2 {
+        return IMAGE_START;
+    }
+    ends[count - 2]
 }
 
 impl ImageEnds {
@@ -34,6 +52,8 @@ impl ImageEnds {
     {
         ImageEnds {
             ends: ArrayVec::new(),
+            start: IMAGE_START,
+            free: IMAGE_START,
         }
     }
 
@@ -45,25 +65,19 @@ impl ImageEnds {
     }
 
     /// Where the image region is free.
+    #[inline]
     pub(crate) fn free(&self) -> u32
         ensures { result ≡ free_after self.now }
     {
-        match self.ends.last() {
-            Some(end) => *end,
-            None => IMAGE_START,
-        }
+        self.free
     }
 
     /// Where the latest image begins; the beginning of the region where none runs.
-    #[tactic(auto, using(crate::proofs::Latest::start_of_latest))]
+    #[inline]
     pub(crate) fn latest_start(&self) -> u32
         ensures { result ≡ latest_start self.now }
     {
-        let count = self.ends.len();
-        if count < 2 {
-            return IMAGE_START;
-        }
-        self.ends[count - 2]
+        self.start
     }
 
     pub(crate) fn push(&mut self, end: u32)
@@ -71,11 +85,16 @@ impl ImageEnds {
         ensures { self.new ≡ end ∷ self.old }
     {
         self.ends.push(end);
+        self.start = self.free;
+        self.free = end;
     }
 
     pub(crate) fn pop(&mut self) -> Option<u32>
         ensures { MatchOption result ((self.old ≡ []) × (self.new ≡ [])) (λ end. self.old ≡ end ∷ self.new) }
     {
-        self.ends.pop()
+        let end = self.ends.pop()?;
+        self.free = self.start;
+        self.start = start_of(&self.ends);
+        Some(end)
     }
 }

@@ -1,6 +1,6 @@
 ghost use Rattle.std.specs.Prelude.{◌≡◌, ◌≤◌};
 ghost use Rattle.of_memory.specs.Regions.{region_of, size_of, is_heap, is_writable, may_write, place_of, longest, span};
-ghost use Rattle.of_memory.specs.Regions.{property_limit};
+ghost use Rattle.of_memory.specs.Regions.{image_limit, image_start, property_limit};
 ghost use Rattle.of_memory.specs.Growth.{aligned};
 
 /// How far apart the regions begin.
@@ -152,6 +152,16 @@ pub(crate) fn place(addr: u32) -> usize
     ensures { result ≡ place_of addr }
 {
     (addr / SPAN - 1) as usize * LONGEST as usize + (addr % SPAN) as usize
+}
+
+/// The same of an address of the image region.
+#[inline]
+pub(crate) fn image_place(addr: u32) -> usize
+    requires from { image_start ≤ addr }
+    requires to { addr ≤ image_limit }
+    ensures { result ≡ place_of addr }
+{
+    (addr - IMAGE_START) as usize + place(IMAGE_START)
 }
 
 /// The address, up to a multiple of 4.

@@ -7,7 +7,7 @@ ghost use Rattle.of_memory.specs.Images.{latest_start, latest_image};
 use super::Memory;
 use crate::fault::MemFault;
 use crate::images::LIMIT;
-use crate::regions::{IMAGE_LIMIT, place};
+use crate::regions::{IMAGE_LIMIT, image_place, place};
 use of_cells::Cell;
 
 impl Memory {
@@ -27,6 +27,7 @@ impl Memory {
     }
 
     /// Where the latest image begins; the beginning of the region where none runs.
+    #[inline]
     pub fn latest_start(&self) -> Cell
         ensures value { result.0 ≡ latest_start self.now.images }
         ensures fits { result.0 ≤ image_limit }
@@ -35,13 +36,14 @@ impl Memory {
     }
 
     /// The bytes of the latest image; none where none runs.
+    #[inline]
     #[tactic(auto, using(crate::proofs::Latest::latest_stands))]
     pub fn latest_image(&self) -> &[u8]
         ensures value { result.now ≡ latest_image self.now }
         ensures fits { length result.now ≤ 0x4_0000 }
     {
         let start = self.images.latest_start();
-        let at = place(start);
+        let at = image_place(start);
         &self.bytes[at..at + (self.images.free() - start) as usize]
     }
 
