@@ -24,6 +24,7 @@ pub mod Executed
 pub mod AtOnce
 pub mod Rests
 pub mod TakenAtOnce
+pub mod Branch
 pub mod Endings
 pub mod Settled
 pub mod MethodLemmas
