@@ -72,6 +72,7 @@ pub fn enter(start: u32, flow: &mut Flow) -> Result<(), Throw>
     ensures value { Becomes (entered start flow.old (fitting (ReturnItem.Return flow.old.next ∷ flow.old.items)))
         flow.old flow.new result }
     ensures rests { OnOk result (has_due_top flow.new.items ≡ false) }
+    ensures runs { OnOk result (flow.new.is_running ≡ flow.old.is_running) }
 {
     flow.items.try_push(ReturnItem::Return(flow.next))?;
     flow.next = Continuation::Code(start);

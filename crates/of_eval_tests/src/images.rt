@@ -1,7 +1,7 @@
 //! Whole images, and what they make.
 ghost use Rattle.std.specs.Prelude.{◌≤◌};
 
-use crate::running::{bytes_of, made, number_left, shown};
+use crate::running::{bytes_of, made_by, number_left, shown};
 use of_eval::{
     frames_hold, images_run, images_stand, mismatch_is_no_body, states_stay_placed, steps_agree,
     steps_throw_listed, throws_settle, words_throw_listed,
@@ -101,9 +101,9 @@ fn limits(rt: HostRuntime) -> Result<(), Fail> {
 #[test]
 fn packages(rt: HostRuntime) -> Result<(), Fail> {
     let image = bytes_of(rt.alloc(), TWO_WHILES)?;
-    let running = made(rt.alloc(), &image, 45)?;
+    let running = made_by(rt.alloc(), &image, 45)?;
     assert_eq!(rt; running.active, Some(Phandle::of(2)));
-    let ended = made(rt.alloc(), &image, 46)?;
+    let ended = made_by(rt.alloc(), &image, 46)?;
     assert_eq!(rt; ended.active, None);
     Ok(())
 }
@@ -112,9 +112,9 @@ fn packages(rt: HostRuntime) -> Result<(), Fail> {
 /// nothing on either stack; none where each cut does.
 fn cut_that_differs(alloc: Global, digits: &str) -> Result<Option<usize>, Fail> {
     let image = bytes_of(alloc, digits)?;
-    let whole = made(alloc, &image, 999)?;
+    let whole = made_by(alloc, &image, 999)?;
     for length in 8..image.len() {
-        let cut = made(alloc, &image[..length], 999)?;
+        let cut = made_by(alloc, &image[..length], 999)?;
         let printed = cut.console.strip_suffix(b"fault -257: image ended\n");
         let is_part = printed.is_some_and(|part| whole.console.starts_with(part));
         if !is_part || cut.cells != 0 || cut.items != 0 {

@@ -66,7 +66,7 @@ fn read_off(eval: &Eval<ListCode>, steps: u64, console: Vec<u8>) -> Made {
 }
 
 /// What an image makes in a run of so many steps at most.
-pub(crate) fn made(alloc: Global, image: &[u8], limit: u64) -> Result<Made, Fail> {
+pub(crate) fn made_by(alloc: Global, image: &[u8], limit: u64) -> Result<Made, Fail> {
     let (eval, steps) = ran(alloc, image, limit)?;
     let console = printed(alloc, &eval)?;
     Ok(read_off(&eval, steps, console))
@@ -97,7 +97,7 @@ fn shown_byte(byte: u8) -> char {
 /// What an image makes in a run of so many steps at most: the steps, with `+` where it still runs; the depths of the
 /// data stack and of the return stack; and what it printed, an end of line as `$`.
 pub(crate) fn shown(alloc: Global, image: &[u8], limit: u64) -> Result<String, Fail> {
-    let made = made(alloc, image, limit)?;
+    let made = made_by(alloc, image, limit)?;
     let more = if made.is_running { "+" } else { "" };
     let mut text = format!(in alloc; "{}{more} {}/{} ", made.steps, made.cells, made.items)?;
     for byte in &made.console {
