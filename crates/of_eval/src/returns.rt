@@ -73,6 +73,7 @@ pub fn enter(start: u32, flow: &mut Flow) -> Result<(), Throw>
         flow.old flow.new result }
     ensures rests { OnOk result (has_due_top flow.new.items ≡ false) }
     ensures runs { OnOk result (flow.new.is_running ≡ flow.old.is_running) }
+    ensures next { OnOk result (flow.new.next ≡ Continuation.Code start) }
 {
     flow.items.try_push(ReturnItem::Return(flow.next))?;
     flow.next = Continuation::Code(start);

@@ -247,7 +247,7 @@ impl<C: CodeStore> Eval<C> {
         };
         let xt = Cell(entry.xt);
         if !self.flow.is_compiling || entry.immediate {
-            self.perform(xt)?;
+            let _ = self.perform(xt, 0)?;
             return Ok(());
         }
         if !self.words.is_word(xt) {
