@@ -10,8 +10,6 @@ mod names;
 mod paths;
 mod phandles;
 mod properties;
-#[cfg(test)]
-mod tests;
 mod tree;
 
 pub use fault::NodeFault;

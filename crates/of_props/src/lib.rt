@@ -6,8 +6,6 @@ mod decoding;
 mod encoding;
 mod fault;
 mod laws;
-#[cfg(test)]
-mod tests;
 
 pub use arrays::{Array, join};
 pub use decoding::{decode_int, decode_phys, decode_string};

@@ -1,10 +1,14 @@
-//! Tests of the words over the device tree, by their public calls.
+//! Tests of the device tree, of property values and of the words over both, by their public calls.
 #![tactic(auto)]
 
 #[cfg(test)]
 mod active;
 #[cfg(test)]
 mod faults;
+#[cfg(test)]
+mod nodes;
+#[cfg(test)]
+mod properties;
 #[cfg(test)]
 mod running;
 #[cfg(test)]

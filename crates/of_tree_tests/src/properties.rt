@@ -1,9 +1,9 @@
-use crate::{
+use of_cells::Cell;
+use of_memory::Memory;
+use of_props::{
     Array, PropFault, bytes_read_back, cells_read_back, decode_int, decode_phys, decode_string,
     encode_bytes, encode_int, encode_phys, encode_string, ints_read_back, join, strings_read_back,
 };
-use of_cells::Cell;
-use of_memory::Memory;
 use std::test::Fail;
 
 /// An array by its two numbers.

@@ -1,9 +1,10 @@
-use crate::{
+use of_cells::Cell;
+use of_memory::Memory;
+use of_nodes::{
     NodeFault, Phandle, Properties, Property, Span, Tree, first_paths_find, is_name,
     methods_are_found, paths_find, tree_finds, tree_is_shown,
 };
-use of_cells::Cell;
-use of_memory::Memory;
+use std::process::Abort;
 use std::test::Fail;
 
 /// A span by its two numbers.
@@ -119,45 +120,78 @@ d000002c /packages/p
 ";
 
 #[test]
-fn nodes_by_their_paths(rt: HostRuntime) -> Result<(), Fail> {
+fn laws_hold() {
     first_paths_find();
     methods_are_found();
     paths_find();
     tree_finds();
     tree_is_shown();
-    let mut memory = Memory::new(rt.alloc())?;
-    let mut tree = Tree::new(rt.alloc(), &mut memory)?;
+}
+
+/// Whether a path leads to a node, or to none.
+fn leads(
+    rt: &impl Abort,
+    tree: &Tree,
+    memory: &Memory,
+    line: &str,
+    below_packages: bool,
+) -> Result<(), Fail> {
+    let mut words = line.split_whitespace();
+    let path = words.next().unwrap_or("");
+    let wanted = phandle(words.next())?;
+    let found = if below_packages {
+        tree.find_package(memory, path.as_bytes())
+    } else {
+        tree.find(memory, path.as_bytes())
+    };
+    assert_eq!(rt; found, wanted, "{line}");
+    Ok(())
+}
+
+/// Whether a node has a path.
+fn has_path(rt: &impl Abort, tree: &Tree, memory: &Memory, line: &str) -> Result<(), Fail> {
+    let mut words = line.split_whitespace();
+    let Some(node) = phandle(words.next())? else {
+        return Ok(());
+    };
+    let path = tree.path_of(memory, node)?;
+    assert_eq!(rt;
+        path.as_slice(),
+        words.next().unwrap_or("").as_bytes(),
+        "{line}"
+    );
+    Ok(())
+}
+
+/// The tree of `NODES`.
+fn make_tree(rt: &HostRuntime, memory: &mut Memory) -> Result<Tree, Fail> {
+    let mut tree = Tree::new(rt.alloc(), memory)?;
     for line in NODES.lines() {
-        make_node(&rt, &mut tree, &mut memory, line)?;
+        make_node(rt, &mut tree, memory, line)?;
     }
+    Ok(tree)
+}
+
+#[test]
+fn nodes_by_their_paths(rt: HostRuntime) -> Result<(), Fail> {
+    let mut memory = Memory::new(rt.alloc())?;
+    let tree = make_tree(&rt, &mut memory)?;
     for line in PATHS.lines() {
-        let mut words = line.split_whitespace();
-        let path = words.next().unwrap_or("");
-        let wanted = phandle(words.next())?;
-        assert_eq!(rt; tree.find(&memory, path.as_bytes()), wanted, "{line}");
+        leads(&rt, &tree, &memory, line, false)?;
     }
     for line in PACKAGES.lines() {
-        let mut words = line.split_whitespace();
-        let path = words.next().unwrap_or("");
-        let wanted = phandle(words.next())?;
-        assert_eq!(rt;
-            tree.find_package(&memory, path.as_bytes()),
-            wanted,
-            "{line}"
-        );
+        leads(&rt, &tree, &memory, line, true)?;
     }
     assert_eq!(rt; tree.find_package(&memory, b""), Some(Phandle::of(1)));
+    Ok(())
+}
+
+#[test]
+fn paths_of_nodes(rt: HostRuntime) -> Result<(), Fail> {
+    let mut memory = Memory::new(rt.alloc())?;
+    let tree = make_tree(&rt, &mut memory)?;
     for line in NODE_PATHS.lines() {
-        let mut words = line.split_whitespace();
-        let Some(node) = phandle(words.next())? else {
-            continue;
-        };
-        let path = tree.path_of(&memory, node)?;
-        assert_eq!(rt;
-            path.as_slice(),
-            words.next().unwrap_or("").as_bytes(),
-            "{line}"
-        );
+        has_path(&rt, &tree, &memory, line)?;
     }
     Ok(())
 }
