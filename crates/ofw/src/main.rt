@@ -1,36 +1,21 @@
 //! `ofw`: an Open Firmware boot monitor on a simulated board.
 #![tactic(auto)]
 
-mod arguments;
-pub mod engine;
-mod explain;
-mod fault;
-mod input;
-mod laws;
-mod output;
-mod part;
-mod place;
-mod status;
-#[cfg(test)]
-mod tests;
-
-use arguments::{Request, parse, status_of};
 use clap::Error;
-use fault::Fault;
-use output::report;
-use status::Status;
+use of_arguments::{Request, Status, parse, status_of};
+use of_commands::{Fault, report};
 use std::fs::File;
 use std::process::ExitCode;
 use std::{env, io};
 
 /// Writes the image of a source to the file at a path, which is made anew.
 fn keep(rt: &HostRuntime, source: &str, file: &mut File, output: &str) -> Status {
-    let image = match engine::image(rt.alloc(), source, file, &mut rt.stderr()) {
+    let image = match of_commands::image(rt.alloc(), source, file, &mut rt.stderr()) {
         Ok(image) => image,
         Err(status) => return status,
     };
     match File::create(rt, output) {
-        Ok(mut out) => engine::keep(&image, &mut out, &mut rt.stderr()),
+        Ok(mut out) => of_commands::keep(&image, &mut out, &mut rt.stderr()),
         Err(error) => unopened(rt, output, &error),
     }
 }
@@ -63,7 +48,7 @@ fn answer(rt: &HostRuntime, request: Request) -> Status {
         return keep(rt, source, &mut file, output);
     }
     let (mut out, mut errors) = (rt.stdout(), rt.stderr());
-    engine::answer(rt.alloc(), request, &mut file, &mut out, &mut errors)
+    of_commands::answer(rt.alloc(), request, &mut file, &mut out, &mut errors)
 }
 
 /// The words of the command line.

@@ -1,0 +1,231 @@
+-- What the lines of the usage text ask for.
+use Rattle.std.proofs.Common.{not, true≢false, cond, ◌==◌, ◌∷◌, [], codes, ◌≡◌, ◌∙◌, ℕ, Bool, List, Option, Some, None}
+use Rattle.std.proofs.Common.{true, false, arith, refl, sym, ap}
+use Rattle.std.specs.Str.Parse.{digits_value, without_leading_plus}
+use Rattle.std.specs.Str.{bytes_eq}
+use Rattle.std.specs.Option.{option_map_or}
+use Rattle.clap.specs.Faults.{other_fault, flag_word_fault, bundle_fault, word_fault}
+use Rattle.clap.specs.Simple.{Shape, built_leaf, inherited}
+use Rattle.clap.specs.Lexer.{long_of, short_of}
+use Rattle.clap.specs.Walk.{word_met, option, Rule, Waiting, Held, trailing, Text, plain_word, subcommand_or_other}
+use Rattle.clap.specs.Walk.{long_or_other, short_or_plain, idle, nothing_held, value}
+use Rattle.clap.specs.declared.parser.matches.ValueSource.TheVariants.{CommandLine}
+use Rattle.clap.specs.declared.builder.value_parser.Reading.TheVariants.{AsWritten}
+use Rattle.clap.proofs.OnLiterals.{clap_on_literals}
+use Rattle.clap.specs.ValueTests.{is_unsigned_in}
+use Rattle.clap.specs.Words.{Text}
+use Rattle.clap.specs.declared.builder.value_parser.ValueParser.TheVariants as parser
+use Rattle.clap.proofs.ValueTestLemmas.{Accepts-accepts, accepts-Accepts}
+use Rattle.of_arguments.specs.CommandLine.{LinesAsk, is_plain, AsksToRun, AsksToList, AsksForLimit, number_in}
+use Rattle.of_arguments.specs.CommandLine.{ofw_app, run_app, AsksToExplain, AsksWith, plain_extras, AsksToKeep}
+use Rattle.of_arguments.specs.CommandLine.{AsksToTokenize, detok_app, tok_app}
+
+-- ---- a word that begins with no hyphen is no option
+
+no_dashes : (b : ℕ) (rest : Text) → (b == 45) ≡ false → bytes_eq (b ∷ rest) (45 ∷ 45 ∷ []) ≡ false
+no_dashes b rest e = rw e refl
+
+no_long : (b : ℕ) (rest : Text) → (b == 45) ≡ false → long_of (b ∷ rest) ≡ None
+no_long b rest e = rw e refl
+
+no_short : (b : ℕ) (rest : Text) → (b == 45) ≡ false → short_of (b ∷ rest) ≡ None
+no_short b rest e = rw e refl
+
+-- it is what waits for it that takes the word
+word_is_plain : (c : List Rule) (w : Waiting) (p : ℕ) (b : ℕ) (rest : Text) (h : Held) → (b == 45) ≡ false
+    → subcommand_or_other c None w p (b ∷ rest) h ≡ plain_word c w (b ∷ rest) h
+word_is_plain c w p b rest h e =
+    let word = b ∷ rest in
+    let first : subcommand_or_other c None w p word h ≡ long_or_other c w word (long_of word) h =
+    ap (λ (t : Bool). cond t (h, trailing p) (long_or_other c w word (long_of word) h)) (no_dashes b rest e) in
+    let second : long_or_other c w word (long_of word) h ≡ short_or_plain c w word (short_of word) h =
+    ap (λ (t : Option (Text × Option Text)). long_or_other c w word t h) (no_long b rest e) in
+    first ∙ second ∙ ap (λ (t : Option Text). short_or_plain c w word t h) (no_short b rest e)
+
+-- and it has no fault of its own
+word_has_no_fault : (s : Shape) (b : ℕ) (rest : Text) (h : Held) → (b == 45) ≡ false
+    → other_fault s None (b ∷ rest) h ≡ []
+word_has_no_fault s b rest h e =
+    let word = b ∷ rest in
+    let again = s.args_override_self in
+    let first : other_fault s None word h ≡ flag_word_fault s.rules again (long_of word) word h =
+    ap (λ (t : Bool). cond t [] (flag_word_fault s.rules again (long_of word) word h)) (no_dashes b rest e) in
+    let second = ap (λ (t : Option (Text × Option Text)). flag_word_fault s.rules again t word h) (no_long b rest e) in
+    first ∙ second ∙ ap (λ (t : Option Text). option_map_or (λ flags. bundle_fault s.rules again flags h) t [])
+    (no_short b rest e)
+
+-- ---- the subcommands
+
+run_shape : Shape
+run_shape = built_leaf (inherited ofw_app.top run_app.top)
+
+detok_shape : Shape
+detok_shape = built_leaf (inherited ofw_app.top detok_app.top)
+
+tok_shape : Shape
+tok_shape = built_leaf (inherited ofw_app.top tok_app.top)
+
+-- what is held behind a path and the name of an option
+with_path : Text → Text → Text → Held
+with_path id name path = record {
+  rows = record {
+    id = id;
+    values = path ∷ [];
+    count = None;
+    source = Some CommandLine;
+    reading = AsWritten;
+  } ∷ [];
+  pending = Some (name, []);
+  skip = 0;
+}
+
+-- of a run behind its image and `--limit`
+with_image : Text → Held
+with_image image = with_path (codes "image") (codes "limit") image
+
+-- of a source behind its path and `--output`
+with_source : Text → Held
+with_source source = with_path (codes "source") (codes "output") source
+
+image_met : (s : Shape) (b : ℕ) (rest : Text) → (b == 45) ≡ false
+    → word_met s.rules [] false idle 1 (b ∷ rest) nothing_held ≡ (nothing_held, value)
+image_met s b rest e = word_is_plain s.rules idle 1 b rest nothing_held e
+
+image_passes : (s : Shape) (b : ℕ) (rest : Text) → (b == 45) ≡ false
+    → word_fault s [] false idle (b ∷ rest) nothing_held ≡ []
+image_passes s b rest e = word_has_no_fault s b rest nothing_held e
+
+limit_met : (image : Text) (b : ℕ) (rest : Text) → (b == 45) ≡ false
+    → word_met run_shape.rules [] false (option (codes "limit")) 2 (b ∷ rest) (with_image image)
+    ≡ plain_word run_shape.rules (option (codes "limit")) (b ∷ rest) (with_image image)
+limit_met image b rest e = word_is_plain run_shape.rules (option (codes "limit")) 2 b rest (with_image image) e
+
+output_met : (source : Text) (b : ℕ) (rest : Text) → (b == 45) ≡ false
+    → word_met tok_shape.rules [] false (option (codes "output")) 2 (b ∷ rest) (with_source source)
+    ≡ plain_word tok_shape.rules (option (codes "output")) (b ∷ rest) (with_source source)
+output_met source b rest e = word_is_plain tok_shape.rules (option (codes "output")) 2 b rest (with_source source) e
+
+output_passes : (source : Text) (b : ℕ) (rest : Text) → (b == 45) ≡ false
+    → word_fault tok_shape [] false (option (codes "output")) (b ∷ rest) (with_source source) ≡ []
+output_passes source b rest e = word_has_no_fault tok_shape b rest (with_source source) e
+
+limit_passes : (image : Text) (b : ℕ) (rest : Text) → (b == 45) ≡ false
+    → word_fault run_shape [] false (option (codes "limit")) (b ∷ rest) (with_image image) ≡ []
+limit_passes image b rest e = word_has_no_fault run_shape b rest (with_image image) e
+
+-- ---- the lines
+
+runs : (program : Text) (b : ℕ) (rest : Text) → (b == 45) ≡ false → AsksToRun program (b ∷ rest)
+unfolding clap_on_literals run_shape
+runs program b rest e =
+    (rw (image_met run_shape b rest e) refl, rw (image_met run_shape b rest e, image_passes run_shape b rest e) refl)
+
+lists : (program : Text) (b : ℕ) (rest : Text) → (b == 45) ≡ false → AsksToList program (b ∷ rest)
+unfolding clap_on_literals detok_shape
+lists program b rest e = (
+  rw (image_met detok_shape b rest e) refl,
+  rw (image_met detok_shape b rest e, image_passes detok_shape b rest e)
+      refl,
+)
+
+explained : (program : Text) (b : ℕ) (rest : Text) → (b == 45) ≡ false → AsksToExplain program (b ∷ rest)
+unfolding clap_on_literals run_shape
+explained program b rest e =
+    (rw (image_met run_shape b rest e) refl, rw (image_met run_shape b rest e, image_passes run_shape b rest e) refl)
+
+with_names : (program : Text) (b : ℕ) (rest : Text) → (b == 45) ≡ false
+    → AsksWith program (b ∷ rest) (codes "--names") (record { names = true; indents = false }) false
+unfolding clap_on_literals detok_shape
+with_names program b rest e = (
+  rw (image_met detok_shape b rest e) refl,
+  rw (image_met detok_shape b rest e, image_passes detok_shape b rest e) refl,
+)
+
+with_indents : (program : Text) (b : ℕ) (rest : Text) → (b == 45) ≡ false
+    → AsksWith program (b ∷ rest) (codes "--indent") (record { names = false; indents = true }) false
+unfolding clap_on_literals detok_shape
+with_indents program b rest e = (
+  rw (image_met detok_shape b rest e) refl,
+  rw (image_met detok_shape b rest e, image_passes detok_shape b rest e) refl,
+)
+
+with_part : (program : Text) (b : ℕ) (rest : Text) → (b == 45) ≡ false
+    → AsksWith program (b ∷ rest) (codes "--partial") plain_extras true
+unfolding clap_on_literals detok_shape
+with_part program b rest e = (
+  rw (image_met detok_shape b rest e) refl,
+  rw (image_met detok_shape b rest e, image_passes detok_shape b rest e) refl,
+)
+
+tokenizes : (program : Text) (b : ℕ) (rest : Text) → (b == 45) ≡ false → AsksToTokenize program (b ∷ rest)
+unfolding clap_on_literals tok_shape
+tokenizes program b rest e =
+    (rw (image_met tok_shape b rest e) refl, rw (image_met tok_shape b rest e, image_passes tok_shape b rest e) refl)
+
+keeps : (program : Text) (b : ℕ) (rest : Text) (d : ℕ) (name : Text) → (b == 45) ≡ false → (d == 45) ≡ false
+    → AsksToKeep program (b ∷ rest) (d ∷ name)
+unfolding clap_on_literals tok_shape with_source with_path
+keeps program b rest d name e f = (
+  rw (image_met tok_shape b rest e, output_met (b ∷ rest) d name f) refl,
+  rw (
+    image_met tok_shape b rest e,
+    output_met (b ∷ rest) d name f,
+    image_passes tok_shape b rest e,
+    output_passes (b ∷ rest) d name f,
+  ) refl,
+)
+
+-- a number in the range of limits is one of 64 bits
+limit_read : (limit : Text) → is_unsigned_in 0 1000000000 limit ≡ true
+    → number_in limit ≡ Some (digits_value 10 (without_leading_plus limit))
+limit_read limit e =
+    let number = accepts-Accepts false (parser.Unsigned 0 1000000000) limit e in
+    let wide = Accepts-accepts false (parser.Unsigned 0 18446744073709551615) limit
+    (number.0, number.1, number.2, omega arith) in
+    rw wide refl
+
+limits : (program : Text) (b : ℕ) (rest : Text) (d : ℕ) (digits : Text) → (b == 45) ≡ false → (d == 45) ≡ false
+    → is_unsigned_in 0 1000000000 (d ∷ digits) ≡ true → AsksForLimit program (b ∷ rest) (d ∷ digits)
+unfolding clap_on_literals run_shape with_image with_path
+limits program b rest d digits e f number = (
+  rw (image_met run_shape b rest e, limit_met (b ∷ rest) d digits f, limit_read (d ∷ digits) number) refl,
+  rw (
+    image_met run_shape b rest e,
+    limit_met (b ∷ rest) d digits f,
+    image_passes run_shape b rest e,
+    limit_passes (b ∷ rest) d digits f,
+    number,
+  ) refl,
+)
+
+hyphenless : (b : ℕ) → not (b == 45) ≡ true → (b == 45) ≡ false
+hyphenless b e = go (b == 45) refl e
+  where
+    go : (t : Bool) → (b == 45) ≡ t → not t ≡ true → (b == 45) ≡ false
+    go true is e = absurd (true≢false (sym e))
+    go false is e = is
+
+pub lines_ask : LinesAsk
+lines_ask program [] e = absurd (true≢false (sym e))
+lines_ask program (b ∷ rest) e = (
+  runs program b rest (hyphenless b e),
+  lists program b rest (hyphenless b e),
+  tokenizes program b rest (hyphenless b e),
+  explained program b rest (hyphenless b e),
+  (
+    with_names program b rest (hyphenless b e),
+    with_indents program b rest (hyphenless b e),
+    with_part program b rest (hyphenless b e),
+  ),
+  kept,
+  limited,
+)
+  where
+    kept : (output : Text) → is_plain output ≡ true → AsksToKeep program (b ∷ rest) output
+    kept [] f = absurd (true≢false (sym f))
+    kept (d ∷ name) f = keeps program b rest d name (hyphenless b e) (hyphenless d f)
+
+    limited : (limit : Text) → is_plain limit ≡ true → is_unsigned_in 0 1000000000 limit ≡ true
+        → AsksForLimit program (b ∷ rest) limit
+    limited [] f number = absurd (true≢false (sym f))
+    limited (d ∷ digits) f number = limits program b rest d digits (hyphenless b e) (hyphenless d f) number

@@ -1,0 +1,12 @@
+use Rattle.std.proofs.Common.{rules, codes}
+use Rattle.clap.specs.Words.{new_app}
+use Rattle.of_arguments.specs.CommandLine.{detok_app, needing_subcommand, run_app, tok_app, versioned, IsBuilt}
+use Rattle.of_arguments.proofs.arguments.command.Goals as goal
+
+pub returns : goal.returns
+returns c =
+    let base : IsBuilt (needing_subcommand (versioned (new_app (codes "ofw")))) c.subcommand_required-command.result =
+    (search rules, search rules) in
+    let with_run = c.in_ok-command.ensures _ run_app base c.run_command.ensures in
+    let with_tok = c.in_ok-command-2.ensures _ tok_app with_run c.tok_command.ensures in
+    c.with_subcommand-3.ensures _ detok_app with_tok c.detok_command.ensures

@@ -1,0 +1,196 @@
+-- What a command line asks for, in the terms of the parser of command lines: an application has rules
+-- for its words, and a parse gives rows of values that it found.
+use Rattle.std.specs.Prelude.{◌≡◌, ◌==◌, ◌∷◌, [], not, Bool, ℕ, List, false, Option, Some, None, true, codes}
+use Rattle.std.specs.Prelude.{option_map, option_and_then, unwrap_or, if◌then◌else◌}
+use Rattle.std.specs.Str.{bytes_eq}
+use Rattle.std.specs.Str.Parse.{digits_value, without_leading_plus}
+use Rattle.clap.specs.ValueTests.{is_unsigned_in}
+use Rattle.clap.specs.Words.{App, fault_of, app_of, Rule, Row, Text, first_of, one_of, new_app, new_rule, subcommand_of}
+use Rattle.clap.specs.Words.{with_rule, with_subcommand}
+use Rattle.clap.specs.declared.builder.command.Command.{Command}
+use Rattle.clap.specs.declared.builder.command.Command.TheViews.{out-Command}
+use Rattle.clap.specs.declared.builder.action.ArgAction.TheVariants.{Set, SetTrue}
+use Rattle.clap.specs.declared.builder.value_parser.ValueParser.TheVariants as value
+use Rattle.of_detok.specs.declared.notes.Extras.{Extras}
+use Rattle.of_arguments.specs.declared.arguments.Request.{Request}
+use Rattle.of_arguments.specs.declared.arguments.Request.TheVariants as request
+
+-- ---- the command line
+
+-- `IMAGE`
+abbrev pub image_rule : Rule
+image_rule = record (new_rule (codes "image")) { value_names = 1; required = true; action = Some Set }
+
+-- `--limit N`, from 0 to 1,000,000,000
+abbrev pub limit_rule : Rule
+limit_rule = record (new_rule (codes "limit")) {
+  long = Some (codes "limit");
+  value_names = 1;
+  action = Some Set;
+  parser = Some (value.Unsigned 0 1000000000);
+}
+
+-- a flag, by its name behind two hyphens
+abbrev pub flag_rule : Text → Rule
+flag_rule name = record (new_rule name) { long = Some name; action = Some SetTrue }
+
+-- `run IMAGE [--limit N] [--explain]`
+abbrev pub run_app : App
+run_app = with_rule (with_rule (with_rule (new_app (codes "run")) image_rule) limit_rule) (flag_rule (codes "explain"))
+
+-- `SOURCE`
+abbrev pub source_rule : Rule
+source_rule = record (new_rule (codes "source")) { value_names = 1; required = true; action = Some Set }
+
+-- `--output FILE`
+abbrev pub output_rule : Rule
+output_rule = record (new_rule (codes "output")) {
+  long = Some (codes "output");
+  value_names = 1;
+  action = Some Set;
+}
+
+-- `tok SOURCE [--output FILE]`
+abbrev pub tok_app : App
+tok_app = with_rule (with_rule (new_app (codes "tok")) source_rule) output_rule
+
+-- `detok IMAGE [--names] [--indent] [--partial]`
+abbrev pub detok_app : App
+detok_app =
+    with_rule (with_rule (with_rule (with_rule (new_app (codes "detok")) image_rule) (flag_rule (codes "names")))
+    (flag_rule (codes "indent"))) (flag_rule (codes "partial"))
+
+-- the application refuses a line with no subcommand
+abbrev pub needing_subcommand : App → App
+needing_subcommand a = record a { top = record a.top { subcommand_required = true } }
+
+-- the application says its version
+abbrev pub versioned : App → App
+versioned a = record a { top = record a.top { has_version = true } }
+
+-- `ofw`, with one of the three
+abbrev pub ofw_app : App
+ofw_app =
+    with_subcommand (with_subcommand (with_subcommand (needing_subcommand (versioned (new_app (codes "ofw"))))
+    run_app.top) tok_app.top) detok_app.top
+
+-- the command has this shape, and no argument that all its subcommands share
+abbrev pub IsBuilt : App → Command → Type 0
+IsBuilt a c = (app_of c ≡ a) × ((out-Command c).has_globals ≡ false)
+
+-- ---- what is asked
+
+-- the run of the image at a path, for so many steps at most, and whether its end is explained; the image of the source
+-- at a path, to be printed or to be written to a file; or the listing of the image at a path, with what it says beyond
+-- names and operands, and whether it is printed up to what is wrong
+pub data Asked : Type 0 where
+  a_run : Text → ℕ → Bool → Asked
+  an_image : Text → Option Text → Asked
+  a_listing : Text → Extras → Bool → Asked
+
+abbrev pub asked : Request → Asked
+asked (request.Run image limit explain) = a_run image.now limit explain
+asked (request.Tok source output) = an_image source.now (option_map (λ path. path.now) output)
+asked (request.Detok image extras partial) = a_listing image.now extras partial
+
+-- the number that a text has in decimal digits, where it is one of 64 bits
+abbrev pub number_in : Text → Option ℕ
+number_in text =
+    if is_unsigned_in 0 18446744073709551615 text then Some (digits_value 10 (without_leading_plus text)) else None
+
+-- the limit that is given, or 1,000,000
+abbrev pub limit_in : List Row → ℕ
+limit_in rows = unwrap_or (option_and_then number_in (one_of (codes "limit") rows)) 1000000
+
+-- the value of a flag
+abbrev pub is_true : Option Text → Bool
+is_true (Some value) = bytes_eq value (codes "true")
+is_true None = false
+
+-- whether a flag is given
+abbrev pub has_flag : Text → List Row → Bool
+has_flag name rows = is_true (first_of name rows)
+
+-- what a listing is to say beyond names and operands
+abbrev pub extras_in : List Row → Extras
+extras_in rows = record { names = has_flag (codes "names") rows; indents = has_flag (codes "indent") rows }
+
+-- what a subcommand of this name asks for with an image
+abbrev pub asked_as : Text → List Row → Text → Option Asked
+asked_as name rows image =
+    if bytes_eq name (codes "run") then Some (a_run image (limit_in rows) (has_flag (codes "explain") rows))
+    else (if bytes_eq name (codes "detok")
+    then Some (a_listing image (extras_in rows) (has_flag (codes "partial") rows)) else None)
+
+-- what a subcommand asks for, by its name and the rows that were found for it
+abbrev pub asked_by : Text × List Row → Option Asked
+asked_by p =
+    if bytes_eq p.0 (codes "tok")
+    then option_map (λ source. an_image source (first_of (codes "output") p.1)) (first_of (codes "source") p.1)
+    else option_and_then (asked_as p.0 p.1) (first_of (codes "image") p.1)
+
+-- what a command line asks for, the program's name first
+abbrev pub asks : List Text → Option Asked
+asks words = option_and_then asked_by (subcommand_of ofw_app words)
+
+-- ---- lines in plain words
+
+-- nothing beyond names and operands
+abbrev pub plain_extras : Extras
+plain_extras = record { names = false; indents = false }
+
+-- a word that is no option: it has a first byte, and that is no hyphen
+abbrev pub is_plain : Text → Bool
+is_plain [] = false
+is_plain (b ∷ rest) = not (b == 45)
+
+-- the line asks for this, and has no fault
+abbrev pub Asks : List Text → Asked → Type 0
+Asks words what = (asks words ≡ Some what) × (fault_of ofw_app words ≡ [])
+
+-- a run of an image with no limit given
+abbrev pub AsksToRun : Text → Text → Type 0
+AsksToRun program image = Asks (program ∷ codes "run" ∷ image ∷ []) (a_run image 1000000 false)
+
+-- a run with a limit given
+abbrev pub AsksForLimit : Text → Text → Text → Type 0
+AsksForLimit program image limit =
+    Asks (program ∷ codes "run" ∷ image ∷ codes "--limit" ∷ limit ∷ [])
+    (a_run image (digits_value 10 (without_leading_plus limit)) false)
+
+-- a run whose end is explained
+abbrev pub AsksToExplain : Text → Text → Type 0
+AsksToExplain program image =
+    Asks (program ∷ codes "run" ∷ image ∷ codes "--explain" ∷ []) (a_run image 1000000 true)
+
+-- a listing of an image
+abbrev pub AsksToList : Text → Text → Type 0
+AsksToList program image = Asks (program ∷ codes "detok" ∷ image ∷ []) (a_listing image plain_extras false)
+
+-- a listing with a flag
+abbrev pub AsksWith : Text → Text → Text → Extras → Bool → Type 0
+AsksWith program image flag extras partial =
+    Asks (program ∷ codes "detok" ∷ image ∷ flag ∷ []) (a_listing image extras partial)
+
+-- with names, with indents, or up to what is wrong
+abbrev pub AsksForMore : Text → Text → Type 0
+AsksForMore program image = AsksWith program image (codes "--names") (record { names = true; indents = false }) false
+    × AsksWith program image (codes "--indent") (record { names = false; indents = true }) false
+    × AsksWith program image (codes "--partial") plain_extras true
+
+-- the image of a source
+abbrev pub AsksToTokenize : Text → Text → Type 0
+AsksToTokenize program source = Asks (program ∷ codes "tok" ∷ source ∷ []) (an_image source None)
+
+-- the same, written to a file
+abbrev pub AsksToKeep : Text → Text → Text → Type 0
+AsksToKeep program source output =
+    Asks (program ∷ codes "tok" ∷ source ∷ codes "--output" ∷ output ∷ []) (an_image source (Some output))
+
+-- what the lines of the usage text ask for
+abbrev pub LinesAsk : Type 0
+LinesAsk = (program image : Text) → is_plain image ≡ true → AsksToRun program image × AsksToList program image
+    × AsksToTokenize program image × AsksToExplain program image × AsksForMore program image
+    × ((output : Text) → is_plain output ≡ true → AsksToKeep program image output)
+    × ((limit : Text) → is_plain limit ≡ true → is_unsigned_in 0 1000000000 limit ≡ true
+    → AsksForLimit program image limit)

@@ -1,0 +1,301 @@
+ghost use Rattle.std.specs.Prelude.{◌≡◌, IfOk, codes, false, map, option_map};
+ghost use Rattle.clap.specs.Words.{App, fault_of, first_of, rule_of, FailsBy, found_of, rows_of, with_subcommand};
+ghost use Rattle.clap.specs.Values.{kind_of};
+ghost use Rattle.std.specs.String.{string_bytes};
+ghost use Rattle.of_arguments.specs.Statuses.{unasked};
+ghost use Rattle.of_arguments.specs.CommandLine.{IsBuilt, asked, asked_by, asks, detok_app, image_rule, limit_in};
+ghost use Rattle.of_arguments.specs.CommandLine.{limit_rule, flag_rule, has_flag, is_true, ofw_app, output_rule};
+ghost use Rattle.of_arguments.specs.CommandLine.{run_app, source_rule, tok_app};
+
+use crate::status::Status;
+use clap::error::ErrorKind;
+use clap::{Arg, ArgAction, ArgMatches, Command, Error, value_parser};
+use of_detok::Extras;
+use std::alloc::{AllocError, Global};
+
+/// How many steps a run makes where no limit is given.
+const DEFAULT_LIMIT: u64 = 1_000_000;
+
+/// What the help of `run` ends with.
+const RUN_HELP: &str = "\
+Example: ofw run card.rom --limit 5000 --explain
+
+The file is a ROM as it stands where it begins with f0 to f3 or fd, else hexadecimal digits.
+
+Status: 0 done, 1 fault of input or output, 2 usage, 3 limit reached, 5 no memory";
+
+/// What the help of `tok` ends with.
+const TOK_HELP: &str = "\
+Example: ofw tok card.fs --output card.rom
+
+Status: 0 done, 1 fault of input or output, 2 usage, 5 no memory";
+
+/// What the help of `detok` ends with.
+const DETOK_HELP: &str = "\
+Example: ofw detok card.rom --names --indent
+
+The file is a ROM as it stands where it begins with f0 to f3 or fd, else hexadecimal digits.
+
+Status: 0 done, 1 fault of input or output, 2 usage, 5 no memory";
+
+/// What the arguments ask for.
+#[derive(Clone, Copy, Debug, PartialEq, Eq)]
+pub enum Request<'a> {
+    /// Run an image.
+    Run {
+        /// The path of the image.
+        image: &'a str,
+        /// How many steps the run makes at most.
+        limit: u64,
+        /// Whether its end is explained on the error output.
+        explain: bool,
+    },
+    /// Make the image of a source.
+    Tok {
+        /// The path of the source.
+        source: &'a str,
+        /// The path of the file that is to hold the image, where it isn't to be printed.
+        output: Option<&'a str>,
+    },
+    /// List an image.
+    Detok {
+        /// The path of the image.
+        image: &'a str,
+        /// What the listing says beyond names and operands.
+        extras: Extras,
+        /// Whether the lines before a token that can't be read are printed.
+        partial: bool,
+    },
+}
+
+/// The argument that is the path of an image.
+fn image_argument<'a>(alloc: Global) -> Arg<'a>
+    ensures { (rule_of result ≡ image_rule) × (result.global ≡ false) }
+{
+    Arg::new(alloc, "image")
+        .value_name("IMAGE")
+        .help("the image: a ROM, or its bytes in hexadecimal digits")
+        .required(true)
+        .action(ArgAction::Set)
+}
+
+/// The argument that is the path of a source.
+fn source_argument<'a>(alloc: Global) -> Arg<'a>
+    ensures { (rule_of result ≡ source_rule) × (result.global ≡ false) }
+{
+    Arg::new(alloc, "source")
+        .value_name("SOURCE")
+        .help("the source, in words")
+        .required(true)
+        .action(ArgAction::Set)
+}
+
+/// `--output FILE`
+fn output_argument<'a>(alloc: Global) -> Arg<'a>
+    ensures { (rule_of result ≡ output_rule) × (result.global ≡ false) }
+{
+    Arg::new(alloc, "output")
+        .long("output")
+        .value_name("FILE")
+        .help("writes the image to this file, as bytes, and prints nothing")
+        .action(ArgAction::Set)
+}
+
+/// `--limit N`, from 0 to 1,000,000,000
+fn limit_argument<'a>(alloc: Global) -> Arg<'a>
+    ensures { (rule_of result ≡ limit_rule) × (result.global ≡ false) }
+{
+    Arg::new(alloc, "limit")
+        .long("limit")
+        .value_name("N")
+        .help("the most steps, 0 to 1000000000 (1000000 where it is left out)")
+        .action(ArgAction::Set)
+        .value_parser(value_parser!(u64).range(0..=1_000_000_000))
+}
+
+/// A flag.
+fn flag<'a>(alloc: Global, name: &'a str, help: &'a str) -> Arg<'a>
+    ensures { (rule_of result ≡ flag_rule name.now) × (result.global ≡ false) }
+{
+    Arg::new(alloc, name)
+        .long(name)
+        .help(help)
+        .action(ArgAction::SetTrue)
+}
+
+/// `ofw run IMAGE [--limit N] [--explain]`
+fn run_command<'a>(alloc: Global) -> Result<Command<'a>, AllocError>
+    ensures { IfOk result (IsBuilt run_app) }
+{
+    Command::new(alloc, "run")
+        .about("Runs an image and prints what it prints")
+        .after_help(RUN_HELP)
+        .arg(image_argument(alloc))?
+        .arg(limit_argument(alloc))?
+        .arg(flag(
+            alloc,
+            "explain",
+            "says on the error output how the run ended",
+        ))
+}
+
+/// `ofw tok SOURCE [--output FILE]`
+fn tok_command<'a>(alloc: Global) -> Result<Command<'a>, AllocError>
+    ensures { IfOk result (IsBuilt tok_app) }
+{
+    Command::new(alloc, "tok")
+        .about("Prints the image of a source, in hexadecimal")
+        .after_help(TOK_HELP)
+        .arg(source_argument(alloc))?
+        .arg(output_argument(alloc))
+}
+
+/// `ofw detok IMAGE [--names] [--indent] [--partial]`
+fn detok_command<'a>(alloc: Global) -> Result<Command<'a>, AllocError>
+    ensures { IfOk result (IsBuilt detok_app) }
+{
+    Command::new(alloc, "detok")
+        .about("Prints the listing of an image, a line for each token")
+        .after_help(DETOK_HELP)
+        .arg(image_argument(alloc))?
+        .arg(flag(
+            alloc,
+            "names",
+            "says the names that the image gives to its words",
+        ))?
+        .arg(flag(
+            alloc,
+            "indent",
+            "indents definitions and control structures",
+        ))?
+        .arg(flag(alloc, "partial", "lists a damaged image up to its fault"))
+}
+
+/// A command with one more subcommand, if there was memory for it.
+fn with_subcommand<'a>(
+    command: Command<'a>,
+    subcommand: Result<Command<'a>, AllocError>,
+) -> Result<Command<'a>, AllocError>
+    ensures { (a b : App) → IsBuilt a command.entry → IfOk subcommand.entry (IsBuilt b)
+        → IfOk result (IsBuilt (with_subcommand a b.top)) }
+{
+    match subcommand {
+        Ok(subcommand) => command.subcommand(subcommand),
+        Err(error) => Err(error),
+    }
+}
+
+/// `ofw`, with one of its subcommands
+fn command<'a>(alloc: Global) -> Result<Command<'a>, AllocError>
+    ensures { IfOk result (IsBuilt ofw_app) }
+{
+    let command = Command::new(alloc, "ofw")
+        .about("An Open Firmware boot monitor on a simulated board")
+        .version("0.1")
+        .subcommand_required(true);
+    let command = with_subcommand(command, run_command(alloc))?;
+    let command = with_subcommand(command, tok_command(alloc))?;
+    with_subcommand(command, detok_command(alloc))
+}
+
+/// The path of the image that a subcommand was given.
+fn image_path<'a>(matches: &ArgMatches<'a>) -> Option<&'a str>
+    ensures { option_map (λ path. path.now) result ≡ first_of (codes "image") (rows_of (found_of matches.now)) }
+{
+    matches.get_str("image")
+}
+
+/// The path of the source that a subcommand was given.
+fn source_path<'a>(matches: &ArgMatches<'a>) -> Option<&'a str>
+    ensures { option_map (λ path. path.now) result ≡ first_of (codes "source") (rows_of (found_of matches.now)) }
+{
+    matches.get_str("source")
+}
+
+/// The path of the file that `--output` names.
+fn output_path<'a>(matches: &ArgMatches<'a>) -> Option<&'a str>
+    ensures { option_map (λ path. path.now) result ≡ first_of (codes "output") (rows_of (found_of matches.now)) }
+{
+    matches.get_str("output")
+}
+
+/// The limit that a subcommand was given, or the one that stands where it is left out.
+fn step_limit(matches: &ArgMatches) -> u64
+    ensures { result ≡ limit_in (rows_of (found_of matches.now)) }
+{
+    matches.get_one::<u64>("limit").unwrap_or(DEFAULT_LIMIT)
+}
+
+/// The value of a flag, as the text of one.
+fn is_true(value: Option<&str>) -> bool
+    ensures { result ≡ is_true (option_map (λ text. text.now) value.entry) }
+{
+    match value {
+        Some(text) => text == "true",
+        None => false,
+    }
+}
+
+/// Whether a flag was given; its value is read as its text.
+fn has_flag(matches: &ArgMatches, name: &str) -> bool
+    ensures { result ≡ has_flag name.now (rows_of (found_of matches.now)) }
+{
+    is_true(matches.get_str(name))
+}
+
+/// What a subcommand asks for.
+fn request_of<'a>(name: &str, matches: &ArgMatches<'a>) -> Option<Request<'a>>
+    ensures { option_map asked result ≡ asked_by (name.now, rows_of (found_of matches.now)) }
+{
+    if name == "tok" {
+        return Some(Request::Tok {
+            source: source_path(matches)?,
+            output: output_path(matches),
+        });
+    }
+    let image = image_path(matches)?;
+    match name {
+        "run" => Some(Request::Run {
+            image,
+            limit: step_limit(matches),
+            explain: has_flag(matches, "explain"),
+        }),
+        "detok" => Some(Request::Detok {
+            image,
+            extras: Extras {
+                names: has_flag(matches, "names"),
+                indents: has_flag(matches, "indent"),
+            },
+            partial: has_flag(matches, "partial"),
+        }),
+        _ => None,
+    }
+}
+
+/// What the words of a command line ask for, the program's name first.
+///
+/// An error is a call for help or a fault of the words: another subcommand or option, a word too
+/// many, no image, a limit given twice or one that is no number from 0 to 1,000,000,000. `None`
+/// stands for a subcommand that asks for nothing, and all that the command line has ask.
+#[tactic(auto, using(crate::proofs::Requests::ofw_is_simple, crate::proofs::Requests::ofw_is_free))]
+pub fn parse<'a>(alloc: Global, words: &'a [String]) -> Result<Option<Request<'a>>, Error>
+    ensures ok { IfOk result (λ request. option_map asked request ≡ asks (map string_bytes words.now)) }
+    ensures err { FailsBy (fault_of ofw_app (map string_bytes words.now)) result }
+{
+    let matches = command(alloc)?.try_get_matches_from(words)?;
+    match matches.subcommand() {
+        Some((name, matches)) => Ok(request_of(name, matches)),
+        None => Ok(None),
+    }
+}
+
+/// How the program ends where a command line asks for nothing: done after a call for help or for the version.
+pub fn status_of(error: &Error) -> Status
+    ensures { result ≡ unasked (kind_of error.now) }
+{
+    match error.kind() {
+        ErrorKind::DisplayHelp | ErrorKind::DisplayVersion => Status::Done,
+        ErrorKind::OutOfMemory => Status::NoMemory,
+        _ => Status::Usage,
+    }
+}

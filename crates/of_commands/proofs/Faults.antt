@@ -1,0 +1,86 @@
+-- What a file that has no image, or whose image or source has a fault, is given up with.
+use Rattle.std.proofs.Common.{◌≡◌, ℕ, List, Option, Some, None, IfSome, Ok, Err, subst, inl, inr, refl, sym, ◌∙◌}
+use Rattle.std.proofs.Common.{◌⊎◌, Bool, Result, OnOk, OnErr, IfOk, IfErr, length}
+use Rattle.std.specs.Io.KnownBytes.{Appends, Keeps}
+use Rattle.of_commands.specs.declared.fault.Fault.{Fault}
+use Rattle.of_commands.specs.Files.{image_in, FaultsReading}
+use Rattle.of_commands.specs.declared.fault.Fault.TheVariants as fault
+use Rattle.of_stream.specs.declared.fault.StreamFault.{StreamFault}
+use Rattle.of_detok.specs.declared.notes.Extras.{Extras}
+use Rattle.of_compile.specs.Coding.{Coding}
+use Rattle.of_machine.specs.declared.answers.End.{End}
+use Rattle.of_machine.specs.States.{MachineState}
+use Rattle.std.proofs.Math.Seq.{take-length}
+use Rattle.of_commands.specs.Runs.{AppendsPart, IsUnwritten, Lists, ListsFile, ListsPart, Prints, RunsFile}
+use Rattle.of_commands.specs.Runs.{FaultsSource, FaultsSourceFile, FaultsRun, IsRefusedFor, Tokenizes}
+
+-- a file that has no image has a fault of a run
+pub run_unread : (known : Option (List ℕ)) (f : Fault) → IfSome known (λ file. FaultsReading file f)
+    → IfSome known (λ file. FaultsRun file f)
+run_unread (Some file) f fault = inr (inl fault)
+run_unread None f fault = fault
+
+-- and so has one whose image the monitor refuses
+pub run_refused : (known : Option (List ℕ)) (image : List ℕ) (f : Fault)
+    → IfSome known (λ file. image_in file ≡ Ok image) → IsRefusedFor image f → IfSome known (λ file. FaultsRun file f)
+run_refused (Some file) image f has refused = inr (inr (image, has, refused))
+run_refused None image f has refused = has
+
+-- no memory is a fault of reading
+pub no_memory_reading : (known : Option (List ℕ)) → IfSome known (λ file. FaultsReading file fault.NoMemory)
+no_memory_reading (Some file) = inr (inr (inl refl))
+no_memory_reading None = tt
+
+-- what was read of lines that are shown is shown
+lines_shown : (e : Extras) (partial : Bool) (file lines text : List ℕ) (wrong : Option StreamFault) → text ≡ lines
+    → ListsFile e partial file (lines, wrong) → ListsFile e partial file (text, wrong)
+lines_shown e partial file lines text wrong same shown =
+    subst (λ (ls : List ℕ). ListsFile e partial file (ls, wrong)) (sym same) shown
+
+-- the lines that are shown were printed, or a part of them
+pub listing_printed : (known : Option (List ℕ)) (e : Extras) (partial : Bool) (lines text : List ℕ)
+    (wrong : Option StreamFault) (old new : Option (List ℕ)) (r : Result (Unit {0}) Fault) → text ≡ lines
+    → IfSome known (λ file. ListsFile e partial file (lines, wrong)) → OnOk r ((wrong ≡ None) × Appends old new text)
+    → IfErr r (λ f. ListsPart (text, wrong) old new f) → IfSome known (λ file. Lists e partial file old new r)
+listing_printed None e partial lines text wrong old new r same shown all part = tt
+listing_printed (Some file) e partial lines text wrong old new (Ok x) same shown all part = (
+  text,
+  subst (λ (w : Option StreamFault). ListsFile e partial file (text, w)) all.0
+      (lines_shown e partial file lines text wrong same shown),
+  all.1,
+)
+listing_printed (Some file) e partial lines text wrong old new (Err f) same shown all part =
+    inr ((text, wrong), lines_shown e partial file lines text wrong same shown, part)
+
+-- all bytes are a part of them
+pub all_are_part : (old new : Option (List ℕ)) (bs : List ℕ) → Appends old new bs → AppendsPart old new bs
+all_are_part old new bs all = (length bs, subst (Appends old new) (sym (take-length bs)) all)
+
+-- a write that failed, or memory, is a fault of a run
+fault_of_run : (file : List ℕ) (f : Fault) → IsUnwritten f ⊎ (f ≡ fault.NoMemory) → FaultsRun file f
+fault_of_run file f (inl unwritten) = inl unwritten
+fault_of_run file f (inr none) = inr (inl (inr (inr (inl none))))
+
+-- what a run prints was printed, or a part of it
+pub run_printed : (known : Option (List ℕ)) (limit : ℕ) (m : MachineState Coding) (e : End)
+    (old new : Option (List ℕ)) (r : Result End Fault) → IfSome known (λ file. RunsFile file limit m e)
+    → IfOk r (λ d. (d ≡ e) × Appends old new m.eval.parts.console.text)
+    → OnErr r (AppendsPart old new m.eval.parts.console.text) → IfErr r (λ f. IsUnwritten f ⊎ (f ≡ fault.NoMemory))
+    → IfSome known (λ file. Prints file limit old new r)
+run_printed None limit m e old new r runs all part why = tt
+run_printed (Some file) limit m e old new (Ok d) runs all part why =
+    (m, subst (λ (x : End). RunsFile file limit m x) (sym all.0) runs, all.1)
+run_printed (Some file) limit m e old new (Err f) runs all part why =
+    (inr (m, (e, runs), part), fault_of_run file f why)
+
+-- a fault of the source that was read is one of the file
+of_source : (file text : List ℕ) (f : Fault) → text ≡ file → FaultsSource text f → FaultsSourceFile file f
+of_source file text f same fault = inr (inr (inr (subst (λ t. FaultsSource t f) same fault)))
+
+-- and so has the image of a source
+pub tokenizing_given_up : (known : Option (List ℕ)) (text read : List ℕ) (old new : Option (List ℕ)) (f : Fault)
+    → Keeps old new → read ≡ text → IfSome known (λ bytes. text ≡ bytes) → FaultsSource read f
+    → IfSome known (λ file. Tokenizes file old new (Err f))
+tokenizing_given_up (Some file) text read old new f kept all same fault =
+    (inl kept, of_source file read f (all ∙ same) fault)
+tokenizing_given_up None text read old new f kept all same fault = same

@@ -1,0 +1,236 @@
+-- What the program prints of a file's run or listing, and how it ends.
+use Rattle.std.specs.Prelude.{◌≡◌, ◌≤◌, ◌⊎◌, ℕ, List, [], ◌∷◌, length, take, Option, Result, Ok, Err}
+use Rattle.std.specs.Prelude.{Some, None, ◌++◌, codes, ⊤, Bool, if◌then◌else◌}
+use Rattle.std.specs.Option.{option_map}
+use Rattle.std.specs.Io.KnownBytes.{Keeps, Appends}
+use Rattle.hex.specs.Hex.{encode_lower}
+use Rattle.of_detok.specs.declared.notes.Extras.{Extras}
+use Rattle.of_detok.specs.Listing.{Listed, listed_so_far}
+use Rattle.of_machine.specs.declared.answers.End.{End}
+use Rattle.of_machine.specs.declared.answers.End.TheVariants as end
+use Rattle.of_machine.specs.declared.answers.Refusal.{Refusal}
+use Rattle.of_machine.specs.declared.answers.Refusal.TheVariants as refusal
+use Rattle.of_stream.specs.declared.fault.StreamFault.{StreamFault}
+use Rattle.of_stream.specs.declared.fault.StreamFault.TheVariants as stream
+use Rattle.of_compile.specs.Coding.{Coding}
+use Rattle.of_machine.specs.States.{MachineState, image_refusal, Refuses}
+use Rattle.of_machine.specs.Runs.{RunsTo}
+use Rattle.of_source.specs.declared.fault.SourceFault.{SourceFault}
+use Rattle.of_source.specs.declared.fault.SourceFault.TheVariants as source
+use Rattle.of_source.specs.Items.{Source}
+use Rattle.of_source.specs.Parsing.{parsed}
+use Rattle.of_source.specs.Parsing.{IsRefused as IsUnsaid}
+use Rattle.of_tok.specs.declared.fault.TokFault.{TokFault}
+use Rattle.of_tok.specs.declared.fault.TokFault.TheVariants as tok
+use Rattle.of_tok.specs.Image.{tokenized}
+use Rattle.of_tok.specs.Image.{IsRefused as HasNoImage}
+use Rattle.of_arguments.specs.CommandLine.{Asked, a_run, an_image, a_listing}
+use Rattle.of_commands.specs.Files.{image_in, FaultsReading, IsUnread}
+use Rattle.of_commands.specs.declared.fault.Fault.{Fault}
+use Rattle.of_commands.specs.declared.fault.Fault.TheVariants as fault
+use Rattle.of_arguments.specs.declared.status.Status.{Status}
+use Rattle.of_arguments.specs.declared.status.Status.TheVariants as status
+
+-- how the program ends with a fault
+abbrev pub status_of : Fault → Status
+status_of fault.ArgumentNotText = status.Usage
+status_of fault.NoMemory = status.NoMemory
+status_of (fault.Refused refusal.NoMemory) = status.NoMemory
+status_of (fault.NoSource source.NoMemory) = status.NoMemory
+status_of (fault.NoImage tok.NoMemory) = status.NoMemory
+status_of (fault.Unopened code) = status.Fault
+status_of (fault.Unread code) = status.Fault
+status_of fault.Endless = status.Fault
+status_of (fault.BadDigit place byte) = status.Fault
+status_of fault.OddDigits = status.Fault
+status_of (fault.TooLong length) = status.Fault
+status_of (fault.Refused refusal.Busy) = status.Fault
+status_of (fault.Refused refusal.ImageTooLong) = status.Fault
+status_of (fault.Refused (refusal.BadStart f)) = status.Fault
+status_of (fault.Refused refusal.NoNode) = status.Fault
+status_of (fault.Unlisted f) = status.Fault
+status_of (fault.NoSource (source.Unclosed line)) = status.Fault
+status_of (fault.NoSource (source.Unknown line)) = status.Fault
+status_of (fault.NoSource (source.BadNumber line)) = status.Fault
+status_of (fault.NoSource (source.TooLong line)) = status.Fault
+status_of (fault.NoImage (tok.OffsetTooLong line)) = status.Fault
+status_of (fault.NoImage tok.TooManyWords) = status.Fault
+status_of (fault.NoImage tok.ImageTooLong) = status.Fault
+status_of (fault.Unwritten code) = status.Fault
+
+-- the line of a source that has a fault
+abbrev pub source_line_of : Fault → Option ℕ
+source_line_of (fault.NoSource (source.Unclosed line)) = Some line
+source_line_of (fault.NoSource (source.Unknown line)) = Some line
+source_line_of (fault.NoSource (source.BadNumber line)) = Some line
+source_line_of (fault.NoSource (source.TooLong line)) = Some line
+source_line_of (fault.NoImage (tok.OffsetTooLong line)) = Some line
+source_line_of _ = None
+
+-- the status of a result: that of what was done, or that of the fault
+abbrev pub status_in : {A : Type 0} → (A → Status) → Result A Fault → Status
+status_in done (Ok x) = done x
+status_in done (Err f) = status_of f
+
+-- the byte that begins no image, where that is the fault
+abbrev pub start_byte_of : StreamFault → Option ℕ
+start_byte_of (stream.BadStart byte) = Some byte
+start_byte_of stream.Start0 = None
+start_byte_of stream.Short = None
+start_byte_of (stream.Ended position) = None
+
+-- the first byte of an image, where it is the byte that is wrong
+abbrev pub bad_start_of : Fault → Option ℕ
+bad_start_of (fault.Refused (refusal.BadStart f)) = start_byte_of f
+bad_start_of (fault.Unlisted f) = start_byte_of f
+bad_start_of _ = None
+
+-- the line that is said of it
+abbrev pub bad_start_text : ℕ → List ℕ
+bad_start_text byte = codes "ofw: bad start byte " ++ encode_lower (byte ∷ []) ++ 10 ∷ []
+
+-- the run of the image that a file has
+abbrev pub RunsFile : List ℕ → ℕ → MachineState Coding → End → Type 0
+RunsFile file limit m e = (image : List ℕ) × (image_in file ≡ Ok image) × RunsTo image [] [] [] limit m e
+
+-- known bytes grow by the first of bs
+abbrev pub AppendsPart : Option (List ℕ) → Option (List ℕ) → List ℕ → Type 0
+AppendsPart old new bs = (n : ℕ) × Appends old new (take n bs)
+
+-- the run of the file printed all its console bytes
+abbrev pub PrintsRun : List ℕ → ℕ → Option (List ℕ) → Option (List ℕ) → End → Type 0
+PrintsRun file limit old new e =
+    (m : MachineState Coding) × RunsFile file limit m e × Appends old new m.eval.parts.console.text
+
+-- nothing was printed, or the first console bytes of the run
+abbrev pub PrintsPart : List ℕ → ℕ → Option (List ℕ) → Option (List ℕ) → Type 0
+PrintsPart file limit old new = Keeps old new
+    ⊎ ((m : MachineState Coding) × ((e : End) × RunsFile file limit m e)
+    × AppendsPart old new m.eval.parts.console.text)
+
+-- a write failed
+abbrev pub IsUnwritten : Fault → Type 0
+IsUnwritten (fault.Unwritten code) = ⊤
+IsUnwritten _ = ⊥
+
+-- the fault that a refusal of an image of so many bytes is
+abbrev pub refused_as : ℕ → Refusal → Fault
+refused_as length refusal.ImageTooLong = fault.TooLong length
+refused_as length r = fault.Refused r
+
+-- what the monitor refuses an image for
+abbrev pub IsRefusedFor : List ℕ → Fault → Type 0
+IsRefusedFor image f = (r : Refusal) × (f ≡ refused_as (length image) r) × Refuses (image_refusal image) r
+
+-- the faults of a run: of reading, of a write, or what the monitor refuses the image for
+abbrev pub FaultsRun : List ℕ → Fault → Type 0
+FaultsRun file f =
+    IsUnwritten f
+    ⊎ FaultsReading file f
+    ⊎ ((image : List ℕ) × (image_in file ≡ Ok image) × IsRefusedFor image f)
+
+-- what was printed of the run, or of a part of it beside a fault
+abbrev pub Prints : List ℕ → ℕ → Option (List ℕ) → Option (List ℕ) → Result End Fault → Type 0
+Prints file limit old new (Ok e) = PrintsRun file limit old new e
+Prints file limit old new (Err f) = PrintsPart file limit old new × FaultsRun file f
+
+-- the status of a run's end
+abbrev pub end_status : End → Status
+end_status end.Done = status.Done
+end_status end.LimitReached = status.LimitReached
+
+-- the program ends with this status, that of the run's end or of a fault, and printed what belongs to it
+abbrev pub EndsWith : List ℕ → ℕ → Option (List ℕ) → Option (List ℕ) → Status → Type 0
+EndsWith file limit old new s =
+    (r : Result End Fault) × (status_in end_status r ≡ s) × Prints file limit old new r
+
+-- ---- listings
+
+-- what is shown of a listing: all its lines, or with a fault behind them none, unless a part is asked for
+abbrev pub shown_lines : Bool → Listed → Listed
+shown_lines partial (lines, None) = (lines, None)
+shown_lines partial (lines, Some f) = (if partial then lines else [], Some f)
+
+-- the lines that are shown of the image that a file has, and what is wrong behind them, if anything
+abbrev pub ListsFile : Extras → Bool → List ℕ → Listed → Type 0
+ListsFile e partial file listed =
+    (image : List ℕ) × (image_in file ≡ Ok image) × (shown_lines partial (listed_so_far e image) ≡ listed)
+
+-- the lines were printed, and what is wrong behind them is the fault; or a write failed
+abbrev pub ListsPart : Listed → Option (List ℕ) → Option (List ℕ) → Fault → Type 0
+ListsPart (lines, wrong) old new f =
+    (Appends old new lines × (option_map fault.Unlisted wrong ≡ Some f)) ⊎ (AppendsPart old new lines × IsUnwritten f)
+
+-- what was printed of a listing: all of it, or beside a fault nothing, the lines before it or a part of them
+abbrev pub Lists :
+    Extras → Bool → List ℕ → Option (List ℕ) → Option (List ℕ) → Result (Unit {0}) Fault → Type 0
+Lists e partial file old new (Ok _) = (lines : List ℕ) × ListsFile e partial file (lines, None) × Appends old new lines
+Lists e partial file old new (Err f) =
+    (Keeps old new × FaultsReading file f)
+    ⊎ ((listed : Listed) × ListsFile e partial file listed × ListsPart listed old new f)
+
+-- the program ends with this status, done or that of a fault, and printed what belongs to it
+abbrev pub ListsWith : Extras → Bool → List ℕ → Option (List ℕ) → Option (List ℕ) → Status → Type 0
+ListsWith e partial file old new s =
+    (r : Result (Unit {0}) Fault) × (status_in (λ _. status.Done) r ≡ s) × Lists e partial file old new r
+
+-- ---- images of sources
+
+-- the image of the source that a file has
+abbrev pub HasImage : List ℕ → List ℕ → Type 0
+HasImage file image = (s : Source) × (parsed file ≡ Ok s) × (tokenized s ≡ Ok image)
+
+-- the same, in hexadecimal digits and a newline
+abbrev pub TokenizesFile : List ℕ → List ℕ → Type 0
+TokenizesFile file digits = (image : List ℕ) × HasImage file image × (digits ≡ encode_lower image ++ 10 ∷ [])
+
+-- nothing was printed, or the first digits of the image
+abbrev pub TokenizesPart : List ℕ → Option (List ℕ) → Option (List ℕ) → Type 0
+TokenizesPart file old new =
+    Keeps old new ⊎ ((digits : List ℕ) × TokenizesFile file digits × AppendsPart old new digits)
+
+-- the image was printed
+abbrev pub TokenizesAll : List ℕ → Option (List ℕ) → Option (List ℕ) → Type 0
+TokenizesAll file old new = (digits : List ℕ) × TokenizesFile file digits × Appends old new digits
+
+-- a source's faults: what is wrong with its text, or why it has no image, or for memory
+abbrev pub FaultsSource : List ℕ → Fault → Type 0
+FaultsSource text f =
+    (f ≡ fault.NoMemory)
+    ⊎ ((p : SourceFault) × (f ≡ fault.NoSource p) × IsUnsaid (parsed text) p)
+    ⊎ ((s : Source) × (parsed text ≡ Ok s) × ((t : TokFault) × (f ≡ fault.NoImage t) × HasNoImage (tokenized s) t))
+
+-- the faults of a source's file: of a read, of its end, of a write or of the source
+abbrev pub FaultsSourceFile : List ℕ → Fault → Type 0
+FaultsSourceFile file f =
+    IsUnread f
+    ⊎ ((f ≡ fault.Endless) × (16777216 ≤ length file))
+    ⊎ IsUnwritten f
+    ⊎ FaultsSource file f
+
+abbrev pub Tokenizes : List ℕ → Option (List ℕ) → Option (List ℕ) → Result (Unit {0}) Fault → Type 0
+Tokenizes file old new (Ok _) = TokenizesAll file old new
+Tokenizes file old new (Err f) = TokenizesPart file old new × FaultsSourceFile file f
+
+-- the status of a fault of a source's file
+abbrev pub FaultsWith : List ℕ → Status → Type 0
+FaultsWith file s = (f : Fault) × (status_of f ≡ s) × FaultsSourceFile file f
+
+-- the bytes were written, or the first of them, and the status says which
+abbrev pub Writes : List ℕ → Option (List ℕ) → Option (List ℕ) → Status → Type 0
+Writes bytes old new status.Done = Appends old new bytes
+Writes bytes old new status.Fault = AppendsPart old new bytes
+Writes bytes old new _ = ⊥
+
+-- the program ends with this status, done or that of a fault, and printed what belongs to it
+abbrev pub TokenizesWith : List ℕ → Option (List ℕ) → Option (List ℕ) → Status → Type 0
+TokenizesWith file old new s =
+    (r : Result (Unit {0}) Fault) × (status_in (λ _. status.Done) r ≡ s) × Tokenizes file old new r
+
+-- ---- requests
+
+-- what a status says of the output and of the file, where this was asked for
+abbrev pub Answers : Asked → List ℕ → Option (List ℕ) → Option (List ℕ) → Status → Type 0
+Answers (a_run image limit explain) file old new s = EndsWith file limit old new s
+Answers (an_image source output) file old new s = TokenizesWith file old new s
+Answers (a_listing image extras partial) file old new s = ListsWith extras partial file old new s

@@ -1,0 +1,138 @@
+//! How a run ended, in words on the error output.
+ghost use Rattle.std.specs.Prelude.{◌≡◌, IfErr};
+
+use crate::fault::Fault;
+use of_code::ListCode;
+use of_fcodes::{FCode, name_of};
+use of_machine::{End, Machine, ScriptMachine};
+use std::alloc::Global;
+use std::io::{self, Write};
+
+/// Where a run is before a step.
+#[derive(Drop)]
+struct Spot {
+    /// The token of the image that was read last, behind its position, or that comes next.
+    token: Option<(usize, FCode)>,
+    /// Whether the step is the token's own, and not one in a definition that it runs.
+    is_own: bool,
+    /// How many bytes were printed.
+    printed: usize,
+}
+
+/// Where a run is behind so many steps of an image, for which the machine is new.
+fn walk(machine: &mut ScriptMachine, image: &[u8], steps: u64) -> Result<Spot, Fault>
+    ensures { IfErr result (λ f. f ≡ Fault.NoMemory) }
+{
+    if machine.load(image, "/slot").is_err() {
+        return Err(Fault::NoMemory);
+    }
+    let mut last = None;
+    for _ in 0..steps {
+        last = machine.next_token().or(last);
+        if machine.step().is_err() {
+            return Err(Fault::NoMemory);
+        }
+    }
+    let next = machine.next_token();
+    Ok(Spot {
+        token: next.or(last),
+        is_own: next.is_some(),
+        printed: machine.console().len(),
+    })
+}
+
+/// Where the run of an image is after so many steps.
+fn follow(alloc: Global, image: &[u8], steps: u64) -> Result<Spot, Fault>
+    ensures { IfErr result (λ f. f ≡ Fault.NoMemory) }
+{
+    match Machine::new(alloc, ListCode::new(alloc)) {
+        Ok(mut machine) => walk(&mut machine, image, steps),
+        Err(_) => Err(Fault::NoMemory),
+    }
+}
+
+impl Spot {
+    /// Whether the end token comes next.
+    fn is_end(&self) -> bool {
+        self.is_own && matches!(self.token, Some((_, FCode(0x000 | 0x0ff))))
+    }
+}
+
+/// Says where a run is: at a token of the image, or in a definition behind it.
+fn say_spot<E: Write>(spot: &Spot, errors: &mut E) -> io::Result<()> {
+    let Some((position, code)) = spot.token else {
+        return write!(errors, "end of the image");
+    };
+    if !spot.is_own {
+        write!(errors, "in a definition, behind ")?;
+    }
+    match name_of(code) {
+        Some(name) => write!(errors, "`{name}` at {position:06x}"),
+        None => {
+            let number = code.0;
+            write!(errors, "`fcode-{number:03x}` at {position:06x}")
+        }
+    }
+}
+
+/// Says what is on the data stack, the bottom first.
+fn say_stack<E: Write>(path: &str, machine: &ScriptMachine, errors: &mut E) -> io::Result<()> {
+    write!(errors, "ofw: {path}: stack:")?;
+    for cell in machine.stack() {
+        let number = cell.0;
+        write!(errors, " {number:x}")?;
+    }
+    writeln!(errors)
+}
+
+/// Says how a run ended: at its limit, at the end of its image, or by a throw, whose text was printed last.
+fn say_how<E: Write>(
+    path: &str,
+    spot: &Spot,
+    machine: &ScriptMachine,
+    end: End,
+    errors: &mut E,
+) -> io::Result<()> {
+    let steps = machine.steps();
+    if let End::LimitReached = end {
+        write!(
+            errors,
+            "ofw: {path}: limit reached after {steps} steps; next: "
+        )?;
+        say_spot(spot, errors)?;
+        return writeln!(errors);
+    }
+    if spot.is_end() {
+        return writeln!(errors, "ofw: {path}: done after {steps} steps");
+    }
+    let text = machine.console().get(spot.printed..).unwrap_or(&[]);
+    let text = std::str::from_utf8(text).unwrap_or("").trim_end();
+    write!(errors, "ofw: {path}: ")?;
+    say_spot(spot, errors)?;
+    writeln!(errors, ": {text}")
+}
+
+/// Says how the run of an image ended that left this machine, and what is on its data stack. To find where the last
+/// step was made, the image is run again.
+///
+/// An error is for memory alone. What can't be written is left out.
+pub(crate) fn say_end<E: Write>(
+    alloc: Global,
+    path: &str,
+    image: &[u8],
+    machine: &ScriptMachine,
+    end: End,
+    errors: &mut E,
+) -> Result<(), Fault>
+    ensures { IfErr result (λ f. f ≡ Fault.NoMemory) }
+{
+    let made = match end {
+        End::LimitReached => machine.steps(),
+        End::Done => machine.steps().saturating_sub(1),
+    };
+    let spot = follow(alloc, image, made)?;
+    if say_how(path, &spot, machine, end, errors).is_ok() {
+        let _ = say_stack(path, machine, errors);
+    }
+    Ok(())
+}

@@ -1,0 +1,15 @@
+//! The commands of `ofw`, over any reader and any writers.
+#![tactic(auto)]
+
+mod engine;
+mod explain;
+mod fault;
+mod input;
+mod output;
+mod part;
+mod place;
+
+pub use engine::{answer, image, keep};
+pub use fault::Fault;
+pub use output::report;
+pub use place::Place;

@@ -1,0 +1,125 @@
+ghost use Rattle.std.specs.Prelude.{◌≡◌, IfErr, IfSome, OnOk, OnErr};
+ghost use Rattle.std.specs.Io.KnownBytes.{Appends};
+ghost use Rattle.of_commands.specs.Runs.{AppendsPart, IsUnwritten, bad_start_of, bad_start_text, status_of};
+
+use crate::fault::Fault;
+use crate::place::Place;
+use hex::encode_to_slice;
+use of_arguments::Status;
+use std::io::{self, Error, ErrorKind, Write};
+
+/// Writes all bytes, in as many writes as it takes.
+///
+/// Unwritten where a write fails or takes no byte: what went out is then the first of them.
+pub(crate) fn write_whole<W: Write>(out: &mut W, bytes: &[u8]) -> Result<(), Fault>
+    ensures ok { OnOk result (Appends (W.contents out.old) (W.contents out.new) bytes.now) }
+    ensures err { OnErr result (AppendsPart (W.contents out.old) (W.contents out.new) bytes.now) }
+    ensures fault { IfErr result IsUnwritten }
+{
+    let mut gone = 0usize;
+    while gone < bytes.len() {
+        match out.write(&bytes[gone..]) {
+            Ok(0) => return Err(Fault::Unwritten(None)),
+            Ok(count) => gone += count,
+            Err(error) => return Err(Fault::Unwritten(error.raw_os_error())),
+        }
+    }
+    Ok(())
+}
+
+/// The line that is said of an image whose first byte begins none: the byte in two digits.
+fn bad_start_text(byte: u8) -> [u8; 23]
+    ensures { result ≡ bad_start_text byte }
+{
+    let mut text = *b"ofw: bad start byte 00\n";
+    let _ = encode_to_slice([byte], &mut text[20..22]);
+    text
+}
+
+/// What the system says of the error of a number; of an error without one that it is another.
+fn reason(code: Option<i32>) -> Error {
+    match code {
+        Some(code) => Error::from_raw_os_error(code),
+        None => Error::from(ErrorKind::Other),
+    }
+}
+
+/// Says that a write failed, unless nobody reads what is written.
+fn say_unwritten<E: Write>(code: Option<i32>, errors: &mut E) -> io::Result<()> {
+    let reason = reason(code);
+    match reason.kind() {
+        ErrorKind::BrokenPipe => Ok(()),
+        _ => writeln!(errors, "ofw: the output can't be written: {reason}"),
+    }
+}
+
+/// Says which byte of a text is no digit, with its place.
+fn say_stray<E: Write>(path: &str, place: Place, byte: u8, errors: &mut E) -> io::Result<()> {
+    let Place { line, column } = place;
+    if byte.is_ascii_graphic() {
+        let digit = char::from(byte);
+        return writeln!(
+            errors,
+            "ofw: {path}:{line}:{column}: '{digit}' is no hexadecimal digit"
+        );
+    }
+    if byte == 0xef && line == 1 && column == 1 {
+        return writeln!(
+            errors,
+            "ofw: {path}:1:1: byte ef, as of a byte order mark, is no hexadecimal digit"
+        );
+    }
+    writeln!(
+        errors,
+        "ofw: {path}:{line}:{column}: byte {byte:02x} is no hexadecimal digit"
+    )
+}
+
+/// Says what is wrong where that is no start byte: of a file behind its path, of a text with the place.
+fn say_other<E: Write>(path: &str, fault: Fault, errors: &mut E) -> io::Result<()> {
+    if let Some((line, wrong)) = fault.source_line() {
+        return writeln!(errors, "{path}:{line}: {wrong}");
+    }
+    match fault {
+        Fault::Unwritten(code) => say_unwritten(code, errors),
+        Fault::BadDigit { place, byte } => say_stray(path, place, byte, errors),
+        Fault::Unopened(code) | Fault::Unread(code) => {
+            let reason = reason(code);
+            writeln!(errors, "ofw: {path}: {reason}")
+        }
+        Fault::ArgumentNotText | Fault::NoMemory => writeln!(errors, "ofw: {fault}"),
+        _ => writeln!(errors, "ofw: {path}: {fault}"),
+    }
+}
+
+/// Says what is wrong, on a line of its own.
+///
+/// Unwritten where a write fails: what went out is then the first part of the line.
+fn say<E: Write>(path: &str, fault: Fault, errors: &mut E) -> Result<(), Fault>
+    ensures ok { OnOk result (IfSome (bad_start_of fault) (λ byte.
+        Appends (E.contents errors.old) (E.contents errors.new) (bad_start_text byte))) }
+    ensures err { OnErr result (IfSome (bad_start_of fault) (λ byte.
+        AppendsPart (E.contents errors.old) (E.contents errors.new) (bad_start_text byte))) }
+{
+    match fault.bad_start() {
+        Some(byte) => write_whole(errors, &bad_start_text(byte)),
+        None => match say_other(path, fault, errors) {
+            Ok(()) => Ok(()),
+            Err(error) => Err(Fault::Unwritten(error.raw_os_error())),
+        },
+    }
+}
+
+/// Says on the error output what is wrong with the file at a path, or with what was to be done with it,
+/// and gives the status that belongs to it.
+///
+/// Of a bad start byte goes out `ofw: bad start byte`, the byte in two hexadecimal digits and a
+/// newline, or the first part of it where a write fails.
+pub fn report<E: Write>(path: &str, fault: Fault, errors: &mut E) -> Status
+    ensures status { result ≡ status_of fault }
+    ensures said { IfSome (bad_start_of fault) (λ byte.
+        AppendsPart (E.contents errors.old) (E.contents errors.new) (bad_start_text byte)) }
+{
+    let _ = say(path, fault, errors);
+    fault.status()
+}

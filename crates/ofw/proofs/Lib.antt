@@ -1,5 +1,0 @@
-pub mod Faults
-pub mod Lines
-pub mod Reading
-pub mod Requests
-pub mod Written

@@ -1,0 +1,181 @@
+use crate::doubles::{Endless, Screen, blank_screen, reader_of};
+use of_arguments::{Status, parse, status_of};
+use of_commands::{Fault, answer, image, keep, report};
+use std::alloc::Global;
+use std::io::Read;
+use std::process::Abort;
+use std::test::Fail;
+
+/// A text without the newline at its end.
+fn without_newline(text: &[u8]) -> &[u8] {
+    text.strip_suffix(b"\n").unwrap_or(text)
+}
+
+/// Does what the words of a line ask for, behind the program's name, and gives the number of the status.
+fn code_of(
+    alloc: Global,
+    words: &str,
+    file: &mut impl Read,
+    out: &mut Screen,
+    errors: &mut Screen,
+) -> Result<u8, Fail> {
+    let mut line = vec![in alloc; String::from_str(alloc, "ofw")?]?;
+    for word in words.split(' ') {
+        line.push(String::from_str(alloc, word)?)?;
+    }
+    Ok(match parse(alloc, &line) {
+        Ok(Some(request)) => answer(alloc, request, file, out, errors).code(),
+        Ok(None) => Status::Usage.code(),
+        Err(error) => status_of(&error).code(),
+    })
+}
+
+/// Cases, each ended by `;`: the words of the command line, the read and the write that fail, the number of
+/// the status, what is said, what goes out and the file.
+const CASES: &str = "\
+run a.hex --limit 9|99|99|0||5 |f108020a0000000da7a81e9d00;
+run a.hex --limit 9|99|99|0||5 | f1 08 020a
+0000000d a7a81e9d00
+;
+run a.hex --limit 4|99|99|3||5 |f108020a0000000da7a81e9d00;
+run a.hex --limit 0|99|99|3|||f108020a0000000da7a81e9d00;
+run a.hex --limit 9 --explain|99|99|0|ofw: a.hex: done after 5 steps
+ofw: a.hex: stack:|5 |f108020a0000000da7a81e9d00;
+run a.hex --limit 3 --explain|99|99|3|ofw: a.hex: limit reached after 3 steps; next: `.` at 00000b
+ofw: a.hex: stack: 5||f108020a0000000da7a81e9d00;
+run a.hex --limit 9 --explain|99|99|0|ofw: a.hex: `@` at 000009: fault -9: invalid memory address
+ofw: a.hex: stack:|fault -9: invalid memory address|f10800000000000ba76d00;
+run a.hex --limit 9|99|99|1|ofw: bad start byte ff||ffffffffffffffff;
+run a.hex --limit 9|99|99|1|ofw: a.hex: image shorter than its header||f108;
+run a.hex --limit 9|99|99|1|ofw: a.hex: image shorter than its header||;
+run a.hex --limit 9|99|99|1|ofw: a.hex:2:4: 'z' is no hexadecimal digit||f1
+08 zz;
+run a.hex --limit 9|99|99|1|ofw: a.hex:3:9: 'x' is no hexadecimal digit||f108
+
+020a000 x;
+run a.hex --limit 9|99|99|1|ofw: a.hex:1:1: byte ef, as of a byte order mark, is no hexadecimal digit||\u{feff}f108;
+run a.hex --limit 9|99|99|1|ofw: a.hex:1:3: byte 00 is no hexadecimal digit||f1\x00;
+run a.hex --limit 9|99|99|1|ofw: a.hex: an odd number of hexadecimal digits||f10;
+run a.hex --limit 9|2|99|1|ofw: a.hex: other error||f108020a0000000da7a81e9d00;
+run a.hex --limit 9|99|1|1|ofw: the output can't be written: other error|5|f108020a0000000da7a81e9d00;
+detok a.hex|99|999|0||000000: f108020a0000000d  start1
+000008: a7  2
+000009: a8  3
+00000a: 1e  +
+00000b: 9d  .
+00000c: 00  end0|f108020a0000000da7a81e9d00;
+detok a.hex|99|999|1|ofw: a.hex: image ended in the token at 000009||f10800a700000009a7;
+detok a.hex --names --indent --partial|99|999|1|ofw: a.hex: image ended in the token at 00001c|\
+000000: fd08000000000000  version1 (sum 071c) (bytes 0000001c)
+000008: b604616464330800  named-token \"add3\" 800
+000010: b7  b(:)
+000011: a8    3
+000012: 1e    +
+000013: c2  b(;)
+000014: a7  2
+000015: 1406  b?branch -> 00001c
+000017: a7    2
+000018: 0800    fcode-800 add3
+00001a: b2  b(>resolve)
+00001b: 9d  .|fd08000000000000b604616464330800b7a81ec2a71406a70800b29d;
+detok a.hex|99|999|1|ofw: a.hex:2:1: 'x' is no hexadecimal digit||f108
+x;
+detok a.hex|99|2|1|ofw: the output can't be written: other error|00|f108020a0000000da7a81e9d00;
+tok card.fs|99|999|0||f108075c000000211204636172640201b604616464330800b7a81ec2a708009d00|fcode-version2
+\" card\" device-name : add3 3 + ; 2 add3 . fcode-end;
+tok card.fs|99|999|1|card.fs:2: unknown word||fcode-version2
+zork fcode-end;
+tok card.fs|99|999|1|card.fs:2: too long: a name has at most 31 bytes, a string 255||fcode-version2
+: a23456789b123456789c123456789d12 fcode-end;
+tok card.fs|99|999|1|card.fs:3: unclosed||fcode-version2
+5
+then fcode-end;
+tok card.fs|2|999|1|ofw: card.fs: other error||fcode-version2 fcode-end;
+tok card.fs|99|3|1|ofw: the output can't be written: other error|f10|fcode-version2 fcode-end";
+
+#[test]
+fn statuses(rt: HostRuntime) -> Result<(), Fail> {
+    for case in CASES.split(";\n") {
+        let mut fields = case.split('|');
+        let words = fields.next().unwrap_or("");
+        let read = fields.next().unwrap_or("").parse::<u32>()?;
+        let mut out = blank_screen(rt.alloc(), fields.next().unwrap_or("").parse::<u32>()?);
+        let mut errors = blank_screen(rt.alloc(), 999);
+        let wanted = fields.next().unwrap_or("").parse::<u8>()?;
+        let said = fields.next().unwrap_or("");
+        let printed = fields.next().unwrap_or("");
+        let text = fields.next().unwrap_or("").as_bytes();
+        let mut file = reader_of(text, read);
+        let code = code_of(rt.alloc(), words, &mut file, &mut out, &mut errors)?;
+        assert_eq!(rt; code, wanted, "{case}");
+        assert_eq!(rt; without_newline(&out.text), printed.as_bytes(), "{case}");
+        assert_eq!(rt; without_newline(&errors.text), said.as_bytes(), "{case}");
+    }
+    Ok(())
+}
+
+#[test]
+fn binary_images(rt: HostRuntime) -> Result<(), Fail> {
+    let mut file = reader_of(b"\xf1\x08\x02\x0a\0\0\0\x0d\xa7\xa8\x1e\x9d\0", 99);
+    let mut out = blank_screen(rt.alloc(), 99);
+    let mut errors = blank_screen(rt.alloc(), 99);
+    let words = "run five.rom --limit 9";
+    assert_eq!(rt;
+        code_of(rt.alloc(), words, &mut file, &mut out, &mut errors)?,
+        0
+    );
+    assert_eq!(rt; out.text.as_slice(), b"5 ".as_slice());
+    Ok(())
+}
+
+#[test]
+fn an_image_is_kept(rt: HostRuntime) {
+    let mut file = reader_of(b"fcode-version2 fcode-end", 99);
+    let mut out = blank_screen(rt.alloc(), 99);
+    let mut errors = blank_screen(rt.alloc(), 0);
+    let made = image(rt.alloc(), "a.fs", &mut file, &mut errors).unwrap_or(Vec::new(rt.alloc()));
+    let wanted = b"\xf1\x08\0\0\0\0\0\x09\0".as_slice();
+    assert_eq!(rt; made.as_slice(), wanted);
+    assert_eq!(rt; keep(&made, &mut out, &mut errors), Status::Done);
+    assert_eq!(rt; out.text.as_slice(), wanted);
+}
+
+/// Runs the image of a file that gives a byte for ever: after so many reads it is given up, and this is said.
+fn give_up(rt: &impl Abort, alloc: Global, byte: u8, reads: u32, wanted: &str) -> Result<(), Fail> {
+    let mut file = Endless { byte, reads: 0 };
+    let mut out = blank_screen(alloc, 0);
+    let mut errors = blank_screen(alloc, 999);
+    let words = "run /dev/zero --limit 9";
+    assert_eq!(rt; code_of(alloc, words, &mut file, &mut out, &mut errors)?, 1);
+    assert_eq!(rt; file.reads, reads);
+    assert_eq!(rt; errors.text.as_slice(), wanted.as_bytes());
+    Ok(())
+}
+
+/// A text is refused at its first byte, not at its end.
+#[test]
+fn endless_zeros(rt: HostRuntime) -> Result<(), Fail> {
+    let said = "ofw: /dev/zero:1:1: byte 00 is no hexadecimal digit\n";
+    give_up(&rt, rt.alloc(), 0, 1, said)
+}
+
+#[test]
+fn endless_file(rt: HostRuntime) -> Result<(), Fail> {
+    let said = "ofw: /dev/zero: doesn't end after 16777216 reads\n";
+    give_up(&rt, rt.alloc(), b'0', 16_777_216, said)
+}
+
+#[test]
+fn reports(rt: HostRuntime) {
+    let mut errors = blank_screen(rt.alloc(), 999);
+    assert_eq!(rt; report("", Fault::NoMemory, &mut errors).code(), 5);
+    assert_eq!(rt; errors.text.as_slice(), b"ofw: no memory\n".as_slice());
+    assert_eq!(rt; report("", Fault::ArgumentNotText, &mut errors).code(), 2);
+    let mut errors = blank_screen(rt.alloc(), 999);
+    assert_eq!(rt;
+        report("a.rom", Fault::TooLong(262_145), &mut errors).code(),
+        1
+    );
+    let said = b"ofw: a.rom: image of 262145 bytes, of which 262144 fit\n";
+    assert_eq!(rt; errors.text.as_slice(), said.as_slice());
+}

@@ -1,0 +1,9 @@
+//! Tests of the commands and of the command line, by their public calls.
+#![tactic(auto)]
+
+#[cfg(test)]
+mod arguments;
+#[cfg(test)]
+mod commands;
+#[cfg(test)]
+mod doubles;
