@@ -4,6 +4,8 @@
 #[cfg(test)]
 mod active;
 #[cfg(test)]
+mod calls;
+#[cfg(test)]
 mod faults;
 #[cfg(test)]
 mod nodes;

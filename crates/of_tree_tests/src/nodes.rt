@@ -1,123 +1,11 @@
+use crate::calls::differing;
 use of_cells::Cell;
 use of_memory::Memory;
 use of_nodes::{
-    NodeFault, Phandle, Properties, Property, Span, Tree, first_paths_find, is_name,
-    methods_are_found, paths_find, tree_finds, tree_is_shown,
+    NodeFault, Phandle, Properties, Tree, first_paths_find, is_name, methods_are_found, paths_find,
+    tree_finds, tree_is_shown,
 };
-use std::process::Abort;
 use std::test::Fail;
-
-/// A span by its two numbers.
-fn span(address: u32, length: u32) -> Span {
-    Span {
-        address: Cell(address),
-        length: Cell(length),
-    }
-}
-
-/// A property by the places of its name and of its value.
-fn places(name: Span, value: Span) -> Option<Property> {
-    Some(Property { name, value })
-}
-
-/// A phandle in hexadecimal, or none for `-`.
-fn phandle(word: Option<&str>) -> Result<Option<Phandle>, Fail> {
-    match word {
-        Some("-") | None => Ok(None),
-        Some(digits) => Ok(Some(Phandle(Cell(u32::from_str_radix(digits, 16)?)))),
-    }
-}
-
-/// Cells in hexadecimal, joined by commas, as bytes.
-fn cells(rt: &HostRuntime, word: &str) -> Result<Vec<u8>, Fail> {
-    let mut bytes = Vec::new(rt.alloc());
-    for digits in word.split(',') {
-        let cell = u32::from_str_radix(digits, 16)?;
-        bytes.extend_from_slice(&cell.to_be_bytes())?;
-    }
-    Ok(bytes)
-}
-
-/// Makes a node by its parent, its name and its `reg`, each `-` where there is none.
-fn make_node(
-    rt: &HostRuntime,
-    tree: &mut Tree,
-    memory: &mut Memory,
-    line: &str,
-) -> Result<(), Fail> {
-    let mut words = line.split_whitespace();
-    let Some(parent) = phandle(words.next())? else {
-        return Ok(());
-    };
-    let node = tree.add_node(parent)?;
-    let name = words.next().unwrap_or("-");
-    if name != "-" {
-        let mut value = Vec::from_slice(rt.alloc(), name.as_bytes())?;
-        value.push(0)?;
-        tree.set_property(memory, node, b"name", value.as_slice())?;
-    }
-    let reg = words.next().unwrap_or("-");
-    if reg != "-" {
-        tree.set_property(memory, node, b"reg", cells(rt, reg)?.as_slice())?;
-    }
-    Ok(())
-}
-
-/// The nodes d000000c on: parent, name, `reg`.
-const NODES: &str = "\
-d0000008 card 1,0,100
-d0000008 card 2,a0,100
-d0000008 disk -
-d0000008 disk -
-d0000014 part 3
-d0000018 part -
-d0000004 - -
-d0000004 p -
-d0000004 p -
-";
-
-/// Paths and their nodes.
-const PATHS: &str = "\
-/ d0000000
-/slot d0000008
-/slot/card d000000c
-/slot/card@1,0 d000000c
-/slot/card@2,a0 d0000010
-/slot/@2,a0 d0000010
-/slot/card@ -
-/slot/card@02,a0 -
-/slot/disk@1,0 -
-/slot/card@2,a0:1,x d0000010
-/slot:9600,8/disk:a d0000014
-/slot/disk/part d000001c
-/slot//part -
-/slot/ -
-//slot -
-slot -
-/SLOT -
-/packages/ d0000024
-/packages/p d0000028
-/packages/: d0000024
-";
-
-/// Paths below `/packages` and their nodes.
-const PACKAGES: &str = "\
-p d000002c
-p:x d000002c
-/ -
-/p -
-packages -
-";
-
-/// Nodes and their paths.
-const NODE_PATHS: &str = "\
-d0000000 /
-d0000010 /slot/card@2,a0
-d0000018 /slot/disk
-d000001c /slot/disk/part
-d0000024 /packages/
-d000002c /packages/p
-";
 
 #[test]
 fn laws_hold() {
@@ -128,95 +16,174 @@ fn laws_hold() {
     tree_is_shown();
 }
 
-/// Whether a path leads to a node, or to none.
-fn leads(
-    rt: &impl Abort,
-    tree: &Tree,
-    memory: &Memory,
-    line: &str,
-    below_packages: bool,
-) -> Result<(), Fail> {
-    let mut words = line.split_whitespace();
-    let path = words.next().unwrap_or("");
-    let wanted = phandle(words.next())?;
-    let found = if below_packages {
-        tree.find_package(memory, path.as_bytes())
-    } else {
-        tree.find(memory, path.as_bytes())
-    };
-    assert_eq!(rt; found, wanted, "{line}");
+/// The tree at first, and a node that is added to it.
+const FIRST: &str = "\
+parent d0000000 = -
+child d0000000 = d0000004
+peer d0000004 = d0000008
+peer d0000008 = -
+parent d0000008 = d0000000
+child d000000c = no such node
+add_node d0000008 = d000000c
+set_property d000000c reg 1234 = done
+property d000000c reg = 200038 3 20003c 4
+next_property d000000c - = 200038 3 20003c 4
+next_property d000000c reg = -
+delete_property d000000c reg = done
+property d000000c reg = -
+";
+
+#[test]
+fn the_tree_at_first(rt: HostRuntime) -> Result<(), Fail> {
+    assert_eq!(rt; differing(rt.alloc(), FIRST)?.as_str(), "");
     Ok(())
 }
 
-/// Whether a node has a path.
-fn has_path(rt: &impl Abort, tree: &Tree, memory: &Memory, line: &str) -> Result<(), Fail> {
-    let mut words = line.split_whitespace();
-    let Some(node) = phandle(words.next())? else {
-        return Ok(());
-    };
-    let path = tree.path_of(memory, node)?;
-    assert_eq!(rt;
-        path.as_slice(),
-        words.next().unwrap_or("").as_bytes(),
-        "{line}"
-    );
-    Ok(())
-}
-
-/// The tree of `NODES`.
-fn make_tree(rt: &HostRuntime, memory: &mut Memory) -> Result<Tree, Fail> {
-    let mut tree = Tree::new(rt.alloc(), memory)?;
-    for line in NODES.lines() {
-        make_node(rt, &mut tree, memory, line)?;
-    }
-    Ok(tree)
-}
+/// Two cards, two nodes of one name, each with one below it, a node without a name, and two packages of one name.
+/// Paths, from the root or from `/packages`, lead to them: the oldest of a name counts, of packages the newest.
+const PATHS: &str = "\
+add_node d0000008 = d000000c
+set_property d000000c name card~ = done
+set_property d000000c reg #1,0,100 = done
+add_node d0000008 = d0000010
+set_property d0000010 name card~ = done
+set_property d0000010 reg #2,a0,100 = done
+add_node d0000008 = d0000014
+set_property d0000014 name disk~ = done
+add_node d0000008 = d0000018
+set_property d0000018 name disk~ = done
+add_node d0000014 = d000001c
+set_property d000001c name part~ = done
+set_property d000001c reg #3 = done
+add_node d0000018 = d0000020
+set_property d0000020 name part~ = done
+add_node d0000004 = d0000024
+add_node d0000004 = d0000028
+set_property d0000028 name p~ = done
+add_node d0000004 = d000002c
+set_property d000002c name p~ = done
+find / = d0000000
+find /slot = d0000008
+find /slot/card = d000000c
+find /slot/card@1,0 = d000000c
+find /slot/card@2,a0 = d0000010
+find /slot/@2,a0 = d0000010
+find /slot/card@ = -
+find /slot/card@02,a0 = -
+find /slot/disk@1,0 = -
+find /slot/card@2,a0:1,x = d0000010
+find /slot:9600,8/disk:a = d0000014
+find /slot/disk/part = d000001c
+find /slot//part = -
+find /slot/ = -
+find //slot = -
+find slot = -
+find /SLOT = -
+find /packages/ = d0000024
+find /packages/p = d0000028
+find /packages/: = d0000024
+find_package - = d0000004
+find_package p = d000002c
+find_package p:x = d000002c
+find_package / = -
+find_package /p = -
+find_package packages = -
+path_of d0000000 = /
+path_of d0000010 = /slot/card@2,a0
+path_of d0000018 = /slot/disk
+path_of d000001c = /slot/disk/part
+path_of d0000024 = /packages/
+path_of d000002c = /packages/p
+";
 
 #[test]
 fn nodes_by_their_paths(rt: HostRuntime) -> Result<(), Fail> {
-    let mut memory = Memory::new(rt.alloc())?;
-    let tree = make_tree(&rt, &mut memory)?;
-    for line in PATHS.lines() {
-        leads(&rt, &tree, &memory, line, false)?;
-    }
-    for line in PACKAGES.lines() {
-        leads(&rt, &tree, &memory, line, true)?;
-    }
-    assert_eq!(rt; tree.find_package(&memory, b""), Some(Phandle::of(1)));
+    assert_eq!(rt; differing(rt.alloc(), PATHS)?.as_str(), "");
     Ok(())
 }
 
+/// A path has the unit addresses, and a unit address as many cells as the parent says, 2 where it says nothing.
+const UNITS: &str = "\
+add_node d0000008 = d000000c
+set_property d000000c name card~ = done
+set_property d000000c reg #1,abc00000,100 = done
+path_of d000000c = /slot/card@1,abc00000
+set_property d0000008 #address-cells #3 = done
+address_cells d0000008 = 3
+address_cells d000000c = 2
+path_of d000000c = /slot/card@1,abc00000,100
+";
+
 #[test]
-fn paths_of_nodes(rt: HostRuntime) -> Result<(), Fail> {
-    let mut memory = Memory::new(rt.alloc())?;
-    let tree = make_tree(&rt, &mut memory)?;
-    for line in NODE_PATHS.lines() {
-        has_path(&rt, &tree, &memory, line)?;
-    }
+fn a_path_has_the_unit_addresses(rt: HostRuntime) -> Result<(), Fail> {
+    assert_eq!(rt; differing(rt.alloc(), UNITS)?.as_str(), "");
     Ok(())
 }
+
+/// A property that is set again keeps its name and its place among the others, and puts its value alone.
+const REPLACED: &str = "\
+add_node d0000008 = d000000c
+set_property d000000c name board~ = done
+property d000000c name = 200038 4 20003c 6
+set_property d000000c name card~ = done
+property d000000c name = 200038 4 200044 5
+property d000000c Name = -
+set_property d000000c reg - = done
+set_property d000000c name c~ = done
+next_property d000000c - = 200038 4 200050 2
+next_property d000000c name = 20004c 3 200050 0
+next_property d000000c reg = -
+";
 
 #[test]
 fn a_replaced_property_puts_its_value_alone(rt: HostRuntime) -> Result<(), Fail> {
+    assert_eq!(rt; differing(rt.alloc(), REPLACED)?.as_str(), "");
+    Ok(())
+}
+
+/// Names that are refused: nothing is set, and nothing is taken from the property region.
+const REFUSED: &str = "\
+set_property d0000008 a/b 1234 = invalid name argument
+set_property d0000008 name a/b~ = invalid name argument
+set_property d0000008 name ab = invalid name argument
+property d0000008 name = 20002c 4 200030 5
+set_property d0000008 reg 1234 = done
+property d0000008 reg = 200038 3 20003c 4
+set_property d000000c reg 1234 = no such node
+";
+
+#[test]
+fn a_node_keeps_its_good_name(rt: HostRuntime) -> Result<(), Fail> {
+    assert_eq!(rt; differing(rt.alloc(), REFUSED)?.as_str(), "");
+    Ok(())
+}
+
+/// Methods are found whatever the case of their names; the newest of a name counts, until it is taken back.
+const METHODS: &str = "\
+add_method d0000008 Open c0000000 = done
+add_method d0000008 OPEN c0000004 = done
+method d0000008 open = c0000004
+method d0000008 - = -
+take_back_method d0000008 open c0000000 = done
+method d0000008 OPEN = c0000000
+take_back_method d0000008 Open - = done
+method d0000008 open = -
+add_method d0000008 - c0000008 = invalid name argument
+method 0 open = no such node
+";
+
+#[test]
+fn a_newer_method_takes_the_place_of_its_name(rt: HostRuntime) -> Result<(), Fail> {
+    assert_eq!(rt; differing(rt.alloc(), METHODS)?.as_str(), "");
+    Ok(())
+}
+
+#[test]
+fn properties_are_set_and_removed(rt: HostRuntime) -> Result<(), Fail> {
     let mut memory = Memory::new(rt.alloc())?;
     let mut properties = Properties::new(rt.alloc());
     properties.set(rt.alloc(), &mut memory, b"name", b"board\0")?;
-    assert_eq!(rt;
-        properties.get(b"name"),
-        places(span(0x20_0010, 4), span(0x20_0014, 6))
-    );
-    properties.set(rt.alloc(), &mut memory, b"name", b"card\0")?;
-    assert_eq!(rt;
-        properties.get(b"name"),
-        places(span(0x20_0010, 4), span(0x20_001c, 5))
-    );
-    assert_eq!(rt; properties.get(b"Name"), None);
-    properties.set(rt.alloc(), &mut memory, b"reg", b"")?;
-    let second = places(span(0x20_0024, 3), span(0x20_0028, 0));
     assert_eq!(rt; properties.next(b""), properties.get(b"name"));
-    properties.set(rt.alloc(), &mut memory, b"name", b"c\0")?;
-    assert_eq!(rt; properties.next(b"name"), second);
-    assert_eq!(rt; properties.next(b"reg"), None);
     properties.remove(b"name");
     assert_eq!(rt; properties.get(b"name"), None);
     Ok(())
@@ -232,88 +199,11 @@ fn names(rt: HostRuntime) {
 }
 
 #[test]
-fn the_tree_at_first(rt: HostRuntime) -> Result<(), Fail> {
-    let mut memory = Memory::new(rt.alloc())?;
-    let mut tree = Tree::new(rt.alloc(), &mut memory)?;
-    let free = memory.put_property(b"")?;
-    assert_eq!(rt; free, Cell(0x20_0038));
-    let slot = Phandle::of(2);
-    assert_eq!(rt; tree.child(Phandle::of(0)), Ok(Some(Phandle::of(1))));
-    assert_eq!(rt; tree.peer(Phandle::of(1)), Ok(Some(slot)));
-    assert_eq!(rt; tree.parent(slot), Ok(Some(Phandle::of(0))));
-    let card = tree.add_node(slot)?;
-    assert_eq!(rt; card, Phandle(Cell(0xd000_000c)));
-    tree.set_property(&mut memory, card, b"reg", b"1234")?;
-    let place = places(span(0x20_0038, 3), span(0x20_003c, 4));
-    assert_eq!(rt; tree.property(card, b"reg"), Ok(place));
-    assert_eq!(rt; tree.next_property(card, b""), Ok(place));
-    tree.delete_property(card, b"reg")?;
-    assert_eq!(rt; tree.property(card, b"reg"), Ok(None));
-    let refused = tree.set_property(&mut memory, card, b"a/b", b"");
-    assert_eq!(rt; refused, Err(NodeFault::BadName));
-    Ok(())
-}
-
-#[test]
-fn a_newer_method_takes_the_place_of_its_name(rt: HostRuntime) -> Result<(), Fail> {
-    let mut memory = Memory::new(rt.alloc())?;
-    let mut tree = Tree::new(rt.alloc(), &mut memory)?;
-    let slot = Phandle::of(2);
-    tree.add_method(slot, b"Open", Cell(0xc000_0000))?;
-    tree.add_method(slot, b"OPEN", Cell(0xc000_0004))?;
-    assert_eq!(rt; tree.method(slot, b"open"), Ok(Some(Cell(0xc000_0004))));
-    assert_eq!(rt; tree.method(slot, b""), Ok(None));
-    tree.take_back_method(slot, b"open", Some(Cell(0xc000_0000)));
-    assert_eq!(rt; tree.method(slot, b"OPEN"), Ok(Some(Cell(0xc000_0000))));
-    tree.take_back_method(slot, b"Open", None);
-    assert_eq!(rt; tree.method(slot, b"open"), Ok(None));
-    let refused = tree.add_method(slot, b"", Cell(0xc000_0008));
-    assert_eq!(rt; refused, Err(NodeFault::BadName));
-    assert_eq!(rt;
-        tree.method(Phandle(Cell(0)), b"open"),
-        Err(NodeFault::NoNode)
-    );
-    Ok(())
-}
-
-#[test]
-fn a_path_has_the_unit_addresses(rt: HostRuntime) -> Result<(), Fail> {
-    let mut memory = Memory::new(rt.alloc())?;
-    let mut tree = Tree::new(rt.alloc(), &mut memory)?;
-    let card = tree.add_node(Phandle::of(2))?;
-    tree.set_property(&mut memory, card, b"name", b"card\0")?;
-    let reg = b"\x00\x00\x00\x01\xAB\xC0\x00\x00\x00\x00\x01\x00";
-    tree.set_property(&mut memory, card, b"reg", reg)?;
-    let path = tree.path_of(&memory, card)?;
-    assert_eq!(rt; path.as_slice(), b"/slot/card@1,abc00000".as_slice());
-    let slot = Phandle::of(2);
-    tree.set_property(&mut memory, slot, b"#address-cells", b"\0\0\0\x03")?;
-    assert_eq!(rt; tree.address_cells(&memory, slot), Ok(3));
-    assert_eq!(rt; tree.address_cells(&memory, card), Ok(2));
-    Ok(())
-}
-
-#[test]
-fn a_node_keeps_its_good_name(rt: HostRuntime) -> Result<(), Fail> {
-    let mut memory = Memory::new(rt.alloc())?;
-    let mut tree = Tree::new(rt.alloc(), &mut memory)?;
-    let slot = Phandle::of(2);
-    let before = tree.property(slot, b"name")?;
-    let refused = tree.set_property(&mut memory, slot, b"name", b"a/b\0");
-    assert_eq!(rt; refused, Err(NodeFault::BadName));
-    let refused = tree.set_property(&mut memory, slot, b"name", b"ab");
-    assert_eq!(rt; refused, Err(NodeFault::BadName));
-    assert_eq!(rt; tree.property(slot, b"name"), Ok(before));
-    assert_eq!(rt; memory.put_property(b""), Ok(Cell(0x20_0038)));
-    Ok(())
-}
-
-#[test]
 fn the_property_region_is_filled_to_its_last_byte(rt: HostRuntime) -> Result<(), Fail> {
     let mut memory = Memory::new(rt.alloc())?;
     let mut tree = Tree::new(rt.alloc(), &mut memory)?;
     let slot = Phandle::of(2);
-    let mut value = cells(&rt, "1")?;
+    let mut value = Vec::new(rt.alloc());
     value.resize("131013".parse()?, 1)?;
     let refused = tree.set_property(&mut memory, slot, b"a", value.as_slice());
     assert_eq!(rt; refused, Err(NodeFault::PropertyFull));

@@ -30,8 +30,52 @@ fn code_of(
     })
 }
 
-/// Cases, each ended by `;`: the words of the command line, the read and the write that fail, the number of
-/// the status, what is said, what goes out and the file.
+/// The words of a command line, the read and the write that fail, the number of the status, what is said, what goes
+/// out, and the file.
+#[derive(Clone, Copy)]
+struct Case<'a> {
+    words: &'a str,
+    read: u32,
+    write: u32,
+    status: u8,
+    said: &'a str,
+    printed: &'a str,
+    file: &'a str,
+}
+
+/// The case of fields between `|`.
+fn case_of(text: &str) -> Result<Case<'_>, Fail> {
+    let mut fields = text.split('|');
+    Ok(Case {
+        words: fields.next().unwrap_or(""),
+        read: fields.next().unwrap_or("").parse()?,
+        write: fields.next().unwrap_or("").parse()?,
+        status: fields.next().unwrap_or("").parse()?,
+        said: fields.next().unwrap_or(""),
+        printed: fields.next().unwrap_or(""),
+        file: fields.next().unwrap_or(""),
+    })
+}
+
+/// Whether a case does what it says.
+fn holds(rt: &impl Abort, alloc: Global, case: &Case<'_>) -> Result<(), Fail> {
+    let mut file = reader_of(case.file.as_bytes(), case.read);
+    let mut out = blank_screen(alloc, case.write);
+    let mut errors = blank_screen(alloc, 999);
+    let code = code_of(alloc, case.words, &mut file, &mut out, &mut errors)?;
+    assert_eq!(rt; code, case.status, "{}: {}", case.words, case.file);
+    shows(rt, case, &out, case.printed);
+    shows(rt, case, &errors, case.said);
+    Ok(())
+}
+
+/// Whether a text stands on a screen, but for the newline at its end.
+fn shows(rt: &impl Abort, case: &Case<'_>, screen: &Screen, text: &str) {
+    let shown = without_newline(&screen.text);
+    assert_eq!(rt; shown, text.as_bytes(), "{}: {}", case.words, case.file);
+}
+
+/// Cases, each ended by `;`, with fields as those of `Case`.
 const CASES: &str = "\
 run a.hex --limit 9|99|99|0||5 |f108020a0000000da7a81e9d00;
 run a.hex --limit 9|99|99|0||5 | f1 08 020a
@@ -95,21 +139,8 @@ tok card.fs|99|3|1|ofw: the output can't be written: other error|f10|fcode-versi
 
 #[test]
 fn statuses(rt: HostRuntime) -> Result<(), Fail> {
-    for case in CASES.split(";\n") {
-        let mut fields = case.split('|');
-        let words = fields.next().unwrap_or("");
-        let read = fields.next().unwrap_or("").parse::<u32>()?;
-        let mut out = blank_screen(rt.alloc(), fields.next().unwrap_or("").parse::<u32>()?);
-        let mut errors = blank_screen(rt.alloc(), 999);
-        let wanted = fields.next().unwrap_or("").parse::<u8>()?;
-        let said = fields.next().unwrap_or("");
-        let printed = fields.next().unwrap_or("");
-        let text = fields.next().unwrap_or("").as_bytes();
-        let mut file = reader_of(text, read);
-        let code = code_of(rt.alloc(), words, &mut file, &mut out, &mut errors)?;
-        assert_eq!(rt; code, wanted, "{case}");
-        assert_eq!(rt; without_newline(&out.text), printed.as_bytes(), "{case}");
-        assert_eq!(rt; without_newline(&errors.text), said.as_bytes(), "{case}");
+    for text in CASES.split(";\n") {
+        holds(&rt, rt.alloc(), &case_of(text)?)?;
     }
     Ok(())
 }

@@ -1,0 +1,175 @@
+//! Calls on the nodes of a tree, one a line, and what is shown of their answers.
+
+use of_cells::Cell;
+use of_memory::Memory;
+use of_nodes::{NodeFault, Phandle, Property, Tree};
+use std::alloc::{AllocError, Global};
+use std::test::Fail;
+
+/// A call by its name, the node or the path that it is given, a name of a property or of a method, and a value. `-`
+/// stands for none.
+#[derive(Clone, Copy)]
+struct Call<'a> {
+    call: &'a str,
+    target: &'a str,
+    name: &'a [u8],
+    value: &'a str,
+}
+
+/// A number in hexadecimal digits.
+fn number(digits: &str) -> u32 {
+    u32::from_str_radix(digits, 16).unwrap_or(0)
+}
+
+impl Call<'_> {
+    /// The call of a line.
+    fn read(line: &str) -> Call<'_> {
+        let mut words = line.split_whitespace();
+        let call = words.next().unwrap_or("");
+        let target = match words.next() {
+            Some("-") | None => "",
+            Some(target) => target,
+        };
+        let name = match words.next() {
+            Some("-") | None => "",
+            Some(name) => name,
+        };
+        Call {
+            call,
+            target,
+            name: name.as_bytes(),
+            value: words.next().unwrap_or("-"),
+        }
+    }
+
+    /// The node that it is given.
+    fn node(&self) -> Phandle {
+        Phandle(Cell(number(self.target)))
+    }
+
+    /// The xt that it is given.
+    fn xt(&self) -> Option<Cell> {
+        match self.value {
+            "-" => None,
+            digits => Some(Cell(number(digits))),
+        }
+    }
+
+    /// The bytes of the value: cells behind `#`, joined by commas, else those of the text, where `~` is a zero byte.
+    fn bytes(&self, alloc: Global) -> Result<Vec<u8>, AllocError> {
+        let mut bytes = Vec::new(alloc);
+        if self.value == "-" {
+            return Ok(bytes);
+        }
+        if let Some(cells) = self.value.strip_prefix('#') {
+            for digits in cells.split(',') {
+                bytes.extend_from_slice(&number(digits).to_be_bytes())?;
+            }
+            return Ok(bytes);
+        }
+        for byte in self.value.as_bytes() {
+            bytes.push(if *byte == b'~' { 0 } else { *byte })?;
+        }
+        Ok(bytes)
+    }
+}
+
+/// A node's phandle.
+fn shown_node(alloc: Global, node: Option<Phandle>) -> Result<String, AllocError> {
+    match node {
+        Some(Phandle(Cell(bits))) => format!(in alloc; "{bits:x}"),
+        None => String::from_str(alloc, "-"),
+    }
+}
+
+/// Where a property's name and value stand, and how long they are.
+fn shown_property(alloc: Global, found: Option<Property>) -> Result<String, AllocError> {
+    match found {
+        Some(Property { name, value }) => {
+            let (start, length) = (value.address.0, value.length.0);
+            format!(in alloc;
+                "{:x} {:x} {start:x} {length:x}",
+                name.address.0, name.length.0
+            )
+        }
+        None => String::from_str(alloc, "-"),
+    }
+}
+
+/// A method's xt.
+fn shown_xt(alloc: Global, xt: Option<Cell>) -> Result<String, AllocError> {
+    match xt {
+        Some(Cell(bits)) => format!(in alloc; "{bits:x}"),
+        None => String::from_str(alloc, "-"),
+    }
+}
+
+/// What a call on a node's place or path answers.
+fn placed(
+    alloc: Global,
+    tree: &Tree,
+    memory: &Memory,
+    call: &Call<'_>,
+) -> Result<String, NodeFault> {
+    Ok(match call.call {
+        "parent" => shown_node(alloc, tree.parent(call.node())?)?,
+        "child" => shown_node(alloc, tree.child(call.node())?)?,
+        "peer" => shown_node(alloc, tree.peer(call.node())?)?,
+        "find" => shown_node(alloc, tree.find(memory, call.target.as_bytes()))?,
+        "find_package" => shown_node(alloc, tree.find_package(memory, call.target.as_bytes()))?,
+        _ => {
+            let path = tree.path_of(memory, call.node())?;
+            String::from_str(alloc, std::str::from_utf8(&path).unwrap_or(""))?
+        }
+    })
+}
+
+/// What a call that asks for what a node has answers.
+fn had(alloc: Global, tree: &Tree, memory: &Memory, call: &Call<'_>) -> Result<String, NodeFault> {
+    let node = call.node();
+    Ok(match call.call {
+        "property" => shown_property(alloc, tree.property(node, call.name)?)?,
+        "next_property" => shown_property(alloc, tree.next_property(node, call.name)?)?,
+        "method" => shown_xt(alloc, tree.method(node, call.name)?)?,
+        "address_cells" => format!(in alloc; "{}", tree.address_cells(memory, node)?)?,
+        _ => placed(alloc, tree, memory, call)?,
+    })
+}
+
+/// What a call answers.
+fn answer(
+    alloc: Global,
+    tree: &mut Tree,
+    memory: &mut Memory,
+    call: &Call<'_>,
+) -> Result<String, NodeFault> {
+    let node = call.node();
+    match call.call {
+        "add_node" => return Ok(shown_node(alloc, Some(tree.add_node(node)?))?),
+        "set_property" => tree.set_property(memory, node, call.name, &call.bytes(alloc)?)?,
+        "delete_property" => tree.delete_property(node, call.name)?,
+        "add_method" => tree.add_method(node, call.name, Cell(number(call.value)))?,
+        "take_back_method" => tree.take_back_method(node, call.name, call.xt()),
+        _ => return had(alloc, tree, memory, call),
+    }
+    Ok(String::from_str(alloc, "done")?)
+}
+
+/// The lines that answer something else, each with what it answers. A line has a call, and behind `=` what it answers
+/// on the tree that the lines before it have made of the first tree.
+pub(crate) fn differing(alloc: Global, lines: &str) -> Result<String, Fail> {
+    let mut text = String::new(alloc);
+    let mut memory = Memory::new(alloc)?;
+    let mut tree = Tree::new(alloc, &mut memory)?;
+    for line in lines.lines() {
+        let (call, wanted) = line.split_once('=').unwrap_or(("", ""));
+        let given = match answer(alloc, &mut tree, &mut memory, &Call::read(call)) {
+            Ok(given) => given,
+            Err(fault) => format!(in alloc; "{fault}")?,
+        };
+        if given.as_str() != wanted.trim() {
+            text.push_str(&format!(in alloc; "{line}: {given}\n")?)?;
+        }
+    }
+    Ok(text)
+}
