@@ -67,6 +67,19 @@ reverse_four xs d h =
     get_or-reverse xs 3 d (omega arith) ∙ ap (λ k. get_or xs k d) (omega arith) in
     rw (first, second, third, fourth) at (four_of (reverse xs) d long)
 
+first_of : {X : Type 0} (s : List X) (d : X) → 0 < length s → s ≡ get_or s 0 d ∷ drop 1 s
+first_of [] d h = absurd (omega arith)
+first_of (a ∷ s) d h = refl
+
+-- the element at the end of the array is the top, as the array is given back
+pub reverse_first : {X : Type 0} (xs ys : List X) (n : ℕ) (d : X) → ys ≡ xs → n ≡ length xs → 0 < length xs
+    → reverse xs ≡ get_or ys (n - 1) d ∷ drop 1 (reverse xs)
+reverse_first xs ys n d e f h =
+    let long : 0 < length (reverse xs) = omega (arith, length-reverse xs) in
+    let first : get_or (reverse xs) 0 d ≡ get_or xs (length xs - 1) d =
+    get_or-reverse xs 0 d (omega arith) ∙ ap (λ k. get_or xs k d) (omega arith) in
+    rw (e, f) (rw first at (first_of (reverse xs) d long))
+
 -- a write at the end of the array is a write of the top
 pub reverse_set : {X : Type 0} (xs : List X) (x : X) → 0 < length xs
     → reverse (set xs (length xs - 1) x) ≡ x ∷ drop 1 (reverse xs)

@@ -1,5 +1,6 @@
 ghost use Rattle.std.specs.Prelude.{◌+◌, IfErr, OnOk, OnErr, reverse, ◌≡◌, ◌<◌, ◌≤◌, List, [], ◌∷◌, length, drop};
-ghost use Rattle.std.specs.Prelude.{slice_get, Ok, Err, Some, None};
+ghost use Rattle.std.specs.Prelude.{slice_get, Ok, Err, Some, None, IfOk, if◌then◌else◌};
+ghost use Rattle.of_stacks.specs.declared.return_item.ReturnItem.{ReturnItem};
 ghost use Rattle.of_stacks.specs.Throws.{return_stack_overflow};
 ghost use Rattle.of_stacks.specs.Stacks.{Becomes};
 ghost use Rattle.of_stacks.specs.Returns.{fitting, top_item, user_on_top, return_on_top, user_pushed};
@@ -30,6 +31,25 @@ impl Model for ReturnStack {
     ghost view = { λ s. reverse s.items.items };
 
     ghost invariant = { λ s. length s.items.items ≤ 256 };
+}
+
+/// Adds a signed step to the index of a loop on top, if that doesn't pass its limit, and answers whether the loop goes
+/// on.
+#[inline(always)]
+fn turn(top: &mut ReturnItem, step: Cell) -> Result<bool, Throw>
+    ensures answer { (r : List ReturnItem) → result ≡ goes_on step (top.old ∷ r) }
+    ensures ok { IfOk result (λ on. (r : List ReturnItem) →
+        turned step (top.old ∷ r) ≡ (if on then top.new ∷ r else r)) }
+    ensures err { OnErr result ((r : List ReturnItem) → turned step (top.old ∷ r) ≡ top.new ∷ r) }
+{
+    let ReturnItem::Loop(current) = top else {
+        return Err(Throw::LOOP_UNAVAILABLE);
+    };
+    if passes_limit(current.index, current.limit, step) {
+        return Ok(false);
+    }
+    current.index = current.index.add(step);
+    Ok(true)
 }
 
 impl ReturnStack {
@@ -236,21 +256,14 @@ impl ReturnStack {
         if depth == 0 {
             return Err(Throw::LOOP_UNAVAILABLE);
         }
-        match &mut self.items[depth - 1] {
-            ReturnItem::Loop(current) => {
-                if !passes_limit(current.index, current.limit, step) {
-                    current.index = current.index.add(step);
-                    return Ok(true);
-                }
+        match turn(&mut self.items[depth - 1], step) {
+            Ok(true) => Ok(true),
+            Ok(false) => {
+                let _ = self.pop();
+                Ok(false)
             }
-            ReturnItem::Return(_) => return Err(Throw::LOOP_UNAVAILABLE),
-            ReturnItem::User(_) => return Err(Throw::LOOP_UNAVAILABLE),
-            ReturnItem::Handler(_) => return Err(Throw::LOOP_UNAVAILABLE),
-            ReturnItem::Source(_) => return Err(Throw::LOOP_UNAVAILABLE),
-            ReturnItem::Caller(_) => return Err(Throw::LOOP_UNAVAILABLE),
+            Err(fault) => Err(fault),
         }
-        let _ = self.pop();
-        Ok(false)
     }
 
     /// Takes the latest source with all items above it, as the end of an image or text does (IEEE
