@@ -1,11 +1,10 @@
--- Words that become methods: what stays as it was, and what adding a method first comes to.
+-- Words that become methods: what adding a method first comes to.
 use Rattle.std.proofs.Common.{◌≡◌, ℕ, true, false, List, Option, Some, None, Result, Ok, Err, is_some, length}
 use Rattle.std.proofs.Common.{refl, sym, ap, subst, ◌∙◌, ◌⊎◌, inl, inr, IfSome, OnOk}
 use Rattle.std.specs.Option.{option_map}
 use Rattle.of_cells.specs.declared.cells.Cell.{Cell}
 use Rattle.of_stacks.specs.declared.stop.Stop.{Stop}
 use Rattle.of_stacks.specs.declared.stop.Stop.TheVariants.{Thrown, NoMemory}
-use Rattle.of_stacks.specs.declared.throws.Throw.{Throw}
 use Rattle.of_dict.specs.declared.word.Word.{Word}
 use Rattle.of_dict.specs.Words.{name_in, word_at}
 use Rattle.of_compile.specs.Coding.{Coding}
@@ -16,32 +15,10 @@ use Rattle.of_compile.specs.declared.defining.DefiningWord.TheVariants as defini
 use Rattle.of_nodes.specs.declared.tree.Node.{Node}
 use Rattle.of_nodes.specs.declared.phandles.Phandle.{Phandle}
 use Rattle.of_eval.specs.declared.methods.Former.{Former}
-use Rattle.of_eval.specs.Methods.{MayMake, as_method, hidden_if, known, known_if, method_made, then_known, with_tree}
+use Rattle.of_eval.specs.Methods.{MayMake, as_method, hidden_if, known, method_made, then_known, with_tree}
 use Rattle.of_eval.specs.Methods.{xt_cell}
 use Rattle.of_eval.specs.State.{Ends, Outcome, State, done, flat_calls}
 use Rattle.of_eval.specs.Tokens.{define_entry, known_at_once, word_defined}
-
--- ---- what stays as it was
-
-as_flow : {S : Type 0} (x : Option (List Node)) (n : ℕ) (s : State S) → (as_method x n s).flow ≡ s.flow
-as_flow None n s = refl
-as_flow (Some nodes) n s = refl
-
-as_code : {S : Type 0} (x : Option (List Node)) (n : ℕ) (s : State S) → (as_method x n s).code ≡ s.code
-as_code None n s = refl
-as_code (Some nodes) n s = refl
-
-pub known_flow : {S : Type 0} (r : Result (Unit {0}) Throw) (n : ℕ) (s : State S) → (known_if r n s).flow ≡ s.flow
-known_flow (Ok x) n s =
-    as_flow
-    (method_made s.parts.active.«package» (name_in (word_at s.words.dictionary n)) (xt_cell n) s.parts.tree) n s
-known_flow (Err t) n s = refl
-
-pub known_code : {S : Type 0} (r : Result (Unit {0}) Throw) (n : ℕ) (s : State S) → (known_if r n s).code ≡ s.code
-known_code (Ok x) n s =
-    as_code
-    (method_made s.parts.active.«package» (name_in (word_at s.words.dictionary n)) (xt_cell n) s.parts.tree) n s
-known_code (Err t) n s = refl
 
 -- ---- a word without a name, or with one
 

@@ -5,16 +5,9 @@ pub mod State
 pub mod ByteLoading
 pub mod Executing
 pub mod Settling
-pub mod Throws
 pub mod Methods
 pub mod Tokens
 pub mod Steps
 pub mod Loading
 pub mod Reading
-pub mod Board
-pub mod Listed
-pub mod Placed
-pub mod Frames
-pub mod Images
-pub mod Running
 pub mod Views

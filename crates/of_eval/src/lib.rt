@@ -10,7 +10,6 @@ mod executing;
 mod flow;
 mod heap;
 mod hot;
-mod laws;
 mod loading;
 mod methods;
 mod often;
@@ -26,8 +25,4 @@ mod views;
 mod words;
 
 pub use eval::Eval;
-pub use laws::{
-    frames_hold, images_run, images_stand, mismatch_is_no_body, states_stay_placed, steps_agree,
-    steps_throw_listed, throws_settle, words_throw_listed,
-};
 pub use steps::Pause;

@@ -2,7 +2,7 @@
 ghost use Rattle.std.specs.Prelude.{◌≤◌};
 
 use crate::running::{bytes_of, made_by, number_left, shown};
-use of_eval::{
+use of_eval_laws::{
     frames_hold, images_run, images_stand, mismatch_is_no_body, states_stay_placed, steps_agree,
     steps_throw_listed, throws_settle, words_throw_listed,
 };

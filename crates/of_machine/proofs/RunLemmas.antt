@@ -13,8 +13,8 @@ use Rattle.of_compile.specs.Coding.{Coding}
 use Rattle.of_eval.specs.State.{State, flat_calls}
 use Rattle.of_eval.specs.Steps.{stepped, steps_from}
 use Rattle.of_eval.specs.Loading.{begun, first_parts, first_state}
-use Rattle.of_eval.specs.Board.{StepsAgree, board_calls, flat_state, no_definitions}
-use Rattle.of_eval.specs.Placed.{AllPlaced, StatesStayPlaced}
+use Rattle.of_eval_laws.specs.Board.{StepsAgree, board_calls, flat_state, no_definitions}
+use Rattle.of_eval_laws.specs.Placed.{AllPlaced, StatesStayPlaced}
 use Rattle.of_machine.specs.declared.answers.Refusal.{Refusal}
 use Rattle.of_machine.specs.declared.answers.Refusal.TheVariants.{ImageTooLong}
 use Rattle.of_machine.specs.declared.answers.End.TheVariants.{LimitReached, Done}

@@ -3,7 +3,7 @@ use Rattle.std.specs.Prelude.{◌≡◌, ℕ, zero, suc, ◌≤◌, List, true, 
 use Rattle.of_compile.specs.Coding.{Coding}
 use Rattle.of_compile.specs.Board.{Definitions, flat_of}
 use Rattle.of_eval.specs.State.{Calls, flat_calls}
-use Rattle.of_eval.specs.Board.{board_calls, no_definitions}
+use Rattle.of_eval_laws.specs.Board.{board_calls, no_definitions}
 use Rattle.of_machine.specs.declared.answers.Answer.{Answer}
 use Rattle.of_machine.specs.declared.answers.ClientCall.{ClientCall}
 use Rattle.of_machine.specs.declared.answers.End.{End}

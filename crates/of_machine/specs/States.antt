@@ -13,7 +13,7 @@ use Rattle.of_compile.specs.Board.{Definitions}
 use Rattle.of_eval.specs.State.{Calls, State, flat_calls}
 use Rattle.of_eval.specs.Steps.{due_grows, stepped, steps_from}
 use Rattle.of_eval.specs.Loading.{begun, first_state}
-use Rattle.of_eval.specs.Board.{flat_state}
+use Rattle.of_eval_laws.specs.Board.{flat_state}
 use Rattle.of_machine.specs.declared.answers.Progress.{Progress}
 use Rattle.of_machine.specs.declared.answers.Progress.TheVariants.{Done, Ended}
 use Rattle.of_machine.specs.declared.answers.Refusal.{Refusal}

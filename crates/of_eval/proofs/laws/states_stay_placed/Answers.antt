@@ -1,5 +1,0 @@
-use Rattle.of_eval.proofs.PlacedTokens.{states_stay_placed}
-use Rattle.of_eval.proofs.laws.states_stay_placed.Goals as goal
-
-pub returns : goal.returns
-returns c = states_stay_placed c.board_is_flat.ensures

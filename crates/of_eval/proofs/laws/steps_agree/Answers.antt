@@ -1,5 +1,0 @@
-use Rattle.of_eval.proofs.SquareTokens.{steps_agree}
-use Rattle.of_eval.proofs.laws.steps_agree.Goals as goal
-
-pub returns : goal.returns
-returns c = steps_agree c.board_is_flat.ensures c.compiles_reading.ensures

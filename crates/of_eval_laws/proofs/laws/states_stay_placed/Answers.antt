@@ -1,0 +1,5 @@
+use Rattle.of_eval_laws.proofs.PlacedTokens.{states_stay_placed}
+use Rattle.of_eval_laws.proofs.laws.states_stay_placed.Goals as goal
+
+pub returns : goal.returns
+returns c = states_stay_placed c.board_is_flat.ensures

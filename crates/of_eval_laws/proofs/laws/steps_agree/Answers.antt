@@ -1,0 +1,5 @@
+use Rattle.of_eval_laws.proofs.SquareTokens.{steps_agree}
+use Rattle.of_eval_laws.proofs.laws.steps_agree.Goals as goal
+
+pub returns : goal.returns
+returns c = steps_agree c.board_is_flat.ensures c.compiles_reading.ensures

@@ -1,0 +1,129 @@
+-- The images that run are a stack, and each has the bytes that it had while it runs (IEEE 1275-1994, 5.2.2, 5.2.2.5).
+use Rattle.std.specs.Prelude.{◌≡◌, ◌⊎◌, ℕ, ◌-◌, Bool, true, false, List, [], ◌∷◌, drop, Option, Some, None, Result, Ok}
+use Rattle.std.specs.Prelude.{Err}
+use Rattle.of_stacks.specs.declared.throws.Throw.{Throw}
+use Rattle.of_stacks.specs.declared.return_item.Continuation.{Continuation}
+use Rattle.of_stacks.specs.declared.return_item.Continuation.TheVariants as continuation
+use Rattle.of_stacks.specs.declared.return_item.Input.{Input}
+use Rattle.of_stacks.specs.declared.return_item.Input.TheVariants as input
+use Rattle.of_stacks.specs.declared.return_item.ReturnItem.{ReturnItem}
+use Rattle.of_fcodes.specs.Lookup.{word_numbered}
+use Rattle.of_stream.specs.Decoding.{Token, token_from}
+use Rattle.of_memory.specs.DataSpace.{DataSpace, IsSound, bytes_from, free_after}
+use Rattle.of_memory.specs.Growth.{image_pushed}
+use Rattle.of_memory.specs.Images.{latest_image}
+use Rattle.of_nodes.specs.declared.phandles.Phandle.{Phandle}
+use Rattle.of_eval.specs.State.{Calls, State}
+use Rattle.of_eval.specs.Settling.{settled}
+use Rattle.of_eval.specs.Steps.{due, stepped}
+use Rattle.of_eval.specs.Loading.{begun}
+use Rattle.of_eval_laws.specs.Frames.{ends_image}
+use Rattle.of_eval_laws.specs.Throws.{images_popped}
+
+-- an image that runs: where it begins, and its bytes
+pub record RunningImage : Type 0 where
+  pub begin : ℕ
+  pub bytes : List ℕ
+
+-- the image from one address to another
+abbrev pub image_from : DataSpace → ℕ → ℕ → RunningImage
+image_from m begin end = record { begin = begin; bytes = bytes_from m begin (end - begin) }
+
+-- the images that end at these addresses, the latest first; each begins where the one before it ends
+abbrev pub images_to : DataSpace → List ℕ → List RunningImage
+images_to m [] = []
+images_to m (end ∷ ends) = image_from m (free_after ends) end ∷ images_to m ends
+
+-- the images that run, the latest first
+abbrev pub running : DataSpace → List RunningImage
+running m = images_to m m.images
+
+-- ---- what comes next
+
+-- whether a token that was found ends its image
+abbrev pub token_ends : Option (Token × ℕ) → Bool
+token_ends None = false
+token_ends (Some x) = ends_image (word_numbered x.0.code.0)
+
+-- whether the token at which the reading stands does
+abbrev pub reading_ends : DataSpace → Input → Bool
+reading_ends m (input.Image size position) = token_ends (token_from (latest_image m) position size)
+reading_ends m (input.Text position) = false
+reading_ends m input.Nothing = false
+
+-- whether what comes next is the end of an image
+abbrev pub is_at_end : {S : Type 0} → Continuation → State S → Bool
+is_at_end continuation.Source s = reading_ends s.parts.memory s.flow.reading.input
+is_at_end (continuation.Code n) s = false
+
+-- ---- what becomes of the images
+
+-- the same images run, each as it was
+abbrev pub AllRun : DataSpace → DataSpace → Type 0
+AllRun m after = running after ≡ running m
+
+-- so many of the latest have ended, and the others run, each as it was
+abbrev pub LatestEnd : ℕ → DataSpace → DataSpace → Type 0
+LatestEnd n m after = running after ≡ drop n (running m)
+
+-- some of the latest have ended
+abbrev pub SomeEnd : DataSpace → DataSpace → Type 0
+SomeEnd m after = (n : ℕ) × LatestEnd n m after
+
+-- one more runs, and the others, each as it was
+abbrev pub OneBegins : DataSpace → DataSpace → Type 0
+OneBegins m after = (image : RunningImage) × (running after ≡ image ∷ running m)
+
+-- the same run, or one more, and the others as they were
+abbrev pub GoOn : DataSpace → DataSpace → Type 0
+GoOn m after = AllRun m after ⊎ OneBegins m after
+
+-- what is left where nothing was thrown: at the end of an image the latest may have ended
+abbrev pub WorkLeaves : Bool → DataSpace → DataSpace → Type 0
+WorkLeaves false m after = GoOn m after
+WorkLeaves true m after = LatestEnd 1 m after ⊎ GoOn m after
+
+-- and where something was thrown: none began or ended, and none was written into
+abbrev pub DueLeaves : Bool → DataSpace → DataSpace → Result (Unit {0}) Throw → Type 0
+DueLeaves at_end m after (Ok x) = WorkLeaves at_end m after
+DueLeaves at_end m after (Err t) = AllRun m after
+
+-- what is worked off at the end of a step ends none; a throw may end some
+abbrev pub EndLeaves : DataSpace → DataSpace → Option Throw → Type 0
+EndLeaves m after None = AllRun m after
+EndLeaves m after (Some t) = SomeEnd m after
+
+-- ---- the law
+
+-- What becomes of the images that run, over any code of definitions.
+pub record ImagesRun (S : Type 0) : Type 0 where
+  -- An image that begins runs on top of the others, from the address on that was answered, with its own bytes.
+  pub begun :
+      (image : List ℕ) (node : Phandle) (a : ℕ) (m : DataSpace) (s : State S) → IsSound s.parts.memory →
+      image_pushed s.parts.memory image ≡ Ok (a, m) →
+      running (begun image node (Ok (a, m)) s).parts.memory
+      ≡ record { begin = a; bytes = image } ∷ running s.parts.memory
+  -- Of the images that a throw gives back the latest end, as many as it gives back.
+  pub given_back : (n : ℕ) (m : DataSpace) → IsSound m → LatestEnd n m (images_popped n m)
+  -- What a token or an item does leaves the images as they were; it may begin one, and at its end it ends the latest.
+  pub done :
+      (c : Calls S) (s : State S) → IsSound s.parts.memory →
+      let o = due c s.flow.next s in
+      DueLeaves (is_at_end s.flow.next s) s.parts.memory o.state.parts.memory o.ended
+  -- The end of a step leaves them as they were, but for those that a throw ends.
+  pub settled :
+      (c : Calls S) (items : List ReturnItem) (thrown : Option Throw) (s : State S) → IsSound s.parts.memory →
+      EndLeaves s.parts.memory (settled c items thrown s).parts.memory thrown
+  -- A data space that is sound when what comes next was done is sound behind the step, too.
+  pub sound :
+      (c : Calls S) (s : State S) → IsSound s.parts.memory →
+      IsSound (due c s.flow.next s).state.parts.memory → IsSound (stepped c s).parts.memory
+  -- In a step that isn't the end of an image and throws nothing they go on.
+  pub go_on :
+      (c : Calls S) (s : State S) → IsSound s.parts.memory →
+      is_at_end s.flow.next s ≡ false → (due c s.flow.next s).ended ≡ Ok tt →
+      GoOn s.parts.memory (stepped c s).parts.memory
+  -- In each step they go on, or some of the latest end: an image that still runs has the bytes that it had.
+  pub step :
+      (c : Calls S) (s : State S) → IsSound s.parts.memory →
+      SomeEnd s.parts.memory (stepped c s).parts.memory ⊎ GoOn s.parts.memory (stepped c s).parts.memory

@@ -1,0 +1,98 @@
+// A law has no parameters and does nothing: its contract is the law.
+ghost use Rattle.of_compile.specs.Board.{Definitions};
+ghost use Rattle.of_compile.specs.Coding.{Coding};
+ghost use Rattle.of_eval_laws.specs.Board.{MismatchIsNoBody, StepsAgree};
+ghost use Rattle.of_eval_laws.specs.Frames.{FramesHold, TargetsCountLast};
+ghost use Rattle.of_eval_laws.specs.Images.{ImagesStand};
+ghost use Rattle.of_eval_laws.specs.Listed.{StepsThrowListed, WordsThrowListed};
+ghost use Rattle.of_eval_laws.specs.Placed.{StatesStayPlaced};
+ghost use Rattle.of_eval_laws.specs.Running.{ImagesRun};
+ghost use Rattle.of_eval_laws.specs.Throws.{ThrowsSettle};
+
+use of_compile::{board_is_flat, compiles_reading};
+use of_instances::{images_stay, tree_words_throw_listed};
+use of_memory::{latest_is_pushed, parts_are_good, ranges_are_placed, writes_join};
+use of_prims::prims_throw_listed;
+
+/// What the ordinary words throw has one of the numbers that words raise of themselves.
+#[tactic(auto, using(crate::proofs::ListedLemmas::words_throw_listed))]
+pub fn words_throw_listed()
+    ensures { WordsThrowListed }
+{
+    prims_throw_listed();
+    tree_words_throw_listed();
+}
+
+/// What a token or an item throws has one of these numbers, too, or is the number of a cell on the data stack, as
+/// `throw` takes it.
+#[tactic(auto, using(crate::proofs::Raised::steps_throw_listed))]
+pub fn steps_throw_listed()
+    ensures { StepsThrowListed }
+{
+    words_throw_listed();
+    prims_throw_listed();
+}
+
+/// A step over structured definitions is, with these laid out as cells, the step over their cells, wherever control
+/// goes on in what is read or in a finished definition.
+pub fn steps_agree()
+    ensures { StepsAgree }
+{
+    board_is_flat();
+    compiles_reading();
+}
+
+/// From the beginning on, and whatever image begins, control goes on in what is read or in a finished definition: each
+/// step leaves all items of the return stack and all own words so that it does.
+pub fn states_stay_placed()
+    ensures { StatesStayPlaced }
+{
+    board_is_flat();
+}
+
+/// `b(;)` throws -22 exactly where the elements of the open definition have no body. Where they have one, and there is
+/// room for a return, that is the body of the word from then on.
+#[tactic(auto, using(crate::proofs::Mismatch::mismatch_is_no_body))]
+pub fn mismatch_is_no_body()
+    ensures { MismatchIsNoBody }
+{}
+
+/// Parts of a step leave as it was what is read, the size of its offsets, and the items of the return stack, and the
+/// target of a word of control counts only where control goes there, after all else.
+#[tactic(auto, using(crate::proofs::Frames::targets, crate::proofs::Frames::frames_hold))]
+pub fn frames_hold()
+    ensures cells { FramesHold Coding }
+    ensures bodies { FramesHold Definitions }
+    ensures targets { TargetsCountLast }
+{}
+
+/// An ordinary word keeps the images that run: it writes only where programs may.
+pub fn images_stand()
+    ensures { ImagesStand }
+{
+    images_stay();
+    parts_are_good();
+    ranges_are_placed();
+    writes_join();
+}
+
+/// A throw ends all that runs, or control goes on behind the latest `catch` that waits, and what is due beneath it is
+/// worked off.
+#[tactic(auto, using(crate::proofs::ThrowsSettle::throws_settle))]
+pub fn throws_settle()
+    ensures cells { ThrowsSettle Coding }
+    ensures bodies { ThrowsSettle Definitions }
+{}
+
+/// The images that run are a stack, and each has the bytes that it had while it runs: a step ends some of the latest,
+/// or one more begins.
+pub fn images_run()
+    ensures cells { ImagesRun Coding }
+    ensures bodies { ImagesRun Definitions }
+{
+    images_stay();
+    latest_is_pushed();
+    parts_are_good();
+    ranges_are_placed();
+    writes_join();
+}

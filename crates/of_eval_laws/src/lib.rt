@@ -1,0 +1,9 @@
+//! Laws of the evaluator: what the steps of tokens, items and words come to, in words of their own.
+#![tactic(auto)]
+
+mod laws;
+
+pub use laws::{
+    frames_hold, images_run, images_stand, mismatch_is_no_body, states_stay_placed, steps_agree,
+    steps_throw_listed, throws_settle, words_throw_listed,
+};
