@@ -1,6 +1,6 @@
 -- The token table: how it is made and cleared, and that it is a finite map.
-use Rattle.std.proofs.Common.{◌≡◌, ℕ, zero, suc, ◌+◌, ◌<◌, List, [], ◌∷◌, ◌++◌, length, map, set, get_or, Option}
-use Rattle.std.proofs.Common.{Some, None, nat_eq, true, false, Bool, if◌then◌else◌, refl, sym, ap, ◌∙◌, arith}
+use Rattle.std.proofs.Common.{◌≡◌, ℕ, zero, suc, ◌+◌, ◌<◌, List, [], ◌∷◌, ◌++◌, length, map, set, get_or}
+use Rattle.std.proofs.Common.{Some, nat_eq, false, if◌then◌else◌, refl, sym, ap, ◌∙◌, arith}
 use Rattle.std.proofs.lemmas.Bool.Decides.{nat_tests}
 use Rattle.of_fcodes.specs.declared.token_table.TokenEntry.{TokenEntry}
 use Rattle.of_fcodes.specs.Tokens.{Table, entry_in, assigned, unless_named, cleared, first_entry, first_entries}

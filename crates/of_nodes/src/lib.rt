@@ -15,7 +15,6 @@ mod tree;
 pub use fault::NodeFault;
 pub use laws::{first_paths_find, methods_are_found, paths_find, tree_finds, tree_is_shown};
 pub use methods::Methods;
-pub use names::is_name;
 pub use phandles::Phandle;
 pub use properties::{Properties, Property, Span};
 pub use tree::{Node, Tree};

@@ -21,7 +21,7 @@ fn are_name_bytes(bytes: &[u8]) -> bool
 
 /// Whether a text is a good name of a node or of a property: 1 to 31 bytes of 0x21 to 0x7E without
 /// `/`, `:` and `@` (IEEE 1275-1994, 3.2.1.1 and 3.2.2.1.1).
-pub fn is_name(text: &[u8]) -> bool
+pub(crate) fn is_name(text: &[u8]) -> bool
     ensures { result ≡ is_name text.now }
 {
     1 <= text.len() && text.len() <= LONGEST && are_name_bytes(text)

@@ -112,7 +112,7 @@ fn insert(entries: &mut IndexMap<Vec<u8>, Property>, name: Vec<u8>, value: Prope
 
 impl Properties {
     /// No properties.
-    pub fn new(alloc: Global) -> Properties
+    pub(crate) fn new(alloc: Global) -> Properties
         ensures { result ≡ [] }
     {
         Properties {
@@ -121,7 +121,7 @@ impl Properties {
     }
 
     /// The property of the name, if there is one.
-    pub fn get(&self, name: &[u8]) -> Option<Property>
+    pub(crate) fn get(&self, name: &[u8]) -> Option<Property>
         ensures { result ≡ value_in self.now name.now }
     {
         self.entries.get(name).copied()
@@ -148,7 +148,7 @@ impl Properties {
     }
 
     /// The property behind that of the name, or the first where the name is empty, if there is one.
-    pub fn next(&self, name: &[u8]) -> Option<Property>
+    pub(crate) fn next(&self, name: &[u8]) -> Option<Property>
         ensures { result ≡ value_next self.now name.now }
     {
         if name.len() == 0 {
@@ -162,7 +162,7 @@ impl Properties {
     /// property is new. A property that is there keeps its place.
     ///
     /// PropertyFull, if they don't fit there; or NoMemory. Then nothing changes, in memory either.
-    pub fn set(
+    pub(crate) fn set(
         &mut self,
         alloc: Global,
         memory: &mut Memory,
@@ -181,7 +181,7 @@ impl Properties {
     }
 
     /// Takes the property of the name out, if there is one. The others keep their order.
-    pub fn remove(&mut self, name: &[u8])
+    pub(crate) fn remove(&mut self, name: &[u8])
         ensures { self.new ≡ without self.old name.now }
     {
         let _ = self.entries.shift_remove(name);

@@ -2,8 +2,8 @@ use crate::calls::differing;
 use of_cells::Cell;
 use of_memory::Memory;
 use of_nodes::{
-    NodeFault, Phandle, Properties, Tree, first_paths_find, is_name, methods_are_found, paths_find,
-    tree_finds, tree_is_shown,
+    NodeFault, Phandle, Tree, first_paths_find, methods_are_found, paths_find, tree_finds,
+    tree_is_shown,
 };
 use std::test::Fail;
 
@@ -133,6 +133,9 @@ set_property d000000c name c~ = done
 next_property d000000c - = 200038 4 200050 2
 next_property d000000c name = 20004c 3 200050 0
 next_property d000000c reg = -
+delete_property d000000c name = done
+property d000000c name = -
+next_property d000000c - = 20004c 3 200050 0
 ";
 
 #[test]
@@ -150,6 +153,8 @@ property d0000008 name = 20002c 4 200030 5
 set_property d0000008 reg 1234 = done
 property d0000008 reg = 200038 3 20003c 4
 set_property d000000c reg 1234 = no such node
+set_property d0000008 0123456789012345678901234567890 1 = done
+set_property d0000008 01234567890123456789012345678901 1 = invalid name argument
 ";
 
 #[test]
@@ -176,26 +181,6 @@ method 0 open = no such node
 fn a_newer_method_takes_the_place_of_its_name(rt: HostRuntime) -> Result<(), Fail> {
     assert_eq!(rt; differing(rt.alloc(), METHODS)?.as_str(), "");
     Ok(())
-}
-
-#[test]
-fn properties_are_set_and_removed(rt: HostRuntime) -> Result<(), Fail> {
-    let mut memory = Memory::new(rt.alloc())?;
-    let mut properties = Properties::new(rt.alloc());
-    properties.set(rt.alloc(), &mut memory, b"name", b"board\0")?;
-    assert_eq!(rt; properties.next(b""), properties.get(b"name"));
-    properties.remove(b"name");
-    assert_eq!(rt; properties.get(b"name"), None);
-    Ok(())
-}
-
-#[test]
-fn names(rt: HostRuntime) {
-    assert_eq!(rt; is_name(b"device_type"), true);
-    assert_eq!(rt; is_name(b"a/b"), false);
-    assert_eq!(rt; is_name(b""), false);
-    assert_eq!(rt; is_name(b"0123456789012345678901234567890"), true);
-    assert_eq!(rt; is_name(b"01234567890123456789012345678901"), false);
 }
 
 #[test]

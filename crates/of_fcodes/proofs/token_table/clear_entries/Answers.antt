@@ -1,4 +1,4 @@
-use Rattle.std.proofs.Common.{◌≡◌, ◌<◌, length, arith, Option, None, ◌∙◌}
+use Rattle.std.proofs.Common.{◌≡◌, length, arith, None, ◌∙◌}
 use Rattle.of_fcodes.specs.Tokens.{unless_named}
 use Rattle.of_fcodes.proofs.TokenLemmas.{mapped_more, mapped_all}
 use Rattle.of_fcodes.proofs.token_table.clear_entries.Goals as goal
