@@ -3,7 +3,7 @@
 
 ghost use Rattle.std.specs.Prelude.{◌≡◌, ◌<◌, ◌≤◌, length, IfSome, Some, None};
 ghost use Rattle.std.specs.Option.{option_map};
-ghost use Rattle.of_stream.specs.Decoding.{code, literal, counted, offset, argument, code_read, literal_read};
+ghost use Rattle.of_stream.specs.Decoding.{code, cell_from, literal, counted, offset, argument, code_read, literal_read};
 ghost use Rattle.of_stream.specs.Decoding.{counted_read, offset_read, argument_read, argument_shown, IsShort};
 
 use crate::stream::OffsetSize;
@@ -33,6 +33,14 @@ pub fn read_code(bytes: &[u8]) -> Option<(FCode, &[u8])>
     }
 }
 
+/// The cell of four bytes, the most significant first.
+#[inline(always)]
+fn cell_from(a: u8, b: u8, c: u8, d: u8) -> Cell
+    ensures { result ≡ cell_from a b c d }
+{
+    Cell(u32::from_be_bytes([a, b, c, d]))
+}
+
 /// A cell of four bytes.
 #[inline(always)]
 fn read_literal(bytes: &[u8]) -> Option<(Cell, &[u8])>
@@ -40,7 +48,7 @@ fn read_literal(bytes: &[u8]) -> Option<(Cell, &[u8])>
     ensures shorter { IfSome result (λ r. length r.1.now ≤ length bytes.now) }
 {
     match bytes {
-        [a, b, c, d, rest @ ..] => Some((Cell(u32::from_be_bytes([*a, *b, *c, *d])), rest)),
+        [a, b, c, d, rest @ ..] => Some((cell_from(*a, *b, *c, *d), rest)),
         _ => None,
     }
 }

@@ -26,7 +26,7 @@ pub enum OffsetSize {
 impl OffsetSize {
     /// How many bytes an offset has: 1 or 2.
     #[inline]
-    pub(crate) fn bytes(self) -> usize
+    pub fn bytes(self) -> usize
         ensures { result ≡ width self }
     {
         match self {

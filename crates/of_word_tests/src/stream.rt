@@ -203,6 +203,8 @@ fn sizes(rt: HostRuntime) -> Result<(), Fail> {
         let said = format!(in rt.alloc(); "{} {:?}", token.is_end(), behind)?;
         assert_eq!(rt; said.as_str(), wanted, "{line}");
     }
+    assert_eq!(rt; OffsetSize::One.bytes(), 1);
+    assert_eq!(rt; OffsetSize::Two.bytes(), 2);
     Ok(())
 }
 
