@@ -17,9 +17,17 @@ use Rattle.of_arguments.specs.declared.arguments.Request.TheVariants as request
 
 -- ---- the command line
 
+-- the path of a file
+abbrev pub path_rule : Text → Rule
+path_rule name = record (new_rule name) { value_names = 1; required = true; action = Some Set }
+
 -- `IMAGE`
 abbrev pub image_rule : Rule
-image_rule = record (new_rule (codes "image")) { value_names = 1; required = true; action = Some Set }
+image_rule = path_rule (codes "image")
+
+-- `SOURCE`
+abbrev pub source_rule : Rule
+source_rule = path_rule (codes "source")
 
 -- `--limit N`, from 0 to 1,000,000,000
 abbrev pub limit_rule : Rule
@@ -37,10 +45,6 @@ flag_rule name = record (new_rule name) { long = Some name; action = Some SetTru
 -- `run IMAGE [--limit N] [--explain]`
 abbrev pub run_app : App
 run_app = with_rule (with_rule (with_rule (new_app (codes "run")) image_rule) limit_rule) (flag_rule (codes "explain"))
-
--- `SOURCE`
-abbrev pub source_rule : Rule
-source_rule = record (new_rule (codes "source")) { value_names = 1; required = true; action = Some Set }
 
 -- `--output FILE`
 abbrev pub output_rule : Rule

@@ -5,7 +5,7 @@ ghost use Rattle.std.specs.String.{string_bytes};
 ghost use Rattle.of_arguments.specs.Statuses.{unasked};
 ghost use Rattle.of_arguments.specs.CommandLine.{IsBuilt, asked, asked_by, asks, detok_app, image_rule, limit_in};
 ghost use Rattle.of_arguments.specs.CommandLine.{limit_rule, flag_rule, has_flag, is_true, ofw_app, output_rule};
-ghost use Rattle.of_arguments.specs.CommandLine.{run_app, source_rule, tok_app};
+ghost use Rattle.of_arguments.specs.CommandLine.{path_rule, run_app, source_rule, tok_app};
 
 use crate::status::Status;
 use clap::error::ErrorKind;
@@ -68,26 +68,30 @@ pub enum Request<'a> {
     },
 }
 
-/// The argument that is the path of an image.
-fn image_argument<'a>(alloc: Global) -> Arg<'a>
-    ensures { (rule_of result ≡ image_rule) × (result.global ≡ false) }
+/// An argument that is the path of a file.
+fn path_argument<'a>(alloc: Global, name: &'a str, shown: &'a str, help: &'a str) -> Arg<'a>
+    ensures { (rule_of result ≡ path_rule name.now) × (result.global ≡ false) }
 {
-    Arg::new(alloc, "image")
-        .value_name("IMAGE")
-        .help("the image: a ROM, or its bytes in hexadecimal digits")
+    Arg::new(alloc, name)
+        .value_name(shown)
+        .help(help)
         .required(true)
         .action(ArgAction::Set)
 }
 
-/// The argument that is the path of a source.
+/// `IMAGE`
+fn image_argument<'a>(alloc: Global) -> Arg<'a>
+    ensures { (rule_of result ≡ image_rule) × (result.global ≡ false) }
+{
+    let help = "the image: a ROM, or its bytes in hexadecimal digits";
+    path_argument(alloc, "image", "IMAGE", help)
+}
+
+/// `SOURCE`
 fn source_argument<'a>(alloc: Global) -> Arg<'a>
     ensures { (rule_of result ≡ source_rule) × (result.global ≡ false) }
 {
-    Arg::new(alloc, "source")
-        .value_name("SOURCE")
-        .help("the source, in words")
-        .required(true)
-        .action(ArgAction::Set)
+    path_argument(alloc, "source", "SOURCE", "the source, in words")
 }
 
 /// `--output FILE`
@@ -198,25 +202,11 @@ fn command<'a>(alloc: Global) -> Result<Command<'a>, AllocError>
     with_subcommand(command, detok_command(alloc))
 }
 
-/// The path of the image that a subcommand was given.
-fn image_path<'a>(matches: &ArgMatches<'a>) -> Option<&'a str>
-    ensures { option_map (λ path. path.now) result ≡ first_of (codes "image") (rows_of (found_of matches.now)) }
+/// The value that a subcommand was given for an argument, as text.
+fn value<'a>(matches: &ArgMatches<'a>, name: &str) -> Option<&'a str>
+    ensures { option_map (λ text. text.now) result ≡ first_of name.now (rows_of (found_of matches.now)) }
 {
-    matches.get_str("image")
-}
-
-/// The path of the source that a subcommand was given.
-fn source_path<'a>(matches: &ArgMatches<'a>) -> Option<&'a str>
-    ensures { option_map (λ path. path.now) result ≡ first_of (codes "source") (rows_of (found_of matches.now)) }
-{
-    matches.get_str("source")
-}
-
-/// The path of the file that `--output` names.
-fn output_path<'a>(matches: &ArgMatches<'a>) -> Option<&'a str>
-    ensures { option_map (λ path. path.now) result ≡ first_of (codes "output") (rows_of (found_of matches.now)) }
-{
-    matches.get_str("output")
+    matches.get_str(name)
 }
 
 /// The limit that a subcommand was given, or the one that stands where it is left out.
@@ -240,7 +230,7 @@ fn is_true(value: Option<&str>) -> bool
 fn has_flag(matches: &ArgMatches, name: &str) -> bool
     ensures { result ≡ has_flag name.now (rows_of (found_of matches.now)) }
 {
-    is_true(matches.get_str(name))
+    is_true(value(matches, name))
 }
 
 /// What a subcommand asks for.
@@ -249,11 +239,11 @@ fn request_of<'a>(name: &str, matches: &ArgMatches<'a>) -> Option<Request<'a>>
 {
     if name == "tok" {
         return Some(Request::Tok {
-            source: source_path(matches)?,
-            output: output_path(matches),
+            source: value(matches, "source")?,
+            output: value(matches, "output"),
         });
     }
-    let image = image_path(matches)?;
+    let image = value(matches, "image")?;
     match name {
         "run" => Some(Request::Run {
             image,

@@ -1,10 +1,6 @@
 use Rattle.std.proofs.Common.{◌∙◌, ap}
-use Rattle.clap.specs.Words.{found_of}
-use Rattle.clap.proofs.WalkLemmas.{first_value-rows}
 use Rattle.of_arguments.specs.CommandLine.{is_true}
 use Rattle.of_arguments.proofs.arguments.has_flag.Goals as goal
 
 pub returns : goal.returns
-returns c =
-    c.is_true.ensures
-    ∙ ap is_true (c.get_str.ensures ∙ first_value-rows (found_of c.args.matches.now) c.args.name.now)
+returns c = c.is_true.ensures ∙ ap is_true c.value.ensures
