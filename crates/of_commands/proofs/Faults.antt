@@ -1,6 +1,7 @@
 -- What a file that has no image, or whose image or source has a fault, is given up with.
 use Rattle.std.proofs.Common.{◌≡◌, ℕ, List, Option, Some, None, IfSome, Ok, Err, subst, inl, inr, refl, sym, ◌∙◌}
-use Rattle.std.proofs.Common.{◌⊎◌, Bool, Result, OnOk, OnErr, IfOk, IfErr, length}
+use Rattle.std.proofs.Common.{◌⊎◌, Bool, true, false, true≢false, ap, Result, OnErr, IfOk, IfErr, length}
+use Rattle.std.specs.Prelude.{is_some}
 use Rattle.std.specs.Io.KnownBytes.{Appends, Keeps}
 use Rattle.of_commands.specs.declared.fault.Fault.{Fault}
 use Rattle.of_commands.specs.Files.{image_in, FaultsReading}
@@ -11,8 +12,15 @@ use Rattle.of_compile.specs.Coding.{Coding}
 use Rattle.of_machine.specs.declared.answers.End.{End}
 use Rattle.of_machine.specs.States.{MachineState}
 use Rattle.std.proofs.Math.Seq.{take-length}
-use Rattle.of_commands.specs.Runs.{AppendsPart, IsUnwritten, Lists, ListsFile, ListsPart, Prints, RunsFile}
+use Rattle.of_arguments.specs.declared.status.Status.{Status}
+use Rattle.of_arguments.specs.declared.status.Status.TheVariants as status
+use Rattle.of_machine.specs.declared.answers.Refusal.TheVariants as refusal
+use Rattle.of_source.specs.declared.fault.SourceFault.TheVariants as source
+use Rattle.of_tok.specs.declared.fault.TokFault.TheVariants as tok
+use Rattle.of_commands.specs.Messages.{AppendsPart, bad_start_of}
+use Rattle.of_commands.specs.Runs.{IsUnwritten, Lists, ListsFile, ListsPart, Prints, RunsFile, end_status}
 use Rattle.of_commands.specs.Runs.{FaultsSource, FaultsSourceFile, FaultsRun, IsRefusedFor, Tokenizes}
+use Rattle.of_commands.specs.Runs.{is_done, status_of}
 
 -- a file that has no image has a fault of a run
 pub run_unread : (known : Option (List ℕ)) (f : Fault) → IfSome known (λ file. FaultsReading file f)
@@ -39,15 +47,19 @@ lines_shown e partial file lines text wrong same shown =
 
 -- the lines that are shown were printed, or a part of them
 pub listing_printed : (known : Option (List ℕ)) (e : Extras) (partial : Bool) (lines text : List ℕ)
-    (wrong : Option StreamFault) (old new : Option (List ℕ)) (r : Result (Unit {0}) Fault) → text ≡ lines
-    → IfSome known (λ file. ListsFile e partial file (lines, wrong)) → OnOk r ((wrong ≡ None) × Appends old new text)
+    (wrong : Option StreamFault) (old new : Option (List ℕ)) (r : Result Status Fault) → text ≡ lines
+    → IfSome known (λ file. ListsFile e partial file (lines, wrong))
+    → IfOk r (λ s. (s ≡ status.Done) × (wrong ≡ None) × Appends old new text)
     → IfErr r (λ f. ListsPart (text, wrong) old new f) → IfSome known (λ file. Lists e partial file old new r)
 listing_printed None e partial lines text wrong old new r same shown all part = tt
-listing_printed (Some file) e partial lines text wrong old new (Ok x) same shown all part = (
-  text,
-  subst (λ (w : Option StreamFault). ListsFile e partial file (text, w)) all.0
-      (lines_shown e partial file lines text wrong same shown),
-  all.1,
+listing_printed (Some file) e partial lines text wrong old new (Ok s) same shown all part = (
+  all.0,
+  (
+    text,
+    subst (λ (w : Option StreamFault). ListsFile e partial file (text, w)) all.1
+        (lines_shown e partial file lines text wrong same shown),
+    all.2,
+  ),
 )
 listing_printed (Some file) e partial lines text wrong old new (Err f) same shown all part =
     inr ((text, wrong), lines_shown e partial file lines text wrong same shown, part)
@@ -63,15 +75,68 @@ fault_of_run file f (inr none) = inr (inl (inr (inr (inl none))))
 
 -- what a run prints was printed, or a part of it
 pub run_printed : (known : Option (List ℕ)) (limit : ℕ) (m : MachineState Coding) (e : End)
-    (old new : Option (List ℕ)) (r : Result End Fault) → IfSome known (λ file. RunsFile file limit m e)
-    → IfOk r (λ d. (d ≡ e) × Appends old new m.eval.parts.console.text)
+    (old new : Option (List ℕ)) (r : Result Status Fault) → IfSome known (λ file. RunsFile file limit m e)
+    → IfOk r (λ s. (s ≡ end_status e) × Appends old new m.eval.parts.console.text)
     → OnErr r (AppendsPart old new m.eval.parts.console.text) → IfErr r (λ f. IsUnwritten f ⊎ (f ≡ fault.NoMemory))
     → IfSome known (λ file. Prints file limit old new r)
 run_printed None limit m e old new r runs all part why = tt
-run_printed (Some file) limit m e old new (Ok d) runs all part why =
-    (m, subst (λ (x : End). RunsFile file limit m x) (sym all.0) runs, all.1)
+run_printed (Some file) limit m e old new (Ok s) runs all part why = (m, (e, runs, sym all.0), all.1)
 run_printed (Some file) limit m e old new (Err f) runs all part why =
     (inr (m, (e, runs), part), fault_of_run file f why)
+
+-- a write that failed is no bad start byte
+unwritten_begins : (f : Fault) → IsUnwritten f → bad_start_of f ≡ None
+unwritten_begins fault.ArgumentNotText unwritten = refl
+unwritten_begins (fault.Unopened code) unwritten = refl
+unwritten_begins (fault.Unread code) unwritten = refl
+unwritten_begins fault.Endless unwritten = refl
+unwritten_begins (fault.BadDigit place byte) unwritten = refl
+unwritten_begins fault.OddDigits unwritten = refl
+unwritten_begins (fault.TooLong length) unwritten = refl
+unwritten_begins (fault.Refused r) unwritten = absurd unwritten
+unwritten_begins (fault.Unlisted g) unwritten = absurd unwritten
+unwritten_begins (fault.NoSource g) unwritten = refl
+unwritten_begins (fault.NoImage g) unwritten = refl
+unwritten_begins (fault.Unwritten code) unwritten = refl
+unwritten_begins fault.NoMemory unwritten = refl
+
+-- nor is memory
+none_begins : (f : Fault) → IsUnwritten f ⊎ (f ≡ fault.NoMemory) → bad_start_of f ≡ None
+none_begins f (inl unwritten) = unwritten_begins f unwritten
+none_begins f (inr none) = ap bad_start_of none
+
+-- so behind the start of a run there is none of which it could be said
+pub run_begins : (r : Result Status Fault) (Kept : Type 0) → IfErr r (λ f. IsUnwritten f ⊎ (f ≡ fault.NoMemory))
+    → IfErr r (λ f. is_some (bad_start_of f) ≡ true → Kept)
+run_begins (Ok s) Kept why = tt
+run_begins (Err f) Kept why = λ begun. absurd (true≢false (sym begun ∙ ap is_some (none_begins f why)))
+
+-- a fault ends no command as done
+pub fault_not_done : (f : Fault) → is_done (status_of f) ≡ false
+fault_not_done fault.ArgumentNotText = refl
+fault_not_done fault.NoMemory = refl
+fault_not_done (fault.Refused refusal.NoMemory) = refl
+fault_not_done (fault.NoSource source.NoMemory) = refl
+fault_not_done (fault.NoImage tok.NoMemory) = refl
+fault_not_done (fault.Unopened code) = refl
+fault_not_done (fault.Unread code) = refl
+fault_not_done fault.Endless = refl
+fault_not_done (fault.BadDigit place byte) = refl
+fault_not_done fault.OddDigits = refl
+fault_not_done (fault.TooLong length) = refl
+fault_not_done (fault.Refused refusal.Busy) = refl
+fault_not_done (fault.Refused refusal.ImageTooLong) = refl
+fault_not_done (fault.Refused (refusal.BadStart f)) = refl
+fault_not_done (fault.Refused refusal.NoNode) = refl
+fault_not_done (fault.Unlisted f) = refl
+fault_not_done (fault.NoSource (source.Unclosed line)) = refl
+fault_not_done (fault.NoSource (source.Unknown line)) = refl
+fault_not_done (fault.NoSource (source.BadNumber line)) = refl
+fault_not_done (fault.NoSource (source.TooLong line)) = refl
+fault_not_done (fault.NoImage (tok.OffsetTooLong line)) = refl
+fault_not_done (fault.NoImage tok.TooManyWords) = refl
+fault_not_done (fault.NoImage tok.ImageTooLong) = refl
+fault_not_done (fault.Unwritten code) = refl
 
 -- a fault of the source that was read is one of the file
 of_source : (file text : List ℕ) (f : Fault) → text ≡ file → FaultsSource text f → FaultsSourceFile file f

@@ -1,11 +1,11 @@
 -- What several writes have appended.
 use Rattle.std.proofs.Common.{◌≡◌, ℕ, suc, zero, ◌+◌, ◌++◌, ◌-◌, List, [], ◌∷◌, Option, length, take, drop, subst, refl}
-use Rattle.std.proofs.Common.{sym, ap, ◌∙◌, arith, append-nil, Some, None, Result, Ok, Err, IfSome, OnOk, OnErr}
-use Rattle.of_commands.specs.Runs.{AppendsPart}
+use Rattle.std.proofs.Common.{sym, ap, ◌∙◌, arith, append-nil}
+use Rattle.of_commands.specs.Messages.{AppendsPart}
 use Rattle.std.specs.Io.KnownBytes.{Appends}
 use Rattle.std.proofs.Math.Seq.{take-length}
 use Rattle.std.proofs.lemmas.List.{length-drop}
-use Rattle.std.proofs.KnownBytes.{Appends-trans}
+use Rattle.std.proofs.KnownBytes.{Appends-nil, Appends-trans}
 
 take-sum : (m n : ℕ) (xs : List ℕ) → take m xs ++ take n (drop m xs) ≡ take (m + n) xs
 take-sum zero n xs = let whole : 0 + n ≡ n = omega arith in rw whole refl
@@ -35,11 +35,6 @@ none_written a b c bs more n e p q =
     let none : Appends b c [] = subst (λ k. Appends b c (take k more)) e q in
     subst (Appends a c) (append-nil bs) (Appends-trans a b c bs [] p none)
 
--- a text that is due at some value went out whole, or the first part of it
-pub part_said : {A E : Type 0} (said : Result A E) (due : Option ℕ) (a b : Option (List ℕ)) (text : ℕ → List ℕ)
-    → OnOk said (IfSome due (λ n. Appends a b (text n))) → OnErr said (IfSome due (λ n. AppendsPart a b (text n)))
-    → IfSome due (λ n. AppendsPart a b (text n))
-part_said (Ok _) (Some n) a b text whole part =
-    (length (text n), subst (Appends a b) (sym (take-length (text n))) whole)
-part_said (Ok _) None a b text whole part = whole
-part_said (Err _) due a b text whole part = part
+-- of a line of which nothing went out, the first bytes did
+pub none_said : (known : Option (List ℕ)) (line : List ℕ) → AppendsPart known known line
+none_said known line = (0, Appends-nil known)

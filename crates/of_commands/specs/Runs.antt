@@ -1,6 +1,6 @@
 -- What the program prints of a file's run or listing, and how it ends.
-use Rattle.std.specs.Prelude.{◌≡◌, ◌≤◌, ◌⊎◌, ℕ, List, [], ◌∷◌, length, take, Option, Result, Ok, Err}
-use Rattle.std.specs.Prelude.{Some, None, ◌++◌, codes, ⊤, Bool, if◌then◌else◌}
+use Rattle.std.specs.Prelude.{◌≡◌, ◌≤◌, ◌⊎◌, ℕ, List, [], ◌∷◌, ◌++◌, length, Option, Result, Ok, Err}
+use Rattle.std.specs.Prelude.{Some, None, IfErr, ⊤, Bool, true, false, if◌then◌else◌}
 use Rattle.std.specs.Option.{option_map}
 use Rattle.std.specs.Io.KnownBytes.{Keeps, Appends}
 use Rattle.hex.specs.Hex.{encode_lower}
@@ -10,8 +10,6 @@ use Rattle.of_machine.specs.declared.answers.End.{End}
 use Rattle.of_machine.specs.declared.answers.End.TheVariants as end
 use Rattle.of_machine.specs.declared.answers.Refusal.{Refusal}
 use Rattle.of_machine.specs.declared.answers.Refusal.TheVariants as refusal
-use Rattle.of_stream.specs.declared.fault.StreamFault.{StreamFault}
-use Rattle.of_stream.specs.declared.fault.StreamFault.TheVariants as stream
 use Rattle.of_compile.specs.Coding.{Coding}
 use Rattle.of_machine.specs.States.{MachineState, image_refusal, Refuses}
 use Rattle.of_machine.specs.Runs.{RunsTo}
@@ -26,6 +24,7 @@ use Rattle.of_tok.specs.Image.{tokenized}
 use Rattle.of_tok.specs.Image.{IsRefused as HasNoImage}
 use Rattle.of_arguments.specs.CommandLine.{Asked, a_run, an_image, a_listing}
 use Rattle.of_commands.specs.Files.{image_in, FaultsReading, IsUnread}
+use Rattle.of_commands.specs.Messages.{AppendsPart}
 use Rattle.of_commands.specs.declared.fault.Fault.{Fault}
 use Rattle.of_commands.specs.declared.fault.Fault.TheVariants as fault
 use Rattle.of_arguments.specs.declared.status.Status.{Status}
@@ -67,40 +66,25 @@ source_line_of (fault.NoSource (source.TooLong line)) = Some line
 source_line_of (fault.NoImage (tok.OffsetTooLong line)) = Some line
 source_line_of _ = None
 
--- the status of a result: that of what was done, or that of the fault
-abbrev pub status_in : {A : Type 0} → (A → Status) → Result A Fault → Status
-status_in done (Ok x) = done x
-status_in done (Err f) = status_of f
-
--- the byte that begins no image, where that is the fault
-abbrev pub start_byte_of : StreamFault → Option ℕ
-start_byte_of (stream.BadStart byte) = Some byte
-start_byte_of stream.Start0 = None
-start_byte_of stream.Short = None
-start_byte_of (stream.Ended position) = None
-
--- the first byte of an image, where it is the byte that is wrong
-abbrev pub bad_start_of : Fault → Option ℕ
-bad_start_of (fault.Refused (refusal.BadStart f)) = start_byte_of f
-bad_start_of (fault.Unlisted f) = start_byte_of f
-bad_start_of _ = None
-
--- the line that is said of it
-abbrev pub bad_start_text : ℕ → List ℕ
-bad_start_text byte = codes "ofw: bad start byte " ++ encode_lower (byte ∷ []) ++ 10 ∷ []
+-- the status with which the program ends: that of what was done, or that of the fault
+abbrev pub ended_with : Result Status Fault → Status
+ended_with (Ok s) = s
+ended_with (Err f) = status_of f
 
 -- the run of the image that a file has
 abbrev pub RunsFile : List ℕ → ℕ → MachineState Coding → End → Type 0
 RunsFile file limit m e = (image : List ℕ) × (image_in file ≡ Ok image) × RunsTo image [] [] [] limit m e
 
--- known bytes grow by the first of bs
-abbrev pub AppendsPart : Option (List ℕ) → Option (List ℕ) → List ℕ → Type 0
-AppendsPart old new bs = (n : ℕ) × Appends old new (take n bs)
+-- the status of a run's end
+abbrev pub end_status : End → Status
+end_status end.Done = status.Done
+end_status end.LimitReached = status.LimitReached
 
--- the run of the file printed all its console bytes
-abbrev pub PrintsRun : List ℕ → ℕ → Option (List ℕ) → Option (List ℕ) → End → Type 0
-PrintsRun file limit old new e =
-    (m : MachineState Coding) × RunsFile file limit m e × Appends old new m.eval.parts.console.text
+-- the run of the file printed all its console bytes, and ended with this status
+abbrev pub PrintsRun : List ℕ → ℕ → Option (List ℕ) → Option (List ℕ) → Status → Type 0
+PrintsRun file limit old new s =
+    (m : MachineState Coding) × ((e : End) × RunsFile file limit m e × (end_status e ≡ s))
+    × Appends old new m.eval.parts.console.text
 
 -- nothing was printed, or the first console bytes of the run
 abbrev pub PrintsPart : List ℕ → ℕ → Option (List ℕ) → Option (List ℕ) → Type 0
@@ -129,20 +113,10 @@ FaultsRun file f =
     ⊎ FaultsReading file f
     ⊎ ((image : List ℕ) × (image_in file ≡ Ok image) × IsRefusedFor image f)
 
--- what was printed of the run, or of a part of it beside a fault
-abbrev pub Prints : List ℕ → ℕ → Option (List ℕ) → Option (List ℕ) → Result End Fault → Type 0
-Prints file limit old new (Ok e) = PrintsRun file limit old new e
+-- what was printed of the run, whose end has the status, or of a part of it beside a fault
+abbrev pub Prints : List ℕ → ℕ → Option (List ℕ) → Option (List ℕ) → Result Status Fault → Type 0
+Prints file limit old new (Ok s) = PrintsRun file limit old new s
 Prints file limit old new (Err f) = PrintsPart file limit old new × FaultsRun file f
-
--- the status of a run's end
-abbrev pub end_status : End → Status
-end_status end.Done = status.Done
-end_status end.LimitReached = status.LimitReached
-
--- the program ends with this status, that of the run's end or of a fault, and printed what belongs to it
-abbrev pub EndsWith : List ℕ → ℕ → Option (List ℕ) → Option (List ℕ) → Status → Type 0
-EndsWith file limit old new s =
-    (r : Result End Fault) × (status_in end_status r ≡ s) × Prints file limit old new r
 
 -- ---- listings
 
@@ -163,16 +137,12 @@ ListsPart (lines, wrong) old new f =
 
 -- what was printed of a listing: all of it, or beside a fault nothing, the lines before it or a part of them
 abbrev pub Lists :
-    Extras → Bool → List ℕ → Option (List ℕ) → Option (List ℕ) → Result (Unit {0}) Fault → Type 0
-Lists e partial file old new (Ok _) = (lines : List ℕ) × ListsFile e partial file (lines, None) × Appends old new lines
+    Extras → Bool → List ℕ → Option (List ℕ) → Option (List ℕ) → Result Status Fault → Type 0
+Lists e partial file old new (Ok s) =
+    (s ≡ status.Done) × ((lines : List ℕ) × ListsFile e partial file (lines, None) × Appends old new lines)
 Lists e partial file old new (Err f) =
     (Keeps old new × FaultsReading file f)
     ⊎ ((listed : Listed) × ListsFile e partial file listed × ListsPart listed old new f)
-
--- the program ends with this status, done or that of a fault, and printed what belongs to it
-abbrev pub ListsWith : Extras → Bool → List ℕ → Option (List ℕ) → Option (List ℕ) → Status → Type 0
-ListsWith e partial file old new s =
-    (r : Result (Unit {0}) Fault) × (status_in (λ _. status.Done) r ≡ s) × Lists e partial file old new r
 
 -- ---- images of sources
 
@@ -208,8 +178,9 @@ FaultsSourceFile file f =
     ⊎ IsUnwritten f
     ⊎ FaultsSource file f
 
-abbrev pub Tokenizes : List ℕ → Option (List ℕ) → Option (List ℕ) → Result (Unit {0}) Fault → Type 0
-Tokenizes file old new (Ok _) = TokenizesAll file old new
+-- what was printed of the image of a source: all of it, or nothing or its first digits beside a fault
+abbrev pub Tokenizes : List ℕ → Option (List ℕ) → Option (List ℕ) → Result Status Fault → Type 0
+Tokenizes file old new (Ok s) = (s ≡ status.Done) × TokenizesAll file old new
 Tokenizes file old new (Err f) = TokenizesPart file old new × FaultsSourceFile file f
 
 -- the status of a fault of a source's file
@@ -222,15 +193,30 @@ Writes bytes old new status.Done = Appends old new bytes
 Writes bytes old new status.Fault = AppendsPart old new bytes
 Writes bytes old new _ = ⊥
 
--- the program ends with this status, done or that of a fault, and printed what belongs to it
-abbrev pub TokenizesWith : List ℕ → Option (List ℕ) → Option (List ℕ) → Status → Type 0
-TokenizesWith file old new s =
-    (r : Result (Unit {0}) Fault) × (status_in (λ _. status.Done) r ≡ s) × Tokenizes file old new r
-
 -- ---- requests
 
--- what a status says of the output and of the file, where this was asked for
-abbrev pub Answers : Asked → List ℕ → Option (List ℕ) → Option (List ℕ) → Status → Type 0
-Answers (a_run image limit explain) file old new s = EndsWith file limit old new s
-Answers (an_image source output) file old new s = TokenizesWith file old new s
-Answers (a_listing image extras partial) file old new s = ListsWith extras partial file old new s
+-- what was printed of the file, where this was asked for, or why it wasn't
+abbrev pub Does : Asked → List ℕ → Option (List ℕ) → Option (List ℕ) → Result Status Fault → Type 0
+Does (a_run image limit explain) file old new r = Prints file limit old new r
+Does (an_image source output) file old new r = Tokenizes file old new r
+Does (a_listing image extras partial) file old new r = Lists extras partial file old new r
+
+-- the status is one of what was done
+abbrev pub is_done : Status → Bool
+is_done status.Done = true
+is_done status.LimitReached = true
+is_done status.Fault = false
+is_done status.Usage = false
+is_done status.NoMemory = false
+
+-- whether it is asked how a run ended
+abbrev pub is_explained : Asked → Bool
+is_explained (a_run image limit explain) = explain
+is_explained (an_image source output) = false
+is_explained (a_listing image extras partial) = false
+
+-- the program ends with this status, that of what was done, or of a fault that was said
+abbrev pub Answers :
+    Asked → List ℕ → Option (List ℕ) → Option (List ℕ) → (Fault → Type 0) → Status → Type 0
+Answers a file old new Said s =
+    (r : Result Status Fault) × (ended_with r ≡ s) × Does a file old new r × IfErr r Said

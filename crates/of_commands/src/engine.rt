@@ -1,19 +1,21 @@
 ghost use Rattle.std.specs.Prelude.{◌≡◌, ◌⊎◌, [], Ok, None, IfOk, IfErr, IfSome, OnOk, OnErr};
-ghost use Rattle.of_arguments.specs.CommandLine.{asked};
-ghost use Rattle.of_commands.specs.Runs.{RunsFile, FaultsRun, Prints, EndsWith, ListsFile, ListsPart, Lists};
-ghost use Rattle.of_commands.specs.Runs.{ListsWith, Answers, AppendsPart, IsRefusedFor, IsUnwritten, refused_as};
-ghost use Rattle.of_commands.specs.Runs.{shown_lines};
-ghost use Rattle.of_commands.specs.Files.{FaultsReading};
+ghost use Rattle.std.specs.Prelude.{is_some, true, false};
 ghost use Rattle.std.specs.Io.KnownBytes.{Appends};
+ghost use Rattle.std.specs.String.{string_bytes};
+ghost use Rattle.of_arguments.specs.CommandLine.{asked};
 ghost use Rattle.of_detok.specs.Listing.{listed_so_far};
 ghost use Rattle.of_machine.specs.Runs.{RunsTo};
+ghost use Rattle.of_commands.specs.Files.{FaultsReading};
+ghost use Rattle.of_commands.specs.Messages.{AppendsPart, SaysFault, bad_start_of};
+ghost use Rattle.of_commands.specs.Runs.{RunsFile, FaultsRun, Prints, IsRefusedFor, IsUnwritten, end_status};
+ghost use Rattle.of_commands.specs.Runs.{refused_as, ListsFile, ListsPart, Lists, shown_lines};
 ghost use Rattle.of_commands.specs.Runs.{FaultsSource, FaultsSourceFile, FaultsWith, HasImage, Tokenizes};
-ghost use Rattle.of_commands.specs.Runs.{TokenizesFile, TokenizesWith, Writes};
-ghost use Rattle.std.specs.String.{string_bytes};
+ghost use Rattle.of_commands.specs.Runs.{TokenizesFile, Writes, Does, Answers, is_done, is_explained};
 
 use crate::explain::say_end;
 use crate::fault::Fault;
 use crate::input::{read_image, read_whole};
+use crate::messages::Messages;
 use crate::output::{report, write_whole};
 use hex::encode;
 use of_arguments::{Request, Status};
@@ -63,6 +65,36 @@ fn run_file<R: Read>(
     }
 }
 
+/// The status of a run's end.
+fn status_of(end: End) -> Status
+    ensures { result ≡ end_status end }
+{
+    match end {
+        End::Done => Status::Done,
+        End::LimitReached => Status::LimitReached,
+    }
+}
+
+/// Says how a run ended, where that is to be explained.
+fn explain_end<E: Write>(
+    alloc: Global,
+    path: &str,
+    image: &[u8],
+    machine: &ScriptMachine,
+    end: End,
+    explain: bool,
+    errors: &mut Messages<E>,
+) -> Result<Status, Fault>
+    ensures ok { IfOk result (λ s. s ≡ end_status end) }
+    ensures err { IfErr result (λ f. f ≡ Fault.NoMemory) }
+    ensures silent { explain ≡ false → errors.new ≡ errors.old }
+{
+    if explain {
+        say_end(alloc, path, image, machine, end, errors)?;
+    }
+    Ok(status_of(end))
+}
+
 /// Prints what a run printed, and then says how it ended, where that is to be explained.
 #[tactic(auto, using(crate::proofs::Faults::all_are_part))]
 fn print_end<W: Write, E: Write>(
@@ -73,51 +105,25 @@ fn print_end<W: Write, E: Write>(
     end: End,
     explain: bool,
     out: &mut W,
-    errors: &mut E,
-) -> Result<End, Fault>
-    ensures ok { IfOk result (λ e. (e ≡ end) × Appends (W.contents out.old) (W.contents out.new)
+    errors: &mut Messages<E>,
+) -> Result<Status, Fault>
+    ensures ok { IfOk result (λ s. (s ≡ end_status end) × Appends (W.contents out.old) (W.contents out.new)
         machine.now.eval.parts.console.text) }
     ensures err { OnErr result (AppendsPart (W.contents out.old) (W.contents out.new)
         machine.now.eval.parts.console.text) }
     ensures fault { IfErr result (λ f. IsUnwritten f ⊎ (f ≡ Fault.NoMemory)) }
+    ensures silent { explain ≡ false → errors.new ≡ errors.old }
 {
     write_whole(out, machine.console())?;
-    if !explain {
-        return Ok(end);
-    }
-    match say_end(alloc, path, image, machine, end, errors) {
-        Ok(()) => Ok(end),
-        Err(fault) => Err(fault),
-    }
+    explain_end(alloc, path, image, machine, end, explain, errors)
 }
 
-/// Runs the image of a file, prints what the run prints, and explains how it ended, where that is asked for.
-#[tactic(auto, using(crate::proofs::Faults::run_printed))]
-fn print_run<R: Read, W: Write, E: Write>(
-    alloc: Global,
-    path: &str,
-    file: &mut R,
-    limit: u64,
-    explain: bool,
-    out: &mut W,
-    errors: &mut E,
-) -> Result<End, Fault>
-    ensures { IfSome (R.remaining file.old) (λ bytes. Prints bytes limit (W.contents out.old) (W.contents out.new)
-        result) }
-{
-    match run_file(alloc, file, limit) {
-        Ok((image, machine, end)) => {
-            print_end(alloc, path, &image, &machine, end, explain, out, errors)
-        }
-        Err(fault) => Err(fault),
-    }
-}
-
-/// Runs the image of a file for at most `limit` steps, prints what the run prints, and gives the status.
+/// Runs the image of a file for at most `limit` steps, prints what the run prints, explains how it ended, where that
+/// is asked for, and gives the status.
 ///
 /// The file is the image as it stands where it begins with a start word, 0xF0 to 0xF3 or 0xFD, and
-/// else a text of hexadecimal digits. A fault is said on the error output, with the path of the file,
-/// and before the run nothing is printed. How the run ended is said there, too, where it is to be explained.
+/// else a text of hexadecimal digits. With a fault of the file nothing is printed.
+#[tactic(auto, using(crate::proofs::Faults::run_printed, crate::proofs::Faults::run_begins))]
 fn run<R: Read, W: Write, E: Write>(
     alloc: Global,
     path: &str,
@@ -125,15 +131,18 @@ fn run<R: Read, W: Write, E: Write>(
     limit: u64,
     explain: bool,
     out: &mut W,
-    errors: &mut E,
-) -> Status
-    ensures { IfSome (R.remaining file.old) (λ bytes. EndsWith bytes limit (W.contents out.old) (W.contents out.new)
-        result) }
+    errors: &mut Messages<E>,
+) -> Result<Status, Fault>
+    ensures printed { IfSome (R.remaining file.old) (λ bytes.
+        Prints bytes limit (W.contents out.old) (W.contents out.new) result) }
+    ensures silent { explain ≡ false → errors.new ≡ errors.old }
+    ensures unsaid { IfErr result (λ f. is_some (bad_start_of f) ≡ true → errors.new ≡ errors.old) }
 {
-    match print_run(alloc, path, file, limit, explain, out, errors) {
-        Ok(End::Done) => Status::Done,
-        Ok(End::LimitReached) => Status::LimitReached,
-        Err(fault) => report(path, fault, errors),
+    match run_file(alloc, file, limit) {
+        Ok((image, machine, end)) => {
+            print_end(alloc, path, &image, &machine, end, explain, out, errors)
+        }
+        Err(fault) => Err(fault),
     }
 }
 
@@ -174,56 +183,41 @@ fn list_file<R: Read>(
 }
 
 /// Prints lines, and answers what is wrong behind them, if anything.
-fn print_lines<W: Write>(lines: &[u8], wrong: Option<StreamFault>, out: &mut W) -> Result<(), Fault>
-    ensures ok { OnOk result ((wrong ≡ None) × Appends (W.contents out.old) (W.contents out.new) lines.now) }
+fn print_lines<W: Write>(
+    lines: &[u8],
+    wrong: Option<StreamFault>,
+    out: &mut W,
+) -> Result<Status, Fault>
+    ensures ok { IfOk result (λ s. (s ≡ Status.Done) × (wrong ≡ None)
+        × Appends (W.contents out.old) (W.contents out.new) lines.now) }
     ensures err { IfErr result (λ f. ListsPart (lines.now, wrong) (W.contents out.old) (W.contents out.new) f) }
 {
     match write_whole(out, lines) {
         Ok(()) => match wrong {
-            None => Ok(()),
+            None => Ok(Status::Done),
             Some(fault) => Err(Fault::Unlisted(fault)),
         },
         Err(fault) => Err(fault),
     }
 }
 
-/// Lists the image of a file, and prints the listing.
-fn print_listing<R: Read, W: Write>(
+/// Prints the listing of the image of a file.
+///
+/// The file is read as for `run`. Where a token can't be read, nothing is printed, unless a part is asked for: then the
+/// lines before it are.
+fn detok<R: Read, W: Write>(
     alloc: Global,
     file: &mut R,
     extras: Extras,
     partial: bool,
     out: &mut W,
-) -> Result<(), Fault>
+) -> Result<Status, Fault>
     ensures { IfSome (R.remaining file.old) (λ bytes.
         Lists extras partial bytes (W.contents out.old) (W.contents out.new) result) }
 {
     match list_file(alloc, file, extras, partial) {
         Ok((lines, wrong)) => print_lines(&lines, wrong, out),
         Err(fault) => Err(fault),
-    }
-}
-
-/// Prints the listing of the image of a file, and gives the status.
-///
-/// The file is read as for `run`. A fault is said on the error output, with the path of the file, and before the
-/// listing nothing is printed. Where a token can't be read, nothing is printed either, unless a part is asked for: then
-/// the lines before it are.
-fn detok<R: Read, W: Write, E: Write>(
-    alloc: Global,
-    path: &str,
-    file: &mut R,
-    extras: Extras,
-    partial: bool,
-    out: &mut W,
-    errors: &mut E,
-) -> Status
-    ensures { IfSome (R.remaining file.old) (λ bytes.
-        ListsWith extras partial bytes (W.contents out.old) (W.contents out.new) result) }
-{
-    match print_listing(alloc, file, extras, partial, out) {
-        Ok(()) => Status::Done,
-        Err(fault) => report(path, fault, errors),
     }
 }
 
@@ -273,9 +267,10 @@ pub fn image<R: Read, E: Write>(
     alloc: Global,
     path: &str,
     file: &mut R,
-    errors: &mut E,
+    errors: &mut Messages<E>,
 ) -> Result<Vec<u8>, Status>
     ensures ok { IfOk result (λ image. IfSome (R.remaining file.old) (λ bytes. HasImage bytes image.items)) }
+    ensures silent { OnOk result (errors.new ≡ errors.old) }
     ensures err { IfErr result (λ s. IfSome (R.remaining file.old) (λ bytes. FaultsWith bytes s)) }
 {
     match read_source(alloc, file) {
@@ -285,8 +280,9 @@ pub fn image<R: Read, E: Write>(
 }
 
 /// Writes an image, and gives the status; a fault is said on the error output.
-pub fn keep<W: Write, E: Write>(image: &[u8], out: &mut W, errors: &mut E) -> Status
-    ensures { Writes image.now (W.contents out.old) (W.contents out.new) result }
+pub fn keep<W: Write, E: Write>(image: &[u8], out: &mut W, errors: &mut Messages<E>) -> Status
+    ensures written { Writes image.now (W.contents out.old) (W.contents out.new) result }
+    ensures silent { result ≡ Status.Done → errors.new ≡ errors.old }
 {
     match write_whole(out, image) {
         Ok(()) => Status::Done,
@@ -294,48 +290,40 @@ pub fn keep<W: Write, E: Write>(image: &[u8], out: &mut W, errors: &mut E) -> St
     }
 }
 
-/// Makes the image of the source of a file, and prints it.
-fn print_image<R: Read, W: Write>(alloc: Global, source: &mut R, out: &mut W) -> Result<(), Fault>
+/// Prints the image of a source.
+fn print_digits<W: Write>(digits: &str, out: &mut W) -> Result<Status, Fault>
+    ensures ok { IfOk result (λ s. (s ≡ Status.Done) × Appends (W.contents out.old) (W.contents out.new) digits.now) }
+    ensures err { IfErr result (λ f. AppendsPart (W.contents out.old) (W.contents out.new) digits.now
+        × IsUnwritten f) }
+{
+    write_whole(out, digits.as_bytes())?;
+    Ok(Status::Done)
+}
+
+/// Prints the image of the source of a file, in hexadecimal digits and a newline.
+fn tok<R: Read, W: Write>(alloc: Global, source: &mut R, out: &mut W) -> Result<Status, Fault>
     ensures { IfSome (R.remaining source.old) (λ file.
         Tokenizes file (W.contents out.old) (W.contents out.new) result) }
 {
     let text = read_whole(alloc, source)?;
     match tokenize_text(alloc, &text) {
-        Ok(digits) => write_whole(out, digits.as_bytes()),
+        Ok(digits) => print_digits(&digits, out),
         Err(fault) => Err(fault),
     }
 }
 
-/// Prints the image of a source in hexadecimal digits and a newline, and gives the status.
-///
-/// A fault is said on the error output, with the path and the line of the word that has it, and
-/// before the image is made nothing is printed.
-fn tok<R: Read, W: Write, E: Write>(
-    alloc: Global,
-    path: &str,
-    source: &mut R,
-    out: &mut W,
-    errors: &mut E,
-) -> Status
-    ensures { IfSome (R.remaining source.old) (λ file.
-        TokenizesWith file (W.contents out.old) (W.contents out.new) result) }
-{
-    match print_image(alloc, source, out) {
-        Ok(()) => Status::Done,
-        Err(fault) => report(path, fault, errors),
-    }
-}
-
-/// Does what was asked for with the file at its path, and gives the status.
-pub fn answer<R: Read, W: Write, E: Write>(
+/// Does what was asked for with a file, and leaves it to the caller to say what is wrong with it.
+fn perform<R: Read, W: Write, E: Write>(
     alloc: Global,
     request: Request<'_>,
     file: &mut R,
     out: &mut W,
-    errors: &mut E,
-) -> Status
-    ensures { IfSome (R.remaining file.old) (λ bytes. Answers (asked request.entry) bytes (W.contents out.old)
+    errors: &mut Messages<E>,
+) -> Result<Status, Fault>
+    ensures done { IfSome (R.remaining file.old) (λ bytes. Does (asked request.entry) bytes (W.contents out.old)
         (W.contents out.new) result) }
+    ensures silent { is_explained (asked request.entry) ≡ false → errors.new ≡ errors.old }
+    ensures unsaid { IfErr result (λ f. is_some (bad_start_of f) ≡ true → errors.new ≡ errors.old) }
 {
     match request {
         Request::Run {
@@ -343,11 +331,43 @@ pub fn answer<R: Read, W: Write, E: Write>(
             limit,
             explain,
         } => run(alloc, image, file, limit, explain, out, errors),
-        Request::Tok { source, .. } => tok(alloc, source, file, out, errors),
+        Request::Tok { .. } => tok(alloc, file, out),
         Request::Detok {
-            image,
             extras,
             partial,
-        } => detok(alloc, image, file, extras, partial, out, errors),
+            ..
+        } => detok(alloc, file, extras, partial, out),
+    }
+}
+
+/// The path of the file with which something was asked for.
+fn path_of(request: Request<'_>) -> &str {
+    match request {
+        Request::Run { image, .. } => image,
+        Request::Tok { source, .. } => source,
+        Request::Detok { image, .. } => image,
+    }
+}
+
+/// Does what was asked for with the file at its path, and gives the status.
+///
+/// What is wrong is said on the error output, behind the path of the file; and how a run ended, where that is to be
+/// explained. Else nothing is said.
+#[tactic(auto, using(crate::proofs::Answered::answered_done, crate::proofs::Faults::fault_not_done))]
+pub fn answer<R: Read, W: Write, E: Write>(
+    alloc: Global,
+    request: Request<'_>,
+    file: &mut R,
+    out: &mut W,
+    errors: &mut Messages<E>,
+) -> Status
+    ensures answered { IfSome (R.remaining file.old) (λ bytes. Answers (asked request.entry) bytes (W.contents out.old)
+        (W.contents out.new)
+        (λ f. SaysFault f (E.contents errors.old.out) (E.contents errors.new.out) errors.new.failed) result) }
+    ensures silent { is_done result ≡ true → is_explained (asked request.entry) ≡ false → errors.new ≡ errors.old }
+{
+    match perform(alloc, request, file, out, errors) {
+        Ok(status) => status,
+        Err(fault) => report(path_of(request), fault, errors),
     }
 }

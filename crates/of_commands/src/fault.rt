@@ -1,5 +1,5 @@
 ghost use Rattle.std.specs.Prelude.{◌≡◌, option_map};
-ghost use Rattle.of_commands.specs.Runs.{start_byte_of};
+ghost use Rattle.of_commands.specs.Messages.{start_byte_of};
 
 use crate::place::Place;
 use of_arguments::Status;
@@ -69,7 +69,8 @@ fn start_byte(fault: StreamFault) -> Option<u8>
 }
 
 impl Fault {
-    ghost use Rattle.of_commands.specs.Runs.{bad_start_of, source_line_of, status_of};
+    ghost use Rattle.of_commands.specs.Messages.{bad_start_of};
+    ghost use Rattle.of_commands.specs.Runs.{source_line_of, status_of};
 
     /// The first byte of the image, where it is the byte that is wrong.
     pub(crate) fn bad_start(self) -> Option<u8>

@@ -5,11 +5,13 @@ mod engine;
 mod explain;
 mod fault;
 mod input;
+mod messages;
 mod output;
 mod part;
 mod place;
 
 pub use engine::{answer, image, keep};
 pub use fault::Fault;
+pub use messages::Messages;
 pub use output::report;
 pub use place::Place;

@@ -1,8 +1,10 @@
-ghost use Rattle.std.specs.Prelude.{◌≡◌, IfErr, IfSome, OnOk, OnErr};
+ghost use Rattle.std.specs.Prelude.{◌≡◌, IfErr, OnOk, OnErr};
 ghost use Rattle.std.specs.Io.KnownBytes.{Appends};
-ghost use Rattle.of_commands.specs.Runs.{AppendsPart, IsUnwritten, bad_start_of, bad_start_text, status_of};
+ghost use Rattle.of_commands.specs.Messages.{AppendsPart, SaysFault, bad_start_text};
+ghost use Rattle.of_commands.specs.Runs.{IsUnwritten, status_of};
 
 use crate::fault::Fault;
+use crate::messages::Messages;
 use crate::place::Place;
 use hex::encode_to_slice;
 use of_arguments::Status;
@@ -93,20 +95,14 @@ fn say_other<E: Write>(path: &str, fault: Fault, errors: &mut E) -> io::Result<(
 }
 
 /// Says what is wrong, on a line of its own.
-///
-/// Unwritten where a write fails: what went out is then the first part of the line.
-fn say<E: Write>(path: &str, fault: Fault, errors: &mut E) -> Result<(), Fault>
-    ensures ok { OnOk result (IfSome (bad_start_of fault) (λ byte.
-        Appends (E.contents errors.old) (E.contents errors.new) (bad_start_text byte))) }
-    ensures err { OnErr result (IfSome (bad_start_of fault) (λ byte.
-        AppendsPart (E.contents errors.old) (E.contents errors.new) (bad_start_text byte))) }
+fn say<E: Write>(path: &str, fault: Fault, errors: &mut Messages<E>)
+    ensures { SaysFault fault (E.contents errors.old.out) (E.contents errors.new.out) errors.new.failed }
 {
     match fault.bad_start() {
-        Some(byte) => write_whole(errors, &bad_start_text(byte)),
-        None => match say_other(path, fault, errors) {
-            Ok(()) => Ok(()),
-            Err(error) => Err(Fault::Unwritten(error.raw_os_error())),
-        },
+        Some(byte) => errors.say(&bad_start_text(byte)),
+        None => {
+            let _ = say_other(path, fault, errors);
+        }
     }
 }
 
@@ -115,11 +111,10 @@ fn say<E: Write>(path: &str, fault: Fault, errors: &mut E) -> Result<(), Fault>
 ///
 /// Of a bad start byte goes out `ofw: bad start byte`, the byte in two hexadecimal digits and a
 /// newline, or the first part of it where a write fails.
-pub fn report<E: Write>(path: &str, fault: Fault, errors: &mut E) -> Status
+pub fn report<E: Write>(path: &str, fault: Fault, errors: &mut Messages<E>) -> Status
     ensures status { result ≡ status_of fault }
-    ensures said { IfSome (bad_start_of fault) (λ byte.
-        AppendsPart (E.contents errors.old) (E.contents errors.new) (bad_start_text byte)) }
+    ensures said { SaysFault fault (E.contents errors.old.out) (E.contents errors.new.out) errors.new.failed }
 {
-    let _ = say(path, fault, errors);
+    say(path, fault, errors);
     fault.status()
 }

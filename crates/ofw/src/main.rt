@@ -3,19 +3,30 @@
 
 use clap::Error;
 use of_arguments::{Request, Status, parse, status_of};
-use of_commands::{Fault, report};
+use of_commands::{Fault, Messages};
 use std::fs::File;
+use std::io::Stderr;
 use std::process::ExitCode;
 use std::{env, io};
 
+/// The error output, for messages.
+fn messages(rt: &HostRuntime) -> Messages<Stderr> {
+    Messages::new(rt.stderr())
+}
+
+/// Says what is wrong with the file at a path, and gives the status.
+fn report(rt: &HostRuntime, path: &str, fault: Fault) -> Status {
+    of_commands::report(path, fault, &mut messages(rt))
+}
+
 /// Writes the image of a source to the file at a path, which is made anew.
 fn keep(rt: &HostRuntime, source: &str, file: &mut File, output: &str) -> Status {
-    let image = match of_commands::image(rt.alloc(), source, file, &mut rt.stderr()) {
+    let image = match of_commands::image(rt.alloc(), source, file, &mut messages(rt)) {
         Ok(image) => image,
         Err(status) => return status,
     };
     match File::create(rt, output) {
-        Ok(mut out) => of_commands::keep(&image, &mut out, &mut rt.stderr()),
+        Ok(mut out) => of_commands::keep(&image, &mut out, &mut messages(rt)),
         Err(error) => unopened(rt, output, &error),
     }
 }
@@ -26,7 +37,7 @@ fn unopened(rt: &HostRuntime, path: &str, error: &io::Error) -> Status {
         io::ErrorKind::OutOfMemory => Fault::NoMemory,
         _ => Fault::Unopened(error.raw_os_error()),
     };
-    report(path, fault, &mut rt.stderr())
+    report(rt, path, fault)
 }
 
 /// Opens the file, and does with it what was asked for.
@@ -47,7 +58,7 @@ fn answer(rt: &HostRuntime, request: Request) -> Status {
     {
         return keep(rt, source, &mut file, output);
     }
-    let (mut out, mut errors) = (rt.stdout(), rt.stderr());
+    let (mut out, mut errors) = (rt.stdout(), messages(rt));
     of_commands::answer(rt.alloc(), request, &mut file, &mut out, &mut errors)
 }
 
@@ -72,12 +83,12 @@ fn words(rt: &HostRuntime) -> Result<Vec<String>, Fault> {
 fn answer_nothing(rt: &HostRuntime, error: &Error) -> Status {
     let status = status_of(error);
     if status == Status::NoMemory {
-        return report("", Fault::NoMemory, &mut rt.stderr());
+        return report(rt, "", Fault::NoMemory);
     }
     match error.print(rt) {
         Ok(()) => status,
         Err(fault) => match fault.kind() {
-            io::ErrorKind::OutOfMemory => report("", Fault::NoMemory, &mut rt.stderr()),
+            io::ErrorKind::OutOfMemory => report(rt, "", Fault::NoMemory),
             _ => Status::Fault,
         },
     }
@@ -95,7 +106,7 @@ fn obey(rt: &HostRuntime, words: &[String]) -> Status {
 fn main(rt: HostRuntime) -> ExitCode {
     let status = match words(&rt) {
         Ok(words) => obey(&rt, &words),
-        Err(fault) => report("", fault, &mut rt.stderr()),
+        Err(fault) => report(&rt, "", fault),
     };
     ExitCode::from(status.code())
 }

@@ -1,6 +1,7 @@
 use crate::doubles::{Endless, Screen, blank_screen, reader_of};
 use of_arguments::{Status, parse, status_of};
-use of_commands::{Fault, answer, image, keep, report};
+use of_commands::{Fault, Messages, answer, image, keep, report};
+use of_stream::StreamFault;
 use std::alloc::Global;
 use std::io::Read;
 use std::process::Abort;
@@ -24,7 +25,9 @@ fn code_of(
         line.push(String::from_str(alloc, word)?)?;
     }
     Ok(match parse(alloc, &line) {
-        Ok(Some(request)) => answer(alloc, request, file, out, errors).code(),
+        Ok(Some(request)) => {
+            answer(alloc, request, file, out, &mut Messages::new(errors)).code()
+        }
         Ok(None) => Status::Usage.code(),
         Err(error) => status_of(&error).code(),
     })
@@ -163,7 +166,7 @@ fn binary_images(rt: HostRuntime) -> Result<(), Fail> {
 fn an_image_is_kept(rt: HostRuntime) {
     let mut file = reader_of(b"fcode-version2 fcode-end", 99);
     let mut out = blank_screen(rt.alloc(), 99);
-    let mut errors = blank_screen(rt.alloc(), 0);
+    let mut errors = Messages::new(blank_screen(rt.alloc(), 0));
     let made = image(rt.alloc(), "a.fs", &mut file, &mut errors).unwrap_or(Vec::new(rt.alloc()));
     let wanted = b"\xf1\x08\0\0\0\0\0\x09\0".as_slice();
     assert_eq!(rt; made.as_slice(), wanted);
@@ -196,17 +199,44 @@ fn endless_file(rt: HostRuntime) -> Result<(), Fail> {
     give_up(&rt, rt.alloc(), b'0', 16_777_216, said)
 }
 
+/// Says a fault of the file at a path, where a write fails: the number of its status, and what was said.
+fn reported(alloc: Global, path: &str, fault: Fault, fails_at: u32) -> Result<String, Fail> {
+    let mut screen = blank_screen(alloc, fails_at);
+    let code = report(path, fault, &mut Messages::new(&mut screen)).code();
+    let said = std::str::from_utf8(&screen.text).unwrap_or("");
+    Ok(format!(in alloc; "{code} {said}")?)
+}
+
 #[test]
-fn reports(rt: HostRuntime) {
-    let mut errors = blank_screen(rt.alloc(), 999);
-    assert_eq!(rt; report("", Fault::NoMemory, &mut errors).code(), 5);
-    assert_eq!(rt; errors.text.as_slice(), b"ofw: no memory\n".as_slice());
-    assert_eq!(rt; report("", Fault::ArgumentNotText, &mut errors).code(), 2);
-    let mut errors = blank_screen(rt.alloc(), 999);
-    assert_eq!(rt;
-        report("a.rom", Fault::TooLong(262_145), &mut errors).code(),
-        1
-    );
-    let said = b"ofw: a.rom: image of 262145 bytes, of which 262144 fit\n";
-    assert_eq!(rt; errors.text.as_slice(), said.as_slice());
+fn reports(rt: HostRuntime) -> Result<(), Fail> {
+    let said = reported(rt.alloc(), "", Fault::NoMemory, 999)?;
+    assert_eq!(rt; said.as_str(), "5 ofw: no memory\n");
+    let said = reported(rt.alloc(), "", Fault::ArgumentNotText, 999)?;
+    assert_eq!(rt; said.as_str(), "2 ofw: an argument is not text\n");
+    let said = reported(rt.alloc(), "a.rom", Fault::TooLong(262_145), 999)?;
+    let wanted = "1 ofw: a.rom: image of 262145 bytes, of which 262144 fit\n";
+    assert_eq!(rt; said.as_str(), wanted);
+    Ok(())
+}
+
+#[test]
+fn a_report_that_is_cut(rt: HostRuntime) -> Result<(), Fail> {
+    let fault = Fault::Unlisted(StreamFault::BadStart(0x0a));
+    let said = reported(rt.alloc(), "a.rom", fault, 999)?;
+    assert_eq!(rt; said.as_str(), "1 ofw: bad start byte 0a\n");
+    let said = reported(rt.alloc(), "a.rom", fault, 3)?;
+    assert_eq!(rt; said.as_str(), "1 ofw");
+    Ok(())
+}
+
+/// Once a write has failed, nothing more is said.
+#[test]
+fn a_line_behind_a_failed_write(rt: HostRuntime) {
+    let mut screen = blank_screen(rt.alloc(), 3);
+    let mut errors = Messages::new(&mut screen);
+    let fault = Fault::Unlisted(StreamFault::BadStart(0x0a));
+    assert_eq!(rt; report("", fault, &mut errors), Status::Fault);
+    assert_eq!(rt; report("", fault, &mut errors), Status::Fault);
+    assert_eq!(rt; report("", Fault::NoMemory, &mut errors), Status::NoMemory);
+    assert_eq!(rt; screen.text.as_slice(), b"ofw".as_slice());
 }

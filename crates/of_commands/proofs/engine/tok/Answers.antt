@@ -1,6 +1,6 @@
 use Rattle.std.proofs.Common.{rules}
 use Rattle.of_commands.proofs.Faults.{tokenizing_given_up}
-use Rattle.of_commands.proofs.engine.print_image.Goals as goal
+use Rattle.of_commands.proofs.engine.tok.Goals as goal
 
 pub returns : goal.returns
 returns g c =

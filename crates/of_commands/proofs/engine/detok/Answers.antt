@@ -1,5 +1,5 @@
 use Rattle.of_commands.proofs.Faults.{listing_printed}
-use Rattle.of_commands.proofs.engine.print_listing.Goals as goal
+use Rattle.of_commands.proofs.engine.detok.Goals as goal
 
 pub returns-in-Ok : goal.returns-in-Ok
 returns-in-Ok g c =
