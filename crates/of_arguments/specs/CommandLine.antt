@@ -12,8 +12,7 @@ use Rattle.clap.specs.declared.builder.command.Command.TheViews.{out-Command}
 use Rattle.clap.specs.declared.builder.action.ArgAction.TheVariants.{Set, SetTrue}
 use Rattle.clap.specs.declared.builder.value_parser.ValueParser.TheVariants as value
 use Rattle.of_detok.specs.declared.notes.Extras.{Extras}
-use Rattle.of_arguments.specs.declared.arguments.Request.{Request}
-use Rattle.of_arguments.specs.declared.arguments.Request.TheVariants as request
+use Rattle.of_arguments.specs.Asked.{Asked, a_run, an_image, a_listing}
 
 -- ---- the command line
 
@@ -83,19 +82,6 @@ abbrev pub IsBuilt : App → Command → Type 0
 IsBuilt a c = (app_of c ≡ a) × ((out-Command c).has_globals ≡ false)
 
 -- ---- what is asked
-
--- the run of the image at a path, for so many steps at most, and whether its end is explained; the image of the source
--- at a path, to be printed or to be written to a file; or the listing of the image at a path, with what it says beyond
--- names and operands, and whether it is printed up to what is wrong
-pub data Asked : Type 0 where
-  a_run : Text → ℕ → Bool → Asked
-  an_image : Text → Option Text → Asked
-  a_listing : Text → Extras → Bool → Asked
-
-abbrev pub asked : Request → Asked
-asked (request.Run image limit explain) = a_run image.now limit explain
-asked (request.Tok source output) = an_image source.now (option_map (λ path. path.now) output)
-asked (request.Detok image extras partial) = a_listing image.now extras partial
 
 -- the number that a text has in decimal digits, where it is one of 64 bits
 abbrev pub number_in : Text → Option ℕ

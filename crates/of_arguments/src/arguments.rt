@@ -2,11 +2,13 @@ ghost use Rattle.std.specs.Prelude.{◌≡◌, IfOk, codes, false, map, option_m
 ghost use Rattle.clap.specs.Words.{App, fault_of, first_of, rule_of, FailsBy, found_of, rows_of, with_subcommand};
 ghost use Rattle.clap.specs.Values.{kind_of};
 ghost use Rattle.std.specs.String.{string_bytes};
+ghost use Rattle.of_arguments.specs.Asked.{asked};
 ghost use Rattle.of_arguments.specs.Statuses.{unasked};
-ghost use Rattle.of_arguments.specs.CommandLine.{IsBuilt, asked, asked_by, asks, detok_app, image_rule, limit_in};
+ghost use Rattle.of_arguments.specs.CommandLine.{IsBuilt, asked_by, asks, detok_app, image_rule, limit_in};
 ghost use Rattle.of_arguments.specs.CommandLine.{limit_rule, flag_rule, has_flag, is_true, ofw_app, output_rule};
 ghost use Rattle.of_arguments.specs.CommandLine.{path_rule, run_app, source_rule, tok_app};
 
+use crate::request::Request;
 use crate::status::Status;
 use clap::error::ErrorKind;
 use clap::{Arg, ArgAction, ArgMatches, Command, Error, value_parser};
@@ -37,36 +39,6 @@ Example: ofw detok card.rom --names --indent
 The file is a ROM as it stands where it begins with f0 to f3 or fd, else hexadecimal digits.
 
 Status: 0 done, 1 fault of input or output, 2 usage, 5 no memory";
-
-/// What the arguments ask for.
-#[derive(Clone, Copy, Debug, PartialEq, Eq)]
-pub enum Request<'a> {
-    /// Run an image.
-    Run {
-        /// The path of the image.
-        image: &'a str,
-        /// How many steps the run makes at most.
-        limit: u64,
-        /// Whether its end is explained on the error output.
-        explain: bool,
-    },
-    /// Make the image of a source.
-    Tok {
-        /// The path of the source.
-        source: &'a str,
-        /// The path of the file that is to hold the image, where it isn't to be printed.
-        output: Option<&'a str>,
-    },
-    /// List an image.
-    Detok {
-        /// The path of the image.
-        image: &'a str,
-        /// What the listing says beyond names and operands.
-        extras: Extras,
-        /// Whether the lines before a token that can't be read are printed.
-        partial: bool,
-    },
-}
 
 /// An argument that is the path of a file.
 fn path_argument<'a>(alloc: Global, name: &'a str, shown: &'a str, help: &'a str) -> Arg<'a>

@@ -3,8 +3,10 @@
 
 mod arguments;
 mod laws;
+mod request;
 mod status;
 
-pub use arguments::{Request, parse, status_of};
+pub use arguments::{parse, status_of};
 pub use laws::lines_ask;
+pub use request::Request;
 pub use status::Status;

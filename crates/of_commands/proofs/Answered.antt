@@ -1,11 +1,12 @@
 -- What was asked for was done, or the fault was said.
-use Rattle.std.proofs.Common.{◌≡◌, ℕ, List, Option, Some, None, IfSome, Ok, Err, Bool, true, refl, sym, subst}
-use Rattle.of_arguments.specs.CommandLine.{Asked}
+use Rattle.std.proofs.Common.{◌≡◌, ℕ, List, Option, Some, None, IfSome, Ok, Bool, refl, sym, subst}
+use Rattle.of_arguments.specs.Asked.{Asked}
 use Rattle.of_arguments.specs.declared.status.Status.{Status}
 use Rattle.of_commands.specs.declared.fault.Fault.{Fault}
 use Rattle.of_commands.specs.Messages.{SaysFault, Says, bad_start_of, bad_start_text}
-use Rattle.of_commands.specs.Runs.{Answers, Does, status_of}
+use Rattle.of_commands.specs.Runs.{Answers, Does}
 
+-- what was asked for was done, with this status
 pub answered_done : (known : Option (List ℕ)) (a : Asked) (old new : Option (List ℕ)) (Said : Fault → Type 0)
     (s : Status) → IfSome known (λ file. Does a file old new (Ok s))
     → IfSome known (λ file. Answers a file old new Said s)

@@ -22,7 +22,7 @@ use Rattle.of_tok.specs.declared.fault.TokFault.{TokFault}
 use Rattle.of_tok.specs.declared.fault.TokFault.TheVariants as tok
 use Rattle.of_tok.specs.Image.{tokenized}
 use Rattle.of_tok.specs.Image.{IsRefused as HasNoImage}
-use Rattle.of_arguments.specs.CommandLine.{Asked, a_run, an_image, a_listing}
+use Rattle.of_arguments.specs.Asked.{Asked, a_run, an_image, a_listing}
 use Rattle.of_commands.specs.Files.{image_in, FaultsReading, IsUnread}
 use Rattle.of_commands.specs.Messages.{AppendsPart}
 use Rattle.of_commands.specs.declared.fault.Fault.{Fault}

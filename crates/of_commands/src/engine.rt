@@ -2,7 +2,7 @@ ghost use Rattle.std.specs.Prelude.{◌≡◌, ◌⊎◌, [], Ok, None, IfOk, If
 ghost use Rattle.std.specs.Prelude.{is_some, true, false};
 ghost use Rattle.std.specs.Io.KnownBytes.{Appends};
 ghost use Rattle.std.specs.String.{string_bytes};
-ghost use Rattle.of_arguments.specs.CommandLine.{asked};
+ghost use Rattle.of_arguments.specs.Asked.{asked};
 ghost use Rattle.of_detok.specs.Listing.{listed_so_far};
 ghost use Rattle.of_machine.specs.Runs.{RunsTo};
 ghost use Rattle.of_commands.specs.Files.{FaultsReading};
@@ -66,7 +66,7 @@ fn run_file<R: Read>(
 }
 
 /// The status of a run's end.
-fn status_of(end: End) -> Status
+fn end_status(end: End) -> Status
     ensures { result ≡ end_status end }
 {
     match end {
@@ -92,7 +92,7 @@ fn explain_end<E: Write>(
     if explain {
         say_end(alloc, path, image, machine, end, errors)?;
     }
-    Ok(status_of(end))
+    Ok(end_status(end))
 }
 
 /// Prints what a run printed, and then says how it ended, where that is to be explained.

@@ -1,4 +1,5 @@
 use of_arguments::{Request, lines_ask, parse};
+use of_detok::Extras;
 use std::alloc::Global;
 use std::test::Fail;
 
@@ -30,39 +31,52 @@ ofw run -a.hex:
 ofw run ./-a.hex:./-a.hex 1000000
 ofw:";
 
+/// A name behind a blank where a flag is given.
+fn flag(is_given: bool, name: &str) -> &str {
+    if is_given { name } else { "" }
+}
+
+/// What a request asks for, as it stands behind `:`.
+fn shown(alloc: Global, request: Request) -> Result<String, Fail> {
+    match request {
+        Request::Run {
+            image,
+            limit,
+            explain,
+        } => shown_run(alloc, image, limit, flag(explain, " explained")),
+        Request::Tok { source, output } => shown_tok(alloc, source, output),
+        Request::Detok {
+            image,
+            extras,
+            partial,
+        } => shown_detok(alloc, image, extras, flag(partial, " partial")),
+    }
+}
+
+/// What a run asks for.
+fn shown_run(alloc: Global, image: &str, limit: u64, explained: &str) -> Result<String, Fail> {
+    Ok(format!(in alloc; "{image} {limit}{explained}")?)
+}
+
+/// What the image of a source asks for.
+fn shown_tok(alloc: Global, source: &str, output: Option<&str>) -> Result<String, Fail> {
+    let Some(output) = output else {
+        return Ok(String::from_str(alloc, source)?);
+    };
+    Ok(format!(in alloc; "{source} {output}")?)
+}
+
+/// What a listing asks for.
+fn shown_detok(alloc: Global, image: &str, extras: Extras, partial: &str) -> Result<String, Fail> {
+    let names = flag(extras.names, " names");
+    let indents = flag(extras.indents, " indents");
+    Ok(format!(in alloc; "{image}{names}{indents}{partial}")?)
+}
+
 /// What the words of a line ask for, as it stands behind `:`.
 fn asked(alloc: Global, line: &[String]) -> Result<String, Fail> {
     match parse(alloc, line) {
-        Ok(
-            Some(
-                Request::Run {
-                    image,
-                    limit,
-                    explain,
-                },
-            ),
-        ) => match explain {
-            true => Ok(format!(in alloc; "{image} {limit} explained")?),
-            false => Ok(format!(in alloc; "{image} {limit}")?),
-        },
-        Ok(Some(Request::Tok { source, output })) => match output {
-            Some(output) => Ok(format!(in alloc; "{source} {output}")?),
-            None => Ok(String::from_str(alloc, source)?),
-        },
-        Ok(
-            Some(
-                Request::Detok {
-                    image,
-                    extras,
-                    partial,
-                },
-            ),
-        ) => {
-            let names = if extras.names { " names" } else { "" };
-            let indents = if extras.indents { " indents" } else { "" };
-            let partial = if partial { " partial" } else { "" };
-            Ok(format!(in alloc; "{image}{names}{indents}{partial}")?)
-        }
+        Ok(Some(request)) => shown(alloc, request),
         _ => Ok(String::new(alloc)),
     }
 }

@@ -1,0 +1,31 @@
+use of_detok::Extras;
+
+/// What the arguments ask for.
+#[derive(Clone, Copy)]
+pub enum Request<'a> {
+    /// Run an image.
+    Run {
+        /// The path of the image.
+        image: &'a str,
+        /// How many steps the run makes at most.
+        limit: u64,
+        /// Whether its end is explained on the error output.
+        explain: bool,
+    },
+    /// Make the image of a source.
+    Tok {
+        /// The path of the source.
+        source: &'a str,
+        /// The path of the file that is to hold the image, where it isn't to be printed.
+        output: Option<&'a str>,
+    },
+    /// List an image.
+    Detok {
+        /// The path of the image.
+        image: &'a str,
+        /// What the listing says beyond names and operands.
+        extras: Extras,
+        /// Whether the lines before a token that can't be read are printed.
+        partial: bool,
+    },
+}
