@@ -11,7 +11,7 @@ use Rattle.of_nodes.specs.declared.fault.NodeFault.{NodeFault}
 use Rattle.of_nodes.specs.declared.fault.NodeFault.TheVariants.{BadName, NoNode}
 use Rattle.of_nodes.specs.Methods.{is_method_name, lower, method_in, with_method}
 use Rattle.of_nodes.specs.MethodLaw.{MethodsAreFound}
-use Rattle.of_nodes.specs.Nodes.{added_at, first_phandle, method_added, method_at, method_found, methods_in}
+use Rattle.of_nodes.specs.Nodes.{added_at, first_phandle, method_at, method_found, methods_in}
 use Rattle.of_nodes.specs.Nodes.{number_at, number_of, with_methods}
 use Rattle.of_nodes.specs.Properties.{same_name, value_in, with_entry}
 use Rattle.of_nodes.proofs.Fitting.{same_self}

@@ -33,11 +33,14 @@ without_end (Some xs) = take (length xs - 1) xs
 abbrev pub node_name : DataSpace → Node → List ℕ
 node_name m n = without_end (value_of m n (codes "name"))
 
--- how many cells an address has: 1 to 4, by the number in 4 bytes, else 2
+-- how many cells an address has by a number: 1 to 4, else 2
+abbrev pub cells_by : ℕ → ℕ
+cells_by count = if nat_le 1 count && nat_le count 4 then count else 2
+
+-- the same by the number in 4 bytes, and 2 without
 abbrev pub count_in : Option (List ℕ) → ℕ
 count_in None = 2
-count_in (Some xs) =
-    if length xs == 4 && nat_le 1 (big_number 4 xs) && nat_le (big_number 4 xs) 4 then big_number 4 xs else 2
+count_in (Some xs) = if length xs == 4 then cells_by (big_number 4 xs) else 2
 
 -- how many cells the addresses of a node's children have
 abbrev pub address_cells : DataSpace → Node → ℕ

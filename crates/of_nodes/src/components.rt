@@ -1,7 +1,7 @@
 ghost use Rattle.std.specs.Prelude.{◌≡◌, ◌≤◌, ◌+◌, ◌*◌, ◌++◌, codes, length, option_map};
 ghost use Rattle.arrayvec.specs.ArrayVec.{array_vec_len};
 ghost use Rattle.of_format.specs.Digits.{unsigned_text};
-ghost use Rattle.of_nodes.specs.Components.{address_cells, address_text, comma, node_name, unit_in, value_of};
+ghost use Rattle.of_nodes.specs.Components.{address_cells, address_text, cells_by, comma, node_name, unit_in, value_of};
 
 use crate::tree::Node;
 use arrayvec::ArrayVec;
@@ -34,6 +34,18 @@ pub(crate) fn node_name<'a>(memory: &'a Memory, node: &Node) -> &'a [u8]
     }
 }
 
+/// How many cells an address has by a number: 1 to 4, else 2.
+fn cells_by(count: u32) -> usize
+    ensures value { result ≡ cells_by count }
+    ensures few { result ≤ 4 }
+{
+    if 1 <= count && count <= 4 {
+        count as usize
+    } else {
+        2
+    }
+}
+
 /// How many cells the addresses of a node's children have.
 pub(crate) fn address_cells(memory: &Memory, node: &Node) -> usize
     ensures value { result ≡ address_cells memory.now node.now }
@@ -45,12 +57,7 @@ pub(crate) fn address_cells(memory: &Memory, node: &Node) -> usize
     if bytes.len() != 4 {
         return 2;
     }
-    let count = BigEndian::read_u32(bytes);
-    if 1 <= count && count <= 4 {
-        count as usize
-    } else {
-        2
-    }
+    cells_by(BigEndian::read_u32(bytes))
 }
 
 /// Appends bytes for which there is room.

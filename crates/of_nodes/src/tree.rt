@@ -1,8 +1,8 @@
-ghost use Rattle.std.specs.Prelude.{◌≡◌, ◌<◌, ◌≤◌, ◌+◌, ◌⊎◌, List, max, length, drop, Ok, Err, IfSome, IfOk, IfErr};
+ghost use Rattle.std.specs.Prelude.{◌≡◌, ◌<◌, ◌≤◌, ◌+◌, ◌⊎◌, List, max, length, drop, nat_le, Ok, Err, IfSome, IfOk, IfErr};
 ghost use Rattle.std.specs.Prelude.{OnOk};
 ghost use Rattle.of_nodes.specs.Nodes.{AreRooted, child_from, child_found, first_tree, method_added, method_found};
 ghost use Rattle.of_nodes.specs.Nodes.{method_taken_back};
-ghost use Rattle.of_nodes.specs.Nodes.{named_child, next_found, node_added, parent_found, parent_in, peer_found};
+ghost use Rattle.of_nodes.specs.Nodes.{most_nodes, named_child, next_found, node_added, parent_found, parent_in, peer_found};
 ghost use Rattle.of_nodes.specs.Nodes.{property_deleted, property_found, tree_property_set};
 ghost use Rattle.of_nodes.specs.Lookup.{found, package_found};
 ghost use Rattle.of_nodes.specs.Paths.{cells_found, path_found};
@@ -80,6 +80,13 @@ pub(crate) fn parent_number(nodes: &[Node], number: usize) -> usize
     ensures { result ≡ parent_in nodes.now number }
 {
     nodes[number].parent
+}
+
+/// Whether there are as many nodes as are ever made.
+fn are_all(nodes: &[Node]) -> bool
+    ensures { result ≡ nat_le most_nodes (length nodes.now) }
+{
+    nodes.len() >= MOST_NODES
 }
 
 /// Makes a node with a name.
@@ -198,7 +205,7 @@ impl Tree {
         let Some(parent) = parent.number(count) else {
             return Err(NodeFault::NoNode);
         };
-        if count >= MOST_NODES {
+        if are_all(&self.nodes) {
             return Err(NodeFault::TooManyNodes);
         }
         let properties = Properties::new(self.alloc);
