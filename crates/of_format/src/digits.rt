@@ -1,4 +1,4 @@
-ghost use Rattle.std.specs.Prelude.{◌≡◌, ◌<◌};
+ghost use Rattle.std.specs.Prelude.{◌≡◌, ◌<◌, IfSome};
 ghost use Rattle.std.specs.Char.{digit_char};
 ghost use Rattle.of_format.specs.Digits.{digit_of, digit_value};
 
@@ -27,7 +27,8 @@ fn digit_of(char: u32) -> Option<u32>
 /// The value of a character as a digit in a base (IEEE 1275-1994, `digit`): `0` to `9`, then the
 /// letters of either case, if it is below the base.
 pub fn digit(char: u32, base: u32) -> Option<u32>
-    ensures { result ≡ digit_value base char }
+    ensures value { result ≡ digit_value base char }
+    ensures below { IfSome result (λ value. value < base) }
 {
     let value = digit_of(char)?;
     if value < base { Some(value) } else { None }

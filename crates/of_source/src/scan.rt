@@ -194,11 +194,7 @@ fn byte_of(high: u8, low: u8) -> Option<u8>
 {
     let high = digit(u32::from(high), 16)?;
     let low = digit(u32::from(low), 16)?;
-    if high < 16 && low < 16 {
-        Some((high * 16 + low) as u8)
-    } else {
-        None
-    }
+    Some((high * 16 + low) as u8)
 }
 
 /// Appends the bytes that pairs of digits say up to `)`, and gives what follows.
