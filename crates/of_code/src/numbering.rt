@@ -6,7 +6,7 @@ use crate::{CodeStore, Item, Place};
 use of_cells::Cell;
 
 /// An item of a finished word.
-#[derive(Clone, Copy, Debug, PartialEq, Eq)]
+#[derive(Clone, Copy)]
 pub struct ItemPlace {
     /// The word's execution token.
     pub xt: Cell,

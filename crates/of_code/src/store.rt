@@ -15,7 +15,7 @@ pub const CAPACITY: usize = 65_536;
 pub const MOST_CALLS: usize = 256;
 
 /// Where a finished word's code begins.
-#[derive(Clone, Copy, Debug, PartialEq, Eq)]
+#[derive(Clone, Copy)]
 pub struct Start {
     pub xt: Cell,
     pub place: Place,

@@ -10,7 +10,7 @@ use of_tok::TokFault;
 use thiserror::Error;
 
 /// Why the program can't do what it was asked.
-#[derive(Clone, Copy, Debug, PartialEq, Eq, Error)]
+#[derive(Clone, Copy, Debug, Error)]
 pub enum Fault {
     /// An argument isn't text.
     #[error("an argument is not text")]

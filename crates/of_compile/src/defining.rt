@@ -19,7 +19,7 @@ use of_stacks::{DataStack, Stop, Throw};
 use std::alloc::AllocError;
 
 /// A word that defines another one (IEEE 1275-1994, 5.3.3.1 and annex A).
-#[derive(Clone, Copy, Debug, PartialEq, Eq)]
+#[derive(Clone, Copy, PartialEq, Eq)]
 pub enum DefiningWord {
     /// `b(:)` ( -- ) opens a definition.
     Colon,

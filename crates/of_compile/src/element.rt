@@ -7,7 +7,7 @@ use of_cells::Cell;
 use of_code::{Item, Place};
 
 /// An item of code that goes on at the next one. Words are named by their execution tokens.
-#[derive(Clone, Copy, Debug, PartialEq, Eq)]
+#[derive(Clone, Copy)]
 pub enum PlainItem {
     /// Performs a written word. One cell.
     Operation(Cell),
@@ -27,7 +27,7 @@ pub enum PlainItem {
 
 /// An element of an open definition: what one compiled token, or a part of a text word, adds to it (IEEE 1275-1994,
 /// 5.3.3.2). Targets and positions are those of bytes of the image; text words give none.
-#[derive(Clone, Copy, Debug, PartialEq, Eq)]
+#[derive(Clone, Copy)]
 pub enum Element {
     /// An operation, literal, string, call or store.
     Plain(PlainItem),

@@ -11,7 +11,7 @@ use of_fcodes::{CompilingWord, FIRST_OWN, StreamWord};
 use of_stream::target_at;
 
 /// What stands behind a token, in the form in which it is compiled.
-#[derive(Clone, Copy, Debug, PartialEq, Eq)]
+#[derive(Clone, Copy)]
 pub enum CompiledOperand {
     /// Nothing.
     Nothing,

@@ -7,7 +7,7 @@ ghost use Rattle.of_compile.specs.Coding.{aimed_cell, aimed_from, waits};
 use of_code::{CodeStore, Item, Place};
 
 /// Which items wait for the end of a structure.
-#[derive(Clone, Copy, Debug, PartialEq, Eq)]
+#[derive(Clone, Copy)]
 pub enum Waiting {
     /// Each `leave` of a loop.
     Leaves,

@@ -26,7 +26,7 @@ pub struct Pending {
 }
 
 /// A token that announces the number of the next word (IEEE 1275-1994, annex A), with the name that stands behind it.
-#[derive(Clone, Copy, Debug, PartialEq, Eq)]
+#[derive(Clone, Copy)]
 pub enum TokenMaker<'a> {
     /// `new-token`: the word has no name.
     New,

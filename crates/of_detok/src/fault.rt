@@ -3,7 +3,7 @@ use std::alloc::AllocError;
 use thiserror::Error;
 
 /// Why an image has no listing, or a text is none.
-#[derive(Clone, Copy, Debug, PartialEq, Eq, Error)]
+#[derive(Clone, Copy, Debug, Error)]
 pub enum DetokFault {
     /// The header of the image, or a token up to the end token, can't be read.
     #[error("{0}")]

@@ -18,7 +18,7 @@ const FCODES: usize = 4096;
 const DEEPEST: usize = 32;
 
 /// What a listing says beyond names and operands.
-#[derive(Clone, Copy, Debug, PartialEq, Eq, Default)]
+#[derive(Clone, Copy, Default)]
 pub struct Extras {
     /// Behind an FCode the name that `named-token` or `external-token` gave it.
     pub names: bool,
@@ -27,7 +27,7 @@ pub struct Extras {
 }
 
 /// What a token does to control structures and definitions.
-#[derive(Clone, Copy, Debug, PartialEq, Eq)]
+#[derive(Clone, Copy)]
 pub enum Nest {
     /// It opens one.
     Opens,

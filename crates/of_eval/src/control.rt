@@ -8,7 +8,7 @@ use of_cells::Cell;
 use of_stacks::{DataStack, LoopExit, LoopParameters, ReturnItem, ReturnStack, Throw};
 
 /// A word of control, as a token of an image or as an item of a definition.
-#[derive(Clone, Copy, Debug, PartialEq, Eq)]
+#[derive(Clone, Copy)]
 pub enum ControlWord {
     /// `bbranch` ( -- )
     Branch,

@@ -9,7 +9,7 @@ use of_nodes::{NodeFault, Phandle, Tree};
 use std::alloc::AllocError;
 
 /// What a name meant in a package before a word was made its method there.
-#[derive(Clone, Copy, Debug, PartialEq, Eq)]
+#[derive(Clone, Copy)]
 pub struct Former {
     /// The package.
     pub node: Phandle,

@@ -14,7 +14,7 @@ use of_prims::throw_of;
 use of_stacks::Stop;
 
 /// Whether a cell is printed as a signed or an unsigned number.
-#[derive(Clone, Copy, Debug, PartialEq, Eq)]
+#[derive(Clone, Copy)]
 pub enum Signs {
     /// From -2^31 to 2^31-1.
     Signed,

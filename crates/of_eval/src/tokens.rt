@@ -23,7 +23,7 @@ use of_stacks::{LoopExit, Stop, Throw};
 use of_stream::{HEADER_LENGTH, target_at};
 
 /// Where a token stands.
-#[derive(Clone, Copy, Debug, PartialEq, Eq)]
+#[derive(Clone, Copy)]
 pub struct Spot {
     /// Its position in the image.
     pub position: usize,
@@ -36,7 +36,7 @@ pub struct Spot {
 }
 
 /// What stands behind a token, other than a name.
-#[derive(Clone, Copy, Debug, PartialEq, Eq)]
+#[derive(Clone, Copy)]
 pub enum Held {
     /// A cell.
     Literal(Cell),

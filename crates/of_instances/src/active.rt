@@ -8,7 +8,7 @@ use std::alloc::Global;
 use std::marker::Model;
 
 /// An open `new-device` (IEEE 1275-1994, annex A).
-#[derive(Clone, Copy, Debug, PartialEq, Eq)]
+#[derive(Clone, Copy)]
 pub struct NewDevice {
     /// The package that was active before.
     pub package: Phandle,

@@ -42,7 +42,7 @@ pub enum End {
 }
 
 /// What a device answers.
-#[derive(Clone, Copy, Debug, PartialEq, Eq)]
+#[derive(Clone, Copy)]
 pub enum Answer {
     /// What was read, a key, whether there is one, or the time in milliseconds.
     Value(u32),

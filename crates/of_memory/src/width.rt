@@ -2,7 +2,7 @@ ghost use Rattle.std.specs.Prelude.{◌≡◌};
 ghost use Rattle.of_memory.specs.Width.{bytes_in};
 
 /// How many bytes an access reads or writes at once, and of what its address is a multiple.
-#[derive(Clone, Copy, Debug, PartialEq, Eq)]
+#[derive(Clone, Copy)]
 pub enum Width {
     /// One byte.
     One,
