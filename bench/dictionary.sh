@@ -6,13 +6,13 @@
 set -euo pipefail
 top=$(cd "$(dirname "${BASH_SOURCE[0]}")/.." && pwd)
 count=${1:-40000}
-program=$top/crates/of_dict_bench/out/of_dict_bench
-[ -x "$program" ] || (cd "$top/crates/of_dict_bench" && rt run) >/dev/null 2>&1
+program=$top/crates/of_bench/out/of_bench
+[ -x "$program" ] || (cd "$top/crates/of_bench" && rt run) >/dev/null 2>&1
 
 source "$top/bench/callgrind.sh"
 
 # KIND: the instructions of one call
-cost() { echo $((($(instructions "$1" "$count") - $(instructions "$1" 0)) / count)); }
+cost() { echo $((($(instructions dictionary "$1" "$count") - $(instructions dictionary "$1" 0)) / count)); }
 
 spell=$(cost spell)
 echo "a name found: $(($(cost find) - spell)) instructions"

@@ -7,26 +7,26 @@
 set -euo pipefail
 top=$(cd "$(dirname "${BASH_SOURCE[0]}")/.." && pwd)
 count=${1:-400000000}
-program=$top/crates/of_memory_bench/out/of_memory_bench
-[ -x "$program" ] || (cd "$top/crates/of_memory_bench" && rt run) >/dev/null 2>&1
+program=$top/crates/of_bench/out/of_bench
+[ -x "$program" ] || (cd "$top/crates/of_bench" && rt run) >/dev/null 2>&1
 
 source "$top/bench/timing.sh"
 
-# KIND COUNT: picoseconds an access, the best of 3 runs
+# PART KIND COUNT: picoseconds an access, the best of 3 runs
 cost() {
-    local best=$(($(fastest 3 "$program" "$1" "$2") * 1000 / $2))
+    local best=$(($(fastest 3 "$program" "$1" "$2" "$3") * 1000 / $3))
     printf '%d.%03d' $((best / 1000)) $((best % 1000))
 }
 
 for kind in read write move; do
     n=$count
     [ "$kind" = move ] && n=$((count / 10))
-    echo "$kind: $(cost $kind "$n") ns, a plain vector: $(cost plain-$kind "$n") ns"
+    echo "$kind: $(cost space $kind "$n") ns, a plain vector: $(cost vector $kind "$n") ns"
 done
 
 # KIND COUNT: nanoseconds that COUNT accesses take beyond those of none, the best of 3 runs
 beyond_none() {
-    echo $((($(fastest 3 "$program" "$1" "$2") - $(fastest 3 "$program" "$1" 0)) * 1000 / $2))
+    echo $((($(fastest 3 "$program" space "$1" "$2") - $(fastest 3 "$program" space "$1" 0)) * 1000 / $2))
 }
 
 n=$((count / 20))

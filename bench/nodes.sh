@@ -6,15 +6,15 @@
 set -euo pipefail
 top=$(cd "$(dirname "${BASH_SOURCE[0]}")/.." && pwd)
 count=10000
-program=$top/crates/of_nodes_bench/out/of_nodes_bench
-[ -x "$program" ] || (cd "$top/crates/of_nodes_bench" && rt run) >/dev/null 2>&1
+program=$top/crates/of_bench/out/of_bench
+[ -x "$program" ] || (cd "$top/crates/of_bench" && rt run) >/dev/null 2>&1
 
 source "$top/bench/callgrind.sh"
 
 # KIND NODES: the instructions of one call, over no calls
-cost() { echo $((($(instructions "$1" "$2" "$count") - $(instructions "$1" "$2" 0)) / count)); }
+cost() { echo $((($(instructions "$2" "$1" "$count") - $(instructions "$2" "$1" 0)) / count)); }
 
-for nodes in one many; do
+for nodes in one-node many-nodes; do
     spell=$(cost spell "$nodes")
     for kind in set find change; do
         echo "$kind, $nodes: $(($(cost "$kind" "$nodes") - spell)) instructions"

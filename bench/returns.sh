@@ -7,14 +7,14 @@
 set -euo pipefail
 top=$(cd "$(dirname "${BASH_SOURCE[0]}")/.." && pwd)
 count=${1:-100000}
-program=$top/crates/of_stacks_bench/out/of_stacks_bench
-[ -x "$program" ] || (cd "$top/crates/of_stacks_bench" && rt run) >/dev/null 2>&1
+program=$top/crates/of_bench/out/of_bench
+[ -x "$program" ] || (cd "$top/crates/of_bench" && rt run) >/dev/null 2>&1
 
 source "$top/bench/callgrind.sh"
 
 for kind in cells returns loop +loop loop-i loop-j throw; do
-    less=$(instructions "$kind" "$count")
-    more=$(instructions "$kind" $((2 * count)))
+    less=$(instructions returns "$kind" "$count")
+    more=$(instructions returns "$kind" $((2 * count)))
     tenths=$(((more - less) * 10 / count))
     echo "$kind: $((tenths / 10)).$((tenths % 10)) instructions"
 done

@@ -1,3 +1,4 @@
+//! Accesses to the data space.
 use of_cells::Cell;
 use of_memory::{MemFault, Memory};
 use std::alloc::Global;
@@ -9,7 +10,7 @@ const DATA: u32 = 0x10_0000;
 const CELLS: u32 = 0x4000;
 
 /// Reads cells.
-pub fn reads(alloc: Global, count: u32) -> Result<u32, MemFault> {
+fn reads(alloc: Global, count: u32) -> Result<u32, MemFault> {
     let memory = Memory::new(alloc).map_err(|_| MemFault::NoMemory)?;
     let mut sum = 0u32;
     for i in 0..count {
@@ -20,7 +21,7 @@ pub fn reads(alloc: Global, count: u32) -> Result<u32, MemFault> {
 }
 
 /// Writes cells.
-pub fn writes(alloc: Global, count: u32) -> Result<u32, MemFault> {
+fn writes(alloc: Global, count: u32) -> Result<u32, MemFault> {
     let mut memory = Memory::new(alloc).map_err(|_| MemFault::NoMemory)?;
     for i in 0..count {
         memory.write32(Cell(DATA + 4 * (i % CELLS)), Cell(i))?;
@@ -29,7 +30,7 @@ pub fn writes(alloc: Global, count: u32) -> Result<u32, MemFault> {
 }
 
 /// Copies ranges of 256 bytes that overlap.
-pub fn moves(alloc: Global, count: u32) -> Result<u32, MemFault> {
+fn moves(alloc: Global, count: u32) -> Result<u32, MemFault> {
     let mut memory = Memory::new(alloc).map_err(|_| MemFault::NoMemory)?;
     for i in 0..count {
         let from = DATA + 4 * (i % CELLS);
@@ -52,7 +53,7 @@ fn bytes(memory: &Memory, addr: Cell, count: u32) -> Result<u32, MemFault> {
 }
 
 /// Takes 32,000 blocks of the heap, and reads bytes of the last.
-pub fn heap_reads(alloc: Global, count: u32) -> Result<u32, MemFault> {
+fn heap_reads(alloc: Global, count: u32) -> Result<u32, MemFault> {
     let mut memory = Memory::new(alloc).map_err(|_| MemFault::NoMemory)?;
     let mut last = Cell(DATA);
     for _ in 0..BLOCKS {
@@ -62,10 +63,22 @@ pub fn heap_reads(alloc: Global, count: u32) -> Result<u32, MemFault> {
 }
 
 /// Takes as many blocks of the heap, and reads bytes of the data region.
-pub fn data_reads(alloc: Global, count: u32) -> Result<u32, MemFault> {
+fn data_reads(alloc: Global, count: u32) -> Result<u32, MemFault> {
     let mut memory = Memory::new(alloc).map_err(|_| MemFault::NoMemory)?;
     for _ in 0..BLOCKS {
         let _ = memory.heap_take(Cell(8))?;
     }
     bytes(&memory, Cell(DATA), count)
+}
+
+/// Makes so many accesses of a kind, and answers a number that depends on all of them.
+pub fn calls(alloc: Global, kind: &str, count: u32) -> Option<u32> {
+    match kind {
+        "read" => reads(alloc, count).ok(),
+        "write" => writes(alloc, count).ok(),
+        "move" => moves(alloc, count).ok(),
+        "heap-byte" => heap_reads(alloc, count).ok(),
+        "data-byte" => data_reads(alloc, count).ok(),
+        _ => None,
+    }
 }

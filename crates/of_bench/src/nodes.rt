@@ -1,11 +1,7 @@
-//! Properties set and found on one node, or on 1,000 in turn, as often as the arguments say, so that a
-//! script can count instructions. Without arguments it does nothing.
-#![tactic(auto)]
-
+//! Properties set and found on one node, or on 1,000 in turn.
 use of_memory::Memory;
 use of_nodes::{NodeFault, Phandle, Tree};
-use std::env;
-use std::process::ExitCode;
+use std::alloc::Global;
 
 /// How many nodes there are behind the first three.
 const NODES: u32 = 1000;
@@ -69,11 +65,10 @@ fn spell(is_spread: bool, count: u32) -> u32 {
     sum
 }
 
-/// Makes so many calls of a kind, and answers a number that depends on all of them, or none where
-/// memory or the property region is full.
-fn calls(rt: &HostRuntime, kind: &str, is_spread: bool, count: u32) -> Option<u32> {
-    let mut memory = Memory::new(rt.alloc()).ok()?;
-    let mut tree = Tree::new(rt.alloc(), &mut memory).ok()?;
+/// Makes so many calls of a kind, and answers a number that depends on all of them.
+pub fn calls(alloc: Global, kind: &str, is_spread: bool, count: u32) -> Option<u32> {
+    let mut memory = Memory::new(alloc).ok()?;
+    let mut tree = Tree::new(alloc, &mut memory).ok()?;
     make_nodes(&mut tree).ok()?;
     if kind == "find" || kind == "change" {
         set(&mut tree, &mut memory, is_spread, PROPERTIES).ok()?;
@@ -86,23 +81,5 @@ fn calls(rt: &HostRuntime, kind: &str, is_spread: bool, count: u32) -> Option<u3
             find(&tree, is_spread, 1).ok()
         }
         _ => None,
-    }
-}
-
-/// Makes the calls that the arguments ask for, and prints their number.
-fn run(rt: &HostRuntime) -> Option<()> {
-    let words: Vec<String> = env::args(rt).ok()?.collect(rt.alloc()).ok()?;
-    let [_, kind, nodes, count] = words.as_slice() else {
-        return Some(());
-    };
-    let is_spread = nodes.as_str() == "many";
-    let answer = calls(rt, kind, is_spread, count.parse::<u32>().ok()?)?;
-    println!(rt; "{answer}").ok()
-}
-
-fn main(rt: HostRuntime) -> ExitCode {
-    match run(&rt) {
-        Some(()) => ExitCode::from(0),
-        None => ExitCode::from(1),
     }
 }

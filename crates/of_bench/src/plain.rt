@@ -1,10 +1,11 @@
+//! The same accesses to a plain vector.
 use std::alloc::{AllocError, Global};
 
 /// The cells that are visited, one after the other and then again: 64 KiB.
 const CELLS: u32 = 0x4000;
 
 /// Reads cells of a vector.
-pub fn reads(alloc: Global, count: u32) -> Result<u32, AllocError> {
+fn reads(alloc: Global, count: u32) -> Result<u32, AllocError> {
     let cells = vec![in alloc; 0u32; 0x4000]?;
     let mut sum = 0u32;
     for i in 0..count {
@@ -16,7 +17,7 @@ pub fn reads(alloc: Global, count: u32) -> Result<u32, AllocError> {
 }
 
 /// Writes cells of a vector.
-pub fn writes(alloc: Global, count: u32) -> Result<u32, AllocError> {
+fn writes(alloc: Global, count: u32) -> Result<u32, AllocError> {
     let mut cells = vec![in alloc; 0u32; 0x4000]?;
     for i in 0..count {
         if let Some(cell) = cells.get_mut((i % CELLS) as usize) {
@@ -27,7 +28,7 @@ pub fn writes(alloc: Global, count: u32) -> Result<u32, AllocError> {
 }
 
 /// Copies ranges of 256 bytes of a vector that overlap.
-pub fn moves(alloc: Global, count: u32) -> Result<u32, AllocError> {
+fn moves(alloc: Global, count: u32) -> Result<u32, AllocError> {
     let mut bytes = vec![in alloc; 0u8; 0x1_1000]?;
     for i in 0..count {
         let from = (4 * (i % CELLS)) as usize;
@@ -37,4 +38,14 @@ pub fn moves(alloc: Global, count: u32) -> Result<u32, AllocError> {
         }
     }
     Ok(bytes.iter().fold(0, |sum, byte| sum ^ u32::from(*byte)))
+}
+
+/// Makes so many accesses of a kind, and answers a number that depends on all of them.
+pub fn calls(alloc: Global, kind: &str, count: u32) -> Option<u32> {
+    match kind {
+        "read" => reads(alloc, count).ok(),
+        "write" => writes(alloc, count).ok(),
+        "move" => moves(alloc, count).ok(),
+        _ => None,
+    }
 }

@@ -1,11 +1,7 @@
-//! Names found among 4,000, as often as the arguments say, so that a script can count instructions.
-//! Without arguments it does nothing.
-#![tactic(auto)]
-
+//! Names found among 4,000.
 use of_cells::Cell;
 use of_dict::{Dict, DictFault, Kind, OwnWord};
-use std::env;
-use std::process::ExitCode;
+use std::alloc::Global;
 
 /// How many words there are.
 const WORDS: u32 = 4000;
@@ -71,10 +67,9 @@ fn store(dict: &mut Dict, count: u32) -> u32 {
     }
 }
 
-/// Makes so many calls of a kind, and answers a number that depends on all of them, or none where
-/// memory is refused.
-fn calls(rt: &HostRuntime, kind: &str, count: u32) -> Option<u32> {
-    let mut dict = Dict::new(rt.alloc());
+/// Makes so many calls of a kind, and answers a number that depends on all of them.
+pub fn calls(alloc: Global, kind: &str, count: u32) -> Option<u32> {
+    let mut dict = Dict::new(alloc);
     make_words(&mut dict).ok()?;
     match kind {
         "spell" => Some(spell(count)),
@@ -82,22 +77,5 @@ fn calls(rt: &HostRuntime, kind: &str, count: u32) -> Option<u32> {
         "miss" => Some(miss(&dict, count)),
         "store" => Some(store(&mut dict, count)),
         _ => None,
-    }
-}
-
-/// Makes the calls that the arguments ask for, and prints their number.
-fn run(rt: &HostRuntime) -> Option<()> {
-    let words: Vec<String> = env::args(rt).ok()?.collect(rt.alloc()).ok()?;
-    let [_, kind, count] = words.as_slice() else {
-        return Some(());
-    };
-    let answer = calls(rt, kind, count.parse::<u32>().ok()?)?;
-    println!(rt; "{answer}").ok()
-}
-
-fn main(rt: HostRuntime) -> ExitCode {
-    match run(&rt) {
-        Some(()) => ExitCode::from(0),
-        None => ExitCode::from(1),
     }
 }

@@ -1,3 +1,4 @@
+//! Calls of the return stack.
 use of_cells::Cell;
 use of_stacks::{
     Continuation, DataStack, ExceptionFrame, LoopExit, LoopParameters, ReturnItem, ReturnStack,
@@ -28,7 +29,7 @@ fn take(stack: &mut ReturnStack) -> Result<Cell, Throw> {
 }
 
 /// Puts cells on the stack and takes them.
-pub fn cells(count: u32) -> Result<u32, Throw> {
+fn cells(count: u32) -> Result<u32, Throw> {
     let mut stack = ReturnStack::new();
     let mut sum = 0u32;
     for i in 0..count {
@@ -54,7 +55,7 @@ fn leave(stack: &mut ReturnStack) -> Result<u32, Throw> {
 }
 
 /// Enters definitions and leaves them.
-pub fn returns(count: u32) -> Result<u32, Throw> {
+fn returns(count: u32) -> Result<u32, Throw> {
     let mut stack = ReturnStack::new();
     let mut sum = 0u32;
     for i in 0..count {
@@ -77,7 +78,7 @@ fn turn_by_one(stack: &mut ReturnStack) -> Result<bool, Throw> {
 }
 
 /// Turns a loop without end.
-pub fn steps(count: u32, step: u32) -> Result<u32, Throw> {
+fn steps(count: u32, step: u32) -> Result<u32, Throw> {
     let mut stack = ReturnStack::new();
     stack.try_push(loop_to(0))?;
     let mut ended = 0u32;
@@ -102,7 +103,7 @@ fn index(stack: &ReturnStack) -> Result<Cell, Throw> {
 }
 
 /// Turns a loop without end, and reads its index.
-pub fn indices(count: u32) -> Result<u32, Throw> {
+fn indices(count: u32) -> Result<u32, Throw> {
     let mut stack = ReturnStack::new();
     stack.try_push(loop_to(0))?;
     let mut sum = 0u32;
@@ -120,7 +121,7 @@ fn outer_index(stack: &ReturnStack) -> Result<Cell, Throw> {
 }
 
 /// Turns a loop without end, and reads the index of the one that it stands in.
-pub fn outer_indices(count: u32) -> Result<u32, Throw> {
+fn outer_indices(count: u32) -> Result<u32, Throw> {
     let mut stack = ReturnStack::new();
     stack.try_push(loop_to(9))?;
     stack.try_push(loop_to(0))?;
@@ -149,7 +150,7 @@ fn catch(thrown: Throw, stack: &mut ReturnStack, cells: &mut DataStack) -> Resul
 }
 
 /// Throws and catches.
-pub fn throws(count: u32) -> Result<u32, Throw> {
+fn throws(count: u32) -> Result<u32, Throw> {
     let mut stack = ReturnStack::new();
     let mut cells = DataStack::new();
     let mut sum = 0u32;
@@ -157,4 +158,18 @@ pub fn throws(count: u32) -> Result<u32, Throw> {
         sum = sum.wrapping_add(catch(Throw::ABORT, &mut stack, &mut cells)?);
     }
     Ok(sum)
+}
+
+/// Makes so many calls of a kind, and answers a number that depends on all of them.
+pub fn calls(kind: &str, count: u32) -> Option<u32> {
+    match kind {
+        "cells" => cells(count).ok(),
+        "returns" => returns(count).ok(),
+        "loop" => steps(count, 1).ok(),
+        "+loop" => steps(count, 3).ok(),
+        "loop-i" => indices(count).ok(),
+        "loop-j" => outer_indices(count).ok(),
+        "throw" => throws(count).ok(),
+        _ => None,
+    }
 }
