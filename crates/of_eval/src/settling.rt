@@ -9,6 +9,7 @@ ghost use Rattle.of_eval.specs.Settling.{reading_on, settled, source_ended, stil
 ghost use Rattle.of_eval.specs.Settling.{thrown_in, uncaught, worked_one, nothing_read};
 
 use crate::eval::Eval;
+use crate::executing::is_opened;
 use crate::flow::Flow;
 use of_cells::Cell;
 use of_code::CodeStore;
@@ -29,10 +30,9 @@ pub(crate) const NOTHING_READ: Reading = Reading {
 fn is_same(a: Option<Cell>, b: Option<Cell>) -> bool
     ensures { result ≡ is_same a b }
 {
-    match (a, b) {
-        (Some(a), Some(b)) => a.0 == b.0,
-        (None, None) => true,
-        _ => false,
+    match b {
+        Some(b) => is_opened(a, b),
+        None => a.is_none(),
     }
 }
 
