@@ -87,6 +87,30 @@ fn thirty_two_branches(rt: HostRuntime) -> Result<(), Fail> {
     Ok(())
 }
 
+/// An image that defines a word of so many items of a cell each, and of a string, whose item has three.
+fn long_definition(alloc: Global, items: usize) -> Result<Vec<u8>, Fail> {
+    let mut image = bytes_of(alloc, "f108000000000000 b50800 b7")?;
+    for _ in 0..items {
+        image.push(0xa5)?;
+    }
+    image.extend_from_slice(b"\x12\x01A\xc2\0")?;
+    Ok(image)
+}
+
+/// There are 65,536 code cells: so many items leave room for a string and the return, for the string alone, or for
+/// two cells of it.
+#[test]
+fn a_string_at_the_last_code_cells(rt: HostRuntime) -> Result<(), Fail> {
+    let both = long_definition(rt.alloc(), 65_532)?;
+    assert_eq!(rt; shown(rt.alloc(), &both, 99_999)?.as_str(), "65537 0/0 ");
+    let wanted = "65537 0/0 fault -8: dictionary overflow$";
+    let string = long_definition(rt.alloc(), 65_533)?;
+    assert_eq!(rt; shown(rt.alloc(), &string, 99_999)?.as_str(), wanted);
+    let neither = long_definition(rt.alloc(), 65_534)?;
+    assert_eq!(rt; shown(rt.alloc(), &neither, 99_999)?.as_str(), wanted);
+    Ok(())
+}
+
 /// A run of one step less than an image takes still runs, and so does each shorter one: what has ended makes no step.
 #[test]
 fn limits(rt: HostRuntime) -> Result<(), Fail> {
@@ -105,6 +129,17 @@ fn packages(rt: HostRuntime) -> Result<(), Fail> {
     assert_eq!(rt; running.active, Some(Phandle::of(2)));
     let ended = made_by(rt.alloc(), &image, 46)?;
     assert_eq!(rt; ended.active, None);
+    Ok(())
+}
+
+/// A throw that none takes brings back the active package that was before the image, whose `new-device` it finishes.
+#[test]
+fn packages_behind_a_throw(rt: HostRuntime) -> Result<(), Fail> {
+    let image = bytes_of(rt.alloc(), "f108000000000000 011f 1e")?;
+    let running = made_by(rt.alloc(), &image, 1)?;
+    assert_eq!(rt; running.active, Some(Phandle::of(3)));
+    let thrown = made_by(rt.alloc(), &image, 2)?;
+    assert_eq!(rt; thrown.active, None);
     Ok(())
 }
 

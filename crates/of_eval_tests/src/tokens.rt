@@ -40,6 +40,7 @@ a6 a7 111e 111d 1d 9d 00|7 0/0 3
 1d|1 0/0 fault -4: stack underflow$
 a5 1d|2 0/0 fault -263: bad handle$
 10c0000530 1d|2 0/0 fault -263: bad handle$
+a6 10c0000530 111d 0217 9d 9d 9d 00|8 0/0 -107 -3ffffad0 1 
 10c0000000 1d|2 0/0 fault -14: compile-only word$
 1111 1d|2 0/0 fault -14: compile-only word$
 11b7 1d|2 0/0 fault -14: compile-only word$
@@ -122,6 +123,8 @@ a8 a5 170008 19 9d 1b 15fffc a6 9d 00|9 0/0 0 1
 b50800 b7 a8 a5 170008 19 9d 1b 15fffc c2 0800 00|19 0/0 0 
 1b|1 0/0 fault -26: loop parameters unavailable$
 a8 a5 177fff 1b|4 0/0 fault -257: image ended$
+a8 a5 170003 1b|4 0/0 fault -257: image ended$
+a8 a5 17fffc 1b|4 0/0 fault -257: image ended$
 b50800 b7 1b c2|4 0/0 fault -22: control structure mismatch$
 a7 c4 a6 1c0007 a8 9d c6000e a7 1c0007 a6 9d c60005 a5 9d c5 00|10 0/0 1 
 a6 c4 a6 1c0007 a8 9d c6000e a7 1c0007 a6 9d c60005 a5 9d c5 00|8 0/0 3 

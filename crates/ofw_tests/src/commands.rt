@@ -174,6 +174,21 @@ fn an_image_is_kept(rt: HostRuntime) {
     assert_eq!(rt; out.text.as_slice(), wanted);
 }
 
+/// What is wrong with a source whose image is to be kept is said with its path and line.
+#[test]
+fn an_image_that_cannot_be_made(rt: HostRuntime) {
+    let mut file = reader_of(b"fcode-version2 zork fcode-end", 99);
+    let mut screen = blank_screen(rt.alloc(), 99);
+    let mut errors = Messages::new(&mut screen);
+    let status = match image(rt.alloc(), "a.fs", &mut file, &mut errors) {
+        Ok(_) => Status::Done,
+        Err(status) => status,
+    };
+    assert_eq!(rt; status, Status::Fault);
+    let said = b"a.fs:1: unknown word\n".as_slice();
+    assert_eq!(rt; screen.text.as_slice(), said);
+}
+
 /// Runs the image of a file that gives a byte for ever: after so many reads it is given up, and this is said.
 fn give_up(rt: &impl Abort, alloc: Global, byte: u8, reads: u32, wanted: &str) -> Result<(), Fail> {
     let mut file = Endless { byte, reads: 0 };
