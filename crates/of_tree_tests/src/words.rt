@@ -10,6 +10,9 @@ use std::test::Fail;
 /// Values at `here`, and what is read of them.
 const ENCODED: &str = "\
 %12345678 encode-int|100000 4|
+>3fffc %5 encode-int|13fffc 4|
+\"ab >3fffb encode-string|13fffd 3|
+@2 >3fff8 %1 %2 encode-phys|13fff8 8|name=736c6f7400
 \"ab encode-string|100002 3|
 \"ab encode-bytes|100002 2|
 %0 %0 encode-bytes|100000 0|
