@@ -1,4 +1,4 @@
-//! The same accesses to a plain vector.
+//! Accesses to a plain vector, beside which those to the data space are timed.
 use std::alloc::{AllocError, Global};
 
 /// The cells that are visited, one after the other and then again: 64 KiB.
