@@ -42,7 +42,8 @@ fn moves(alloc: Global, count: u32) -> Result<u32, MemFault> {
 /// How many blocks are live where bytes of the heap's last one are read.
 const BLOCKS: u32 = 32_000;
 
-/// Reads so many bytes, the eight from an address on in turn.
+/// Reads so many bytes, the eight from an address on in turn. It isn't in line, so that no address is known to it.
+#[inline(never)]
 fn bytes(memory: &Memory, addr: Cell, count: u32) -> Result<u32, MemFault> {
     let mut sum = 0u32;
     for i in 0..count {
