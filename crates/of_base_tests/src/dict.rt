@@ -213,8 +213,22 @@ fn holds_8192_words(rt: HostRuntime) -> Result<(), Fail> {
     let mut dict = Dict::new(rt.alloc());
     fill(&mut dict)?;
     dict.remove();
-    assert_eq!(rt; dict.add(Some(b""), PLAIN), Err(DictFault::Full));
+    assert_eq!(rt; dict.add(Some(b""), PLAIN), Err(DictFault::EmptyName));
+    assert_eq!(rt; dict.add(Some(&[b'a'; 32]), PLAIN), Err(DictFault::LongName));
+    assert_eq!(rt; dict.add(Some(&[b'a'; 31]), PLAIN), Err(DictFault::Full));
+    assert_eq!(rt; dict.add(None, PLAIN), Err(DictFault::Full));
     assert_eq!(rt; dict.newest(), Some(OwnWord(8190)));
+    Ok(())
+}
+
+/// Each number as a name of four bytes.
+#[test]
+fn holds_8192_names(rt: HostRuntime) -> Result<(), Fail> {
+    let mut dict = Dict::new(rt.alloc());
+    for number in 0..CAPACITY {
+        dict.add(Some(&(number as u32).to_be_bytes()), PLAIN)?;
+    }
+    assert_eq!(rt; dict.find(&[0, 0, 0x13, 0x88]), Some(OwnWord(5000)));
     Ok(())
 }
 

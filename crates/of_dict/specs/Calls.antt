@@ -1,6 +1,7 @@
 -- What the calls of the dictionary leave and answer (Forth 2012, 3.3.1, 3.4.2; IEEE 1275-1994, 5.3.3.1).
 use Rattle.std.specs.Prelude.{ℕ, ◌≡◌, ◌==◌, false, nat_le, nat_lt, List, [], ◌∷◌, ◌++◌, length}
 use Rattle.std.specs.Prelude.{slice_set, Option, Some, None, Result, Ok, Err, if◌then◌else◌}
+use Rattle.std.specs.Option.{option_or}
 use Rattle.of_dict.specs.declared.fault.DictFault.{DictFault}
 use Rattle.of_dict.specs.declared.fault.DictFault.TheVariants.{EmptyName, Full, LongName, NoMemory}
 use Rattle.of_dict.specs.declared.word.Kind.{Kind}
@@ -18,9 +19,9 @@ name_refusal None = None
 name_refusal (Some name) =
     if length name == 0 then Some EmptyName else if nat_lt longest_name (length name) then Some LongName else None
 
--- what a word is refused for, memory aside
+-- what a word is refused for, memory aside: its name first, and then want of room
 abbrev pub refusal : List (Option Word) → Option (List ℕ) → Option DictFault
-refusal words name = if nat_le capacity (length words) then Some Full else name_refusal name
+refusal words name = option_or (name_refusal name) (if nat_le capacity (length words) then Some Full else None)
 
 -- what adding a word answers and leaves: it has the next number
 abbrev pub Adds : Result OwnWord DictFault → List (Option Word) → List (Option Word) → Option (List ℕ) → Kind → Type 0

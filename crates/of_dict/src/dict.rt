@@ -107,15 +107,12 @@ impl Dict {
     /// Makes a word, neither immediate nor hidden, and answers its number, the next that was never
     /// used. A name has 1 to 31 bytes (Forth 2012, 3.3.1.2).
     ///
-    /// `Full` comes where 8,192 words were made, then `EmptyName`, then `LongName`; `NoMemory` may
-    /// stand in place of any. A refused word leaves nothing behind.
+    /// `EmptyName` or `LongName` where the name isn't so, then `Full` where 8,192 words were made;
+    /// `NoMemory` may stand in place of any. A refused word leaves nothing behind.
     pub fn add(&mut self, name: Option<&[u8]>, kind: Kind) -> Result<OwnWord, DictFault>
         ensures added { Adds result self.old self.new (option_copied name.entry) kind }
         ensures fits { IfOk result (λ word. word.0 < capacity) }
     {
-        if self.words.len() >= CAPACITY {
-            return Err(DictFault::Full);
-        }
         match name {
             Some(name) => self.add_named(name, kind),
             None => self.add_nameless(kind),
@@ -123,10 +120,12 @@ impl Dict {
     }
 
     fn add_nameless(&mut self, kind: Kind) -> Result<OwnWord, DictFault>
-        requires { length self.old < capacity }
         ensures added { Adds result self.old self.new None kind }
         ensures fits { IfOk result (λ word. word.0 < capacity) }
     {
+        if self.words.len() >= CAPACITY {
+            return Err(DictFault::Full);
+        }
         let number = self.words.len() as u32;
         self.words.reserve(1)?;
         self.older.push(None)?;
@@ -141,7 +140,6 @@ impl Dict {
     }
 
     fn add_named(&mut self, name: &[u8], kind: Kind) -> Result<OwnWord, DictFault>
-        requires { length self.old < capacity }
         ensures added { Adds result self.old self.new (Some name.now) kind }
         ensures fits { IfOk result (λ word. word.0 < capacity) }
     {
@@ -150,6 +148,9 @@ impl Dict {
         }
         if name.len() > LONGEST_NAME {
             return Err(DictFault::LongName);
+        }
+        if self.words.len() >= CAPACITY {
+            return Err(DictFault::Full);
         }
         let number = self.words.len() as u32;
         self.words.reserve(1)?;

@@ -4,10 +4,6 @@ use thiserror::Error;
 /// Why a word can't be made, in the order of the checks. `NoMemory` may stand in place of any other.
 #[derive(Clone, Copy, Debug, PartialEq, Eq, Error)]
 pub enum DictFault {
-    /// As many words were made as ever can be (-8).
-    #[error("the dictionary is full")]
-    Full,
-
     /// The name has no byte (-16).
     #[error("the name is empty")]
     EmptyName,
@@ -15,6 +11,10 @@ pub enum DictFault {
     /// The name has more than 31 bytes (-19).
     #[error("the name is too long")]
     LongName,
+
+    /// As many words were made as ever can be (-8).
+    #[error("the dictionary is full")]
+    Full,
 
     /// The growth of the dictionary was refused.
     #[error("out of memory")]
