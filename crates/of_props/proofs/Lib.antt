@@ -3,3 +3,5 @@ mod Put
 mod Encoded
 mod ReadingBack
 mod StringsBack
+mod Adjoining
+mod Refused

@@ -65,7 +65,7 @@ is_copied m after a n p e =
     record { readable = both.0; encoded_is = both.1 }
 
 -- as many bytes are read as were asked for
-many_bytes :
+pub many_bytes :
     RangesArePlaced → (m : DataSpace) (a n : ℕ) → IsSound m → are_readable m a n ≡ true → length (bytes_from m a n) ≡ n
 many_bytes placed m a n sound open_ =
     elim (cases_eq n 0) [

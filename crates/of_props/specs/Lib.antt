@@ -2,3 +2,4 @@ pub mod Arrays
 pub mod Encoding
 pub mod Decoding
 pub mod RoundTrips
+pub mod Laws

@@ -1,8 +1,9 @@
 use of_cells::Cell;
 use of_memory::Memory;
 use of_props::{
-    Array, PropFault, bytes_read_back, cells_read_back, decode_int, decode_phys, decode_string,
-    encode_bytes, encode_int, encode_phys, encode_string, ints_read_back, join, strings_read_back,
+    Array, PropFault, arrays_adjoin, bytes_read_back, cells_read_back, decode_int, decode_phys,
+    decode_string, decodings_are_refused, encode_bytes, encode_int, encode_phys, encode_string,
+    encodings_are_refused, ints_read_back, join, strings_read_back,
 };
 use std::test::Fail;
 
@@ -50,6 +51,9 @@ fn cells_of_a_physical_address(rt: HostRuntime) -> Result<(), Fail> {
     assert_eq!(rt; cells.as_slice(), [Cell(1), Cell(0x8000_0000)].as_slice());
     assert_eq!(rt; rest, array(0x10_0008, 0));
     assert_eq!(rt; join(place, place), Err(PropFault::NotAdjacent));
+    let nothing = array(0x10_0004, 0);
+    assert_eq!(rt; join(nothing, place), Err(PropFault::NotAdjacent));
+    assert_eq!(rt; join(nothing, nothing), Ok(nothing));
     Ok(())
 }
 
@@ -75,4 +79,7 @@ fn laws() {
     ints_read_back();
     strings_read_back();
     cells_read_back();
+    arrays_adjoin();
+    decodings_are_refused();
+    encodings_are_refused();
 }
