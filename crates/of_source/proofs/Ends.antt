@@ -1,11 +1,12 @@
 -- What stands at the end of a list, latest first.
 use Rattle.std.proofs.Common.{◌≡◌, ◌≤◌, ℕ, List, [], ◌∷◌, ◌++◌, length, get_or, nat_eq, if◌then◌else◌, refl, ap, sym}
 use Rattle.std.proofs.Common.{◌∙◌, zero, suc, arith}
-use Rattle.std.proofs.lemmas.List.{reverse-append}
+use Rattle.std.proofs.lemmas.List.{map-append, reverse-append}
 use Rattle.std.specs.Prelude.{reverse}
 use Rattle.std.proofs.lemmas.Bool.Decides.{nat_tests}
 use Rattle.of_source.specs.declared.nesting.Frame.{Frame}
-use Rattle.of_source.specs.Nesting.{last_or, earliest_of}
+use Rattle.of_source.specs.declared.nesting.Level.{Level}
+use Rattle.of_source.specs.Nesting.{last_or, earliest_of, frames}
 
 last_or_last : (d : ℕ) (xs : List ℕ) (x : ℕ) → last_or d (xs ++ x ∷ []) ≡ x
 last_or_last d [] x = refl
@@ -21,25 +22,30 @@ earliest_last line [] f = refl
 earliest_last line (g ∷ []) f = refl
 earliest_last line (g ∷ h ∷ gs) f = earliest_last line (h ∷ gs) f
 
-pub earliest_reverse : (line : ℕ) (e : Frame) (fs : List Frame) → 1 ≤ length fs
-    → earliest_of line (reverse fs) ≡ (if nat_eq (get_or fs 0 e).beneath 0 then (get_or fs 0 e).line else line)
+pub earliest_reverse : (line : ℕ) (e : Level) (ls : List Level) → 1 ≤ length ls
+    → earliest_of line (frames (reverse ls))
+    ≡ (if nat_eq (get_or ls 0 e).frame.beneath 0 then (get_or ls 0 e).frame.line else line)
 earliest_reverse line e [] h = absurd (omega arith)
-earliest_reverse line e (f ∷ fs) h = ap (earliest_of line) (reverse-append (f ∷ []) fs)
-    ∙ earliest_last line (reverse fs) f
+earliest_reverse line e (l ∷ ls) h =
+    ap (λ ms. earliest_of line (frames ms)) (reverse-append (l ∷ []) ls)
+    ∙ ap (earliest_of line) (map-append (λ (m : Level). m.frame) (reverse ls) (l ∷ []))
+    ∙ earliest_last line (frames (reverse ls)) l.frame
 
-pub earliest_first : (line : ℕ) (e : Frame) (fs : List Frame) → 1 ≤ length fs → (get_or fs 0 e).beneath ≡ 0
-    → (get_or fs 0 e).line ≡ earliest_of line (reverse fs)
-earliest_first line e fs h z =
-    sym (earliest_reverse line e fs h ∙ at_zero (get_or fs 0 e).beneath (get_or fs 0 e).line line z)
+pub earliest_first : (line : ℕ) (e : Level) (ls : List Level) → 1 ≤ length ls → (get_or ls 0 e).frame.beneath ≡ 0
+    → (get_or ls 0 e).frame.line ≡ earliest_of line (frames (reverse ls))
+earliest_first line e ls h z =
+    sym (earliest_reverse line e ls h
+    ∙ at_zero (get_or ls 0 e).frame.beneath (get_or ls 0 e).frame.line line z)
   where
     at_zero : (n a b : ℕ) → n ≡ 0 → (if nat_eq n 0 then a else b) ≡ a
     at_zero zero a b h = refl
     at_zero (suc n) a b h = cc
 
-pub earliest_later : (line : ℕ) (e : Frame) (fs : List Frame) → 1 ≤ length fs → ((get_or fs 0 e).beneath ≡ 0 → ⊥)
-    → line ≡ earliest_of line (reverse fs)
-earliest_later line e fs h z =
-    sym (earliest_reverse line e fs h ∙ above (get_or fs 0 e).beneath (get_or fs 0 e).line line z)
+pub earliest_later : (line : ℕ) (e : Level) (ls : List Level) → 1 ≤ length ls
+    → ((get_or ls 0 e).frame.beneath ≡ 0 → ⊥) → line ≡ earliest_of line (frames (reverse ls))
+earliest_later line e ls h z =
+    sym (earliest_reverse line e ls h
+    ∙ above (get_or ls 0 e).frame.beneath (get_or ls 0 e).frame.line line z)
   where
     above : (n a b : ℕ) → (n ≡ 0 → ⊥) → (if nat_eq n 0 then a else b) ≡ b
     above n a b h = grind (arith, nat_tests)

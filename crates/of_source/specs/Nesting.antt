@@ -1,10 +1,11 @@
 -- What stands open at a word: the lines of branches, and parts, both latest first. A part knows how many branches were
 -- open before it.
-use Rattle.std.specs.Prelude.{ℕ, Bool, true, false, ◌&&◌, List, [], ◌∷◌, length, drop, Option, Some, None, nat_eq}
-use Rattle.std.specs.Prelude.{nat_lt, if◌then◌else◌}
+use Rattle.std.specs.Prelude.{◌≡◌, ℕ, Bool, true, false, ◌&&◌, List, [], ◌∷◌, length, drop, map, Option, Some, None}
+use Rattle.std.specs.Prelude.{nat_eq, nat_lt, if◌then◌else◌}
 use Rattle.std.specs.List.{list_any, list_all}
 use Rattle.of_source.specs.declared.nesting.Part.{Part}
 use Rattle.of_source.specs.declared.nesting.Frame.{Frame}
+use Rattle.of_source.specs.declared.nesting.Level.{Level}
 use Rattle.of_source.specs.declared.nesting.Part.TheVariants.{Definition, Begin, Do, Case, Of}
 
 -- the lines of the branches that are open, and the parts, latest first
@@ -71,6 +72,10 @@ abbrev pub in_loop : List Frame → Bool
 in_loop [] = false
 in_loop (f ∷ fs) = if is_same f.part Do then true else if is_same f.part Definition then false else in_loop fs
 
+-- whether a loop is open in a part, in the same definition or outside all, with what holds around the part
+abbrev pub loops_in : Part → Bool → Bool
+loops_in p around = if is_same p Do then true else if is_same p Definition then false else around
+
 -- whether this is a place for `of`: directly in a case
 abbrev pub on_case : Nesting → Bool
 on_case n = is_in Case n.parts && is_even n
@@ -78,6 +83,20 @@ on_case n = is_in Case n.parts && is_even n
 -- whether all that is open are definitions
 abbrev pub all_definitions : List Frame → Bool
 all_definitions fs = list_all (λ f. is_same f.part Definition) fs
+
+-- ---- parts as the code holds them
+
+-- without what the parts around them say of them
+abbrev pub frames : List Level → List Frame
+frames ls = map (λ (l : Level). l.frame) ls
+
+-- each part has what it stands in, the latest first
+abbrev pub AreSurrounded : List Level → Type 0
+AreSurrounded [] = Unit {0}
+AreSurrounded (l ∷ ls) = (l.defines ≡ in_definition (frames (l ∷ ls))) × (l.loops ≡ in_loop (frames (l ∷ ls)))
+    × (l.straight ≡ all_definitions (frames (l ∷ ls))) × AreSurrounded ls
+
+-- ---- what is open as a whole
 
 -- whether no control structure is open
 abbrev pub is_straight : Nesting → Bool

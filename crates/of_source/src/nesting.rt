@@ -1,5 +1,6 @@
-ghost use Rattle.std.specs.Prelude.{◌≡◌, [], ◌&&◌, nat_eq, IfOk, OnOk, Some, None, if◌then◌else◌, length, reverse};
-ghost use Rattle.of_source.specs.Nesting.{is_same, in_loop, in_definition, all_definitions, last_or, earliest_of};
+ghost use Rattle.std.specs.Prelude.{◌≡◌, ◌∷◌, [], ◌&&◌, nat_eq, IfOk, OnOk, Some, None, if◌then◌else◌, length, drop};
+ghost use Rattle.std.specs.Prelude.{reverse};
+ghost use Rattle.of_source.specs.Nesting.{is_same, loops_in, last_or, earliest_of, frames};
 
 use std::alloc::{AllocError, Global};
 use std::marker::Model;
@@ -30,11 +31,43 @@ pub struct Frame {
     pub beneath: usize,
 }
 
+/// An open part with what it stands in, so that no question looks at the parts around it.
+#[derive(Clone, Copy)]
+pub struct Level {
+    /// The part.
+    pub frame: Frame,
+    /// Whether it, or a part around it, is a definition.
+    pub defines: bool,
+    /// Whether a loop is open in the same definition, or outside all.
+    pub loops: bool,
+    /// Whether it and all parts around it are definitions.
+    pub straight: bool,
+}
+
+/// The open parts.
+#[derive(Drop)]
+struct Parts {
+    levels: Vec<Level>,
+}
+
+// Clauses see the latest first, without what the others say of it.
+impl Model for Parts {
+    ghost use Rattle.std.specs.Prelude.{List, reverse};
+    ghost use Rattle.of_source.specs.declared.nesting.Frame.{Frame as Open};
+    ghost use Rattle.of_source.specs.Nesting.{frames, AreSurrounded};
+
+    ghost Value = { List Open };
+
+    ghost view = { λ p. frames (reverse p.levels.items) };
+
+    ghost invariant = { λ p. AreSurrounded (reverse p.levels.items) };
+}
+
 /// What stands open: the lines of branches, and parts.
 #[derive(Drop)]
 pub struct Nesting {
     branches: Vec<usize>,
-    parts: Vec<Frame>,
+    parts: Parts,
 }
 
 // Clauses see both latest first.
@@ -44,7 +77,7 @@ impl Model for Nesting {
 
     ghost Value = { Open };
 
-    ghost view = { λ n. record { branches = reverse n.branches.items; parts = reverse n.parts.items } };
+    ghost view = { λ n. record { branches = reverse n.branches.items; parts = n.parts } };
 }
 
 /// Whether two parts are of one kind.
@@ -61,11 +94,121 @@ fn is_same(part: Part, other: Part) -> bool
     }
 }
 
+/// Whether a loop is open in a part of this kind, with what holds around it.
+fn loops_in(part: Part, around: bool) -> bool
+    ensures { result ≡ loops_in part around }
+{
+    match part {
+        Part::Do => true,
+        Part::Definition => false,
+        Part::Begin | Part::Case | Part::Of => around,
+    }
+}
+
+impl Parts {
+    ghost use Rattle.of_source.specs.Nesting.{in_loop, in_definition, all_definitions, floor, is_in, earliest_of};
+
+    /// No part is open.
+    fn new(alloc: Global) -> Self
+        ensures { result ≡ [] }
+    {
+        Parts {
+            levels: Vec::new(alloc),
+        }
+    }
+
+    /// How many are open.
+    fn count(&self) -> usize
+        ensures { result ≡ length self.now }
+    {
+        self.levels.len()
+    }
+
+    /// Whether one of them is a definition.
+    fn in_definition(&self) -> bool
+        ensures { result ≡ in_definition self.now }
+    {
+        match self.levels.last() {
+            Some(level) => level.defines,
+            None => false,
+        }
+    }
+
+    /// Whether a loop is open in the same definition, or outside all.
+    fn in_loop(&self) -> bool
+        ensures { result ≡ in_loop self.now }
+    {
+        match self.levels.last() {
+            Some(level) => level.loops,
+            None => false,
+        }
+    }
+
+    /// Whether all of them are definitions.
+    fn all_definitions(&self) -> bool
+        ensures { result ≡ all_definitions self.now }
+    {
+        match self.levels.last() {
+            Some(level) => level.straight,
+            None => true,
+        }
+    }
+
+    /// How many branches the innermost part may not close.
+    fn floor(&self) -> usize
+        ensures { result ≡ floor self.now }
+    {
+        match self.levels.last() {
+            Some(level) => level.frame.beneath,
+            None => 0,
+        }
+    }
+
+    /// Whether the innermost part is of this kind.
+    fn is_in(&self, part: Part) -> bool
+        ensures { result ≡ is_in part self.now }
+    {
+        match self.levels.last() {
+            Some(level) => is_same(level.frame.part, part),
+            None => false,
+        }
+    }
+
+    /// A part opens.
+    fn open(&mut self, frame: Frame) -> Result<(), AllocError>
+        ensures { OnOk result (self.new ≡ frame ∷ self.old) }
+    {
+        let definition = is_same(frame.part, Part::Definition);
+        let level = Level {
+            frame,
+            defines: definition || self.in_definition(),
+            loops: loops_in(frame.part, self.in_loop()),
+            straight: definition && self.all_definitions(),
+        };
+        self.levels.push(level)?;
+        Ok(())
+    }
+
+    /// The innermost part closes.
+    fn close(&mut self)
+        ensures { self.new ≡ drop 1 self.old }
+    {
+        let _ = self.levels.pop();
+    }
+
+    /// The line of the first part, if it opened before each open branch; else this one.
+    fn earliest(&self, line: usize) -> usize
+        ensures { result ≡ earliest_of line self.now }
+    {
+        earliest(&self.levels, line)
+    }
+}
+
 impl Nesting {
     ghost use Rattle.of_source.specs.Nesting.{nothing_open, with_branch, with_part, without_branch, then_with_branch};
     ghost use Rattle.of_source.specs.Nesting.{without_begin};
-    ghost use Rattle.of_source.specs.Nesting.{without_part, is_even, is_in, on_case, floor, is_straight, is_closed};
-    ghost use Rattle.of_source.specs.Nesting.{first_open};
+    ghost use Rattle.of_source.specs.Nesting.{without_part, is_even, on_case, is_straight, is_closed};
+    ghost use Rattle.of_source.specs.Nesting.{first_open, in_definition, in_loop};
 
     /// Nothing is open.
     pub fn new(alloc: Global) -> Self
@@ -73,7 +216,7 @@ impl Nesting {
     {
         Nesting {
             branches: Vec::new(alloc),
-            parts: Vec::new(alloc),
+            parts: Parts::new(alloc),
         }
     }
 
@@ -90,7 +233,7 @@ impl Nesting {
         ensures { OnOk result (self.new ≡ with_part part line self.old) }
     {
         let beneath = self.branches.len();
-        self.parts.push(Frame {
+        self.parts.open(Frame {
             part,
             line,
             beneath,
@@ -98,38 +241,18 @@ impl Nesting {
         Ok(())
     }
 
-    /// How many branches the innermost part may not close.
-    fn floor(&self) -> usize
-        ensures { result ≡ floor self.now.parts }
-    {
-        match self.parts.last() {
-            Some(frame) => frame.beneath,
-            None => 0,
-        }
-    }
-
     /// Whether the innermost part left no branch open.
     fn is_even(&self) -> bool
         ensures { result ≡ is_even self.now }
     {
-        self.floor() == self.branches.len()
-    }
-
-    /// Whether the innermost part is of this kind.
-    fn is_in(&self, part: Part) -> bool
-        ensures { result ≡ is_in part self.now.parts }
-    {
-        match self.parts.last() {
-            Some(frame) => is_same(frame.part, part),
-            None => false,
-        }
+        self.parts.floor() == self.branches.len()
     }
 
     /// The latest branch closes, if it opened in the innermost part.
     pub fn close_branch(&mut self) -> bool
         ensures { without_branch self.old ≡ (if result then Some self.new else None) }
     {
-        if self.floor() >= self.branches.len() {
+        if self.parts.floor() >= self.branches.len() {
             return false;
         }
         let _ = self.branches.pop();
@@ -152,10 +275,10 @@ impl Nesting {
     pub fn close_begin(&mut self) -> bool
         ensures { without_begin self.old ≡ (if result then Some self.new else None) }
     {
-        if !self.is_in(Part::Begin) {
+        if !self.parts.is_in(Part::Begin) {
             return false;
         }
-        let _ = self.parts.pop();
+        self.parts.close();
         true
     }
 
@@ -163,10 +286,10 @@ impl Nesting {
     pub fn close_part(&mut self, part: Part) -> bool
         ensures { without_part part self.old ≡ (if result then Some self.new else None) }
     {
-        if !self.is_in(part) || !self.is_even() {
+        if !self.parts.is_in(part) || !self.is_even() {
             return false;
         }
-        let _ = self.parts.pop();
+        self.parts.close();
         true
     }
 
@@ -174,99 +297,54 @@ impl Nesting {
     pub fn on_case(&self) -> bool
         ensures { result ≡ on_case self.now }
     {
-        self.is_in(Part::Case) && self.is_even()
+        self.parts.is_in(Part::Case) && self.is_even()
     }
 
     /// Whether a definition is open.
     pub fn in_definition(&self) -> bool
         ensures { result ≡ in_definition self.now.parts }
     {
-        has_definition(&self.parts)
-    }
-
-    /// Whether all parts are definitions.
-    fn all_definitions(&self) -> bool
-        ensures { result ≡ all_definitions self.now.parts }
-    {
-        are_definitions(&self.parts)
+        self.parts.in_definition()
     }
 
     /// Whether no control structure is open.
     pub fn is_straight(&self) -> bool
         ensures { result ≡ is_straight self.now }
     {
-        self.branches.len() == 0 && self.all_definitions()
+        self.branches.len() == 0 && self.parts.all_definitions()
     }
 
     /// Whether nothing is open.
     pub fn is_closed(&self) -> bool
         ensures { result ≡ is_closed self.now }
     {
-        self.branches.len() == 0 && self.parts.len() == 0
+        self.branches.len() == 0 && self.parts.count() == 0
     }
 
     /// Whether a loop is open in the same definition, or outside all.
     pub fn in_loop(&self) -> bool
         ensures { result ≡ in_loop self.now.parts }
     {
-        is_in_loop(&self.parts)
+        self.parts.in_loop()
     }
 
     /// The line of the first opener that is still open, or this one.
     pub fn first_open(&self, line: usize) -> usize
         ensures { result ≡ first_open line self.now }
     {
-        earliest(&self.parts, first_branch(&self.branches, line))
+        self.parts.earliest(first_branch(&self.branches, line))
     }
-}
-
-/// Whether there is a definition, the latest part last.
-fn has_definition(parts: &[Frame]) -> bool
-    ensures { result ≡ in_definition (reverse parts.now) }
-{
-    parts
-        .iter()
-        .rev()
-        .any(|frame| is_same(frame.part, Part::Definition))
-}
-
-/// Whether all are definitions, the latest part last.
-fn are_definitions(parts: &[Frame]) -> bool
-    ensures { result ≡ all_definitions (reverse parts.now) }
-{
-    parts
-        .iter()
-        .rev()
-        .all(|frame| is_same(frame.part, Part::Definition))
 }
 
 /// The line of the first part, the latest last, if it opened before each open branch; else this one.
-fn earliest(parts: &[Frame], line: usize) -> usize
-    ensures { result ≡ earliest_of line (reverse parts.now) }
+fn earliest(levels: &[Level], line: usize) -> usize
+    ensures { result ≡ earliest_of line (frames (reverse levels.now)) }
 {
-    if parts.len() == 0 {
+    if levels.len() == 0 {
         return line;
     }
-    let first = parts[0];
+    let first = levels[0].frame;
     if first.beneath == 0 { first.line } else { line }
-}
-
-/// Whether a loop is innermost of the loops and definitions, the latest part last.
-fn is_in_loop(parts: &[Frame]) -> bool
-    ensures { result ≡ in_loop (reverse parts.now) }
-{
-    let mut left = parts.len();
-    while left > 0 {
-        let part = parts[left - 1].part;
-        if is_same(part, Part::Do) {
-            return true;
-        }
-        if is_same(part, Part::Definition) {
-            return false;
-        }
-        left -= 1;
-    }
-    false
 }
 
 /// The line of the first branch, the latest last, or this one.
