@@ -101,6 +101,47 @@ fn images(rt: HostRuntime) -> Result<(), Fail> {
     Ok(())
 }
 
+/// `end0` and 259 bytes of FE behind it: their sum, 65,786, is 00fa in sixteen bits.
+#[test]
+fn sums_have_sixteen_bits(rt: HostRuntime) -> Result<(), Fail> {
+    let mut image = hex::decode(rt.alloc(), "f10800fa0000010c00")?;
+    image.extend_from_slice(&[0xfe; 259])?;
+    let listed = listing(rt.alloc(), &image, Extras::default())?;
+    let first = b"000000: f10800fa0000010c  start1\n000008: 00  end0\n";
+    assert!(rt; listed.starts_with(first));
+    Ok(())
+}
+
+/// The listing, indented, of an image that ends in the token 1 within so many marks.
+fn within_marks(alloc: Global, count: usize) -> Result<Vec<u8>, Fail> {
+    let mut image = hex::decode(alloc, "f108000000000000")?;
+    for _ in 0..count {
+        image.push(0xb1)?;
+    }
+    image.push(0xa6)?;
+    let extras = Extras {
+        names: false,
+        indents: true,
+    };
+    let (listed, _) = partial_listing(alloc, &image, extras)?;
+    Ok(listed)
+}
+
+/// Each open structure indents by two, the 33rd no more, since a definition has no more open at once.
+#[test]
+fn deep_structures_are_indented(rt: HostRuntime) -> Result<(), Fail> {
+    for (count, place, depth) in [(31, "000027", 31), (32, "000028", 32), (33, "000029", 32)] {
+        let listed = within_marks(rt.alloc(), count)?;
+        let mut last = format!(in rt.alloc(); "{place}: a6  ")?;
+        for _ in 0..depth {
+            last.push_str("  ")?;
+        }
+        last.push_str("1\n")?;
+        assert!(rt; listed.ends_with(last.as_bytes()), "{count}");
+    }
+    Ok(())
+}
+
 /// Damaged images, each with its lines up to the fault, indented and with the names that it gives; an empty line
 /// between two. A name is said behind the FCode that has it, until `new-token` takes that away.
 const PARTIAL: &str = "\
