@@ -50,6 +50,10 @@ abbrev pub zeros_allotted : DataSpace → ℕ → Result (ℕ × DataSpace) MemF
 zeros_allotted m n =
     if nat_le (aligned m.here + n) data_limit then Ok (aligned m.here, with_zeros m n) else Err Full
 
+-- how many bytes the next name or value of a property may have
+abbrev pub property_room : DataSpace → ℕ
+property_room m = property_limit - aligned m.properties_end
+
 -- what storing a property's value at an address answers and leaves
 abbrev pub property_put_at : DataSpace → List ℕ → ℕ → Result (ℕ × DataSpace) MemFault
 property_put_at m xs a =

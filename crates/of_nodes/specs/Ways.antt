@@ -16,7 +16,8 @@ pub record IsFirst (m : DataSpace) (ns : List Node) (i : ℕ) : Type 0 where
   pub no_older : (j : ℕ) → 1 ≤ j → j < i → parent_in ns j ≡ parent_in ns i
       → fits m (address_cells m (node_in ns (parent_in ns i))) (node_in ns j) (component_in m ns i) ≡ false
 
--- The root is found by its path. So is a node whose parent is, unless its component fits an older sibling.
+-- The root is found by its path. So is a node with a good name whose parent is, unless its component fits an older
+-- sibling.
 pub record PathsFind : Type 0 where
   pub root : (m : DataSpace) (ns : List Node) → node_of m ns (path_in m ns 0) ≡ Some 0
   pub child : (m : DataSpace) (ns : List Node) (i : ℕ) → AreNodes ns → IsFirst m ns i

@@ -12,8 +12,8 @@ pub fn tree_is_shown()
     ensures { TreeIsShown }
 {}
 
-/// The path of the root finds the root. So does that of a node below one whose path finds it, unless its
-/// component fits an older sibling.
+/// The path of the root finds the root. So does that of a node with a good name below one whose path finds it,
+/// unless its component fits an older sibling.
 #[tactic(auto, using(crate::proofs::Ways::paths_find))]
 pub fn paths_find()
     ensures { PathsFind }

@@ -1,4 +1,5 @@
-ghost use Rattle.std.specs.Prelude.{◌≡◌, ◌<◌, [], ◌+◌, ◌^◌, length, map, None, IfSome, MatchOption};
+ghost use Rattle.std.specs.Prelude.{◌≡◌, ◌<◌, [], ◌+◌, ◌^◌, length, map, None, IfOk, IfErr, IfSome};
+ghost use Rattle.std.specs.Prelude.{MatchOption};
 ghost use Rattle.indexmap.specs.IndexMap.{spare};
 ghost use Rattle.of_memory.specs.Growth.{property_put};
 ghost use Rattle.of_nodes.specs.Properties.{named, property_set, stored, value_at, value_behind, value_in};
@@ -108,6 +109,48 @@ fn insert(entries: &mut IndexMap<Vec<u8>, Property>, name: Vec<u8>, value: Prope
     let Ok(_) = entries.insert(name, value) else {
         return;
     };
+}
+
+/// A name and room for its property, taken before anything changes.
+#[derive(Drop)]
+pub(crate) struct Place {
+    name: Vec<u8>,
+    entries: IndexMap<Vec<u8>, Property>,
+}
+
+// Clauses see the name.
+impl Model for Place {
+    ghost use Rattle.std.specs.Prelude.{◌≡◌, ◌<◌, ℕ, List, []};
+    ghost use Rattle.indexmap.specs.IndexMap.{spare};
+
+    ghost Value = { List ℕ };
+
+    ghost view = { λ p. p.name.items };
+
+    ghost invariant = { λ p. (p.entries.entries ≡ []) × (0 < spare p.entries) };
+}
+
+impl Place {
+    /// A place for a property of the name; NoMemory.
+    pub(crate) fn new(alloc: Global, name: &[u8]) -> Result<Place, NodeFault>
+        ensures named { IfOk result (λ p. p ≡ name.now) }
+        ensures refused { IfErr result (λ e. e ≡ NodeFault.NoMemory) }
+    {
+        let name = Vec::from_slice(alloc, name)?;
+        let entries = IndexMap::with_capacity(alloc, 1)?;
+        Ok(Place { name, entries })
+    }
+
+    /// The properties of a node that has this one with a value, which is copied into the property region
+    /// after its name; PropertyFull.
+    pub(crate) fn filled(self, memory: &mut Memory, value: &[u8]) -> Result<Properties, NodeFault>
+        ensures { Answers result memory.old memory.new (property_set memory.old [] self value.now) }
+    {
+        let property = store_named(memory, self.name.as_slice(), value)?;
+        let mut entries = self.entries;
+        insert(&mut entries, self.name, property);
+        Ok(Properties { entries })
+    }
 }
 
 impl Properties {

@@ -1,5 +1,5 @@
 ghost use Rattle.std.specs.Prelude.{◌≡◌, ◌<◌, ◌≤◌, ◌+◌, ◌⊎◌, List, max, length, drop, nat_le, Ok, Err, IfSome, IfOk, IfErr};
-ghost use Rattle.std.specs.Prelude.{OnOk};
+ghost use Rattle.std.specs.Prelude.{OnErr, OnOk, codes, vec_capacity, vec_len};
 ghost use Rattle.of_nodes.specs.Nodes.{AreRooted, child_from, child_found, first_tree, method_added, method_found};
 ghost use Rattle.of_nodes.specs.Nodes.{method_taken_back};
 ghost use Rattle.of_nodes.specs.Nodes.{most_nodes, named_child, next_found, node_added, parent_found, parent_in, peer_found};
@@ -15,7 +15,7 @@ use crate::methods::{Methods, is_method_name};
 use crate::names::may_hold;
 use crate::paths::{node_at, push_path};
 use crate::phandles::Phandle;
-use crate::properties::{Properties, Property};
+use crate::properties::{Place, Properties, Property};
 use of_cells::Cell;
 use of_memory::Memory;
 use std::alloc::Global;
@@ -29,6 +29,10 @@ const ROOT: usize = 0;
 
 /// The number of `/packages`.
 const PACKAGES: usize = 1;
+
+/// How many bytes of the property region the names of the first three nodes take: each begins at a multiple
+/// of 4, behind the name `name`.
+const FIRST_NAMES: usize = 37;
 
 /// A node of the device tree (IEEE 1275-1994, 3.2.1).
 #[derive(Drop)]
@@ -89,57 +93,58 @@ fn are_all(nodes: &[Node]) -> bool
     nodes.len() >= MOST_NODES
 }
 
-/// Makes a node with a name.
+/// Makes a node with a name, for which there is room.
 #[tactic(auto, using(crate::proofs::Rooted::rooted_more, crate::proofs::First::named))]
 fn push_named(
     nodes: &mut Vec<Node>,
     alloc: Global,
     memory: &mut Memory,
-    parent: usize,
+    name: Place,
     value: &[u8],
 ) -> Result<(), NodeFault>
-    requires parent { parent < max 1 (length nodes.old.items) }
+    requires room { vec_len nodes.old < vec_capacity nodes.old }
+    requires name { name ≡ codes "name" }
     requires rooted { AreRooted 0 nodes.old.items }
     ensures made { OnOk result
-        (named_child nodes.old.items memory.old parent value.now ≡ Ok (nodes.new.items, memory.new)) }
-    ensures refused { IfErr result (λ e. (e ≡ NodeFault.NoMemory)
-        ⊎ (named_child nodes.old.items memory.old parent value.now ≡ Err e)) }
-    ensures len { OnOk result (length nodes.new.items ≡ length nodes.old.items + 1) }
+        (named_child nodes.old.items memory.old 0 value.now ≡ Ok (nodes.new.items, memory.new)) }
+    ensures refused { IfErr result (λ e. named_child nodes.old.items memory.old 0 value.now ≡ Err e) }
+    ensures unchanged { OnErr result (memory.new ≡ memory.old) }
     ensures still_rooted { OnOk result (AreRooted 0 nodes.new.items) }
+    ensures len { OnOk result (vec_len nodes.new ≡ vec_len nodes.old + 1) }
+    ensures capacity { OnOk result (vec_capacity nodes.new ≡ vec_capacity nodes.old) }
 {
-    let mut properties = Properties::new(alloc);
-    if let Err(fault) = properties.set(alloc, memory, b"name", value) {
-        return Err(fault);
-    }
+    let properties = name.filled(memory, value)?;
     let methods = Methods::new(alloc);
-    nodes.push(Node {
-        parent,
+    nodes.push_reserved(Node {
+        parent: ROOT,
         properties,
         methods,
-    })?;
+    });
     Ok(())
 }
 
 impl Tree {
     /// The tree at first: `/`, which has the name `board`, and its children `/packages` and `/slot`.
     ///
-    /// PropertyFull, if the names don't fit into the property region; or NoMemory. Then there is no
-    /// tree, and the region has the names that were put so far.
+    /// PropertyFull, if the names don't fit into the property region; or NoMemory. Then nothing changes, in
+    /// memory either.
     #[tactic(auto, using(crate::proofs::First::firsts))]
     pub fn new(alloc: Global, memory: &mut Memory) -> Result<Tree, NodeFault>
         ensures made { IfOk result (λ t. first_tree memory.old ≡ Ok (t, memory.new)) }
         ensures refused { IfErr result (λ e. (e ≡ NodeFault.NoMemory) ⊎ (first_tree memory.old ≡ Err e)) }
+        ensures unchanged { OnErr result (memory.new ≡ memory.old) }
     {
-        let mut nodes = Vec::new(alloc);
-        if let Err(fault) = push_named(&mut nodes, alloc, memory, 0, b"board\0") {
-            return Err(fault);
+        let mut nodes = Vec::with_capacity(alloc, 3)?;
+        let root = Place::new(alloc, b"name")?;
+        let packages = Place::new(alloc, b"name")?;
+        let slot = Place::new(alloc, b"name")?;
+        if memory.property_room() < FIRST_NAMES {
+            return Err(NodeFault::PropertyFull);
         }
-        if let Err(fault) = push_named(&mut nodes, alloc, memory, 0, b"packages\0") {
-            return Err(fault);
-        }
-        if let Err(fault) = push_named(&mut nodes, alloc, memory, 0, b"slot\0") {
-            return Err(fault);
-        }
+        // There is room, so none is refused.
+        push_named(&mut nodes, alloc, memory, root, b"board\0")?;
+        push_named(&mut nodes, alloc, memory, packages, b"packages\0")?;
+        push_named(&mut nodes, alloc, memory, slot, b"slot\0")?;
         Ok(Tree { nodes, alloc })
     }
 

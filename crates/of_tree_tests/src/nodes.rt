@@ -68,11 +68,15 @@ find /slot/card = d000000c
 find /slot/card@1,0 = d000000c
 find /slot/card@2,a0 = d0000010
 find /slot/@2,a0 = d0000010
+find /slot/@2,A0 = -
+find /slot/card@2,A0 = -
 find /slot/card@ = -
 find /slot/card@02,a0 = -
 find /slot/disk@1,0 = -
 find /slot/card@2,a0:1,x = d0000010
 find /slot:9600,8/disk:a = d0000014
+find /slot/disk:a@1 = d0000014
+find /slot/card:a@2,a0 = d000000c
 find /slot/disk/part = d000001c
 find /slot//part = -
 find /slot/ = -
@@ -112,6 +116,20 @@ set_property d0000008 #address-cells #3 = done
 address_cells d0000008 = 3
 address_cells d000000c = 2
 path_of d000000c = /slot/card@1,abc00000,100
+set_property d000000c reg #1,2,3,4 = done
+set_property d0000008 #address-cells #4 = done
+address_cells d0000008 = 4
+path_of d000000c = /slot/card@1,2,3,4
+find /slot/card@1,2,3,4 = d000000c
+set_property d0000008 #address-cells #5 = done
+address_cells d0000008 = 2
+set_property d0000008 #address-cells #0 = done
+address_cells d0000008 = 2
+set_property d0000008 #address-cells #1,1 = done
+address_cells d0000008 = 2
+set_property d0000008 #address-cells 1 = done
+address_cells d0000008 = 2
+path_of d000000c = /slot/card@1,2
 ";
 
 #[test]
@@ -155,6 +173,9 @@ property d0000008 reg = 200038 3 20003c 4
 set_property d000000c reg 1234 = no such node
 set_property d0000008 0123456789012345678901234567890 1 = done
 set_property d0000008 01234567890123456789012345678901 1 = invalid name argument
+set_property d0000008 !0[`{|}~ 1 = done
+set_property d0000008 @ 1 = invalid name argument
+set_property d0000008 : 1 = invalid name argument
 ";
 
 #[test]
@@ -174,6 +195,10 @@ method d0000008 OPEN = c0000000
 take_back_method d0000008 Open - = done
 method d0000008 open = -
 add_method d0000008 - c0000008 = invalid name argument
+add_method d0000008 abcdefghijklmnopqrstuvwxyzabcde c000000c = done
+method d0000008 Abcdefghijklmnopqrstuvwxyzabcde = c000000c
+add_method d0000008 abcdefghijklmnopqrstuvwxyzabcdef c0000010 = invalid name argument
+method d0000008 abcdefghijklmnopqrstuvwxyzabcdef = -
 method 0 open = no such node
 ";
 
@@ -209,7 +234,15 @@ fn nodes_are_1024(rt: HostRuntime) -> Result<(), Fail> {
     }
     let refused = tree.add_node(Phandle::of(0));
     assert_eq!(rt; refused, Err(NodeFault::TooManyNodes));
-    assert_eq!(rt; tree.peer(Phandle::of(1023)), Ok(None));
+    let last = Phandle::of(1023);
+    assert_eq!(rt; tree.peer(last), Ok(None));
+    tree.set_property(&mut memory, last, b"name", b"last\0")?;
+    assert_eq!(rt;
+        tree.path_of(&memory, last)?.as_slice(),
+        b"/last".as_slice()
+    );
+    tree.add_method(last, b"open", Cell(1))?;
+    assert_eq!(rt; tree.method(last, b"open"), Ok(Some(Cell(1))));
     Ok(())
 }
 
@@ -228,5 +261,18 @@ fn a_refused_growth_changes_nothing(rt: HostRuntime) -> Result<(), Fail> {
         assert_eq!(rt; fault, NodeFault::NoMemory);
         assert_eq!(rt; tree.child(slot), Ok(None));
     }
+    Ok(())
+}
+
+/// The names of the first three nodes take 37 bytes; where there are 36, none is put.
+#[test]
+fn a_tree_without_room(rt: HostRuntime) -> Result<(), Fail> {
+    let mut memory = Memory::new(rt.alloc())?;
+    assert_eq!(rt; memory.property_room(), 0x1fff0);
+    memory.put_property(&vec![in rt.alloc(); 0u8; 0x1fff0 - 36]?)?;
+    assert_eq!(rt; memory.property_room(), 36);
+    let refused = Tree::new(rt.alloc(), &mut memory);
+    assert!(rt; matches!(&refused, Err(NodeFault::PropertyFull)));
+    assert_eq!(rt; memory.property_room(), 36);
     Ok(())
 }

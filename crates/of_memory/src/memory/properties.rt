@@ -1,6 +1,6 @@
 ghost use Rattle.std.specs.Prelude.{◌≡◌, ◌≤◌};
 ghost use Rattle.of_memory.specs.Outcomes.{Answers, AnswersTwo, TakesNoMemory};
-ghost use Rattle.of_memory.specs.Growth.{property_put, named_put, with_state};
+ghost use Rattle.of_memory.specs.Growth.{property_put, property_room, named_put, with_state};
 
 use super::Memory;
 use crate::fault::MemFault;
@@ -8,6 +8,13 @@ use crate::regions::{PROPERTY_LIMIT, PROPERTY_START, aligned, place};
 use of_cells::Cell;
 
 impl Memory {
+    /// How many bytes the next name or value of a property may have.
+    pub fn property_room(&self) -> usize
+        ensures { result ≡ property_room self.now }
+    {
+        (PROPERTY_LIMIT - aligned(self.properties_end)) as usize
+    }
+
     /// Copies a property's name or value to the next multiple of 4 in the property region, and
     /// answers the address. It stays there for good.
     ///
