@@ -19,7 +19,7 @@ use Rattle.of_source.specs.declared.keyword.Maker.TheVariants.{Named, External, 
 use Rattle.of_source.specs.declared.keyword.Quote.{Quote}
 use Rattle.of_source.specs.declared.keyword.Quote.TheVariants as quote
 use Rattle.of_source.specs.declared.nesting.Part.TheVariants as part
-use Rattle.of_source.specs.Scan.{Rest, Found, rest_at, last_line, next_word, plain_string, quoted_string}
+use Rattle.of_source.specs.Scan.{Rest, Found, rest_at, left_of, last_place, next_word, plain_string, quoted_string}
 use Rattle.of_source.specs.Numbers.{number_in}
 use Rattle.of_source.specs.Radix.{base_of}
 use Rattle.of_source.specs.Keywords.{keyword_named, ordinary_named}
@@ -28,7 +28,8 @@ use Rattle.of_source.specs.Items as item
 use Rattle.of_source.specs.Encodable.{AreEncodable, HasBytes, IsSound, defines, definitions, is_maker, most_definitions}
 use Rattle.of_source.specs.Names.{Own, own_in}
 use Rattle.of_source.specs.Nesting.{Nesting, in_definition, with_branch, with_part, is_straight, is_closed}
-use Rattle.of_source.specs.Steps.{State, Step, Goes, Ends, Fails, giving, opening, reading_on, with_next, with_name}
+use Rattle.of_source.specs.Steps.{State, Step, Goes, Ends, Fails, giving, opening, reading_on, at_next, with_next}
+use Rattle.of_source.specs.Steps.{with_name}
 use Rattle.of_source.specs.Steps.{name_found, with_string, if_open, if_ends, number_or_bad, named_code}
 use Rattle.of_source.specs.Steps.{number_word_step, number_items, number_token, comment_step, with_code, recurse_step}
 use Rattle.of_source.specs.Steps.{text_step, keyword_step, ordinary_step, listed_step, own_step, word_step, next_step}
@@ -142,7 +143,7 @@ kept_string : (s : State) (o : Found) (go : List ℕ → State → Step)
     → Kept (with_string s o go)
 kept_string s None go k = tt
 kept_string s (Some r) go k =
-    kept_unless (nat_lt 255 (length r.0)) _ _ (λ e. k r.0 (rest_at s.rest.line r.1) (grind (arith, nat_tests, e)))
+    kept_unless (nat_lt 255 (length r.0)) _ _ (λ e. k r.0 (left_of s.rest r.1) (grind (arith, nat_tests, e)))
 
 moved : (n : Nesting) (s : State) → Inv s → Inv (opening n s)
 moved n s h = record { few = h.few; known = h.known; latest = h.latest; bytes = h.bytes }
@@ -254,11 +255,11 @@ named_bare name n ds c h l e = either (own_in ds name) refl e
         let b = own_below n ds name k h t in
         subst IsBare q (own_bare k (omega (arith, b, l)))
 
-kept_code : (line : ℕ) (o : Option FCode) (name : List ℕ) (t : FCode) (s u : State) → is_naming t ≡ true → Inv u
+kept_code : (at : ℕ) (o : Option FCode) (name : List ℕ) (t : FCode) (s u : State) → is_naming t ≡ true → Inv u
     → u.known ≡ s.known → code_named s.known name ≡ o
-    → Kept (with_code line o (λ c. Goes (giving (item.Plain (naming t c) ∷ []) u)))
-kept_code line None name t s u g h k e = tt
-kept_code line (Some c) name t s u g h k e =
+    → Kept (with_code at o (λ c. Goes (giving (item.Plain (naming t c) ∷ []) u)))
+kept_code at None name t s u g h k e = tt
+kept_code at (Some c) name t s u g h k e =
     let f = counted u.items (item.Plain (naming t c) ∷ []) in
     given (item.Plain (naming t c) ∷ []) u h
     (λ l. one_more (item.Plain (naming t c))
@@ -273,11 +274,14 @@ kept_comment s (Some r) h = record { few = h.few; known = h.known; latest = h.la
 read : (r : Rest) (s : State) → Inv s → Inv (reading_on r s)
 read r s h = record { few = h.few; known = h.known; latest = h.latest; bytes = h.bytes }
 
-kept_bad : (line : ℕ) (n : Number) (s : State) → Inv s
-    → Kept (number_or_bad line n (λ x. Goes (giving (number_items x) s)))
-kept_bad line (Value x) s h = one (item.Plain (number_token x)) s h (number_bytes x)
-kept_bad line OutOfRange s h = tt
-kept_bad line NoNumber s h = tt
+kept_bad : (at : ℕ) (n : Number) (s : State) → Inv s
+    → Kept (number_or_bad at n (λ x. Goes (giving (number_items x) s)))
+kept_bad at (Value x) s h = one (item.Plain (number_token x)) s h (number_bytes x)
+kept_bad at OutOfRange s h = tt
+kept_bad at NoNumber s h = tt
+
+stand : (r : Rest) (s : State) → Inv s → Inv (at_next r s)
+stand r s h = record { few = h.few; known = h.known; latest = h.latest; bytes = h.bytes }
 
 own_call : (k : ℕ) (s : State) → Inv s → k < definitions s.items → Inv (giving (item.Plain (call (own_code k)) ∷ []) s)
 own_call k s h l =
@@ -322,14 +326,14 @@ kept_keyword last (keyword.Headers m) s g h = same s _ h refl refl refl
 kept_keyword last (keyword.Radix base) s g h = same s _ h refl refl refl
 kept_keyword last (keyword.NumberIn base) s g h =
     kept_next _ (next_word s.rest) _
-    (λ word r. kept_bad s.rest.line (number_in (base_of base) word) (reading_on r s) (read r s h))
+    (λ word r. kept_bad s.at (number_in (base_of base) word) (reading_on r s) (read r s h))
 kept_keyword last keyword.Character s g h =
     kept_next _ (next_word s.rest) _
     (λ word r. one (item.Plain (number_token (record { 0 = slice_index word 0 }))) (reading_on r s) (read r s h)
     (number_bytes (record { 0 = slice_index word 0 })))
 kept_keyword last (keyword.Text q) s g h = kept_text q s h
 kept_keyword last keyword.Colon s g h =
-    let n = with_part part.Definition s.rest.line s.nesting in
+    let n = with_part part.Definition s.at s.nesting in
     kept_unless (in_definition s.nesting.parts) _ _
     (λ e. kept_name last (opening n s) (next_word s.rest) _
     (λ name r l. open_more name s (reading_on r (opening n s)) item.Colon
@@ -345,7 +349,7 @@ kept_keyword last (keyword.Defining t) s g h =
 kept_keyword last keyword.Recurse s g h = kept_recurse s s.open_one refl h
 kept_keyword last (keyword.Naming t) s g h =
     kept_next _ (next_word s.rest) _
-    (λ name r. kept_code r.line (code_named s.known name) name t s (reading_on r s) g (read r s h) refl refl)
+    (λ name r. kept_code _ (code_named s.known name) name t s (reading_on r s) g (read r s h) refl refl)
 kept_keyword last keyword.Offset16 s g h =
     kept_if (is_straight s.nesting) _ _ (one (item.Plain (bare 0x0cc)) s h offset16_bytes)
 kept_keyword last (keyword.One t) s g h = one (item.Plain (call t)) s h (bare_bytes t (bare_good t g))
@@ -353,22 +357,22 @@ kept_keyword last (keyword.Two t u) s g h =
     let w = two_good t u g in
     two (item.Plain (call t)) (item.Plain (call u)) s h (bare_bytes t w.0) (bare_bytes u w.1)
 kept_keyword last keyword.If s g h =
-    kept_open (Some (with_branch s.rest.line s.nesting)) (item.If s.rest.line ∷ []) s h (one_more _ tt)
-kept_keyword last keyword.Else s g h = kept_open _ (item.Else s.rest.line ∷ []) s h (one_more _ tt)
+    kept_open (Some (with_branch s.at s.nesting)) (item.If s.at ∷ []) s h (one_more _ tt)
+kept_keyword last keyword.Else s g h = kept_open _ (item.Else s.at ∷ []) s h (one_more _ tt)
 kept_keyword last keyword.Then s g h = kept_open _ (item.Then ∷ []) s h (one_more _ tt)
 kept_keyword last keyword.Begin s g h =
-    kept_open (Some (with_part part.Begin s.rest.line s.nesting)) (item.Begin ∷ []) s h (one_more _ tt)
-kept_keyword last (keyword.Back z) s g h = kept_open _ (item.Back z s.rest.line ∷ []) s h (one_more _ tt)
+    kept_open (Some (with_part part.Begin s.at s.nesting)) (item.Begin ∷ []) s h (one_more _ tt)
+kept_keyword last (keyword.Back z) s g h = kept_open _ (item.Back z s.at ∷ []) s h (one_more _ tt)
 kept_keyword last keyword.Repeat s g h =
-    kept_open _ (item.Back false s.rest.line ∷ item.Then ∷ []) s h (two_more _ _ tt tt)
+    kept_open _ (item.Back false s.at ∷ item.Then ∷ []) s h (two_more _ _ tt tt)
 kept_keyword last (keyword.Do q) s g h =
-    kept_open (Some (with_part part.Do s.rest.line s.nesting)) (item.Do q s.rest.line ∷ []) s h (one_more _ tt)
-kept_keyword last (keyword.Loop q) s g h = kept_open _ (item.Loop q s.rest.line ∷ []) s h (one_more _ tt)
+    kept_open (Some (with_part part.Do s.at s.nesting)) (item.Do q s.at ∷ []) s h (one_more _ tt)
+kept_keyword last (keyword.Loop q) s g h = kept_open _ (item.Loop q s.at ∷ []) s h (one_more _ tt)
 kept_keyword last keyword.Leave s g h = kept_open _ (item.Leave ∷ []) s h (one_more _ tt)
 kept_keyword last keyword.Case s g h =
-    kept_open (Some (with_part part.Case s.rest.line s.nesting)) (item.Case ∷ []) s h (one_more _ tt)
-kept_keyword last keyword.Of s g h = kept_open _ (item.Of s.rest.line ∷ []) s h (one_more _ tt)
-kept_keyword last keyword.EndOf s g h = kept_open _ (item.EndOf s.rest.line ∷ []) s h (one_more _ tt)
+    kept_open (Some (with_part part.Case s.at s.nesting)) (item.Case ∷ []) s h (one_more _ tt)
+kept_keyword last keyword.Of s g h = kept_open _ (item.Of s.at ∷ []) s h (one_more _ tt)
+kept_keyword last keyword.EndOf s g h = kept_open _ (item.EndOf s.at ∷ []) s h (one_more _ tt)
 kept_keyword last keyword.EndCase s g h = kept_open _ (item.EndCase ∷ []) s h (one_more _ tt)
 
 kept_number : (s : State) (n : Number) → Inv s → Kept (number_word_step s n)
@@ -397,7 +401,7 @@ kept_word last word s h = kept_own last word s (own_in s.known word) refl h
 
 -- each word keeps it
 pub kept : (last : ℕ) (s : State) → Inv s → Kept (next_step last s)
-kept last s h = kept_next _ (next_word s.rest) _ (λ word r. kept_word last word (reading_on r s) (read r s h))
+kept last s h = kept_next _ (next_word s.rest) _ (λ word r. kept_word last word (at_next r s) (stand r s h))
 
 -- ---- a whole text
 
@@ -410,7 +414,7 @@ accepted_beyond z t Nothing src k h =
     ok_is : (x y : Source) → (let r : Result Source SourceFault = Ok x in r) ≡ Ok y → x ≡ y
     ok_is x y h = cc
 accepted_beyond z t (Bad l) src k h = absurd cc
-accepted_beyond z t (Word w r) src k h = absurd cc
+accepted_beyond z t (Word at w r) src k h = absurd cc
 
 accepted_step : (text : List ℕ) (z : OffsetSize) (st : Step) (next : State → Result Source SourceFault) (src : Source)
     → Kept st → ((t : State) → Inv t → next t ≡ Ok src → AreEncodable src.items)
@@ -423,7 +427,7 @@ accepted_words : (text : List ℕ) (z : OffsetSize) (n : ℕ) (s : State) (src :
     → words text z n s ≡ Ok src → AreEncodable src.items
 accepted_words text z zero s src k h = absurd cc
 accepted_words text z (suc n) s src k h =
-    accepted_step text z (next_step (last_line text) s) (words text z n) src (kept (last_line text) s k)
+    accepted_step text z (next_step (last_place text) s) (words text z n) src (kept (last_place text) s k)
     (λ t i e. accepted_words text z n t src i e) h
 
 accepted_if : (b : Bool) (x y : Result Source SourceFault) (src : Source)
@@ -442,15 +446,15 @@ begins r = record { few = omega arith; known = tt; latest = tt; bytes = λ e. no
 accepted_begun : (text : List ℕ) (b : Beyond) (src : Source) → begun text b ≡ Ok src → AreEncodable src.items
 accepted_begun text Nothing src h = absurd cc
 accepted_begun text (Bad l) src h = absurd cc
-accepted_begun text (Word w r) src h =
+accepted_begun text (Word at w r) src h =
     accepted_if _ _ _ src (accepted_words text size.Two (length text) (beginning r) src (begins r))
     (accepted_if _ _ _ src (accepted_words text size.One (length text) (beginning r) src (begins r))
-    (no_source (misplaced r.line 16 w) src)) h
+    (no_source (misplaced at 16 w) src)) h
 
 -- the tokens of an accepted source have bytes
 pub parsed_encodable : (text : List ℕ) (src : Source) → parsed text ≡ Ok src → AreEncodable src.items
 unfolding parsed
-parsed_encodable text src h = accepted_begun text (beyond (length text) (rest_at 1 text)) src h
+parsed_encodable text src h = accepted_begun text (beyond (length text) (rest_at 0 text)) src h
 
 -- what holds of an accepted source
 pub parsed_sound : (text : List ℕ) (src : Source) → parsed text ≡ Ok src → IsSound src.items

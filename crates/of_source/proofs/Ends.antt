@@ -16,36 +16,36 @@ pub last_or_reverse : (d e : ℕ) (xs : List ℕ) → 1 ≤ length xs → last_o
 last_or_reverse d e [] h = absurd (omega arith)
 last_or_reverse d e (x ∷ xs) h = ap (last_or d) (reverse-append (x ∷ []) xs) ∙ last_or_last d (reverse xs) x
 
-earliest_last : (line : ℕ) (fs : List Frame) (f : Frame)
-    → earliest_of line (fs ++ f ∷ []) ≡ (if nat_eq f.beneath 0 then f.line else line)
-earliest_last line [] f = refl
-earliest_last line (g ∷ []) f = refl
-earliest_last line (g ∷ h ∷ gs) f = earliest_last line (h ∷ gs) f
+earliest_last : (at : ℕ) (fs : List Frame) (f : Frame)
+    → earliest_of at (fs ++ f ∷ []) ≡ (if nat_eq f.beneath 0 then f.at else at)
+earliest_last at [] f = refl
+earliest_last at (g ∷ []) f = refl
+earliest_last at (g ∷ h ∷ gs) f = earliest_last at (h ∷ gs) f
 
-pub earliest_reverse : (line : ℕ) (e : Level) (ls : List Level) → 1 ≤ length ls
-    → earliest_of line (frames (reverse ls))
-    ≡ (if nat_eq (get_or ls 0 e).frame.beneath 0 then (get_or ls 0 e).frame.line else line)
-earliest_reverse line e [] h = absurd (omega arith)
-earliest_reverse line e (l ∷ ls) h =
-    ap (λ ms. earliest_of line (frames ms)) (reverse-append (l ∷ []) ls)
-    ∙ ap (earliest_of line) (map-append (λ (m : Level). m.frame) (reverse ls) (l ∷ []))
-    ∙ earliest_last line (frames (reverse ls)) l.frame
+pub earliest_reverse : (at : ℕ) (e : Level) (ls : List Level) → 1 ≤ length ls
+    → earliest_of at (frames (reverse ls))
+    ≡ (if nat_eq (get_or ls 0 e).frame.beneath 0 then (get_or ls 0 e).frame.at else at)
+earliest_reverse at e [] h = absurd (omega arith)
+earliest_reverse at e (l ∷ ls) h =
+    ap (λ ms. earliest_of at (frames ms)) (reverse-append (l ∷ []) ls)
+    ∙ ap (earliest_of at) (map-append (λ (m : Level). m.frame) (reverse ls) (l ∷ []))
+    ∙ earliest_last at (frames (reverse ls)) l.frame
 
-pub earliest_first : (line : ℕ) (e : Level) (ls : List Level) → 1 ≤ length ls → (get_or ls 0 e).frame.beneath ≡ 0
-    → (get_or ls 0 e).frame.line ≡ earliest_of line (frames (reverse ls))
-earliest_first line e ls h z =
-    sym (earliest_reverse line e ls h
-    ∙ at_zero (get_or ls 0 e).frame.beneath (get_or ls 0 e).frame.line line z)
+pub earliest_first : (at : ℕ) (e : Level) (ls : List Level) → 1 ≤ length ls → (get_or ls 0 e).frame.beneath ≡ 0
+    → (get_or ls 0 e).frame.at ≡ earliest_of at (frames (reverse ls))
+earliest_first at e ls h z =
+    sym (earliest_reverse at e ls h
+    ∙ at_zero (get_or ls 0 e).frame.beneath (get_or ls 0 e).frame.at at z)
   where
     at_zero : (n a b : ℕ) → n ≡ 0 → (if nat_eq n 0 then a else b) ≡ a
     at_zero zero a b h = refl
     at_zero (suc n) a b h = cc
 
-pub earliest_later : (line : ℕ) (e : Level) (ls : List Level) → 1 ≤ length ls
-    → ((get_or ls 0 e).frame.beneath ≡ 0 → ⊥) → line ≡ earliest_of line (frames (reverse ls))
-earliest_later line e ls h z =
-    sym (earliest_reverse line e ls h
-    ∙ above (get_or ls 0 e).frame.beneath (get_or ls 0 e).frame.line line z)
+pub earliest_later : (at : ℕ) (e : Level) (ls : List Level) → 1 ≤ length ls
+    → ((get_or ls 0 e).frame.beneath ≡ 0 → ⊥) → at ≡ earliest_of at (frames (reverse ls))
+earliest_later at e ls h z =
+    sym (earliest_reverse at e ls h
+    ∙ above (get_or ls 0 e).frame.beneath (get_or ls 0 e).frame.at at z)
   where
     above : (n a b : ℕ) → (n ≡ 0 → ⊥) → (if nat_eq n 0 then a else b) ≡ b
     above n a b h = grind (arith, nat_tests)

@@ -16,7 +16,7 @@ use Rattle.of_source.specs.declared.keyword.Keyword.{Keyword}
 use Rattle.of_source.specs.declared.keyword.Keyword.TheVariants as keyword
 use Rattle.of_source.specs.declared.keyword.Quote.{Quote}
 use Rattle.of_source.specs.declared.keyword.Quote.TheVariants as quote
-use Rattle.of_source.specs.Scan.{Rest, Found, rest_at, last_line, next_word, plain_string, quoted_string}
+use Rattle.of_source.specs.Scan.{Rest, Found, rest_at, left_of, last_place, next_word, plain_string, quoted_string}
 use Rattle.of_source.specs.Numbers.{number_in}
 use Rattle.of_source.specs.Radix.{base_of}
 use Rattle.of_source.specs.Keywords.{keyword_named, ordinary_named}
@@ -31,7 +31,7 @@ use Rattle.of_source.specs.Nesting.{with_branch, with_part, in_definition, in_lo
 use Rattle.of_source.specs.Shapes.{Shape, nothing, floor_of, around_part, around_of, is_even, closing, opens, run}
 use Rattle.of_source.specs.Shapes.{shape_of}
 use Rattle.of_source.specs.Names.{Own, own_in}
-use Rattle.of_source.specs.Steps.{State, Step, Goes, Ends, Fails, giving, opening, reading_on, with_next}
+use Rattle.of_source.specs.Steps.{State, Step, Goes, Ends, Fails, giving, opening, reading_on, at_next, with_next}
 use Rattle.of_source.specs.Steps.{with_name, name_found, with_string, if_open, if_ends, number_or_bad}
 use Rattle.of_source.specs.Steps.{number_word_step, number_items, number_token, comment_step, with_code, recurse_step}
 use Rattle.of_source.specs.Steps.{text_step, keyword_step, ordinary_step, listed_step, own_step, word_step, next_step}
@@ -97,7 +97,7 @@ kept_name last s (Some w) go k = short_name (nat_lt 31 (length w.0)) _ w.0 (read
 pub kept_string : (s : State) (o : Found) (go : List ℕ → State → Step)
     → ((bytes : List ℕ) (r : Rest) → Kept (go bytes (reading_on r s))) → Kept (with_string s o go)
 kept_string s None go k = tt
-kept_string s (Some r) go k = kept_unless (nat_lt 255 (length r.0)) _ _ (λ e. k r.0 (rest_at s.rest.line r.1))
+kept_string s (Some r) go k = kept_unless (nat_lt 255 (length r.0)) _ _ (λ e. k r.0 (left_of s.rest r.1))
 
 pub kept_open : (o : Option Nesting) (more : List Item) (s : State) → Inv s
     → ((n : Nesting) → o ≡ Some n → run more (shape_of s.nesting) ≡ Some (shape_of n)) → Kept (if_open o more s)
@@ -270,16 +270,16 @@ kept_comment : (s : State) (o : Found) → Inv s → Kept (comment_step s o)
 kept_comment s None h = tt
 kept_comment s (Some r) h = h
 
-kept_bad : (line : ℕ) (n : Number) (s : State) → Inv s
-    → Kept (number_or_bad line n (λ x. Goes (giving (number_items x) s)))
-kept_bad line (Value x) s h = plain (number_token x) s h
-kept_bad line OutOfRange s h = tt
-kept_bad line NoNumber s h = tt
+kept_bad : (at : ℕ) (n : Number) (s : State) → Inv s
+    → Kept (number_or_bad at n (λ x. Goes (giving (number_items x) s)))
+kept_bad at (Value x) s h = plain (number_token x) s h
+kept_bad at OutOfRange s h = tt
+kept_bad at NoNumber s h = tt
 
-kept_code : (line : ℕ) (o : Option FCode) (t : FCode) (s : State) → Inv s
-    → Kept (with_code line o (λ c. Goes (giving (item.Plain (naming t c) ∷ []) s)))
-kept_code line None t s h = tt
-kept_code line (Some c) t s h = plain (naming t c) s h
+kept_code : (at : ℕ) (o : Option FCode) (t : FCode) (s : State) → Inv s
+    → Kept (with_code at o (λ c. Goes (giving (item.Plain (naming t c) ∷ []) s)))
+kept_code at None t s h = tt
+kept_code at (Some c) t s h = plain (naming t c) s h
 
 kept_recurse : (s : State) (o : Option Own) → Inv s → Kept (recurse_step s o)
 kept_recurse s None h = tt
@@ -318,15 +318,15 @@ kept_keyword last keyword.LineComment s h = h
 kept_keyword last (keyword.Headers m) s h = h
 kept_keyword last (keyword.Radix base) s h = h
 kept_keyword last (keyword.NumberIn base) s h =
-    kept_next _ (next_word s.rest) _ (λ word r. kept_bad s.rest.line (number_in (base_of base) word) (reading_on r s) h)
+    kept_next _ (next_word s.rest) _ (λ word r. kept_bad s.at (number_in (base_of base) word) (reading_on r s) h)
 kept_keyword last keyword.Character s h = kept_next _ (next_word s.rest) _ (λ word r. plain _ (reading_on r s) h)
 kept_keyword last (keyword.Text q) s h = kept_text q s h
 kept_keyword last keyword.Colon s h =
-    let n = with_part part.Definition s.rest.line s.nesting in
+    let n = with_part part.Definition s.at s.nesting in
     kept_unless (in_definition s.nesting.parts) _ _
     (λ e. kept_name last (opening n s) (next_word s.rest) _
     (λ name r. given _ (reading_on r s) n h
-    (definition_opens s.rest.line s.nesting (making s.maker name (own_code (length s.known))) e)))
+    (definition_opens s.at s.nesting (making s.maker name (own_code (length s.known))) e)))
 kept_keyword last keyword.Semicolon s h =
     kept_ends (without_part part.Definition s.nesting) s h
     (λ n e. ap (option_and_then (run []))
@@ -336,40 +336,40 @@ kept_keyword last (keyword.Defining t) s h =
     (λ e. kept_name last s (next_word s.rest) _ (λ name r. plain_two _ _ (reading_on r s) h))
 kept_keyword last keyword.Recurse s h = kept_recurse s s.open_one h
 kept_keyword last (keyword.Naming t) s h =
-    kept_next _ (next_word s.rest) _ (λ name r. kept_code r.line (code_named s.known name) t (reading_on r s) h)
+    kept_next _ (next_word s.rest) _ (λ name r. kept_code _ (code_named s.known name) t (reading_on r s) h)
 kept_keyword last keyword.Offset16 s h = kept_if (is_straight s.nesting) _ _ (λ e. plain (bare 0x0cc) s h)
 kept_keyword last (keyword.One t) s h = plain (call t) s h
 kept_keyword last (keyword.Two t u) s h = plain_two (call t) (call u) s h
 kept_keyword last keyword.If s h =
-    kept_open _ (item.If s.rest.line ∷ []) s h
-    (λ n e. pushes (item.If s.rest.line) s.nesting (with_branch s.rest.line s.nesting) n
-    (one_more s.rest.line s.nesting) e)
+    kept_open _ (item.If s.at ∷ []) s h
+    (λ n e. pushes (item.If s.at) s.nesting (with_branch s.at s.nesting) n
+    (one_more s.at s.nesting) e)
 kept_keyword last keyword.Else s h =
-    kept_open _ (item.Else s.rest.line ∷ []) s h
-    (λ n e. else_closed s.rest.line s.nesting n (without_branch s.nesting) refl e)
+    kept_open _ (item.Else s.at ∷ []) s h
+    (λ n e. else_closed s.at s.nesting n (without_branch s.nesting) refl e)
 kept_keyword last keyword.Then s h = kept_open _ (item.Then ∷ []) s h (λ n e. then_closed s.nesting n e)
 kept_keyword last keyword.Begin s h =
     kept_open _ (item.Begin ∷ []) s h
-    (λ n e. pushes item.Begin s.nesting (with_part part.Begin s.rest.line s.nesting) n refl e)
+    (λ n e. pushes item.Begin s.nesting (with_part part.Begin s.at s.nesting) n refl e)
 kept_keyword last (keyword.Back z) s h =
-    kept_open _ (item.Back z s.rest.line ∷ []) s h
+    kept_open _ (item.Back z s.at ∷ []) s h
     (λ n e. ap (option_and_then (run [])) (begin_at s.nesting.branches s.nesting.parts n e))
 kept_keyword last keyword.Repeat s h =
-    kept_open _ (item.Back false s.rest.line ∷ item.Then ∷ []) s h
-    (λ n e. repeat_at s.rest.line s.nesting n (without_begin s.nesting) refl e)
+    kept_open _ (item.Back false s.at ∷ item.Then ∷ []) s h
+    (λ n e. repeat_at s.at s.nesting n (without_begin s.nesting) refl e)
 kept_keyword last (keyword.Do q) s h =
-    kept_open _ (item.Do q s.rest.line ∷ []) s h
-    (λ n e. pushes (item.Do q s.rest.line) s.nesting (with_part part.Do s.rest.line s.nesting) n refl e)
+    kept_open _ (item.Do q s.at ∷ []) s h
+    (λ n e. pushes (item.Do q s.at) s.nesting (with_part part.Do s.at s.nesting) n refl e)
 kept_keyword last (keyword.Loop q) s h =
-    kept_open _ (item.Loop q s.rest.line ∷ []) s h
+    kept_open _ (item.Loop q s.at ∷ []) s h
     (λ n e. ap (option_and_then (run [])) (part_at part.Do s.nesting.branches s.nesting.parts n (λ b c. refl) e))
 kept_keyword last keyword.Leave s h = kept_open _ (item.Leave ∷ []) s h (λ n e. leave_at s.nesting n e)
 kept_keyword last keyword.Case s h =
     kept_open _ (item.Case ∷ []) s h
-    (λ n e. pushes item.Case s.nesting (with_part part.Case s.rest.line s.nesting) n refl e)
-kept_keyword last keyword.Of s h = kept_open _ (item.Of s.rest.line ∷ []) s h (λ n e. of_at s.rest.line s.nesting n e)
+    (λ n e. pushes item.Case s.nesting (with_part part.Case s.at s.nesting) n refl e)
+kept_keyword last keyword.Of s h = kept_open _ (item.Of s.at ∷ []) s h (λ n e. of_at s.at s.nesting n e)
 kept_keyword last keyword.EndOf s h =
-    kept_open _ (item.EndOf s.rest.line ∷ []) s h
+    kept_open _ (item.EndOf s.at ∷ []) s h
     (λ n e. ap (option_and_then (run [])) (part_at part.Of s.nesting.branches s.nesting.parts n (λ b c. refl) e))
 kept_keyword last keyword.EndCase s h =
     kept_open _ (item.EndCase ∷ []) s h
@@ -398,7 +398,7 @@ kept_word last word s h = kept_own last word s (own_in s.known word) h
 
 -- each word keeps it
 pub kept : (last : ℕ) (s : State) → Inv s → Kept (next_step last s)
-kept last s h = kept_next _ (next_word s.rest) _ (λ word r. kept_word last word (reading_on r s) h)
+kept last s h = kept_next _ (next_word s.rest) _ (λ word r. kept_word last word (at_next r s) h)
 
 -- ---- a whole text
 
@@ -412,7 +412,7 @@ accepted_beyond z t Nothing src k h =
     ok_is : (x y : Source) → (let r : Result Source SourceFault = Ok x in r) ≡ Ok y → x ≡ y
     ok_is x y h = cc
 accepted_beyond z t (Bad l) src k h = absurd cc
-accepted_beyond z t (Word w r) src k h = absurd cc
+accepted_beyond z t (Word at w r) src k h = absurd cc
 
 accepted_step : (text : List ℕ) (z : OffsetSize) (st : Step) (next : State → Result Source SourceFault) (src : Source)
     → Kept st
@@ -426,7 +426,7 @@ accepted_words : (text : List ℕ) (z : OffsetSize) (n : ℕ) (s : State) (src :
     → words text z n s ≡ Ok src → run src.items nothing ≡ Some nothing
 accepted_words text z zero s src k h = absurd cc
 accepted_words text z (suc n) s src k h =
-    accepted_step text z (next_step (last_line text) s) (words text z n) src (kept (last_line text) s k)
+    accepted_step text z (next_step (last_place text) s) (words text z n) src (kept (last_place text) s k)
     (λ t i e. accepted_words text z n t src i e) h
 
 accepted_if : (b : Bool) (x y : Result Source SourceFault) (src : Source)
@@ -443,12 +443,12 @@ accepted_begun : (text : List ℕ) (b : Beyond) (src : Source) → begun text b 
     → run src.items nothing ≡ Some nothing
 accepted_begun text Nothing src h = absurd cc
 accepted_begun text (Bad l) src h = absurd cc
-accepted_begun text (Word w r) src h =
+accepted_begun text (Word at w r) src h =
     accepted_if _ _ _ src (accepted_words text size.Two (length text) (beginning r) src refl)
     (accepted_if _ _ _ src (accepted_words text size.One (length text) (beginning r) src refl)
-    (no_source (misplaced r.line 16 w) src)) h
+    (no_source (misplaced at 16 w) src)) h
 
 -- an accepted source's items are those of a whole nest
 pub parsed_nested : (text : List ℕ) (src : Source) → parsed text ≡ Ok src → IsNested src.items
 unfolding parsed
-parsed_nested text src h = nested src.items (accepted_begun text (beyond (length text) (rest_at 1 text)) src h)
+parsed_nested text src h = nested src.items (accepted_begun text (beyond (length text) (rest_at 0 text)) src h)

@@ -1,5 +1,5 @@
 -- A phrase that can stand where it does takes the source on to what is known behind it.
-use Rattle.std.proofs.Common.{◌≡◌, ◌≢◌, ℕ, ◌<◌, ◌≤◌, Bool, true, false, List, [], ◌∷◌, ◌++◌, length, Option, Some}
+use Rattle.std.proofs.Common.{◌≡◌, ◌≢◌, ℕ, ◌+◌, ◌<◌, ◌≤◌, Bool, true, false, List, [], ◌∷◌, ◌++◌, length, Option, Some}
 use Rattle.std.proofs.Common.{None, nat_lt, if◌then◌else◌, refl, sym, ap, subst, ◌∙◌, arith}
 use Rattle.std.specs.Prelude.{is_some}
 use Rattle.std.specs.List.{All}
@@ -26,25 +26,28 @@ use Rattle.of_source.specs.Nesting.{Nesting, with_branch, with_part, without_bra
 use Rattle.of_source.specs.Nesting.{then_without_branch, then_with_branch, opened_if, in_definition, in_loop, on_case}
 use Rattle.of_source.specs.Nesting.{is_straight}
 use Rattle.of_source.specs.Shapes.{Shape, nothing, run, shape_of}
-use Rattle.of_source.specs.Scan.{Rest, rest_at, next_word, Found}
+use Rattle.of_source.specs.Scan.{Rest, rest_at, left_of, start_of, next_word, Found}
 use Rattle.of_source.specs.Steps.{State, Step, Goes, giving, reading_on, with_next}
 use Rattle.of_source.specs.Steps.{with_name, name_found, with_string, with_code, if_open, if_ends, ended}
 use Rattle.of_source.specs.Steps.{number_or_bad, number_items, comment_step, code_named, recurse_step}
 use Rattle.of_source.specs.Steps.{keyword_step, number_word_step, ordinary_step, listed_step, own_step, word_step}
-use Rattle.of_source.specs.Phrases.{Phrase, Spelled, Known, after_blank, in_digits, taken, written, items_of, behind}
-use Rattle.of_source.specs.Phrases.{next_own, named}
+use Rattle.of_source.specs.Phrases.{Phrase, Spelled, Known, in_digits, taken, written, items_of, behind}
+use Rattle.of_source.specs.Phrases.{next_own, named, string_items}
 use Rattle.of_source.specs.Phrases as phrase
-use Rattle.of_source.specs.Written.{IsWord, IsName, IsWithin, LeaveOpen, IsOutside, IsStraight, own_of}
+use Rattle.of_source.specs.Written.{IsWord, AreBetween, IsBetween, IsName, IsWithin, LeaveOpen, IsOutside, IsStraight}
+use Rattle.of_source.specs.Written.{own_of}
 use Rattle.of_source.specs.Written.{IsKeyword, IsPlaced, IsFollowed}
-use Rattle.of_source.proofs.ReadingBack.{Parts, word_behind, line_left, plain_behind, quoted_behind, digits_behind}
+use Rattle.of_source.proofs.ReadingBack.{Parts, word_behind, left_behind, line_left, plain_behind, quoted_behind}
+use Rattle.of_source.proofs.ReadingBack.{digits_behind}
 use Rattle.of_source.proofs.Opening.{MayStand, then_goes, else_goes, back_goes, repeat_goes, semicolon_goes, loop_goes}
 use Rattle.of_source.proofs.Opening.{end_of_goes, end_case_goes, leave_goes, of_goes, colon_goes, outside_goes}
 use Rattle.of_source.proofs.Opening.{straight_goes}
 
--- the state at a text where this is known and open
-abbrev pub state_of : Known → Nesting → List ℕ → State
-state_of k n text = record {
-  rest = rest_at k.line text;
+-- the state of a word here, behind which this is left, where this is known and open
+abbrev pub state_at : ℕ → Rest → Known → Nesting → State
+state_at at r k n = record {
+  at = at;
+  rest = r;
   radix = k.radix;
   maker = k.maker;
   known = k.names;
@@ -53,13 +56,18 @@ state_of k n text = record {
   items = k.items;
 }
 
--- the source goes on with what is known, at this text
-pub record GoesOn (step : Step) (k : Known) (more : List ℕ) : Type 0 where
+-- the source goes on in one of these states
+pub record Reaches (step : Step) (to : ℕ → Nesting → State) : Type 0 where
+  pub at : ℕ
   pub nesting : Nesting
-  pub goes : step ≡ Goes (state_of k nesting more)
+  pub goes : step ≡ Goes (to at nesting)
 
-pub goes_by : (a b : Step) (k : Known) (more : List ℕ) → a ≡ b → GoesOn b k more → GoesOn a k more
-goes_by a b k more e h = record { nesting = h.nesting; goes = e ∙ h.goes }
+-- the source goes on with what is known, where this is left
+abbrev pub GoesOn : Step → Known → Rest → Type 0
+GoesOn step k r = Reaches step (λ at n. state_at at r k n)
+
+pub goes_by : (a b : Step) (k : Known) (r : Rest) → a ≡ b → GoesOn b k r → GoesOn a k r
+goes_by a b k r e h = record { at = h.at; nesting = h.nesting; goes = e ∙ h.goes }
 
 -- with more items
 abbrev pub with_items : List Item → Known → Known
@@ -67,92 +75,132 @@ with_items is k = record k { items = k.items ++ is }
 
 -- ---- words that read on
 
-next_by : (f : SourceFault) (line : ℕ) (word more : List ℕ) (go : List ℕ → Rest → Step) → IsWord word → Parts more
-    → with_next f (next_word (rest_at line (after_blank (word ++ more)))) go ≡ go word (rest_at line more)
-next_by f line word more go h p = ap (λ o. with_next f o go) (word_behind line word more h p)
+next_by : (f : SourceFault) (blanks : List ℕ) (at : ℕ) (word more : List ℕ) (go : List ℕ → Rest → Step)
+    → AreBetween blanks → IsWord word → Parts more
+    → with_next f (next_word (rest_at at ((blanks ++ word) ++ more))) go
+    ≡ go word (rest_at (at + length (blanks ++ word)) more)
+next_by f blanks at word more go b h p = ap (λ o. with_next f o go) (word_behind blanks at word more b h p)
 
-pub number_goes : (last : ℕ) (base : Radix) (word : List ℕ) (x : Cell) (k : Known) (n : Nesting) (more : List ℕ)
-    → IsWord word → number_in (base_of base) word ≡ Value x → Parts more
-    → GoesOn (keyword_step last (keyword.NumberIn base) (state_of k n (after_blank (word ++ more))))
-    (with_items (number_items x) k) more
-number_goes last base word x k n more h e p = record {
+pub number_goes : (last : ℕ) (base : Radix) (blanks word : List ℕ) (x : Cell) (at from : ℕ) (k : Known) (n : Nesting)
+    (more : List ℕ)
+    → AreBetween blanks → IsWord word → number_in (base_of base) word ≡ Value x → Parts more
+    → GoesOn (keyword_step last (keyword.NumberIn base) (state_at at (rest_at from ((blanks ++ word) ++ more)) k n))
+    (with_items (number_items x) k) (rest_at (from + length (blanks ++ word)) more)
+number_goes last base blanks word x at from k n more b h e p = record {
+  at = at;
   nesting = n;
   goes =
-      next_by (BadNumber k.line) k.line word more _ h p
-      ∙ ap (λ v. number_or_bad k.line v (λ c. Goes (giving (number_items c) (state_of k n more)))) e;
+      next_by (BadNumber at) blanks from word more _ b h p
+      ∙ ap (λ v. number_or_bad at v (λ c. Goes (giving (number_items c)
+      (state_at at (rest_at (from + length (blanks ++ word)) more) k n)))) e;
 }
 
-pub character_goes : (last b : ℕ) (word : List ℕ) (k : Known) (n : Nesting) (more : List ℕ) → IsWord (b ∷ word)
-    → Parts more
-    → GoesOn (keyword_step last keyword.Character (state_of k n (after_blank (b ∷ word ++ more))))
-    (with_items (number_items (record { 0 = b })) k) more
-character_goes last b word k n more h p =
-    let s = state_of k n (after_blank (b ∷ word ++ more)) in
-    record { nesting = n; goes = next_by (ended last s) k.line (b ∷ word) more _ h p }
+pub character_goes : (last b : ℕ) (blanks word : List ℕ) (at from : ℕ) (k : Known) (n : Nesting) (more : List ℕ)
+    → AreBetween blanks → IsWord (b ∷ word) → Parts more
+    → GoesOn (keyword_step last keyword.Character (state_at at (rest_at from ((blanks ++ b ∷ word) ++ more)) k n))
+    (with_items (number_items (record { 0 = b })) k) (rest_at (from + length (blanks ++ b ∷ word)) more)
+character_goes last b blanks word at from k n more c h p =
+    let s = state_at at (rest_at from ((blanks ++ b ∷ word) ++ more)) k n in
+    record { at = at; nesting = n; goes = next_by (ended last s) blanks from (b ∷ word) more _ c h p }
 
-pub naming_goes : (last : ℕ) (t : FCode) (name : List ℕ) (c : FCode) (k : Known) (n : Nesting) (more : List ℕ)
-    → IsWord name → code_named k.names name ≡ Some c → Parts more
-    → GoesOn (keyword_step last (keyword.Naming t) (state_of k n (after_blank (name ++ more))))
-    (with_items (item.Plain (naming t c) ∷ []) k) more
-naming_goes last t name c k n more h e p = record {
-  nesting = n;
-  goes =
-      next_by (ended last (state_of k n (after_blank (name ++ more)))) k.line name more _ h p
-      ∙ ap (λ o. with_code k.line o (λ d. Goes (giving (item.Plain (naming t d) ∷ []) (state_of k n more)))) e;
-}
+pub naming_goes : (last : ℕ) (t : FCode) (blanks name : List ℕ) (c : FCode) (at from : ℕ) (k : Known) (n : Nesting)
+    (more : List ℕ)
+    → AreBetween blanks → IsWord name → code_named k.names name ≡ Some c → Parts more
+    → GoesOn (keyword_step last (keyword.Naming t) (state_at at (rest_at from ((blanks ++ name) ++ more)) k n))
+    (with_items (item.Plain (naming t c) ∷ []) k) (rest_at (from + length (blanks ++ name)) more)
+naming_goes last t blanks name c at from k n more b h e p =
+    let s = state_at at (rest_at from ((blanks ++ name) ++ more)) k n in
+    let u = state_at at (rest_at (from + length (blanks ++ name)) more) k n in
+    record {
+      at = at;
+      nesting = n;
+      goes =
+          next_by (ended last s) blanks from name more _ b h p
+          ∙ ap (λ o. with_code (start_of s.rest) o (λ d. Goes (giving (item.Plain (naming t d) ∷ []) u))) e;
+    }
 
 short_string : (s : State) (bytes more : List ℕ) (f : Found) (go : List ℕ → State → Step) → f ≡ Some (bytes, more)
-    → length bytes ≤ 255 → with_string s f go ≡ go bytes (reading_on (rest_at s.rest.line more) s)
+    → length bytes ≤ 255 → with_string s f go ≡ go bytes (reading_on (left_of s.rest more) s)
 short_string s bytes more f go e l =
     let t : nat_lt 255 (length bytes) ≡ false = grind (arith, nat_tests) in
     ap (λ o. with_string s o go) e ∙ rw t refl
 
-pub text_goes : (last : ℕ) (q : Quote) (bytes : List ℕ) (k : Known) (n : Nesting) (more : List ℕ)
-    → length bytes ≤ 255 → IsWithin 34 bytes → Parts more
-    → GoesOn (keyword_step last (keyword.Text q) (state_of k n (after_blank (bytes ++ 34 ∷ more))))
-    (behind (phrase.Text q bytes) k) more
-text_goes last quote.Bytes bytes k n more l h p = record {
-  nesting = n;
-  goes = short_string (state_of k n (after_blank (bytes ++ 34 ∷ more))) bytes more _ _ (quoted_behind bytes more h p) l;
-}
-text_goes last quote.Plain bytes k n more l h p = record {
-  nesting = n;
-  goes = short_string (state_of k n (after_blank (bytes ++ 34 ∷ more))) bytes more _ _ (plain_behind 34 bytes more h) l;
-}
-text_goes last quote.Printed bytes k n more l h p = record {
-  nesting = n;
-  goes = short_string (state_of k n (after_blank (bytes ++ 34 ∷ more))) bytes more _ _ (plain_behind 34 bytes more h) l;
-}
+-- a string of these bytes is taken
+string_taken : (at from : ℕ) (k : Known) (n : Nesting) (bytes all more : List ℕ) (f : Found)
+    (go : List ℕ → State → Step)
+    → f ≡ Some (bytes, more) → length bytes ≤ 255
+    → with_string (state_at at (rest_at from (all ++ more)) k n) f go
+    ≡ go bytes (state_at at (rest_at (from + length all) more) k n)
+string_taken at from k n bytes all more f go e l =
+    short_string (state_at at (rest_at from (all ++ more)) k n) bytes more f go e l
+    ∙ ap (λ r. go bytes (state_at at r k n)) (left_behind from all more)
 
-pub bytes_go : (last : ℕ) (bytes : List ℕ) (k : Known) (n : Nesting) (more : List ℕ) → length bytes ≤ 255
-    → All (λ b. b < 256) bytes → Parts more
-    → GoesOn (keyword_step last (keyword.Text quote.Bytes) (state_of k n (taken (phrase.Bytes bytes) more)))
-    (behind (phrase.Bytes bytes) k) more
-bytes_go last bytes k n more l h p = record {
-  nesting = n;
-  goes = short_string (state_of k n (taken (phrase.Bytes bytes) more)) bytes more _ _ (digits_behind bytes more h p) l;
-}
-
-pub comment_goes : (last : ℕ) (bytes : List ℕ) (k : Known) (n : Nesting) (more : List ℕ) → IsWithin 41 bytes
-    → GoesOn (keyword_step last keyword.Comment (state_of k n (after_blank (bytes ++ 41 ∷ more))))
-    (with_items [] k) more
-comment_goes last bytes k n more h = record {
+pub text_goes : (last : ℕ) (q : Quote) (b : ℕ) (bytes : List ℕ) (at from : ℕ) (k : Known) (n : Nesting)
+    (more : List ℕ)
+    → IsBetween b → length bytes ≤ 255 → IsWithin 34 bytes → Parts more
+    → GoesOn (keyword_step last (keyword.Text q) (state_at at (rest_at from ((b ∷ bytes ++ 34 ∷ []) ++ more)) k n))
+    (with_items (string_items q bytes) k) (rest_at (from + length (b ∷ bytes ++ 34 ∷ [])) more)
+text_goes last quote.Bytes b bytes at from k n more s l h p = record {
+  at = at;
   nesting = n;
   goes =
-      ap (comment_step (state_of k n (after_blank (bytes ++ 41 ∷ more)))) (plain_behind 41 bytes more h)
-      ∙ ap (λ is. Goes (state_of (record k { items = is }) n more)) (sym (append-nil k.items));
+      string_taken at from k n bytes (b ∷ bytes ++ 34 ∷ []) more _ _ (quoted_behind b bytes more s h p) l;
+}
+text_goes last quote.Plain b bytes at from k n more s l h p = record {
+  at = at;
+  nesting = n;
+  goes =
+      string_taken at from k n bytes (b ∷ bytes ++ 34 ∷ []) more _ _ (plain_behind 34 b bytes more s h) l;
+}
+text_goes last quote.Printed b bytes at from k n more s l h p = record {
+  at = at;
+  nesting = n;
+  goes =
+      string_taken at from k n bytes (b ∷ bytes ++ 34 ∷ []) more _ _ (plain_behind 34 b bytes more s h) l;
+}
+
+pub bytes_go : (last b : ℕ) (bytes : List ℕ) (at from : ℕ) (k : Known) (n : Nesting) (more : List ℕ)
+    → IsBetween b → length bytes ≤ 255 → All (λ c. c < 256) bytes → Parts more
+    → GoesOn (keyword_step last (keyword.Text quote.Bytes)
+    (state_at at (rest_at from (taken (phrase.Bytes b bytes) ++ more)) k n))
+    (with_items (item.Plain (string bytes) ∷ []) k) (rest_at (from + length (taken (phrase.Bytes b bytes))) more)
+bytes_go last b bytes at from k n more s l h p = record {
+  at = at;
+  nesting = n;
+  goes =
+      string_taken at from k n bytes (taken (phrase.Bytes b bytes)) more _ _ (digits_behind b bytes more s h p) l;
+}
+
+-- nothing is known but the items, of which no more are
+no_items : (at : ℕ) (r : Rest) (k : Known) (n : Nesting)
+    → Goes (state_at at r k n) ≡ Goes (state_at at r (with_items [] k) n)
+no_items at r k n = ap (λ is. Goes (state_at at r (record k { items = is }) n)) (sym (append-nil k.items))
+
+pub comment_goes : (last b : ℕ) (bytes : List ℕ) (at from : ℕ) (k : Known) (n : Nesting) (more : List ℕ)
+    → IsBetween b → IsWithin 41 bytes
+    → GoesOn (keyword_step last keyword.Comment (state_at at (rest_at from ((b ∷ bytes ++ 41 ∷ []) ++ more)) k n))
+    (with_items [] k) (rest_at (from + length (b ∷ bytes ++ 41 ∷ [])) more)
+comment_goes last b bytes at from k n more s h = record {
+  at = at;
+  nesting = n;
+  goes =
+      ap (comment_step (state_at at (rest_at from ((b ∷ bytes ++ 41 ∷ []) ++ more)) k n))
+      (plain_behind 41 b bytes more s h)
+      ∙ ap (λ r. Goes (state_at at r k n)) (left_behind from (b ∷ bytes ++ 41 ∷ []) more)
+      ∙ no_items at (rest_at (from + length (b ∷ bytes ++ 41 ∷ [])) more) k n;
 }
 
 -- ---- definitions
 
-name_by : (last : ℕ) (name more : List ℕ) (k : Known) (n : Nesting) (go : List ℕ → State → Step) → IsName name
-    → Parts more
-    → with_name (name_found last (state_of k n (after_blank (name ++ more)))
-    (next_word (rest_at k.line (after_blank (name ++ more))))) go ≡ go name (state_of k n more)
-name_by last name more k n go h p =
+name_by : (last at from : ℕ) (blanks name more : List ℕ) (k : Known) (n : Nesting) (go : List ℕ → State → Step)
+    → AreBetween blanks → IsName name → Parts more
+    → with_name (name_found last (state_at at (rest_at from ((blanks ++ name) ++ more)) k n)
+    (next_word (rest_at from ((blanks ++ name) ++ more)))) go
+    ≡ go name (state_at at (rest_at (from + length (blanks ++ name)) more) k n)
+name_by last at from blanks name more k n go b h p =
     let t : nat_lt 31 (length name) ≡ false = short (length name) h.1 in
-    let s = state_of k n (after_blank (name ++ more)) in
-    ap (λ o. with_name (name_found last s o) go) (word_behind k.line name more h.0 p)
+    let s = state_at at (rest_at from ((blanks ++ name) ++ more)) k n in
+    ap (λ o. with_name (name_found last s o) go) (word_behind blanks from name more b h.0 p)
     ∙ rw t refl
   where
     short : (l : ℕ) → l ≤ 31 → nat_lt 31 l ≡ false
@@ -164,75 +212,103 @@ unless b x y h = rw h refl
 pub when_so : (b : Bool) (x y : Step) → b ≡ true → (if b then x else y) ≡ x
 when_so b x y h = rw h refl
 
-pub defining_goes : (last : ℕ) (t : FCode) (name : List ℕ) (k : Known) (n : Nesting) (more : List ℕ) → IsName name
-    → in_definition n.parts ≡ false → Parts more
-    → GoesOn (keyword_step last (keyword.Defining t) (state_of k n (after_blank (name ++ more))))
-    (behind (phrase.Defining t name) k) more
-defining_goes last t name k n more h e p = record {
+pub defining_goes : (last : ℕ) (t : FCode) (blanks name : List ℕ) (at from : ℕ) (k : Known) (n : Nesting)
+    (more word : List ℕ)
+    → AreBetween blanks → IsName name → in_definition n.parts ≡ false → Parts more
+    → GoesOn (keyword_step last (keyword.Defining t) (state_at at (rest_at from ((blanks ++ name) ++ more)) k n))
+    (behind word (phrase.Defining t blanks name) k) (rest_at (from + length (blanks ++ name)) more)
+defining_goes last t blanks name at from k n more word b h e p = record {
+  at = at;
   nesting = n;
-  goes = unless (in_definition n.parts) _ _ e ∙ name_by last name more k n _ h p;
+  goes = unless (in_definition n.parts) _ _ e ∙ name_by last at from blanks name more k n _ b h p;
 }
 
-pub colon_step_goes : (last : ℕ) (name : List ℕ) (k : Known) (n : Nesting) (more : List ℕ) → IsName name
-    → in_definition n.parts ≡ false → Parts more
-    → GoesOn (keyword_step last keyword.Colon (state_of k n (after_blank (name ++ more))))
-    (behind (phrase.Colon name) k) more
-colon_step_goes last name k n more h e p = record {
-  nesting = with_part part.Definition k.line n;
+pub colon_step_goes : (last : ℕ) (blanks name : List ℕ) (at from : ℕ) (k : Known) (n : Nesting) (more word : List ℕ)
+    → AreBetween blanks → IsName name → in_definition n.parts ≡ false → Parts more
+    → GoesOn (keyword_step last keyword.Colon (state_at at (rest_at from ((blanks ++ name) ++ more)) k n))
+    (behind word (phrase.Colon blanks name) k) (rest_at (from + length (blanks ++ name)) more)
+colon_step_goes last blanks name at from k n more word b h e p = record {
+  at = at;
+  nesting = with_part part.Definition at n;
   goes =
       unless (in_definition n.parts) _ _ e
-      ∙ name_by last name more k (with_part part.Definition k.line n) _ h p;
+      ∙ name_by last at from blanks name more k (with_part part.Definition at n) _ b h p;
 }
 
-pub semicolon_step_goes : (o : Option Nesting) (k : Known) (n : Nesting) (more : List ℕ) → is_some o ≡ true
-    → GoesOn (if_ends o (state_of k n more)) (behind phrase.Semicolon k) more
-semicolon_step_goes None k n more h = absurd cc
-semicolon_step_goes (Some m) k n more h = record { nesting = m; goes = refl }
+pub semicolon_step_goes : (o : Option Nesting) (at : ℕ) (r : Rest) (k : Known) (n : Nesting) (word : List ℕ)
+    → is_some o ≡ true → GoesOn (if_ends o (state_at at r k n)) (behind word phrase.Semicolon k) r
+semicolon_step_goes None at r k n word h = absurd cc
+semicolon_step_goes (Some m) at r k n word h = record { at = at; nesting = m; goes = refl }
 
-pub recurse_goes : (d : Own) (o : Option Own) (k : Known) (n : Nesting) (more : List ℕ) → o ≡ Some d
-    → GoesOn (recurse_step (state_of k n more) o) (with_items (phrase.recursion o) k) more
-recurse_goes d None k n more h = absurd cc
-recurse_goes d (Some e) k n more h = record { nesting = n; goes = refl }
+pub recurse_goes : (d : Own) (o : Option Own) (at : ℕ) (r : Rest) (k : Known) (n : Nesting) → o ≡ Some d
+    → GoesOn (recurse_step (state_at at r k n) o) (with_items (phrase.recursion o) k) r
+recurse_goes d None at r k n h = absurd cc
+recurse_goes d (Some e) at r k n h = record { at = at; nesting = n; goes = refl }
 
 -- ---- control structures
 
-opened : (o : Option Nesting) (is : List Item) (k : Known) (n : Nesting) (more : List ℕ) → is_some o ≡ true
-    → GoesOn (if_open o is (state_of k n more)) (with_items is k) more
-opened None is k n more h = absurd cc
-opened (Some m) is k n more h = record { nesting = m; goes = refl }
+opened : (o : Option Nesting) (is : List Item) (at : ℕ) (r : Rest) (k : Known) (n : Nesting) → is_some o ≡ true
+    → GoesOn (if_open o is (state_at at r k n)) (with_items is k) r
+opened None is at r k n h = absurd cc
+opened (Some m) is at r k n h = record { at = at; nesting = m; goes = refl }
 
 -- ---- one phrase
 
-own_goes : (last j : ℕ) (word : List ℕ) (k : Known) (n : Nesting) (more : List ℕ) → own_in k.names word ≡ Some j
-    → GoesOn (word_step last word (state_of k n more)) (behind (phrase.OwnWord j) k) more
+own_goes : (last j : ℕ) (word : List ℕ) (at : ℕ) (r : Rest) (k : Known) (n : Nesting)
+    → own_in k.names word ≡ Some j
+    → GoesOn (word_step last word (state_at at r k n)) (with_items (item.Plain (call (own_code j)) ∷ []) k) r
 unfolding word_step
-own_goes last j word k n more h = record { nesting = n; goes = ap (own_step last word (state_of k n more)) h }
+own_goes last j word at r k n h = record { at = at; nesting = n; goes = ap (own_step last word (state_at at r k n)) h }
 
 pub keyed : (last : ℕ) (word : List ℕ) (s : State) (key : Option Keyword) → own_in s.known word ≡ None
     → keyword_named word ≡ key → word_step last word s ≡ listed_step last word s key
 unfolding word_step
 keyed last word s key h e = ap (own_step last word s) h ∙ ap (listed_step last word s) e
 
-board_goes : (word : List ℕ) (c : FCode) (k : Known) (n : Nesting) (more : List ℕ) → ordinary_named word ≡ Some c
-    → GoesOn (ordinary_step word (state_of k n more) (ordinary_named word)) (behind (phrase.BoardWord c) k) more
-board_goes word c k n more h = record { nesting = n; goes = ap (ordinary_step word (state_of k n more)) h }
+board_goes : (word : List ℕ) (c : FCode) (at : ℕ) (r : Rest) (k : Known) (n : Nesting) → ordinary_named word ≡ Some c
+    → GoesOn (ordinary_step word (state_at at r k n) (ordinary_named word)) (with_items (item.Plain (call c) ∷ []) k) r
+board_goes word c at r k n h =
+    record { at = at; nesting = n; goes = ap (ordinary_step word (state_at at r k n)) h }
 
-digits_go : (word : List ℕ) (x : Cell) (k : Known) (n : Nesting) (more : List ℕ) → ordinary_named word ≡ None
+digits_go : (word : List ℕ) (x : Cell) (at : ℕ) (r : Rest) (k : Known) (n : Nesting) → ordinary_named word ≡ None
     → number_in (base_of k.radix) word ≡ Value x
-    → GoesOn (ordinary_step word (state_of k n more) (ordinary_named word)) (behind (phrase.Number x) k) more
-digits_go word x k n more h e = record {
+    → GoesOn (ordinary_step word (state_at at r k n) (ordinary_named word)) (with_items (number_items x) k) r
+digits_go word x at r k n h e = record {
+  at = at;
   nesting = n;
   goes =
-      ap (ordinary_step word (state_of k n more)) h ∙ ap (number_word_step (state_of k n more)) e;
+      ap (ordinary_step word (state_at at r k n)) h ∙ ap (number_word_step (state_at at r k n)) e;
 }
 
+-- what a phrase leaves
+abbrev pub Left : Step → ℕ → List ℕ → Phrase → Known → List ℕ → Type 0
+Left step from word p k more = GoesOn step (behind word p k) (rest_at (from + length (taken p)) more)
+
 -- a phrase of a keyword, where the keyword's word goes on
-by_keyword : (last : ℕ) (word : List ℕ) (key : Keyword) (k l : Known) (n : Nesting) (text more : List ℕ)
+by_keyword : (last from : ℕ) (word : List ℕ) (key : Keyword) (p : Phrase) (k : Known) (n : Nesting) (more : List ℕ)
     → own_in k.names word ≡ None → keyword_named word ≡ Some key
-    → GoesOn (keyword_step last key (state_of k n text)) l more
-    → GoesOn (word_step last word (state_of k n text)) l more
-by_keyword last word key k l n text more h e g =
-    goes_by _ (keyword_step last key (state_of k n text)) l more (keyed last word (state_of k n text) (Some key) h e) g
+    → Left (keyword_step last key (state_at k.at (rest_at from (taken p ++ more)) k n)) from word p k more
+    → Left (word_step last word (state_at k.at (rest_at from (taken p ++ more)) k n)) from word p k more
+by_keyword last from word key p k n more h e g =
+    let s = state_at k.at (rest_at from (taken p ++ more)) k n in
+    goes_by _ (keyword_step last key s) (behind word p k) _ (keyed last word s (Some key) h e) g
+
+-- a phrase that takes nothing leaves the text as it is
+still : (step : Step) (from : ℕ) (k : Known) (more : List ℕ) → GoesOn step k (rest_at from more)
+    → GoesOn step k (rest_at (from + 0) more)
+still step from k more h =
+    let e : from ≡ from + 0 = omega arith in
+    subst (λ (n : ℕ). GoesOn step k (rest_at n more)) e h
+
+-- the same, where nothing is taken
+by_word : (last from : ℕ) (word : List ℕ) (key : Keyword) (p : Phrase) (k : Known) (n : Nesting) (more : List ℕ)
+    → own_in k.names word ≡ None → keyword_named word ≡ Some key
+    → GoesOn (keyword_step last key (state_at k.at (rest_at from more) k n)) (behind word p k) (rest_at from more)
+    → GoesOn (word_step last word (state_at k.at (rest_at from more) k n)) (behind word p k) (rest_at (from + 0) more)
+by_word last from word key p k n more h e g =
+    let s = state_at k.at (rest_at from more) k n in
+    still _ from (behind word p k) more
+    (goes_by _ (keyword_step last key s) (behind word p k) (rest_at from more) (keyed last word s (Some key) h e) g)
 
 -- what is open here, by the items before
 outside_there : (k : Known) (n : Nesting) → run k.items nothing ≡ Some (shape_of n) → LeaveOpen k.items IsOutside
@@ -249,95 +325,124 @@ straight_there k n h l = straight_goes n (subst IsStraight (same (sym l.1 ∙ h)
     same : {o p : Shape} → Some o ≡ Some p → o ≡ p
     same h = cc
 
-offset16_goes : (last : ℕ) (k : Known) (n : Nesting) (more : List ℕ) → is_straight n ≡ true
-    → GoesOn (keyword_step last keyword.Offset16 (state_of k n more)) (behind phrase.Offset16 k) more
-offset16_goes last k n more h = record { nesting = n; goes = when_so (is_straight n) _ _ h }
+offset16_goes : (last : ℕ) (at : ℕ) (r : Rest) (k : Known) (n : Nesting) → is_straight n ≡ true
+    → GoesOn (keyword_step last keyword.Offset16 (state_at at r k n)) (with_items (item.Plain (bare 0x0cc) ∷ []) k) r
+offset16_goes last at r k n h = record { at = at; nesting = n; goes = when_so (is_straight n) _ _ h }
 
--- the items so far are those before, with none behind them
-no_items : (l : Known) (n : Nesting) (more : List ℕ)
-    → Goes (state_of l n more) ≡ Goes (state_of (with_items [] l) n more)
-no_items l n more = ap (λ is. Goes (state_of (record l { items = is }) n more)) (sym (append-nil l.items))
-
-line_comment_goes : (last : ℕ) (bytes : List ℕ) (k : Known) (n : Nesting) (more : List ℕ)
+line_comment_goes : (last : ℕ) (bytes : List ℕ) (at from : ℕ) (k : Known) (n : Nesting) (more : List ℕ)
     → All (λ b. b ≢ 10) bytes → IsFollowed (phrase.LineComment bytes) more
-    → GoesOn (keyword_step last keyword.LineComment (state_of k n (after_blank (bytes ++ more)))) (with_items [] k) more
-line_comment_goes last bytes k n more h f = record {
+    → GoesOn (keyword_step last keyword.LineComment (state_at at (rest_at from (bytes ++ more)) k n)) (with_items [] k)
+    (rest_at (from + length bytes) more)
+line_comment_goes last bytes at from k n more h f = record {
+  at = at;
   nesting = n;
-  goes = ap (λ t. Goes (state_of k n t)) (line_left bytes more h f) ∙ no_items k n more;
+  goes =
+      ap (λ t. Goes (state_at at (left_of (rest_at from (bytes ++ more)) t) k n)) (line_left bytes more h f)
+      ∙ ap (λ r. Goes (state_at at r k n)) (left_behind from bytes more)
+      ∙ no_items at (rest_at (from + length bytes) more) k n;
 }
 
 -- each phrase goes on, where it can stand
-pub phrase_goes : (last : ℕ) (word : List ℕ) (p : Phrase) (k : Known) (n : Nesting) (more : List ℕ)
+pub phrase_goes : (last from : ℕ) (word : List ℕ) (p : Phrase) (k : Known) (n : Nesting) (more : List ℕ)
     → own_in k.names word ≡ own_of p → IsKeyword word p → IsPlaced k word p → Parts more
     → run k.items nothing ≡ Some (shape_of n) → MayStand (items_of p k) n → IsFollowed p more
-    → GoesOn (word_step last word (state_of k n (taken p more))) (behind p k) more
-phrase_goes last word (phrase.OwnWord j) k n more h e w p r m f = own_goes last j word k n more h
-phrase_goes last word (phrase.BoardWord c) k n more h e w p r m f =
-    goes_by _ _ _ more (keyed last word (state_of k n more) None h e) (board_goes word c k n more w)
-phrase_goes last word (phrase.Number x) k n more h e w p r m f =
-    goes_by _ _ _ more (keyed last word (state_of k n more) None h e) (digits_go word x k n more w.0 w.1)
-phrase_goes last word (phrase.NumberIn base digits x) k n more h e w p r m f =
-    by_keyword last word _ k _ n _ more h e (number_goes last base digits x k n more w.0 w.1 p)
-phrase_goes last word (phrase.Character b bytes) k n more h e w p r m f =
-    by_keyword last word _ k _ n _ more h e (character_goes last b bytes k n more w p)
-phrase_goes last word (phrase.Short t) k n more h e w p r m f =
-    by_keyword last word _ k _ n _ more h e (record { nesting = n; goes = refl })
-phrase_goes last word (phrase.Pair t u) k n more h e w p r m f =
-    by_keyword last word _ k _ n _ more h e (record { nesting = n; goes = refl })
-phrase_goes last word (phrase.Text q bytes) k n more h e w p r m f =
-    by_keyword last word _ k _ n _ more h e (text_goes last q bytes k n more w.0 w.1 p)
-phrase_goes last word (phrase.Bytes bytes) k n more h e w p r m f =
-    by_keyword last word _ k _ n _ more h e (bytes_go last bytes k n more w.0 w.1 p)
-phrase_goes last word (phrase.Comment bytes) k n more h e w p r m f =
-    by_keyword last word _ k _ n _ more h e (comment_goes last bytes k n more w)
-phrase_goes last word (phrase.LineComment bytes) k n more h e w p r m f =
-    by_keyword last word _ k _ n _ more h e (line_comment_goes last bytes k n more w f)
-phrase_goes last word (phrase.Naming t name c) k n more h e w p r m f =
-    by_keyword last word _ k _ n _ more h e (naming_goes last t name c k n more w.0 w.1 p)
-phrase_goes last word (phrase.Headers maker) k n more h e w p r m f =
-    by_keyword last word _ k _ n _ more h e
-    (record { nesting = n; goes = no_items (record k { maker = maker }) n more })
-phrase_goes last word (phrase.Base base) k n more h e w p r m f =
-    by_keyword last word _ k _ n _ more h e
-    (record { nesting = n; goes = no_items (record k { radix = base }) n more })
-phrase_goes last word (phrase.Defining t name) k n more h e w p r m f =
-    by_keyword last word _ k _ n _ more h e (defining_goes last t name k n more w.0 (outside_there k n r w.1) p)
-phrase_goes last word (phrase.Colon name) k n more h e w p r m f =
+    → Left (word_step last word (state_at k.at (rest_at from (taken p ++ more)) k n)) from word p k more
+phrase_goes last from word (phrase.OwnWord j) k n more h e w p r m f =
+    let b = behind word (phrase.OwnWord j) k in
+    still _ from b more (own_goes last j word k.at (rest_at from more) k n h)
+phrase_goes last from word (phrase.BoardWord c) k n more h e w p r m f =
+    let s = state_at k.at (rest_at from more) k n in
+    let b = behind word (phrase.BoardWord c) k in
+    still _ from b more
+    (goes_by _ _ b (rest_at from more) (keyed last word s None h e) (board_goes word c k.at (rest_at from more) k n w))
+phrase_goes last from word (phrase.Number x) k n more h e w p r m f =
+    let s = state_at k.at (rest_at from more) k n in
+    let b = behind word (phrase.Number x) k in
+    still _ from b more
+    (goes_by _ _ b (rest_at from more) (keyed last word s None h e)
+    (digits_go word x k.at (rest_at from more) k n w.0 w.1))
+phrase_goes last from word (phrase.NumberIn base blanks digits x) k n more h e w p r m f =
+    by_keyword last from word _ (phrase.NumberIn base blanks digits x) k n more h e
+    (number_goes last base blanks digits x k.at from k n more w.0 w.1 w.2 p)
+phrase_goes last from word (phrase.Character blanks b bytes) k n more h e w p r m f =
+    by_keyword last from word _ (phrase.Character blanks b bytes) k n more h e
+    (character_goes last b blanks bytes k.at from k n more w.0 w.1 p)
+phrase_goes last from word (phrase.Short t) k n more h e w p r m f =
+    by_word last from word _ (phrase.Short t) k n more h e (record { at = k.at; nesting = n; goes = refl })
+phrase_goes last from word (phrase.Pair t u) k n more h e w p r m f =
+    by_word last from word _ (phrase.Pair t u) k n more h e (record { at = k.at; nesting = n; goes = refl })
+phrase_goes last from word (phrase.Text q b bytes) k n more h e w p r m f =
+    by_keyword last from word _ (phrase.Text q b bytes) k n more h e
+    (text_goes last q b bytes k.at from k n more w.0 w.1 w.2 p)
+phrase_goes last from word (phrase.Bytes b bytes) k n more h e w p r m f =
+    by_keyword last from word _ (phrase.Bytes b bytes) k n more h e
+    (bytes_go last b bytes k.at from k n more w.0 w.1 w.2 p)
+phrase_goes last from word (phrase.Comment b bytes) k n more h e w p r m f =
+    by_keyword last from word _ (phrase.Comment b bytes) k n more h e
+    (comment_goes last b bytes k.at from k n more w.0 w.1)
+phrase_goes last from word (phrase.LineComment bytes) k n more h e w p r m f =
+    by_keyword last from word _ (phrase.LineComment bytes) k n more h e
+    (line_comment_goes last bytes k.at from k n more w.0 f)
+phrase_goes last from word (phrase.Naming t blanks name c) k n more h e w p r m f =
+    by_keyword last from word _ (phrase.Naming t blanks name c) k n more h e
+    (naming_goes last t blanks name c k.at from k n more w.0 w.1 w.2 p)
+phrase_goes last from word (phrase.Headers maker) k n more h e w p r m f =
+    by_word last from word _ (phrase.Headers maker) k n more h e
+    (record { at = k.at; nesting = n; goes = no_items k.at (rest_at from more) (record k { maker = maker }) n })
+phrase_goes last from word (phrase.Base base) k n more h e w p r m f =
+    by_word last from word _ (phrase.Base base) k n more h e
+    (record { at = k.at; nesting = n; goes = no_items k.at (rest_at from more) (record k { radix = base }) n })
+phrase_goes last from word (phrase.Defining t blanks name) k n more h e w p r m f =
+    by_keyword last from word _ (phrase.Defining t blanks name) k n more h e
+    (defining_goes last t blanks name k.at from k n more word w.0 w.1 (outside_there k n r w.2) p)
+phrase_goes last from word (phrase.Colon blanks name) k n more h e w p r m f =
     let t = making k.maker name (own_code (length k.names)) in
-    by_keyword last word _ k _ n _ more h e (colon_step_goes last name k n more w (colon_goes n t m) p)
-phrase_goes last word phrase.Semicolon k n more h e w p r m f =
-    by_keyword last word _ k _ n _ more h e
-    (semicolon_step_goes (without_part part.Definition n) k n more (semicolon_goes n m))
-phrase_goes last word phrase.Recurse k n more h e w p r m f =
-    by_keyword last word _ k _ n _ more h e (recurse_goes w.0 k.open_one k n more w.1)
-phrase_goes last word phrase.Offset16 k n more h e w p r m f =
-    by_keyword last word _ k _ n _ more h e (offset16_goes last k n more (straight_there k n r w))
-phrase_goes last word phrase.If k n more h e w p r m f =
-    by_keyword last word _ k _ n _ more h e (opened (Some (with_branch k.line n)) _ k n more refl)
-phrase_goes last word phrase.Else k n more h e w p r m f =
-    by_keyword last word _ k _ n _ more h e
-    (opened (then_with_branch k.line (without_branch n)) _ k n more (else_goes k.line n m))
-phrase_goes last word phrase.Then k n more h e w p r m f =
-    by_keyword last word _ k _ n _ more h e (opened (without_branch n) _ k n more (then_goes n m))
-phrase_goes last word phrase.Begin k n more h e w p r m f =
-    by_keyword last word _ k _ n _ more h e (opened (Some (with_part part.Begin k.line n)) _ k n more refl)
-phrase_goes last word (phrase.Back z) k n more h e w p r m f =
-    by_keyword last word _ k _ n _ more h e (opened (without_begin n) _ k n more (back_goes z k.line n m))
-phrase_goes last word phrase.Repeat k n more h e w p r m f =
-    by_keyword last word _ k _ n _ more h e
-    (opened (then_without_branch (without_begin n)) _ k n more (repeat_goes k.line n m))
-phrase_goes last word (phrase.Do q) k n more h e w p r m f =
-    by_keyword last word _ k _ n _ more h e (opened (Some (with_part part.Do k.line n)) _ k n more refl)
-phrase_goes last word (phrase.Loop q) k n more h e w p r m f =
-    by_keyword last word _ k _ n _ more h e (opened (without_part part.Do n) _ k n more (loop_goes q k.line n m))
-phrase_goes last word phrase.Leave k n more h e w p r m f =
-    by_keyword last word _ k _ n _ more h e (opened (opened_if (in_loop n.parts) n) _ k n more (leave_goes n m))
-phrase_goes last word phrase.Case k n more h e w p r m f =
-    by_keyword last word _ k _ n _ more h e (opened (Some (with_part part.Case k.line n)) _ k n more refl)
-phrase_goes last word phrase.Of k n more h e w p r m f =
-    by_keyword last word _ k _ n _ more h e
-    (opened (opened_if (on_case n) (with_part part.Of k.line n)) _ k n more (of_goes k.line n m))
-phrase_goes last word phrase.EndOf k n more h e w p r m f =
-    by_keyword last word _ k _ n _ more h e (opened (without_part part.Of n) _ k n more (end_of_goes k.line n m))
-phrase_goes last word phrase.EndCase k n more h e w p r m f =
-    by_keyword last word _ k _ n _ more h e (opened (without_part part.Case n) _ k n more (end_case_goes n m))
+    by_keyword last from word _ (phrase.Colon blanks name) k n more h e
+    (colon_step_goes last blanks name k.at from k n more word w.0 w.1 (colon_goes n t m) p)
+phrase_goes last from word phrase.Semicolon k n more h e w p r m f =
+    by_word last from word _ phrase.Semicolon k n more h e
+    (semicolon_step_goes (without_part part.Definition n) k.at (rest_at from more) k n word (semicolon_goes n m))
+phrase_goes last from word phrase.Recurse k n more h e w p r m f =
+    by_word last from word _ phrase.Recurse k n more h e (recurse_goes w.0 k.open_one k.at (rest_at from more) k n w.1)
+phrase_goes last from word phrase.Offset16 k n more h e w p r m f =
+    by_word last from word _ phrase.Offset16 k n more h e
+    (offset16_goes last k.at (rest_at from more) k n (straight_there k n r w))
+phrase_goes last from word phrase.If k n more h e w p r m f =
+    by_word last from word _ phrase.If k n more h e
+    (opened (Some (with_branch k.at n)) _ k.at (rest_at from more) k n refl)
+phrase_goes last from word phrase.Else k n more h e w p r m f =
+    by_word last from word _ phrase.Else k n more h e
+    (opened (then_with_branch k.at (without_branch n)) _ k.at (rest_at from more) k n (else_goes k.at n m))
+phrase_goes last from word phrase.Then k n more h e w p r m f =
+    by_word last from word _ phrase.Then k n more h e
+    (opened (without_branch n) _ k.at (rest_at from more) k n (then_goes n m))
+phrase_goes last from word phrase.Begin k n more h e w p r m f =
+    by_word last from word _ phrase.Begin k n more h e
+    (opened (Some (with_part part.Begin k.at n)) _ k.at (rest_at from more) k n refl)
+phrase_goes last from word (phrase.Back z) k n more h e w p r m f =
+    by_word last from word _ (phrase.Back z) k n more h e
+    (opened (without_begin n) _ k.at (rest_at from more) k n (back_goes z k.at n m))
+phrase_goes last from word phrase.Repeat k n more h e w p r m f =
+    by_word last from word _ phrase.Repeat k n more h e
+    (opened (then_without_branch (without_begin n)) _ k.at (rest_at from more) k n (repeat_goes k.at n m))
+phrase_goes last from word (phrase.Do q) k n more h e w p r m f =
+    by_word last from word _ (phrase.Do q) k n more h e
+    (opened (Some (with_part part.Do k.at n)) _ k.at (rest_at from more) k n refl)
+phrase_goes last from word (phrase.Loop q) k n more h e w p r m f =
+    by_word last from word _ (phrase.Loop q) k n more h e
+    (opened (without_part part.Do n) _ k.at (rest_at from more) k n (loop_goes q k.at n m))
+phrase_goes last from word phrase.Leave k n more h e w p r m f =
+    by_word last from word _ phrase.Leave k n more h e
+    (opened (opened_if (in_loop n.parts) n) _ k.at (rest_at from more) k n (leave_goes n m))
+phrase_goes last from word phrase.Case k n more h e w p r m f =
+    by_word last from word _ phrase.Case k n more h e
+    (opened (Some (with_part part.Case k.at n)) _ k.at (rest_at from more) k n refl)
+phrase_goes last from word phrase.Of k n more h e w p r m f =
+    by_word last from word _ phrase.Of k n more h e
+    (opened (opened_if (on_case n) (with_part part.Of k.at n)) _ k.at (rest_at from more) k n (of_goes k.at n m))
+phrase_goes last from word phrase.EndOf k n more h e w p r m f =
+    by_word last from word _ phrase.EndOf k n more h e
+    (opened (without_part part.Of n) _ k.at (rest_at from more) k n (end_of_goes k.at n m))
+phrase_goes last from word phrase.EndCase k n more h e w p r m f =
+    by_word last from word _ phrase.EndCase k n more h e
+    (opened (without_part part.Case n) _ k.at (rest_at from more) k n (end_case_goes n m))

@@ -6,7 +6,7 @@ use Rattle.of_source.specs.declared.fault.SourceFault.TheVariants.{Unclosed, Unk
 use Rattle.of_source.specs.declared.keyword.Quote.TheVariants as quote
 use Rattle.of_source.specs.Items as item
 use Rattle.of_source.specs.Items.{string, bare}
-use Rattle.of_source.specs.Scan.{Found, rest_at, plain_string}
+use Rattle.of_source.specs.Scan.{Found, left_of, plain_string}
 use Rattle.of_source.specs.Steps.{State, Step, Goes, Ends, Fails, Steps, giving, reading_on, with_string, text_step}
 
 -- `."` prints behind the string of `s"`
@@ -29,8 +29,8 @@ printed_found : (s : State) (found : Found)
     ≡ and_printed (with_string s found (λ bytes t. Goes (giving (item.Plain (string bytes) ∷ []) t)))
 printed_found s None = refl
 printed_found s (Some r) =
-    printed_if (nat_lt 255 (length r.0)) (reading_on (rest_at s.rest.line r.1) s) (item.Plain (string r.0))
-    (item.Plain (bare 0x090)) (TooLong s.rest.line) refl
+    printed_if (nat_lt 255 (length r.0)) (reading_on (left_of s.rest r.1) s) (item.Plain (string r.0))
+    (item.Plain (bare 0x090)) (TooLong s.at) refl
 
 printed_after : (s : State) → text_step quote.Printed s ≡ and_printed (text_step quote.Plain s)
 printed_after s = printed_found s (plain_string 34 s.rest.text)

@@ -1,5 +1,5 @@
 -- Each word has a byte at least, so what is left of a text grows shorter.
-use Rattle.std.proofs.Common.{◌≡◌, ◌≤◌, ◌<◌, ℕ, zero, suc, Bool, true, false, List, [], ◌∷◌, length, drop, Option}
+use Rattle.std.proofs.Common.{◌≡◌, ◌+◌, ◌≤◌, ◌<◌, ℕ, zero, suc, Bool, true, false, List, [], ◌∷◌, length, drop, Option}
 use Rattle.std.proofs.Common.{Some, None, Ok, Err, nat_eq, nat_lt, if◌then◌else◌, arith, refl}
 use Rattle.std.proofs.lemmas.List.{length-drop}
 use Rattle.std.proofs.lemmas.Bool.Decides.{nat_tests}
@@ -20,10 +20,11 @@ use Rattle.of_source.specs.Names.{Own, own_in}
 use Rattle.of_source.specs.Nesting.{Nesting, with_part, in_definition, is_closed, is_straight}
 use Rattle.of_source.specs.Numbers.{number_in}
 use Rattle.of_source.specs.Radix.{base_of}
-use Rattle.of_source.specs.Scan.{Rest, rest_at, is_blank, line_behind, at_word, word_length, next_word, Found}
+use Rattle.of_source.specs.Scan.{Rest, rest_at, left_of, is_blank, at_word, word_length, next_word, Found}
 use Rattle.of_source.specs.Scan.{byte_before, up_to, behind_blank, byte_of, before_found, pairs, group, bytes_before}
 use Rattle.of_source.specs.Scan.{grouped, and_grouped, quoted, quoted_string, plain_string, line_end}
-use Rattle.of_source.specs.Steps.{State, Step, Goes, Ends, Fails, opening, reading_on, with_next, with_name}
+use Rattle.of_source.specs.Steps.{State, Step, Goes, Ends, Fails, opening, reading_on, at_next, with_next}
+use Rattle.of_source.specs.Steps.{with_name}
 use Rattle.of_source.specs.Steps.{name_found, with_string, if_open, if_ends, number_or_bad, number_word_step}
 use Rattle.of_source.specs.Steps.{comment_step, with_code, recurse_step, text_step, keyword_step, ordinary_step}
 use Rattle.of_source.specs.Steps.{listed_step, own_step, word_step, next_step, code_named}
@@ -133,21 +134,21 @@ abbrev pub NextWithin : ℕ → Option (List ℕ × Rest) → Type 0
 NextWithin n None = Unit {0}
 NextWithin n (Some w) = length w.1.text < n
 
-at_if : (b : Bool) (r : Rest) (line c : ℕ) (text : List ℕ) → length r.text ≤ length text
-    → length (if b then r else rest_at line (c ∷ text)).text ≤ length (c ∷ text)
-at_if true r line c text h = omega (arith, h)
-at_if false r line c text h = omega arith
+at_if : (b : Bool) (r : Rest) (at c : ℕ) (text : List ℕ) → length r.text ≤ length text
+    → length (if b then r else rest_at at (c ∷ text)).text ≤ length (c ∷ text)
+at_if true r at c text h = omega (arith, h)
+at_if false r at c text h = omega arith
 
-at_word-within : (line : ℕ) (text : List ℕ) → length (at_word line text).text ≤ length text
-at_word-within line [] = omega arith
-at_word-within line (b ∷ text) =
-    at_if (is_blank b) (at_word (line_behind b line) text) line b text (at_word-within (line_behind b line) text)
+at_word-within : (at : ℕ) (text : List ℕ) → length (at_word at text).text ≤ length text
+at_word-within at [] = omega arith
+at_word-within at (b ∷ text) =
+    at_if (is_blank b) (at_word (at + 1) text) at b text (at_word-within (at + 1) text)
 
-word_if : (n k line : ℕ) (word text : List ℕ) (b : Bool) → nat_eq k 0 ≡ b → length text ≤ n
+word_if : (n k at : ℕ) (word text : List ℕ) (b : Bool) → nat_eq k 0 ≡ b → length text ≤ n
     → (b ≡ false → 0 < length text)
-    → NextWithin n (if b then None else Some (word, rest_at line (drop k text)))
-word_if n k line word text true e l h = tt
-word_if n k line word text false e l h =
+    → NextWithin n (if b then None else Some (word, rest_at at (drop k text)))
+word_if n k at word text true e l h = tt
+word_if n k at word text false e l h =
     let some = h refl in
     let byte : 0 < k = grind (arith, nat_tests) in
     let d = length-drop k text in
@@ -159,9 +160,9 @@ some_byte (b ∷ text) h = omega arith
 
 pub next_word-within : (r : Rest) → NextWithin (length r.text) (next_word r)
 next_word-within r =
-    let at = at_word r.line r.text in
-    word_if (length r.text) (word_length at.text) at.line _ at.text (nat_eq (word_length at.text) 0) refl
-    (at_word-within r.line r.text) (some_byte at.text)
+    let w = at_word r.at r.text in
+    word_if (length r.text) (word_length w.text) (w.at + word_length w.text) _ w.text
+    (nat_eq (word_length w.text) 0) refl (at_word-within r.at r.text) (some_byte w.text)
 
 -- ---- steps
 
@@ -196,7 +197,7 @@ within_string : (n : ℕ) (s : State) (o : Found) (go : List ℕ → State → S
     → ((bytes : List ℕ) (r : Rest) → length r.text ≤ n → Within n (go bytes (reading_on r s)))
     → Within n (with_string s o go)
 within_string n s None go h k = tt
-within_string n s (Some r) go h k = within_if n (nat_lt 255 (length r.0)) _ _ tt (k r.0 (rest_at s.rest.line r.1) h)
+within_string n s (Some r) go h k = within_if n (nat_lt 255 (length r.0)) _ _ tt (k r.0 (left_of s.rest r.1) h)
 
 same : (s : State) → length s.rest.text ≤ length s.rest.text
 same s = omega arith
@@ -214,16 +215,16 @@ within_comment : (s : State) (o : Found) → FoundWithin (length s.rest.text) o
 within_comment s None h = tt
 within_comment s (Some r) h = h
 
-within_bad : (n line : ℕ) (x : Number) (go : Cell → Step) → ((c : Cell) → Within n (go c))
-    → Within n (number_or_bad line x go)
-within_bad n line (Value c) go k = k c
-within_bad n line OutOfRange go k = tt
-within_bad n line NoNumber go k = tt
+within_bad : (n at : ℕ) (x : Number) (go : Cell → Step) → ((c : Cell) → Within n (go c))
+    → Within n (number_or_bad at x go)
+within_bad n at (Value c) go k = k c
+within_bad n at OutOfRange go k = tt
+within_bad n at NoNumber go k = tt
 
-within_code : (n line : ℕ) (o : Option FCode) (go : FCode → Step) → ((c : FCode) → Within n (go c))
-    → Within n (with_code line o go)
-within_code n line None go k = tt
-within_code n line (Some c) go k = k c
+within_code : (n at : ℕ) (o : Option FCode) (go : FCode → Step) → ((c : FCode) → Within n (go c))
+    → Within n (with_code at o go)
+within_code n at None go k = tt
+within_code n at (Some c) go k = k c
 
 within_recurse : (s : State) (o : Option Own) → Within (length s.rest.text) (recurse_step s o)
 within_recurse s None = tt
@@ -245,13 +246,13 @@ within_keyword last (keyword.Headers m) s = same s
 within_keyword last (keyword.Radix base) s = same s
 within_keyword last (keyword.NumberIn base) s =
     within_next _ _ (next_word s.rest) _ (next_word-within s.rest)
-    (λ w r l. within_bad _ s.rest.line (number_in (base_of base) w) _ (λ c. l))
+    (λ w r l. within_bad _ s.at (number_in (base_of base) w) _ (λ c. l))
 within_keyword last keyword.Character s =
     within_next _ _ (next_word s.rest) _ (next_word-within s.rest) (λ w r l. l)
 within_keyword last (keyword.Text q) s = within_text q s
 within_keyword last keyword.Colon s =
     within_if _ (in_definition s.nesting.parts) _ _ tt
-    (within_name _ last (opening (with_part part.Definition s.rest.line s.nesting) s) (next_word s.rest) _
+    (within_name _ last (opening (with_part part.Definition s.at s.nesting) s) (next_word s.rest) _
     (next_word-within s.rest) (λ name r l. l))
 within_keyword last keyword.Semicolon s = within_ends _ s
 within_keyword last (keyword.Defining t) s =
@@ -260,7 +261,7 @@ within_keyword last (keyword.Defining t) s =
 within_keyword last keyword.Recurse s = within_recurse s s.open_one
 within_keyword last (keyword.Naming t) s =
     within_next _ _ (next_word s.rest) _ (next_word-within s.rest)
-    (λ w r l. within_code _ r.line (code_named s.known w) _ (λ c. l))
+    (λ w r l. within_code _ _ (code_named s.known w) _ (λ c. l))
 within_keyword last keyword.Offset16 s = within_if _ (is_straight s.nesting) _ _ (same s) tt
 within_keyword last (keyword.One t) s = same s
 within_keyword last (keyword.Two t u) s = same s
@@ -319,4 +320,4 @@ shrinks_next n f (Some w) go h k = narrower (length w.1.text) n (go w.0 w.1) h (
 
 pub shrinks : (last : ℕ) (s : State) → Shrinks (length s.rest.text) (next_step last s)
 shrinks last s =
-    shrinks_next _ _ (next_word s.rest) _ (next_word-within s.rest) (λ w r. within_word last w (reading_on r s))
+    shrinks_next _ _ (next_word s.rest) _ (next_word-within s.rest) (λ w r. within_word last w (at_next r s))

@@ -1,4 +1,4 @@
--- What stands open at a word: the lines of branches, and parts, both latest first. A part knows how many branches were
+-- What stands open at a word: the places of branches, and parts, both latest first. A part knows how many branches were
 -- open before it.
 use Rattle.std.specs.Prelude.{◌≡◌, ℕ, Bool, true, false, ◌&&◌, List, [], ◌∷◌, length, drop, map, Option, Some, None}
 use Rattle.std.specs.Prelude.{nat_eq, nat_lt, if◌then◌else◌}
@@ -8,7 +8,7 @@ use Rattle.of_source.specs.declared.nesting.Frame.{Frame}
 use Rattle.of_source.specs.declared.nesting.Level.{Level}
 use Rattle.of_source.specs.declared.nesting.Part.TheVariants.{Definition, Begin, Do, Case, Of}
 
--- the lines of the branches that are open, and the parts, latest first
+-- the places of the branches that are open, and the parts, latest first
 pub record Nesting : Type 0 where
   pub branches : List ℕ
   pub parts : List Frame
@@ -33,12 +33,12 @@ floor (f ∷ fs) = f.beneath
 
 -- a branch opens
 abbrev pub with_branch : ℕ → Nesting → Nesting
-with_branch line n = record { branches = line ∷ n.branches; parts = n.parts }
+with_branch at n = record { branches = at ∷ n.branches; parts = n.parts }
 
 -- a part opens
 abbrev pub with_part : Part → ℕ → Nesting → Nesting
-with_part p line n =
-    record { branches = n.branches; parts = record { part = p; line = line; beneath = length n.branches } ∷ n.parts }
+with_part p at n =
+    record { branches = n.branches; parts = record { part = p; at = at; beneath = length n.branches } ∷ n.parts }
 
 -- the latest branch closes, if it opened in the innermost part
 abbrev pub without_branch : Nesting → Option Nesting
@@ -107,15 +107,15 @@ abbrev pub last_or : ℕ → List ℕ → ℕ
 last_or d [] = d
 last_or d (x ∷ xs) = last_or x xs
 
--- the line of the earliest part, if it opened before each open branch; else this one
+-- the place of the earliest part, if it opened before each open branch; else this one
 abbrev pub earliest_of : ℕ → List Frame → ℕ
-earliest_of line [] = line
-earliest_of line (f ∷ []) = if nat_eq f.beneath 0 then f.line else line
-earliest_of line (f ∷ g ∷ fs) = earliest_of line (g ∷ fs)
+earliest_of at [] = at
+earliest_of at (f ∷ []) = if nat_eq f.beneath 0 then f.at else at
+earliest_of at (f ∷ g ∷ fs) = earliest_of at (g ∷ fs)
 
--- the line of the first opener that is still open, or this one
+-- the place of the first opener that is still open, or this one
 abbrev pub first_open : ℕ → Nesting → ℕ
-first_open line n = earliest_of (last_or line n.branches) n.parts
+first_open at n = earliest_of (last_or at n.branches) n.parts
 
 -- whether nothing is open
 abbrev pub is_closed : Nesting → Bool
@@ -130,8 +130,8 @@ then_without_branch (Some n) = without_branch n
 
 -- `else` opens a branch behind the one that it closes
 abbrev pub then_with_branch : ℕ → Option Nesting → Option Nesting
-then_with_branch line None = None
-then_with_branch line (Some n) = Some (with_branch line n)
+then_with_branch at None = None
+then_with_branch at (Some n) = Some (with_branch at n)
 
 -- what is open, where a word may stand there
 abbrev pub opened_if : Bool → Nesting → Option Nesting

@@ -4,7 +4,7 @@ use Rattle.of_stream.specs.declared.stream.OffsetSize.{OffsetSize}
 use Rattle.of_stream.specs.declared.stream.OffsetSize.TheVariants as size
 use Rattle.of_source.specs.declared.fault.SourceFault.{SourceFault}
 use Rattle.of_source.specs.Items.{Source}
-use Rattle.of_source.specs.Scan.{Rest, rest_at, last_line}
+use Rattle.of_source.specs.Scan.{Rest, rest_at, last_place}
 use Rattle.of_source.specs.Steps.{State, Step, Goes, Ends, Fails, next_step, beginning}
 use Rattle.of_source.specs.Parsing.{Word, beyond, is_word}
 use Rattle.of_source.specs.Parsing.{trailed}
@@ -16,7 +16,8 @@ behind_word (Goes s) next = next s
 behind_word (Ends s) next = None
 behind_word (Fails f) next = None
 
--- the state behind n words, in a text with this last line; none where one of them ends the source or fits nowhere
+-- the state behind n words, in a text whose last byte is at this place; none where one of them ends the source or fits
+-- nowhere
 abbrev pub behind_words : ℕ → ℕ → State → Option State
 behind_words last zero s = Some s
 behind_words last (suc n) s = behind_word (next_step last s) (behind_words last n)
@@ -31,12 +32,13 @@ outcome_at text z (Fails f) = Some (Err f)
 pub record IsDecided (text : List ℕ) (z : OffsetSize) (s : State) (r : Result Source SourceFault) : Type 0 where
   pub count : ℕ
   pub state : State
-  pub fits : behind_words (last_line text) count s ≡ Some state
-  pub decides : outcome_at text z (next_step (last_line text) state) ≡ Some r
+  pub fits : behind_words (last_place text) count s ≡ Some state
+  pub decides : outcome_at text z (next_step (last_place text) state) ≡ Some r
 
 -- the words of a text begin here, behind comments and this word
 abbrev pub BeginsWith : List ℕ → List ℕ → Rest → Type 0
-BeginsWith text name r = (w : List ℕ) × (beyond (length text) (rest_at 1 text) ≡ Word w r) × (is_word name w ≡ true)
+BeginsWith text name r =
+    (at : ℕ) × (w : List ℕ) × (beyond (length text) (rest_at 0 text) ≡ Word at w r) × (is_word name w ≡ true)
 
 -- a text is what the first of its words decides that doesn't let it go on, and no other word decides
 pub record FirstWordDecides : Type 0 where

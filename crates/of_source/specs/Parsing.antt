@@ -11,7 +11,8 @@ use Rattle.of_source.specs.declared.keyword.Keyword.TheVariants as keyword
 use Rattle.of_source.specs.Radix.{base_of}
 use Rattle.of_source.specs.declared.source.Beyond.{Beyond as HeldBeyond}
 use Rattle.of_source.specs.declared.source.Beyond.TheVariants as held
-use Rattle.of_source.specs.Scan.{Rest, rest_at, next_word, last_line, Found, plain_string, line_end}
+use Rattle.of_source.specs.Scan.{Rest, rest_at, left_of, start_of, next_word, last_place, Found}
+use Rattle.of_source.specs.Scan.{plain_string, line_end}
 use Rattle.of_source.specs.declared.number.Number.{Number}
 use Rattle.of_source.specs.declared.number.Number.TheVariants.{Value, OutOfRange, NoNumber}
 use Rattle.of_source.specs.Numbers.{number_in}
@@ -21,9 +22,9 @@ use Rattle.of_source.specs.Steps.{State, Step, Goes, Ends, Fails, beginning, end
 
 -- a word where none of its kind can stand
 abbrev pub misplaced_number : ℕ → Number → SourceFault
-misplaced_number line (Value x) = Unknown line
-misplaced_number line OutOfRange = BadNumber line
-misplaced_number line NoNumber = Unknown line
+misplaced_number at (Value x) = Unknown at
+misplaced_number at OutOfRange = BadNumber at
+misplaced_number at NoNumber = Unknown at
 
 -- a closer has nothing to close there
 abbrev pub is_closer : Keyword → Bool
@@ -41,53 +42,53 @@ is_closer _ = false
 
 -- a closer is unclosed, another keyword what it says as a number
 abbrev pub misplaced_keyword : ℕ → ℕ → List ℕ → Option Keyword → SourceFault
-misplaced_keyword line radix word (Some k) =
-    if is_closer k then Unclosed line else misplaced_number line (number_in radix word)
-misplaced_keyword line radix word None = misplaced_number line (number_in radix word)
+misplaced_keyword at radix word (Some k) =
+    if is_closer k then Unclosed at else misplaced_number at (number_in radix word)
+misplaced_keyword at radix word None = misplaced_number at (number_in radix word)
 
 -- what a word gives that stands where none of its kind can
 abbrev pub misplaced : ℕ → ℕ → List ℕ → SourceFault
-misplaced line radix word = misplaced_keyword line radix word (keyword_named word)
+misplaced at radix word = misplaced_keyword at radix word (keyword_named word)
 
--- a comment, or another word with what follows it; none at the end
+-- a word with its place and what follows it; none at the end
 pub data Beyond : Type 0 where
-  Word : List ℕ → Rest → Beyond
+  Word : ℕ → List ℕ → Rest → Beyond
   Nothing : Beyond
-  Bad : ℕ → Beyond  -- a comment without its end on its line
+  Bad : ℕ → Beyond  -- the place of a comment without its end on its line
 
 -- as the code holds it
 abbrev pub beyond_shown : HeldBeyond → Beyond
-beyond_shown (held.Word w r) = Word w.now r
+beyond_shown (held.Word w r) = Word w.at w.bytes.now r
 beyond_shown held.Nothing = Nothing
-beyond_shown (held.Bad l) = Bad l
+beyond_shown (held.Bad at) = Bad at
 
 -- whether a word is this name, whatever the case of its letters
 abbrev pub is_word : List ℕ → List ℕ → Bool
 is_word name word = str_eq_ignore_ascii_case name word
 
--- on behind a comment, where its end is on its line
-abbrev pub skipped_comment : ℕ → Found → (Rest → Beyond) → Beyond
-skipped_comment line None next = Bad line
-skipped_comment line (Some r) next = next (rest_at line r.1)
+-- on behind a comment at this place, where its end is on its line
+abbrev pub skipped_comment : ℕ → Rest → Found → (Rest → Beyond) → Beyond
+skipped_comment at r None next = Bad at
+skipped_comment at r (Some f) next = next (left_of r f.1)
 
 -- on behind a word that begins a comment
-abbrev pub beyond_word : Option (List ℕ × Rest) → (Rest → Beyond) → Beyond
-beyond_word None next = Nothing
-beyond_word (Some w) next =
-    if is_word (codes "(") w.0 then skipped_comment w.1.line (plain_string 41 w.1.text) next else
-    if is_word (codes "\\") w.0 then next (rest_at w.1.line (line_end w.1.text)) else
-    Word w.0 w.1
+abbrev pub beyond_word : ℕ → Option (List ℕ × Rest) → (Rest → Beyond) → Beyond
+beyond_word at None next = Nothing
+beyond_word at (Some w) next =
+    if is_word (codes "(") w.0 then skipped_comment at w.1 (plain_string 41 w.1.text) next else
+    if is_word (codes "\\") w.0 then next (left_of w.1 (line_end w.1.text)) else
+    Word at w.0 w.1
 
 -- past at most n comments
 abbrev pub beyond : ℕ → Rest → Beyond
 beyond zero r = Nothing
-beyond (suc n) r = beyond_word (next_word r) (beyond n)
+beyond (suc n) r = beyond_word (start_of r) (next_word r) (beyond n)
 
 -- behind the end of the source stand comments alone
 abbrev pub trailed : OffsetSize → State → Beyond → Result Source SourceFault
 trailed z s Nothing = Ok (record { size = z; items = s.items })
-trailed z s (Bad line) = Err (Unknown line)
-trailed z s (Word w r) = Err (misplaced r.line (base_of s.radix) w)
+trailed z s (Bad at) = Err (Unknown at)
+trailed z s (Word at w r) = Err (misplaced at (base_of s.radix) w)
 
 -- what a word's step makes of the whole text
 abbrev pub stepped : List ℕ → OffsetSize → Step → (State → Result Source SourceFault) → Result Source SourceFault
@@ -97,27 +98,27 @@ stepped text z (Fails f) next = Err f
 
 -- the words of a source, at most n
 abbrev pub words : List ℕ → OffsetSize → ℕ → State → Result Source SourceFault
-words text z zero s = Err (ended (last_line text) s)
-words text z (suc n) s = stepped text z (next_step (last_line text) s) (words text z n)
+words text z zero s = Err (ended (last_place text) s)
+words text z (suc n) s = stepped text z (next_step (last_place text) s) (words text z n)
 
 -- a text whose comments at the beginning were passed
 abbrev pub begun : List ℕ → Beyond → Result Source SourceFault
-begun text Nothing = Err (Unclosed (last_line text))
-begun text (Bad line) = Err (Unknown line)
-begun text (Word w r) =
+begun text Nothing = Err (Unclosed (last_place text))
+begun text (Bad at) = Err (Unknown at)
+begun text (Word at w r) =
     if is_word (codes "fcode-version2") w then words text size.Two (length text) (beginning r) else
     if is_word (codes "fcode-version1") w then words text size.One (length text) (beginning r) else
-    Err (misplaced r.line 16 w)
+    Err (misplaced at 16 w)
 
 -- the source that a text says, or the fault of its first word that fits nowhere; a word has a byte at least, so there
 -- are no more than bytes
 unfoldable pub parsed : List ℕ → Result Source SourceFault
-parsed text = begun text (beyond (length text) (rest_at 1 text))
+parsed text = begun text (beyond (length text) (rest_at 0 text))
 
 -- a text was refused for this fault, or for want of memory
 abbrev pub IsRefused : {A : Type 0} → Result A SourceFault → SourceFault → Type 0
 IsRefused r NoMemory = Unit {0}
-IsRefused r (Unclosed l) = r ≡ Err (Unclosed l)
-IsRefused r (Unknown l) = r ≡ Err (Unknown l)
-IsRefused r (BadNumber l) = r ≡ Err (BadNumber l)
-IsRefused r (TooLong l) = r ≡ Err (TooLong l)
+IsRefused r (Unclosed at) = r ≡ Err (Unclosed at)
+IsRefused r (Unknown at) = r ≡ Err (Unknown at)
+IsRefused r (BadNumber at) = r ≡ Err (BadNumber at)
+IsRefused r (TooLong at) = r ≡ Err (TooLong at)

@@ -1,5 +1,5 @@
 -- A source as a list of phrases: each is a word with all that it takes from the text.
-use Rattle.std.specs.Prelude.{ℕ, ◌/◌, ◌%◌, Bool, false, List, [], ◌∷◌, ◌++◌, length, codes, Option, Some, None}
+use Rattle.std.specs.Prelude.{ℕ, ◌+◌, ◌/◌, ◌%◌, Bool, false, List, [], ◌∷◌, ◌++◌, length, codes, Option, Some, None}
 use Rattle.std.specs.Char.{digit_char}
 use Rattle.of_cells.specs.declared.cells.Cell.{Cell}
 use Rattle.of_fcodes.specs.declared.codes.FCode.{FCode}
@@ -12,7 +12,6 @@ use Rattle.of_source.specs.declared.keyword.Radix.TheVariants.{Hexadecimal}
 use Rattle.of_source.specs.declared.keyword.Quote.{Quote}
 use Rattle.of_source.specs.declared.keyword.Quote.TheVariants as quote
 use Rattle.of_source.specs.Names.{Own}
-use Rattle.of_source.specs.Scan.{line_behind}
 use Rattle.of_source.specs.Items.{Item, own_code, call, string, naming, making, bare}
 use Rattle.of_source.specs.Items as item
 use Rattle.of_source.specs.Steps.{number_items, known_with}
@@ -22,19 +21,19 @@ pub data Phrase : Type 0 where
   OwnWord : ℕ → Phrase  -- the definition of this number
   BoardWord : FCode → Phrase
   Number : Cell → Phrase  -- in the radix in force
-  NumberIn : Radix → List ℕ → Cell → Phrase  -- `h#` or `d#` and a number
-  Character : ℕ → List ℕ → Phrase  -- `char` or `[char]` and a word, of which the first byte counts
+  NumberIn : Radix → List ℕ → List ℕ → Cell → Phrase  -- `h#` or `d#`, blanks and a number
+  Character : List ℕ → ℕ → List ℕ → Phrase  -- `char` or `[char]`, blanks and a word, of which the first byte counts
   Short : FCode → Phrase  -- a word that stands for this one, as `true`
   Pair : FCode → FCode → Phrase  -- a word that stands for these two, as `1+`
-  Text : Quote → List ℕ → Phrase  -- `"`, `s"` or `."` and a string as it is
-  Bytes : List ℕ → Phrase  -- `"` and a string as hexadecimal digits
-  Comment : List ℕ → Phrase  -- `(` and bytes up to `)`
+  Text : Quote → ℕ → List ℕ → Phrase  -- `"`, `s"` or `."`, a blank and a string as it is
+  Bytes : ℕ → List ℕ → Phrase  -- `"`, a blank and a string as hexadecimal digits
+  Comment : ℕ → List ℕ → Phrase  -- `(`, a blank and bytes up to `)`
   LineComment : List ℕ → Phrase  -- `\` and bytes up to the end of the line
-  Naming : FCode → List ℕ → FCode → Phrase  -- `'`, `[']` or `to` and a name, which stands for this FCode
+  Naming : FCode → List ℕ → List ℕ → FCode → Phrase  -- `'`, `[']` or `to`, blanks and a name of this FCode
   Headers : Maker → Phrase
   Base : Radix → Phrase  -- `hex` or `decimal`
-  Defining : FCode → List ℕ → Phrase  -- a defining word and a name
-  Colon : List ℕ → Phrase  -- `:` and a name
+  Defining : FCode → List ℕ → List ℕ → Phrase  -- a defining word, blanks and a name
+  Colon : List ℕ → List ℕ → Phrase  -- `:`, blanks and a name
   Semicolon : Phrase
   Recurse : Phrase
   Offset16 : Phrase
@@ -65,31 +64,27 @@ pub record Ending : Type 0 where
 
 -- ---- as text
 
--- a blank, and then this text
-abbrev pub after_blank : List ℕ → List ℕ
-after_blank text = 0x20 ∷ text
+-- two hexadecimal digits for each byte
+abbrev pub in_digits : List ℕ → List ℕ
+in_digits [] = []
+in_digits (b ∷ bytes) = digit_char (b / 16) ∷ digit_char (b % 16) ∷ in_digits bytes
 
--- two hexadecimal digits for each byte, and then this text
-abbrev pub in_digits : List ℕ → List ℕ → List ℕ
-in_digits [] more = more
-in_digits (b ∷ bytes) more = digit_char (b / 16) ∷ digit_char (b % 16) ∷ in_digits bytes more
-
--- what a phrase takes from the text behind its word, and then this text
-abbrev pub taken : Phrase → List ℕ → List ℕ
-taken (NumberIn base word x) more = after_blank (word ++ more)
-taken (Character b word) more = after_blank (b ∷ word ++ more)
-taken (Text q bytes) more = after_blank (bytes ++ 34 ∷ more)
-taken (Bytes bytes) more = after_blank (34 ∷ 40 ∷ in_digits bytes (41 ∷ 34 ∷ more))
-taken (Comment bytes) more = after_blank (bytes ++ 41 ∷ more)
-taken (LineComment bytes) more = after_blank (bytes ++ more)
-taken (Naming t name c) more = after_blank (name ++ more)
-taken (Defining t name) more = after_blank (name ++ more)
-taken (Colon name) more = after_blank (name ++ more)
-taken _ more = more
+-- what a phrase takes from the text behind its word
+abbrev pub taken : Phrase → List ℕ
+taken (NumberIn base blanks word x) = blanks ++ word
+taken (Character blanks b word) = blanks ++ b ∷ word
+taken (Text q blank bytes) = blank ∷ bytes ++ 34 ∷ []
+taken (Bytes blank bytes) = blank ∷ 34 ∷ 40 ∷ in_digits bytes ++ 41 ∷ 34 ∷ []
+taken (Comment blank bytes) = blank ∷ bytes ++ 41 ∷ []
+taken (LineComment bytes) = bytes
+taken (Naming t blanks name c) = blanks ++ name
+taken (Defining t blanks name) = blanks ++ name
+taken (Colon blanks name) = blanks ++ name
+taken _ = []
 
 -- a phrase behind its blanks, and then this text
 abbrev pub written : Spelled → List ℕ → List ℕ
-written p more = p.blanks ++ (p.word ++ taken p.phrase more)
+written p more = p.blanks ++ (p.word ++ (taken p.phrase ++ more))
 
 -- phrases, and the end of the source
 abbrev pub all_written : List Spelled → Ending → List ℕ
@@ -109,16 +104,16 @@ text_of z ps e = version_word z ++ all_written ps e
 
 -- what is known at a phrase
 pub record Known : Type 0 where
-  pub line : ℕ  -- on which its word stands
+  pub at : ℕ  -- the place of its word
   pub radix : Radix
   pub maker : Maker
   pub names : List Own  -- the definitions that can be named, latest first
   pub open_one : Option Own  -- the definition that is open
   pub items : List Item  -- the items before it
 
--- at the beginning of a source
+-- behind the word that begins a source
 abbrev pub nothing_known : Known
-nothing_known = record { line = 1; radix = Hexadecimal; maker = Named; names = []; open_one = None; items = [] }
+nothing_known = record { at = 14; radix = Hexadecimal; maker = Named; names = []; open_one = None; items = [] }
 
 -- a string, which `."` also prints
 abbrev pub string_items : Quote → List ℕ → List Item
@@ -140,34 +135,34 @@ abbrev pub items_of : Phrase → Known → List Item
 items_of (OwnWord n) k = item.Plain (call (own_code n)) ∷ []
 items_of (BoardWord c) k = item.Plain (call c) ∷ []
 items_of (Number x) k = number_items x
-items_of (NumberIn base word x) k = number_items x
-items_of (Character b word) k = number_items (record { 0 = b })
+items_of (NumberIn base blanks word x) k = number_items x
+items_of (Character blanks b word) k = number_items (record { 0 = b })
 items_of (Short t) k = item.Plain (call t) ∷ []
 items_of (Pair t u) k = item.Plain (call t) ∷ item.Plain (call u) ∷ []
-items_of (Text q bytes) k = string_items q bytes
-items_of (Bytes bytes) k = item.Plain (string bytes) ∷ []
-items_of (Comment bytes) k = []
+items_of (Text q blank bytes) k = string_items q bytes
+items_of (Bytes blank bytes) k = item.Plain (string bytes) ∷ []
+items_of (Comment blank bytes) k = []
 items_of (LineComment bytes) k = []
-items_of (Naming t name c) k = item.Plain (naming t c) ∷ []
+items_of (Naming t blanks name c) k = item.Plain (naming t c) ∷ []
 items_of (Headers m) k = []
 items_of (Base base) k = []
-items_of (Defining t name) k = named name k ∷ item.Plain (call t) ∷ []
-items_of (Colon name) k = named name k ∷ item.Colon ∷ []
+items_of (Defining t blanks name) k = named name k ∷ item.Plain (call t) ∷ []
+items_of (Colon blanks name) k = named name k ∷ item.Colon ∷ []
 items_of Semicolon k = item.Semicolon ∷ []
 items_of Recurse k = recursion k.open_one
 items_of Offset16 k = item.Plain (bare 0x0cc) ∷ []
-items_of If k = item.If k.line ∷ []
-items_of Else k = item.Else k.line ∷ []
+items_of If k = item.If k.at ∷ []
+items_of Else k = item.Else k.at ∷ []
 items_of Then k = item.Then ∷ []
 items_of Begin k = item.Begin ∷ []
-items_of (Back z) k = item.Back z k.line ∷ []
-items_of Repeat k = item.Back false k.line ∷ item.Then ∷ []
-items_of (Do q) k = item.Do q k.line ∷ []
-items_of (Loop q) k = item.Loop q k.line ∷ []
+items_of (Back z) k = item.Back z k.at ∷ []
+items_of Repeat k = item.Back false k.at ∷ item.Then ∷ []
+items_of (Do q) k = item.Do q k.at ∷ []
+items_of (Loop q) k = item.Loop q k.at ∷ []
 items_of Leave k = item.Leave ∷ []
 items_of Case k = item.Case ∷ []
-items_of Of k = item.Of k.line ∷ []
-items_of EndOf k = item.EndOf k.line ∷ []
+items_of Of k = item.Of k.at ∷ []
+items_of EndOf k = item.EndOf k.at ∷ []
 items_of EndCase k = item.EndCase ∷ []
 
 -- a definition of this name, with the next number
@@ -178,28 +173,26 @@ next_own name k = record { name = name; number = length k.names }
 abbrev pub learned : Phrase → Known → Known
 learned (Headers m) k = record k { maker = m }
 learned (Base base) k = record k { radix = base }
-learned (Defining t name) k = record k { names = next_own name k ∷ k.names }
-learned (Colon name) k = record k { open_one = Some (next_own name k) }
+learned (Defining t blanks name) k = record k { names = next_own name k ∷ k.names }
+learned (Colon blanks name) k = record k { open_one = Some (next_own name k) }
 learned Semicolon k = record k { names = known_with k.open_one k.names; open_one = None }
 learned _ k = k
 
--- what is known behind a phrase
-abbrev pub behind : Phrase → Known → Known
-behind p k = record (learned p k) { items = k.items ++ items_of p k }
-
--- the line on which stands what follows these bytes
-abbrev pub line_after : List ℕ → ℕ → ℕ
-line_after [] line = line
-line_after (b ∷ bytes) line = line_after bytes (line_behind b line)
+-- what is known behind a phrase whose word is this
+abbrev pub behind : List ℕ → Phrase → Known → Known
+behind word p k = record (learned p k) {
+  at = k.at + length word + length (taken p);
+  items = k.items ++ items_of p k;
+}
 
 -- at the word behind these blanks
 abbrev pub moved : List ℕ → Known → Known
-moved blanks k = record k { line = line_after blanks k.line }
+moved blanks k = record k { at = k.at + length blanks }
 
 -- what is known behind phrases
 abbrev pub all_behind : List Spelled → Known → Known
 all_behind [] k = k
-all_behind (p ∷ ps) k = all_behind ps (behind p.phrase (moved p.blanks k))
+all_behind (p ∷ ps) k = all_behind ps (behind p.word p.phrase (moved p.blanks k))
 
 -- the items of a source of these phrases
 abbrev pub items_in : List Spelled → List Item

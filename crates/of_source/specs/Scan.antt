@@ -1,30 +1,35 @@
--- The words and strings of a source text, and the lines that they stand on.
-use Rattle.std.specs.Prelude.{ℕ, zero, suc, ◌+◌, ◌*◌, List, [], ◌∷◌, ◌++◌, length, take, drop, take_while, Bool, not}
+-- The words and strings of a source text, and where they stand: a place is how many bytes of the text stand before it.
+use Rattle.std.specs.Prelude.{ℕ, zero, suc, ◌+◌, ◌-◌, ◌*◌, List, [], ◌∷◌, ◌++◌, length, take, drop, take_while, Bool}
+use Rattle.std.specs.Prelude.{not}
 use Rattle.std.specs.Prelude.{Option, Some, None, nat_eq, nat_le, if◌then◌else◌}
 use Rattle.std.specs.Borrow.{Bor}
 use Rattle.of_format.specs.Digits.{digit_value}
 
--- what is left of a text, and the line that it begins on
+-- what is left of a text, and the place at which it begins
 pub record Rest : Type 0 where
-  pub line : ℕ
+  pub at : ℕ
   pub text : List ℕ
 
--- a text that begins on this line
+-- a text that begins at this place
 abbrev pub rest_at : ℕ → List ℕ → Rest
-rest_at line text = record { line = line; text = text }
+rest_at at text = record { at = at; text = text }
+
+-- what is left where these bytes are: as many bytes on as were read
+abbrev pub left_of : Rest → List ℕ → Rest
+left_of r text = rest_at (r.at + (length r.text - length text)) text
 
 -- bytes up to 0x20 separate words
 abbrev pub is_blank : ℕ → Bool
 is_blank b = nat_le b 0x20
 
--- the line on which stands what follows a byte
-abbrev pub line_behind : ℕ → ℕ → ℕ
-line_behind b line = if nat_eq b 10 then line + 1 else line
-
 -- from the first byte on that is no blank
 abbrev pub at_word : ℕ → List ℕ → Rest
-at_word line [] = rest_at line []
-at_word line (b ∷ text) = if is_blank b then at_word (line_behind b line) text else rest_at line (b ∷ text)
+at_word at [] = rest_at at []
+at_word at (b ∷ text) = if is_blank b then at_word (at + 1) text else rest_at at (b ∷ text)
+
+-- the place at which the next word begins
+abbrev pub start_of : Rest → ℕ
+start_of r = (at_word r.at r.text).at
 
 -- how many bytes the word has that a text begins with
 abbrev pub word_length : List ℕ → ℕ
@@ -33,21 +38,15 @@ word_length text = length (take_while (λ b. not (is_blank b)) text)
 -- the word that a text begins with, if it does with one, and what follows that
 abbrev pub word_at : Rest → Option (List ℕ × Rest)
 word_at r = if nat_eq (word_length r.text) 0 then None
-    else Some (take (word_length r.text) r.text, rest_at r.line (drop (word_length r.text) r.text))
+    else Some (take (word_length r.text) r.text, rest_at (r.at + word_length r.text) (drop (word_length r.text) r.text))
 
--- the next word, and what follows it, on the word's line; none at the end
+-- the next word, and what follows it; none at the end
 abbrev pub next_word : Rest → Option (List ℕ × Rest)
-next_word r = word_at (at_word r.line r.text)
+next_word r = word_at (at_word r.at r.text)
 
--- the line of the last byte of a text, where the first stands on this one
-abbrev pub last_line_from : ℕ → List ℕ → ℕ
-last_line_from line [] = line
-last_line_from line (b ∷ []) = line
-last_line_from line (b ∷ c ∷ text) = last_line_from (line_behind b line) (c ∷ text)
-
--- the last line of a text; that of a text without bytes is 1
-abbrev pub last_line : List ℕ → ℕ
-last_line text = last_line_from 1 text
+-- the place of the last byte of a text; that of a text without bytes is 0
+abbrev pub last_place : List ℕ → ℕ
+last_place text = length text - 1
 
 -- ---- strings
 

@@ -17,7 +17,7 @@ use Rattle.of_source.specs.declared.keyword.Radix.TheVariants.{Hexadecimal}
 use Rattle.of_source.specs.Radix.{base_of}
 use Rattle.of_source.specs.declared.nesting.Part.TheVariants as part
 use Rattle.of_source.specs.Names.{Own, own_in}
-use Rattle.of_source.specs.Scan.{Rest, rest_at, next_word, Found, quoted_string, plain_string, line_end}
+use Rattle.of_source.specs.Scan.{Rest, left_of, start_of, next_word, Found, quoted_string, plain_string, line_end}
 use Rattle.of_source.specs.declared.number.Number.{Number}
 use Rattle.of_source.specs.declared.number.Number.TheVariants.{Value, OutOfRange, NoNumber}
 use Rattle.of_source.specs.Numbers.{number_in}
@@ -30,6 +30,7 @@ use Rattle.of_source.specs.Nesting.{in_loop, on_case, is_straight, is_closed, fi
 
 -- what is known at a word
 pub record State : Type 0 where
+  pub at : ℕ  -- at which it stands
   pub rest : Rest
   pub radix : Radix
   pub maker : Maker
@@ -41,6 +42,7 @@ pub record State : Type 0 where
 -- the state in which a source begins
 abbrev pub beginning : Rest → State
 beginning r = record {
+  at = r.at;
   rest = r;
   radix = Hexadecimal;
   maker = Named;
@@ -67,6 +69,10 @@ opening n s = record s { nesting = n }
 -- behind what was read
 abbrev pub reading_on : Rest → State → State
 reading_on r s = record s { rest = r }
+
+-- at the next word, behind which this is left
+abbrev pub at_next : Rest → State → State
+at_next r s = record s { at = start_of s.rest; rest = r }
 
 -- with another radix of numbers
 abbrev pub with_radix : Radix → State → State
@@ -116,7 +122,7 @@ number_items x = item.Plain (number_token x) ∷ []
 
 -- ---- words that read on
 
--- the fault of a text that ends too early: the line of the first opener left open, or the last line
+-- the fault of a text that ends too early, with the place of the first opener left open, or of the last byte
 abbrev pub ended : ℕ → State → SourceFault
 ended last s = Unclosed (first_open last s.nesting)
 
@@ -126,13 +132,13 @@ with_next f None go = Fails f
 with_next f (Some w) go = go w.0 w.1
 
 -- the name of a definition, of at most 31 bytes
-abbrev pub name_if : List ℕ → Rest → State → Result (List ℕ × State) SourceFault
-name_if name r s = if nat_lt 31 (length name) then Err (TooLong r.line) else Ok (name, reading_on r s)
+abbrev pub name_if : ℕ → List ℕ → Rest → State → Result (List ℕ × State) SourceFault
+name_if at name r s = if nat_lt 31 (length name) then Err (TooLong at) else Ok (name, reading_on r s)
 
 -- the name at the next word, which must be there
 abbrev pub name_found : ℕ → State → Option (List ℕ × Rest) → Result (List ℕ × State) SourceFault
 name_found last s None = Err (ended last s)
-name_found last s (Some w) = name_if w.0 w.1 s
+name_found last s (Some w) = name_if (start_of s.rest) w.0 w.1 s
 
 -- the name of a definition, and the state behind it
 abbrev pub name_read : ℕ → State → Result (List ℕ × State) SourceFault
@@ -145,27 +151,27 @@ with_name (Ok r) go = go r.0 r.1
 
 -- with an FCode, where there is one
 abbrev pub with_code : ℕ → Option FCode → (FCode → Step) → Step
-with_code line None go = Fails (Unknown line)
-with_code line (Some c) go = go c
+with_code at None go = Fails (Unknown at)
+with_code at (Some c) go = go c
 
 -- `'`, `[']` or `to` with the word that follows
 abbrev pub naming_step : ℕ → FCode → State → Step
 naming_step last t s =
     with_next (ended last s) (next_word s.rest)
-    (λ name r. with_code r.line (code_named s.known name)
+    (λ name r. with_code (start_of s.rest) (code_named s.known name)
     (λ c. Goes (giving (item.Plain (naming t c) ∷ []) (reading_on r s))))
 
 -- with a number, which must be there
 abbrev pub number_or_bad : ℕ → Number → (Cell → Step) → Step
-number_or_bad line (Value x) go = go x
-number_or_bad line OutOfRange go = Fails (BadNumber line)
-number_or_bad line NoNumber go = Fails (BadNumber line)
+number_or_bad at (Value x) go = go x
+number_or_bad at OutOfRange go = Fails (BadNumber at)
+number_or_bad at NoNumber go = Fails (BadNumber at)
 
--- `h#` or `d#`, on this line
+-- `h#` or `d#`
 abbrev pub number_step : Radix → State → Step
 number_step base s =
-    with_next (BadNumber s.rest.line) (next_word s.rest)
-    (λ word r. number_or_bad s.rest.line (number_in (base_of base) word)
+    with_next (BadNumber s.at) (next_word s.rest)
+    (λ word r. number_or_bad s.at (number_in (base_of base) word)
     (λ x. Goes (giving (number_items x) (reading_on r s))))
 
 -- `char` or `[char]`: the first byte of the next word
@@ -176,9 +182,9 @@ character_step last s =
 
 -- a string that was found, of at most 255 bytes
 abbrev pub with_string : State → Found → (List ℕ → State → Step) → Step
-with_string s None go = Fails (Unknown s.rest.line)
+with_string s None go = Fails (Unknown s.at)
 with_string s (Some r) go =
-    if nat_lt 255 (length r.0) then Fails (TooLong s.rest.line) else go r.0 (reading_on (rest_at s.rest.line r.1) s)
+    if nat_lt 255 (length r.0) then Fails (TooLong s.at) else go r.0 (reading_on (left_of s.rest r.1) s)
 
 -- `"`, `s"` or `."`
 abbrev pub text_step : Quote → State → Step
@@ -192,8 +198,8 @@ text_step quote.Printed s =
 
 -- a comment has any length
 abbrev pub comment_step : State → Found → Step
-comment_step s None = Fails (Unknown s.rest.line)
-comment_step s (Some r) = Goes (reading_on (rest_at s.rest.line r.1) s)
+comment_step s None = Fails (Unknown s.at)
+comment_step s (Some r) = Goes (reading_on (left_of s.rest r.1) s)
 
 -- ---- definitions
 
@@ -203,7 +209,7 @@ making_items name s i = item.Plain (making s.maker name (own_code (length s.know
 
 -- outside all definitions
 abbrev pub if_outside : State → Step → Step
-if_outside s go = if in_definition s.nesting.parts then Fails (Unknown s.rest.line) else go
+if_outside s go = if in_definition s.nesting.parts then Fails (Unknown s.at) else go
 
 -- a defining word other than `:`
 abbrev pub defining_step : ℕ → FCode → State → Step
@@ -214,34 +220,34 @@ defining_step last t s =
 -- the definition is open before its name is read
 abbrev pub colon_step : ℕ → State → Step
 colon_step last s =
-    if_outside s (with_name (name_read last (opening (with_part part.Definition s.rest.line s.nesting) s))
+    if_outside s (with_name (name_read last (opening (with_part part.Definition s.at s.nesting) s))
     (λ name r. Goes (defining name (giving (making_items name s item.Colon) r))))
 
 -- `recurse`: the number of the open definition
 abbrev pub recurse_step : State → Option Own → Step
-recurse_step s None = Fails (Unknown s.rest.line)
+recurse_step s None = Fails (Unknown s.at)
 recurse_step s (Some d) = Goes (giving (item.Plain (call (own_code d.number)) ∷ []) s)
 
 -- ---- control structures
 
 -- these items, where this may be left open
 abbrev pub if_open : Option Nesting → List Item → State → Step
-if_open None more s = Fails (Unclosed s.rest.line)
+if_open None more s = Fails (Unclosed s.at)
 if_open (Some n) more s = Goes (giving more (opening n s))
 
 -- the same, at the end of a definition
 abbrev pub if_ends : Option Nesting → State → Step
-if_ends None s = Fails (Unclosed s.rest.line)
+if_ends None s = Fails (Unclosed s.at)
 if_ends (Some n) s = Goes (defined (giving (item.Semicolon ∷ []) (opening n s)))
 
 -- ---- one word
 
--- what a keyword does, on the line that the rest of the text begins with
+-- what a keyword does
 abbrev pub keyword_step : ℕ → Keyword → State → Step
 keyword_step last keyword.Finish s =
     if is_closed s.nesting then Ends s else Fails (Unclosed (first_open 0 s.nesting))
 keyword_step last keyword.Comment s = comment_step s (plain_string 41 s.rest.text)
-keyword_step last keyword.LineComment s = Goes (reading_on (rest_at s.rest.line (line_end s.rest.text)) s)
+keyword_step last keyword.LineComment s = Goes (reading_on (left_of s.rest (line_end s.rest.text)) s)
 keyword_step last (keyword.Headers m) s = Goes (with_maker m s)
 keyword_step last (keyword.Radix base) s = Goes (with_radix base s)
 keyword_step last (keyword.NumberIn base) s = number_step base s
@@ -253,32 +259,32 @@ keyword_step last (keyword.Defining t) s = defining_step last t s
 keyword_step last keyword.Recurse s = recurse_step s s.open_one
 keyword_step last (keyword.Naming t) s = naming_step last t s
 keyword_step last keyword.Offset16 s =
-    if is_straight s.nesting then Goes (giving (item.Plain (bare 0x0cc) ∷ []) s) else Fails (Unknown s.rest.line)
+    if is_straight s.nesting then Goes (giving (item.Plain (bare 0x0cc) ∷ []) s) else Fails (Unknown s.at)
 keyword_step last (keyword.One t) s = Goes (giving (item.Plain (call t) ∷ []) s)
 keyword_step last (keyword.Two t u) s = Goes (giving (item.Plain (call t) ∷ item.Plain (call u) ∷ []) s)
-keyword_step last keyword.If s = if_open (Some (with_branch s.rest.line s.nesting)) (item.If s.rest.line ∷ []) s
+keyword_step last keyword.If s = if_open (Some (with_branch s.at s.nesting)) (item.If s.at ∷ []) s
 keyword_step last keyword.Else s =
-    if_open (then_with_branch s.rest.line (without_branch s.nesting)) (item.Else s.rest.line ∷ []) s
+    if_open (then_with_branch s.at (without_branch s.nesting)) (item.Else s.at ∷ []) s
 keyword_step last keyword.Then s = if_open (without_branch s.nesting) (item.Then ∷ []) s
-keyword_step last keyword.Begin s = if_open (Some (with_part part.Begin s.rest.line s.nesting)) (item.Begin ∷ []) s
-keyword_step last (keyword.Back z) s = if_open (without_begin s.nesting) (item.Back z s.rest.line ∷ []) s
+keyword_step last keyword.Begin s = if_open (Some (with_part part.Begin s.at s.nesting)) (item.Begin ∷ []) s
+keyword_step last (keyword.Back z) s = if_open (without_begin s.nesting) (item.Back z s.at ∷ []) s
 keyword_step last keyword.Repeat s =
-    if_open (then_without_branch (without_begin s.nesting)) (item.Back false s.rest.line ∷ item.Then ∷ []) s
+    if_open (then_without_branch (without_begin s.nesting)) (item.Back false s.at ∷ item.Then ∷ []) s
 keyword_step last (keyword.Do q) s =
-    if_open (Some (with_part part.Do s.rest.line s.nesting)) (item.Do q s.rest.line ∷ []) s
-keyword_step last (keyword.Loop q) s = if_open (without_part part.Do s.nesting) (item.Loop q s.rest.line ∷ []) s
+    if_open (Some (with_part part.Do s.at s.nesting)) (item.Do q s.at ∷ []) s
+keyword_step last (keyword.Loop q) s = if_open (without_part part.Do s.nesting) (item.Loop q s.at ∷ []) s
 keyword_step last keyword.Leave s = if_open (opened_if (in_loop s.nesting.parts) s.nesting) (item.Leave ∷ []) s
-keyword_step last keyword.Case s = if_open (Some (with_part part.Case s.rest.line s.nesting)) (item.Case ∷ []) s
+keyword_step last keyword.Case s = if_open (Some (with_part part.Case s.at s.nesting)) (item.Case ∷ []) s
 keyword_step last keyword.Of s =
-    if_open (opened_if (on_case s.nesting) (with_part part.Of s.rest.line s.nesting)) (item.Of s.rest.line ∷ []) s
-keyword_step last keyword.EndOf s = if_open (without_part part.Of s.nesting) (item.EndOf s.rest.line ∷ []) s
+    if_open (opened_if (on_case s.nesting) (with_part part.Of s.at s.nesting)) (item.Of s.at ∷ []) s
+keyword_step last keyword.EndOf s = if_open (without_part part.Of s.nesting) (item.EndOf s.at ∷ []) s
 keyword_step last keyword.EndCase s = if_open (without_part part.Case s.nesting) (item.EndCase ∷ []) s
 
 -- a word that is no name: a number in the radix of the text
 abbrev pub number_word_step : State → Number → Step
 number_word_step s (Value x) = Goes (giving (number_items x) s)
-number_word_step s OutOfRange = Fails (BadNumber s.rest.line)
-number_word_step s NoNumber = Fails (Unknown s.rest.line)
+number_word_step s OutOfRange = Fails (BadNumber s.at)
+number_word_step s NoNumber = Fails (Unknown s.at)
 
 -- a word that is neither an own name nor a keyword
 abbrev pub ordinary_step : List ℕ → State → Option FCode → Step
@@ -301,14 +307,14 @@ word_step last word s = own_step last word s (own_in s.known word)
 
 -- the next word of a text
 abbrev pub next_step : ℕ → State → Step
-next_step last s = with_next (ended last s) (next_word s.rest) (λ word r. word_step last word (reading_on r s))
+next_step last s = with_next (ended last s) (next_word s.rest) (λ word r. word_step last word (at_next r s))
 
 -- a call took this step from a state to another (and says whether the source goes on), or was refused memory
 abbrev pub Steps : Step → State → Result Bool SourceFault → Type 0
 Steps step new (Ok true) = step ≡ Goes new
 Steps step new (Ok false) = step ≡ Ends new
 Steps step new (Err NoMemory) = Unit {0}
-Steps step new (Err (Unclosed l)) = step ≡ Fails (Unclosed l)
-Steps step new (Err (Unknown l)) = step ≡ Fails (Unknown l)
-Steps step new (Err (BadNumber l)) = step ≡ Fails (BadNumber l)
-Steps step new (Err (TooLong l)) = step ≡ Fails (TooLong l)
+Steps step new (Err (Unclosed at)) = step ≡ Fails (Unclosed at)
+Steps step new (Err (Unknown at)) = step ≡ Fails (Unknown at)
+Steps step new (Err (BadNumber at)) = step ≡ Fails (BadNumber at)
+Steps step new (Err (TooLong at)) = step ≡ Fails (TooLong at)

@@ -30,6 +30,19 @@ IsWord word = (0 < length word) × All (λ b. 0x20 < b) word
 abbrev pub AreBlanks : List ℕ → Type 0
 AreBlanks bytes = All (λ b. b ≤ 0x20) bytes
 
+-- between two words stand one or more of them
+abbrev pub AreBetween : List ℕ → Type 0
+AreBetween bytes = (0 < length bytes) × AreBlanks bytes
+
+-- between a word and its string stands one, which ends no line
+abbrev pub IsBetween : ℕ → Type 0
+IsBetween b = (b ≤ 0x20) × (b ≢ 10)
+
+-- a text that ends the word before it: it begins with a blank, or there is none
+abbrev pub EndsWord : List ℕ → Type 0
+EndsWord [] = Unit {0}
+EndsWord (b ∷ text) = b ≤ 0x20
+
 -- a word that a definition can be named by
 abbrev pub IsName : List ℕ → Type 0
 IsName name = IsWord name × (length name ≤ 31)
@@ -55,19 +68,19 @@ abbrev pub keyword_of : Phrase → Option Keyword
 keyword_of (phrase.OwnWord n) = None
 keyword_of (phrase.BoardWord c) = None
 keyword_of (phrase.Number x) = None
-keyword_of (phrase.NumberIn base word x) = Some (keyword.NumberIn base)
-keyword_of (phrase.Character b word) = Some keyword.Character
+keyword_of (phrase.NumberIn base blanks word x) = Some (keyword.NumberIn base)
+keyword_of (phrase.Character blanks b word) = Some keyword.Character
 keyword_of (phrase.Short t) = Some (keyword.One t)
 keyword_of (phrase.Pair t u) = Some (keyword.Two t u)
-keyword_of (phrase.Text q bytes) = Some (keyword.Text q)
-keyword_of (phrase.Bytes bytes) = Some (keyword.Text quote.Bytes)
-keyword_of (phrase.Comment bytes) = Some keyword.Comment
+keyword_of (phrase.Text q blank bytes) = Some (keyword.Text q)
+keyword_of (phrase.Bytes blank bytes) = Some (keyword.Text quote.Bytes)
+keyword_of (phrase.Comment blank bytes) = Some keyword.Comment
 keyword_of (phrase.LineComment bytes) = Some keyword.LineComment
-keyword_of (phrase.Naming t name c) = Some (keyword.Naming t)
+keyword_of (phrase.Naming t blanks name c) = Some (keyword.Naming t)
 keyword_of (phrase.Headers m) = Some (keyword.Headers m)
 keyword_of (phrase.Base base) = Some (keyword.Radix base)
-keyword_of (phrase.Defining t name) = Some (keyword.Defining t)
-keyword_of (phrase.Colon name) = Some keyword.Colon
+keyword_of (phrase.Defining t blanks name) = Some (keyword.Defining t)
+keyword_of (phrase.Colon blanks name) = Some keyword.Colon
 keyword_of phrase.Semicolon = Some keyword.Semicolon
 keyword_of phrase.Recurse = Some keyword.Recurse
 keyword_of phrase.Offset16 = Some keyword.Offset16
@@ -99,15 +112,16 @@ IsKeyword word p = keyword_named word ≡ keyword_of p
 abbrev pub IsPlaced : Known → List ℕ → Phrase → Type 0
 IsPlaced k word (phrase.BoardWord c) = ordinary_named word ≡ Some c
 IsPlaced k word (phrase.Number x) = (ordinary_named word ≡ None) × (number_in (base_of k.radix) word ≡ Value x)
-IsPlaced k word (phrase.NumberIn base digits x) = IsWord digits × (number_in (base_of base) digits ≡ Value x)
-IsPlaced k word (phrase.Character b bytes) = IsWord (b ∷ bytes)
-IsPlaced k word (phrase.Text q bytes) = (length bytes ≤ 255) × IsWithin 34 bytes
-IsPlaced k word (phrase.Bytes bytes) = (length bytes ≤ 255) × All (λ b. b < 256) bytes
-IsPlaced k word (phrase.Comment bytes) = IsWithin 41 bytes
-IsPlaced k word (phrase.LineComment bytes) = All (λ b. b ≢ 10) bytes
-IsPlaced k word (phrase.Naming t name c) = IsWord name × (code_named k.names name ≡ Some c)
-IsPlaced k word (phrase.Defining t name) = IsName name × LeaveOpen k.items IsOutside
-IsPlaced k word (phrase.Colon name) = IsName name
+IsPlaced k word (phrase.NumberIn base blanks digits x) =
+    AreBetween blanks × IsWord digits × (number_in (base_of base) digits ≡ Value x)
+IsPlaced k word (phrase.Character blanks b bytes) = AreBetween blanks × IsWord (b ∷ bytes)
+IsPlaced k word (phrase.Text q blank bytes) = IsBetween blank × (length bytes ≤ 255) × IsWithin 34 bytes
+IsPlaced k word (phrase.Bytes blank bytes) = IsBetween blank × (length bytes ≤ 255) × All (λ b. b < 256) bytes
+IsPlaced k word (phrase.Comment blank bytes) = IsBetween blank × IsWithin 41 bytes
+IsPlaced k word (phrase.LineComment bytes) = All (λ b. b ≢ 10) bytes × EndsWord bytes
+IsPlaced k word (phrase.Naming t blanks name c) = AreBetween blanks × IsWord name × (code_named k.names name ≡ Some c)
+IsPlaced k word (phrase.Defining t blanks name) = AreBetween blanks × IsName name × LeaveOpen k.items IsOutside
+IsPlaced k word (phrase.Colon blanks name) = AreBetween blanks × IsName name
 IsPlaced k word phrase.Recurse = (d : Own) × (k.open_one ≡ Some d)
 IsPlaced k word phrase.Offset16 = LeaveOpen k.items IsStraight
 IsPlaced k word _ = Unit {0}
@@ -120,7 +134,7 @@ IsFollowed _ more = Unit {0}
 
 -- a phrase can stand here, before this text: blanks are before its word, which is spelled so, and no own name hides it
 pub record IsSaid (k : Known) (p : Spelled) (more : List ℕ) : Type 0 where
-  pub apart : (0 < length p.blanks) × AreBlanks p.blanks
+  pub apart : AreBetween p.blanks
   pub spelled : IsWord p.word
   pub own : own_in k.names p.word ≡ own_of p.phrase
   pub means : IsKeyword p.word p.phrase
@@ -129,7 +143,7 @@ pub record IsSaid (k : Known) (p : Spelled) (more : List ℕ) : Type 0 where
 
 -- a source can end here: blanks are around the word that ends it, and no own name hides that
 pub record IsEnded (k : Known) (e : Ending) : Type 0 where
-  pub apart : (0 < length e.blanks) × AreBlanks e.blanks
+  pub apart : AreBetween e.blanks
   pub own : own_in k.names (codes "fcode-end") ≡ None
   pub more : AreBlanks e.more
 
@@ -137,7 +151,7 @@ pub record IsEnded (k : Known) (e : Ending) : Type 0 where
 abbrev pub AreSaid : List Spelled → Ending → Known → Type 0
 AreSaid [] e k = IsEnded k e
 AreSaid (p ∷ ps) e k = IsSaid (moved p.blanks k) p (all_written ps e)
-    × AreSaid ps e (behind p.phrase (moved p.blanks k))
+    × AreSaid ps e (behind p.word p.phrase (moved p.blanks k))
 
 -- phrases that are those of a nest are accepted, with the items of that nest
 abbrev pub WrittenIsParsed : Type 0

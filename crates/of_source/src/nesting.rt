@@ -20,13 +20,13 @@ pub enum Part {
     Of,
 }
 
-/// An open part: its line, and how many branches were open before it.
+/// An open part: its position, and how many branches were open before it.
 #[derive(Clone, Copy)]
 pub struct Frame {
     /// Which part.
     pub part: Part,
-    /// The line of its first word.
-    pub line: usize,
+    /// The position of its first word.
+    pub at: usize,
     /// How many branches were open before it.
     pub beneath: usize,
 }
@@ -63,7 +63,7 @@ impl Model for Parts {
     ghost invariant = { λ p. AreSurrounded (reverse p.levels.items) };
 }
 
-/// What stands open: the lines of branches, and parts.
+/// What stands open: the positions of branches, and parts.
 #[derive(Drop)]
 pub struct Nesting {
     branches: Vec<usize>,
@@ -196,11 +196,11 @@ impl Parts {
         let _ = self.levels.pop();
     }
 
-    /// The line of the first part, if it opened before each open branch; else this one.
-    fn earliest(&self, line: usize) -> usize
-        ensures { result ≡ earliest_of line self.now }
+    /// The position of the first part, if it opened before each open branch; else this one.
+    fn earliest(&self, at: usize) -> usize
+        ensures { result ≡ earliest_of at self.now }
     {
-        earliest(&self.levels, line)
+        earliest(&self.levels, at)
     }
 }
 
@@ -220,24 +220,20 @@ impl Nesting {
         }
     }
 
-    /// A branch opens on this line.
-    pub fn open_branch(&mut self, line: usize) -> Result<(), AllocError>
-        ensures { OnOk result (self.new ≡ with_branch line self.old) }
+    /// A branch opens at this position.
+    pub fn open_branch(&mut self, at: usize) -> Result<(), AllocError>
+        ensures { OnOk result (self.new ≡ with_branch at self.old) }
     {
-        self.branches.push(line)?;
+        self.branches.push(at)?;
         Ok(())
     }
 
-    /// A part opens on this line.
-    pub fn open_part(&mut self, part: Part, line: usize) -> Result<(), AllocError>
-        ensures { OnOk result (self.new ≡ with_part part line self.old) }
+    /// A part opens at this position.
+    pub fn open_part(&mut self, part: Part, at: usize) -> Result<(), AllocError>
+        ensures { OnOk result (self.new ≡ with_part part at self.old) }
     {
         let beneath = self.branches.len();
-        self.parts.open(Frame {
-            part,
-            line,
-            beneath,
-        })?;
+        self.parts.open(Frame { part, at, beneath })?;
         Ok(())
     }
 
@@ -259,15 +255,15 @@ impl Nesting {
         true
     }
 
-    /// The latest branch closes, if it opened in the innermost part, and then another opens on this line.
-    pub fn exchange_branch(&mut self, line: usize) -> Result<bool, AllocError>
-        ensures { IfOk result (λ closed. then_with_branch line (without_branch self.old)
+    /// The latest branch closes, if it opened in the innermost part, and then another opens at this position.
+    pub fn exchange_branch(&mut self, at: usize) -> Result<bool, AllocError>
+        ensures { IfOk result (λ closed. then_with_branch at (without_branch self.old)
             ≡ (if closed then Some self.new else None)) }
     {
         if !self.close_branch() {
             return Ok(false);
         }
-        self.open_branch(line)?;
+        self.open_branch(at)?;
         Ok(true)
     }
 
@@ -328,32 +324,32 @@ impl Nesting {
         self.parts.in_loop()
     }
 
-    /// The line of the first opener that is still open, or this one.
-    pub fn first_open(&self, line: usize) -> usize
-        ensures { result ≡ first_open line self.now }
+    /// The position of the first opener that is still open, or this one.
+    pub fn first_open(&self, at: usize) -> usize
+        ensures { result ≡ first_open at self.now }
     {
-        self.parts.earliest(first_branch(&self.branches, line))
+        self.parts.earliest(first_branch(&self.branches, at))
     }
 }
 
-/// The line of the first part, the latest last, if it opened before each open branch; else this one.
-fn earliest(levels: &[Level], line: usize) -> usize
-    ensures { result ≡ earliest_of line (frames (reverse levels.now)) }
+/// The position of the first part, the latest last, if it opened before each open branch; else this one.
+fn earliest(levels: &[Level], at: usize) -> usize
+    ensures { result ≡ earliest_of at (frames (reverse levels.now)) }
 {
     if levels.len() == 0 {
-        return line;
+        return at;
     }
     let first = levels[0].frame;
-    if first.beneath == 0 { first.line } else { line }
+    if first.beneath == 0 { first.at } else { at }
 }
 
-/// The line of the first branch, the latest last, or this one.
+/// The position of the first branch, the latest last, or this one.
 #[tactic(auto, using(crate::proofs::Ends::last_or_reverse))]
-fn first_branch(branches: &[usize], line: usize) -> usize
-    ensures { result ≡ last_or line (reverse branches.now) }
+fn first_branch(branches: &[usize], at: usize) -> usize
+    ensures { result ≡ last_or at (reverse branches.now) }
 {
     if branches.is_empty() {
-        return line;
+        return at;
     }
     branches[0]
 }

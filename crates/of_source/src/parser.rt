@@ -25,6 +25,7 @@ mod structures;
 /// What is known at a word of a source.
 #[derive(Drop)]
 pub struct Parser<'a> {
+    at: usize,
     rest: Rest<'a>,
     radix: Radix,
     maker: Maker,
@@ -44,6 +45,7 @@ impl<'a> Model for Parser<'a> {
     ghost Value = { State };
 
     ghost view = { λ p. record {
+      at = p.at;
       rest = p.rest;
       radix = p.radix;
       maker = p.maker;
@@ -67,6 +69,7 @@ impl<'a> Parser<'a> {
         ensures { result ≡ beginning rest.entry }
     {
         Parser {
+            at: rest.at(),
             rest,
             radix: Radix::Hexadecimal,
             maker: Maker::Named,
@@ -88,9 +91,9 @@ impl<'a> Parser<'a> {
 
     /// What a closer without its opener gives.
     fn unclosed(&self) -> Result<bool, SourceFault>
-        ensures { result ≡ Err (Unclosed self.now.rest.line) }
+        ensures { result ≡ Err (Unclosed self.now.at) }
     {
-        Err(SourceFault::Unclosed(self.rest.line()))
+        Err(SourceFault::Unclosed(self.at))
     }
 
     /// What is left of the text, the radix, and the items.
@@ -138,9 +141,9 @@ impl<'a> Parser<'a> {
 
     /// What an unknown word gives.
     fn unknown(&self) -> Result<bool, SourceFault>
-        ensures { result ≡ Err (Unknown self.now.rest.line) }
+        ensures { result ≡ Err (Unknown self.now.at) }
     {
-        Err(SourceFault::Unknown(self.rest.line()))
+        Err(SourceFault::Unknown(self.at))
     }
 
     /// `offset16`.
@@ -249,7 +252,7 @@ impl<'a> Parser<'a> {
                 self.number(x)?;
                 Ok(true)
             }
-            Number::OutOfRange => Err(SourceFault::BadNumber(self.rest.line())),
+            Number::OutOfRange => Err(SourceFault::BadNumber(self.at)),
             Number::NoNumber => self.unknown(),
         }
     }
@@ -278,7 +281,7 @@ impl<'a> Parser<'a> {
         }
     }
 
-    /// The next word of a text whose last line this is; whether the source goes on behind it.
+    /// The next word of a text whose last byte is at this position; whether the source goes on behind it.
     pub fn next(&mut self, last: usize) -> Result<bool, SourceFault>
         ensures { Steps (next_step last self.old) self.new result }
     {
@@ -286,7 +289,8 @@ impl<'a> Parser<'a> {
         let Some(word) = self.rest.word() else {
             return Err(fault);
         };
-        self.word(word, last)
+        self.at = word.at;
+        self.word(word.bytes, last)
     }
 }
 

@@ -8,23 +8,32 @@ use of_format::digit;
 use std::alloc::{AllocError, Global};
 use std::marker::Model;
 
-/// What is left of a text, and the line that it begins on.
+/// A word, and its position.
+#[derive(Clone, Copy)]
+pub struct Word<'a> {
+    /// Its bytes.
+    pub bytes: &'a [u8],
+    /// How many bytes of the text stand before it.
+    pub at: usize,
+}
+
+/// What is left of a text, and its position.
 #[derive(Drop)]
 pub struct Rest<'a> {
     text: &'a [u8],
-    line: usize,
+    at: usize,
 }
 
-// Clauses see the line and the bytes.
+// Clauses see the position and the bytes.
 impl<'a> Model for Rest<'a> {
     ghost use Rattle.std.specs.Prelude.{◌+◌, ◌<◌, ◌^◌, length};
     ghost use Rattle.of_source.specs.Scan.{Rest as Left};
 
     ghost Value = { Left };
 
-    ghost view = { λ r. record { line = r.line; text = r.text.now } };
+    ghost view = { λ r. record { at = r.at; text = r.text.now } };
 
-    ghost invariant = { λ r. r.line + length r.text.now < 2 ^ 64 };
+    ghost invariant = { λ r. r.at + length r.text.now < 2 ^ 64 };
 }
 
 /// Whether a byte separates words.
@@ -43,81 +52,84 @@ fn word_length(text: &[u8]) -> usize
 }
 
 impl<'a> Rest<'a> {
-    ghost use Rattle.of_source.specs.Scan.{rest_at, line_behind, at_word, word_at, next_word, plain_string};
+    ghost use Rattle.of_source.specs.Scan.{rest_at, left_of, start_of, at_word, word_at, next_word, plain_string};
     ghost use Rattle.of_source.specs.Scan.{quoted_string, line_end};
 
     /// A whole text.
     pub fn new(text: &'a [u8]) -> Self
-        ensures { result ≡ rest_at 1 text.now }
+        ensures { result ≡ rest_at 0 text.now }
     {
-        Rest { text, line: 1 }
+        Rest { text, at: 0 }
     }
 
-    /// The line that it begins on.
-    pub fn line(&self) -> usize
-        ensures { result ≡ self.now.line }
+    /// Its position.
+    pub fn at(&self) -> usize
+        ensures { result ≡ self.now.at }
     {
-        self.line
+        self.at
     }
 
-    /// The bytes.
-    pub fn text(&self) -> &'a [u8]
-        ensures { result.now ≡ self.now.text }
+    /// Past the bytes before these, which are the last that are left.
+    fn leave(&mut self, text: &'a [u8])
+        requires { length text.now ≤ length self.old.text }
+        ensures { self.new ≡ left_of self.old text.now }
     {
-        self.text
+        self.at += self.text.len() - text.len();
+        self.text = text;
     }
 
     /// Goes to the next byte that is no blank.
     pub fn skip_blanks(&mut self)
-        ensures { self.new ≡ at_word self.old.line self.old.text }
+        ensures { self.new ≡ at_word self.old.at self.old.text }
     {
         while let [byte, text @ ..] = self.text {
             if !is_blank(*byte) {
                 return;
             }
-            if *byte == b'\n' {
-                self.line += 1;
-            }
+            self.at += 1;
             self.text = text;
         }
     }
 
     /// The next word, and past it; none at the end.
-    pub fn word(&mut self) -> Option<&'a [u8]>
-        ensures some { IfSome result (λ word. next_word self.old ≡ Some (word.now, self.new)) }
+    pub fn word(&mut self) -> Option<Word<'a>>
+        ensures some { IfSome result (λ word. next_word self.old ≡ Some (word.bytes.now, self.new)) }
+        ensures at { IfSome result (λ word. word.at ≡ start_of self.old) }
         ensures none { IfNone result (next_word self.old ≡ None) }
-        ensures byte { IfSome result (λ word. 0 < length word.now) }
+        ensures byte { IfSome result (λ word. 0 < length word.bytes.now) }
     {
         self.skip_blanks();
         let length = word_length(self.text);
         if length == 0 {
             return None;
         }
-        let (word, text) = self.text.split_at(length);
+        let (bytes, text) = self.text.split_at(length);
+        let at = self.at;
+        self.at += length;
         self.text = text;
-        Some(word)
+        Some(Word { bytes, at })
     }
 
     /// Past the string up to this byte, which it gives; none where the byte isn't on the line.
     pub fn string(&mut self, end: u8) -> Option<&'a [u8]>
         ensures some { IfSome result (λ bytes. plain_string end self.old.text ≡ Some (bytes.now, self.new.text)) }
-        ensures line { self.new.line ≡ self.old.line }
+        ensures left { IfSome result (λ _. self.new ≡ left_of self.old self.new.text) }
         ensures none { IfNone result ((plain_string end self.old.text ≡ None) × (self.new ≡ self.old)) }
     {
         let (bytes, rest) = up_to(behind_blank(self.text), end)?;
-        self.text = rest;
+        self.leave(rest);
         Some(bytes)
     }
 
     /// Past a comment up to `)`, if its end is on the line.
     pub fn skip_comment(&mut self) -> bool
-        ensures past { option_map (λ r. rest_at self.old.line r.1) (plain_string 41 self.old.text)
+        ensures past { option_map (λ r. left_of self.old r.1) (plain_string 41 self.old.text)
             ≡ (if result then Some self.new else None) }
         ensures same { result ≡ false → self.new ≡ self.old }
     {
         match up_to(behind_blank(self.text), b')') {
             Some((_, rest)) => {
-                self.text = rest;
+                self.leave(rest);
                 true
             }
             None => false,
@@ -126,20 +138,20 @@ impl<'a> Rest<'a> {
 
     /// To the end of the line.
     pub fn skip_line(&mut self)
-        ensures { self.new ≡ rest_at self.old.line (line_end self.old.text) }
+        ensures { self.new ≡ left_of self.old (line_end self.old.text) }
     {
-        self.text = line_end(self.text);
+        self.leave(line_end(self.text));
     }
 
     /// Past the string of a word `"`, in which `"(hh hh)` gives bytes; none where its end isn't on the line.
     pub fn quoted_string(&mut self, alloc: Global) -> Result<Option<Vec<u8>>, AllocError>
         ensures found { IfOk result (λ r. option_map (λ bytes. (bytes.items, self.new.text)) r
             ≡ quoted_string self.old.text) }
-        ensures line { OnOk result (self.new.line ≡ self.old.line) }
+        ensures left { IfOk result (λ r. IfSome r (λ _. self.new ≡ left_of self.old self.new.text)) }
     {
         match quoted(alloc, self.text)? {
             Some((bytes, rest)) => {
-                self.text = rest;
+                self.leave(rest);
                 Ok(Some(bytes))
             }
             None => Ok(None),

@@ -1,7 +1,7 @@
 ghost use Rattle.std.specs.Prelude.{◌≡◌, ◌+◌, ◌<◌, ◌≤◌, ◌^◌, length, Ok, IfOk, IfErr};
 ghost use Rattle.of_source.specs.Numbers.{number_in};
 ghost use Rattle.of_source.specs.Radix.{base_of};
-ghost use Rattle.of_source.specs.Scan.{last_line, last_line_from};
+ghost use Rattle.of_source.specs.Scan.{last_place};
 ghost use Rattle.of_source.specs.Parsing.{beyond, beyond_shown, misplaced, misplaced_number, is_closer, words, trailed};
 ghost use Rattle.of_source.specs.Parsing.{parsed, IsRefused};
 
@@ -11,7 +11,7 @@ use crate::keyword::{Keyword, Radix};
 use crate::names::is_same_name;
 use crate::number::{Number, number_in};
 use crate::parser::Parser;
-use crate::scan::Rest;
+use crate::scan::{Rest, Word};
 use crate::words::keyword_named;
 use of_stream::OffsetSize;
 use std::alloc::Global;
@@ -77,27 +77,21 @@ impl Source {
 #[derive(Drop)]
 pub enum Beyond<'a> {
     /// A word, and what follows it.
-    Word(&'a [u8], Rest<'a>),
+    Word(Word<'a>, Rest<'a>),
     /// The end.
     Nothing,
-    /// A comment on this line whose end isn't there.
+    /// A comment at this position whose end isn't on its line.
     Bad(usize),
 }
 
-/// The line of the last byte of a text.
-#[tactic(auto, using(crate::proofs::Whole::last_short))]
-fn last_line(text: &[u8]) -> usize
-    ensures { result ≡ last_line text.now }
+/// The position of the last byte of a text.
+fn last_place(text: &[u8]) -> usize
+    ensures { result ≡ last_place text.now }
 {
-    let mut line = 1;
-    let mut rest = text;
-    while let [byte, _, ..] = rest {
-        if *byte == b'\n' {
-            line += 1;
-        }
-        rest = &rest[1..];
+    if text.len() == 0 {
+        return 0;
     }
-    line
+    text.len() - 1
 }
 
 /// Past at most so many comments.
@@ -108,13 +102,13 @@ fn past_comments(mut rest: Rest<'_>, most: usize) -> Beyond<'_>
         let Some(word) = rest.word() else {
             return Beyond::Nothing;
         };
-        if is_same_name(b"(", word) {
+        if is_same_name(b"(", word.bytes) {
             if !rest.skip_comment() {
-                return Beyond::Bad(rest.line());
+                return Beyond::Bad(word.at);
             }
             continue;
         }
-        if is_same_name(b"\\", word) {
+        if is_same_name(b"\\", word.bytes) {
             rest.skip_line();
             continue;
         }
@@ -143,25 +137,25 @@ fn is_closer(keyword: Keyword) -> bool
 }
 
 /// What a number gives that stands where none can.
-fn misplaced_number(line: usize, radix: Radix, word: &[u8]) -> SourceFault
-    ensures { result ≡ misplaced_number line (number_in (base_of radix) word.now) }
+fn misplaced_number(at: usize, radix: Radix, word: &[u8]) -> SourceFault
+    ensures { result ≡ misplaced_number at (number_in (base_of radix) word.now) }
 {
     match number_in(word, radix.base()) {
-        Number::OutOfRange => SourceFault::BadNumber(line),
-        Number::Value(_) | Number::NoNumber => SourceFault::Unknown(line),
+        Number::OutOfRange => SourceFault::BadNumber(at),
+        Number::Value(_) | Number::NoNumber => SourceFault::Unknown(at),
     }
 }
 
 /// What a word gives that stands where none of its kind can.
-fn misplaced(line: usize, radix: Radix, word: &[u8]) -> SourceFault
-    ensures { result ≡ misplaced line (base_of radix) word.now }
+fn misplaced(at: usize, radix: Radix, word: &[u8]) -> SourceFault
+    ensures { result ≡ misplaced at (base_of radix) word.now }
 {
     if let Some(keyword) = keyword_named(word) {
         if is_closer(keyword) {
-            return SourceFault::Unclosed(line);
+            return SourceFault::Unclosed(at);
         }
     }
-    misplaced_number(line, radix, word)
+    misplaced_number(at, radix, word)
 }
 
 /// The source of these items, where comments alone follow it.
@@ -172,8 +166,8 @@ fn trailed(size: OffsetSize, parser: Parser<'_>, most: usize) -> Result<Parts, S
     let (rest, radix, items) = parser.into_parts();
     match past_comments(rest, most) {
         Beyond::Nothing => Ok(Parts { size, items }),
-        Beyond::Bad(line) => Err(SourceFault::Unknown(line)),
-        Beyond::Word(word, rest) => Err(misplaced(rest.line(), radix, word)),
+        Beyond::Bad(at) => Err(SourceFault::Unknown(at)),
+        Beyond::Word(word, _) => Err(misplaced(word.at, radix, word.bytes)),
     }
 }
 
@@ -183,7 +177,7 @@ fn words(mut parser: Parser<'_>, text: &[u8], size: OffsetSize) -> Result<Parts,
     ensures ok { IfOk result (λ s. words text.now size (length text.now) parser.entry ≡ Ok s) }
     ensures err { IfErr result (λ f. IsRefused (words text.now size (length text.now) parser.entry) f) }
 {
-    let last = last_line(text);
+    let last = last_place(text);
     for _ in 0..text.len() {
         match parser.next(last) {
             Ok(true) => {}
@@ -201,16 +195,16 @@ fn parts_of(alloc: Global, text: &[u8]) -> Result<Parts, SourceFault>
     ensures err { IfErr result (λ f. IsRefused (parsed text.now) f) }
 {
     match past_comments(Rest::new(text), text.len()) {
-        Beyond::Nothing => Err(SourceFault::Unclosed(last_line(text))),
-        Beyond::Bad(line) => Err(SourceFault::Unknown(line)),
+        Beyond::Nothing => Err(SourceFault::Unclosed(last_place(text))),
+        Beyond::Bad(at) => Err(SourceFault::Unknown(at)),
         Beyond::Word(word, rest) => {
-            if is_same_name(b"fcode-version2", word) {
+            if is_same_name(b"fcode-version2", word.bytes) {
                 return words(Parser::new(alloc, rest), text, OffsetSize::Two);
             }
-            if is_same_name(b"fcode-version1", word) {
+            if is_same_name(b"fcode-version1", word.bytes) {
                 return words(Parser::new(alloc, rest), text, OffsetSize::One);
             }
-            Err(misplaced(rest.line(), Radix::Hexadecimal, word))
+            Err(misplaced(word.at, Radix::Hexadecimal, word.bytes))
         }
     }
 }
@@ -221,11 +215,12 @@ fn parts_of(alloc: Global, text: &[u8]) -> Result<Parts, SourceFault>
 /// behind them stand comments alone. Words are separated by bytes up to 0x20 and found without case, a number in the
 /// text's radix, hexadecimal at first.
 ///
-/// The first word that fits nowhere gives the fault, with its line from 1: BadNumber for digits that no cell holds,
-/// and behind `h#` and `d#` for what is no number; TooLong for a name over 31 bytes or a string over 255; Unclosed
-/// for a closer, `of` or `leave` with nothing that it may close or stand in there; else Unknown, as for a string or
-/// comment that doesn't end on its line. At the end Unclosed has the line of the first opener left open, or the last
-/// line where `fcode-end` is missing. NoMemory may stand in place of any.
+/// The first word that fits nowhere gives the fault, with its position: BadNumber for digits that no cell holds, and
+/// behind `h#` and `d#` for what is no number, with theirs; TooLong for a name over 31 bytes or a string over 255, with
+/// that of the name or of the string's word; Unclosed for a closer, `of` or `leave` with nothing that it may close or
+/// stand in there; else Unknown, as for a string or comment that doesn't end on its line. At the end Unclosed has the
+/// position of the first opener left open, or of the last byte where `fcode-end` is missing. NoMemory may stand in
+/// place of any.
 pub fn parse(alloc: Global, text: &[u8]) -> Result<Source, SourceFault>
     ensures ok { IfOk result (λ s. parsed text.now ≡ Ok s) }
     ensures err { IfErr result (λ f. IsRefused (parsed text.now) f) }

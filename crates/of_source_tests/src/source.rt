@@ -1,4 +1,5 @@
-use of_source::{Item, Maker, Name, SourceFault, parse};
+use of_fcodes::{FCode, Word, name_of, word_of};
+use of_source::{Item, Maker, Name, Place, SourceFault, parse, place_in};
 use of_stream::OffsetSize;
 use std::alloc::{AllocError, Global};
 use std::process::Abort;
@@ -36,30 +37,48 @@ fn making_text(
     }
 }
 
-/// A control structure's word, with its line where it carries an offset.
-fn control_text(alloc: Global, item: &Item) -> Result<String, AllocError> {
+/// A position in a text: its line, `:` and its column.
+fn place_text(alloc: Global, text: &[u8], position: usize) -> Result<String, AllocError> {
+    let Place { line, column } = place_in(text, position);
+    format!(in alloc; "{line}:{column}")
+}
+
+/// A control structure's word without its place, and its position where it carries an offset.
+fn control_word(item: &Item) -> (&'static str, Option<usize>) {
     match item {
-        Item::If(line) => format!(in alloc; "if@{line}"),
-        Item::Else(line) => format!(in alloc; "else@{line}"),
-        Item::Then => String::from_str(alloc, "then"),
-        Item::Begin => String::from_str(alloc, "begin"),
-        Item::Back(true, line) => format!(in alloc; "until@{line}"),
-        Item::Back(false, line) => format!(in alloc; "again@{line}"),
-        Item::Do(true, line) => format!(in alloc; "?do@{line}"),
-        Item::Do(false, line) => format!(in alloc; "do@{line}"),
-        Item::Loop(true, line) => format!(in alloc; "+loop@{line}"),
-        Item::Loop(false, line) => format!(in alloc; "loop@{line}"),
-        Item::Leave => String::from_str(alloc, "leave"),
-        Item::Case => String::from_str(alloc, "case"),
-        Item::Of(line) => format!(in alloc; "of@{line}"),
-        Item::EndOf(line) => format!(in alloc; "endof@{line}"),
-        Item::EndCase => String::from_str(alloc, "endcase"),
-        _ => String::from_str(alloc, "?"),
+        Item::If(at) => ("if", Some(*at)),
+        Item::Else(at) => ("else", Some(*at)),
+        Item::Then => ("then", None),
+        Item::Begin => ("begin", None),
+        Item::Back(true, at) => ("until", Some(*at)),
+        Item::Back(false, at) => ("again", Some(*at)),
+        Item::Do(true, at) => ("?do", Some(*at)),
+        Item::Do(false, at) => ("do", Some(*at)),
+        Item::Loop(true, at) => ("+loop", Some(*at)),
+        Item::Loop(false, at) => ("loop", Some(*at)),
+        Item::Leave => ("leave", None),
+        Item::Case => ("case", None),
+        Item::Of(at) => ("of", Some(*at)),
+        Item::EndOf(at) => ("endof", Some(*at)),
+        Item::EndCase => ("endcase", None),
+        _ => ("?", None),
+    }
+}
+
+/// A control structure's word, with its line and column where it carries an offset.
+fn control_text(alloc: Global, text: &[u8], item: &Item) -> Result<String, AllocError> {
+    let (word, position) = control_word(item);
+    match position {
+        Some(position) => {
+            let place = place_text(alloc, text, position)?;
+            format!(in alloc; "{word}@{place}")
+        }
+        None => String::from_str(alloc, word),
     }
 }
 
 /// An item in a few characters.
-fn item_text(alloc: Global, item: &Item) -> Result<String, AllocError> {
+fn item_text(alloc: Global, text: &[u8], item: &Item) -> Result<String, AllocError> {
     match item {
         Item::Call(name) => name_text(alloc, *name),
         Item::Literal(x) => format!(in alloc; "={:x}", x.0),
@@ -71,7 +90,7 @@ fn item_text(alloc: Global, item: &Item) -> Result<String, AllocError> {
         Item::Define(maker, name, number) => making_text(alloc, *maker, name, *number),
         Item::Colon => String::from_str(alloc, ":"),
         Item::Semicolon => String::from_str(alloc, ";"),
-        _ => control_text(alloc, item),
+        _ => control_text(alloc, text, item),
     }
 }
 
@@ -84,9 +103,22 @@ fn outcome(alloc: Global, text: &[u8]) -> Result<String, SourceFault> {
     };
     for item in source.items() {
         shown.push(' ')?;
-        shown.push_str(&item_text(alloc, item)?)?;
+        shown.push_str(&item_text(alloc, text, item)?)?;
     }
     Ok(shown)
+}
+
+/// A fault, with its line and column.
+fn fault_text(alloc: Global, text: &[u8], fault: SourceFault) -> Result<String, AllocError> {
+    let (kind, position) = match fault {
+        SourceFault::Unclosed(position) => ("Unclosed", position),
+        SourceFault::Unknown(position) => ("Unknown", position),
+        SourceFault::BadNumber(position) => ("BadNumber", position),
+        SourceFault::TooLong(position) => ("TooLong", position),
+        SourceFault::NoMemory => return String::from_str(alloc, "NoMemory"),
+    };
+    let place = place_text(alloc, text, position)?;
+    format!(in alloc; "{kind} at {place}")
 }
 
 /// A line of a table as the text of a source: `~` ends a line.
@@ -112,7 +144,7 @@ fn check(
         let text = text_of(alloc, before, source.trim(), after)?;
         let given = match outcome(alloc, &text) {
             Ok(shown) => shown,
-            Err(fault) => format!(in alloc; "{fault:?}")?,
+            Err(fault) => fault_text(alloc, &text, fault)?,
         };
         assert_eq!(rt; given.as_str(), wanted.trim(), "{line}");
     }
@@ -122,55 +154,55 @@ fn check(
 /// Whole texts.
 const TEXTS: &str = "\
 fcode-version2 headerless : t begin dup while 1- dup 2 <> while repeat then ; 5 t . fcode-end \
-| two new:\"74#0 : begin 47 if@1 a6 1f 47 a7 3d if@1 again@1 then then ; =5 #0 9d
+| two new:\"74#0 : begin 47 if@1:41 a6 1f 47 a7 3d if@1:59 again@1:65 then then ; =5 #0 9d
 fcode-version2 \" card\" device-name : add3 3 + ; 2 add3 . fcode-end \
 | two \"63617264 201 named:\"61646433#0 : a8 1e ; a7 #0 9d
 fcode-version1 headerless : t if 1 else 2 then ; 0 t . fcode-end \
-| one new:\"74#0 : if@1 a6 else@1 a7 then ; a5 #0 9d
+| one new:\"74#0 : if@1:31 a6 else@1:36 a7 then ; a5 #0 9d
 FCODE-Version2 Fcode-End | two
 fcode-version1 offset16 fcode-end | one cc
 ( a ) \\ b~fcode-version2 1 fcode-end \\ c~( d ) | two a6
-| Unclosed(1)
-~ | Unclosed(1)
-~~ | Unclosed(2)
-( a | Unknown(1)
-1 fcode-version2 fcode-end | Unknown(1)
-~then fcode-version2 | Unclosed(2)
-100000000 | BadNumber(1)
-fcode-version2 | Unclosed(1)
-fcode-version2~ | Unclosed(1)
-fcode-version2~1 2 + | Unclosed(2)
-fcode-version2 if~begin~ | Unclosed(1)
-fcode-version2 begin~if | Unclosed(1)
-fcode-version2~: | Unclosed(2)
-fcode-version2~value~ | Unclosed(2)
-fcode-version2~if '~~ | Unclosed(2)
-fcode-version2 char~~ | Unclosed(2)
-fcode-version2 fcode-end then | Unclosed(1)
-fcode-version2 fcode-end ; | Unclosed(1)
-fcode-version2 fcode-end else | Unclosed(1)
-fcode-version2 fcode-end until | Unclosed(1)
-fcode-version2 fcode-end again | Unclosed(1)
-fcode-version2 fcode-end repeat | Unclosed(1)
-fcode-version2 fcode-end loop | Unclosed(1)
-fcode-version2 fcode-end +loop | Unclosed(1)
-fcode-version2 fcode-end leave | Unclosed(1)
-fcode-version2 fcode-end of | Unclosed(1)
-fcode-version2 fcode-end endof | Unclosed(1)
-fcode-version2 fcode-end endcase | Unclosed(1)
-fcode-version2 fcode-end : | Unknown(1)
-fcode-version2 fcode-end if | Unknown(1)
-fcode-version2 fcode-end while | Unknown(1)
-fcode-version2 fcode-end begin | Unknown(1)
-fcode-version2 fcode-end do | Unknown(1)
-fcode-version2 fcode-end ?do | Unknown(1)
-fcode-version2 fcode-end case | Unknown(1)
-fcode-version2 fcode-end~1 | Unknown(2)
-fcode-version2 fcode-end~100000000 | BadNumber(2)
-fcode-version2 decimal fcode-end 4294967296 | BadNumber(1)
-fcode-version2 fcode-end fcode-end | Unknown(1)
-fcode-version2 fcode-end ( a | Unknown(1)
-fcode-version2 : fcode-end 1 ; fcode-end fcode-end | Unclosed(1)
+| Unclosed at 1:1
+~ | Unclosed at 1:1
+~~ | Unclosed at 2:1
+( a | Unknown at 1:1
+1 fcode-version2 fcode-end | Unknown at 1:1
+~then fcode-version2 | Unclosed at 2:1
+100000000 | BadNumber at 1:1
+fcode-version2 | Unclosed at 1:14
+fcode-version2~ | Unclosed at 1:15
+fcode-version2~1 2 + | Unclosed at 2:5
+fcode-version2 if~begin~ | Unclosed at 1:16
+fcode-version2 begin~if | Unclosed at 1:16
+fcode-version2~: | Unclosed at 2:1
+fcode-version2~value~ | Unclosed at 2:6
+fcode-version2~if '~~ | Unclosed at 2:1
+fcode-version2 char~~ | Unclosed at 2:1
+fcode-version2 fcode-end then | Unclosed at 1:26
+fcode-version2 fcode-end ; | Unclosed at 1:26
+fcode-version2 fcode-end else | Unclosed at 1:26
+fcode-version2 fcode-end until | Unclosed at 1:26
+fcode-version2 fcode-end again | Unclosed at 1:26
+fcode-version2 fcode-end repeat | Unclosed at 1:26
+fcode-version2 fcode-end loop | Unclosed at 1:26
+fcode-version2 fcode-end +loop | Unclosed at 1:26
+fcode-version2 fcode-end leave | Unclosed at 1:26
+fcode-version2 fcode-end of | Unclosed at 1:26
+fcode-version2 fcode-end endof | Unclosed at 1:26
+fcode-version2 fcode-end endcase | Unclosed at 1:26
+fcode-version2 fcode-end : | Unknown at 1:26
+fcode-version2 fcode-end if | Unknown at 1:26
+fcode-version2 fcode-end while | Unknown at 1:26
+fcode-version2 fcode-end begin | Unknown at 1:26
+fcode-version2 fcode-end do | Unknown at 1:26
+fcode-version2 fcode-end ?do | Unknown at 1:26
+fcode-version2 fcode-end case | Unknown at 1:26
+fcode-version2 fcode-end~1 | Unknown at 2:1
+fcode-version2 fcode-end~100000000 | BadNumber at 2:1
+fcode-version2 decimal fcode-end 4294967296 | BadNumber at 1:34
+fcode-version2 fcode-end fcode-end | Unknown at 1:26
+fcode-version2 fcode-end ( a | Unknown at 1:26
+fcode-version2 : fcode-end 1 ; fcode-end fcode-end | Unclosed at 1:50
 ";
 
 #[test]
@@ -191,14 +223,14 @@ char A [char] az char~1 | two =41 =61 =31
 space erase << >> not | two a9 8f a5 79 27 28 26
 \" ab\" s\" ab\" .\" ab\"dup | two \"6162 \"6162 \"6162 90 47
 \" a\"(41 42)b\" \" \"(0a0D ff)\" | two \"61414262 \"0a0dff
-\" \"( )\" \" \" s\" a\"(41) 1 | Unknown(1)
+\" \"( )\" \" \" s\" a\"(41) 1 | Unknown at 1:33
 \" \"( )\" \" \" s\" \" | two \" \" \"
-\" a\"(4 1)\" | Unknown(1)
-\" a\"(41~42)\" | Unknown(1)
+\" a\"(4 1)\" | Unknown at 1:20
+\" a\"(41~42)\" | Unknown at 1:20
 \" a\"(41\t42)\" | two \"614142
-\" a\"(414)\" | Unknown(1)
+\" a\"(414)\" | Unknown at 1:20
 ( a b )1 \\ c d~2 ( e ) 3 | two a6 a7 a8
-offset16 : t offset16 1 if 2 then ; | two cc named:\"74#0 : cc a6 if@1 a7 then ;
+offset16 : t offset16 1 if 2 then ; | two cc named:\"74#0 : cc a6 if@1:40 a7 then ;
 headerless : t ; external : u ; headers : v ; | two new:\"74#0 : ; external:\"75#1 : ; named:\"76#2 : ;
 value a variable b constant c | two named:\"61#0 b8 named:\"62#1 b9 named:\"63#2 ba
 create d defer~e | two named:\"64#0 bb named:\"65#1 bc
@@ -212,7 +244,7 @@ buffer: f field g | two named:\"66#0 bd named:\"67#1 be
 : ; 1 ; ; | two named:\"3b#0 : a6 ; #0
 : ( 1 ; ( ( | two named:\"28#0 : a6 ; #0 #0
 value v 5 to v ' dup [']~V | two named:\"76#0 b8 =5 c3>#0 11>47 11>#0
-: t to u ; value u | Unknown(1)
+: t to u ; value u | Unknown at 1:23
 : a234567890123456789012345678901 ; | \
 two named:\"61323334353637383930313233343536373839303132333435363738393031#0 : ;
 ";
@@ -224,39 +256,39 @@ fn words(rt: HostRuntime) -> Result<(), Fail> {
 
 /// Control structures between `fcode-version2` and `fcode-end`.
 const STRUCTURES: &str = "\
-If Else~Then | two if@1 else@1 then
-begin while repeat | two begin if@1 again@1 then
-begin~1 until begin again | two begin a6 until@2 begin again@2
-if begin repeat | two if@1 begin again@1 then
-begin if again then | two begin if@1 again@1 then
-begin while while repeat then | two begin if@1 if@1 again@1 then then
-2 0 do i leave loop | two a7 a5 do@1 19 leave loop@1
-2 0~?do 2~+loop | two a7 a5 ?do@2 a7 +loop@3
-case 1 of 2 endof dup of endof drop endcase | two case a6 of@1 a7 endof@1 47 of@1 endof@1 46 endcase
-do begin leave again loop | two do@1 begin leave again@1 loop@1
-do case of leave endof endcase loop | two do@1 case of@1 leave endof@1 endcase loop@1
-0 if : a ; then a | two a5 if@1 named:\"61#0 : ; then #0
-then | Unclosed(1)
-else | Unclosed(1)
-until | Unclosed(1)
-again | Unclosed(1)
-repeat | Unclosed(1)
-begin~repeat | Unclosed(2)
-loop | Unclosed(1)
-+loop | Unclosed(1)
-begin leave again | Unclosed(1)
-do~: t leave ; loop | Unclosed(2)
-of | Unclosed(1)
-case do of endof loop endcase | Unclosed(1)
-case~if of endof then endcase | Unclosed(2)
-endof | Unclosed(1)
-endcase | Unclosed(1)
-; | Unclosed(1)
-: t if~; | Unclosed(2)
-if~do~then loop | Unclosed(3)
-do~if loop then | Unclosed(2)
-if~begin | Unclosed(1)
-~begin~if | Unclosed(2)
+If Else~Then | two if@1:16 else@1:19 then
+begin while repeat | two begin if@1:22 again@1:28 then
+begin~1 until begin again | two begin a6 until@2:3 begin again@2:15
+if begin repeat | two if@1:16 begin again@1:25 then
+begin if again then | two begin if@1:22 again@1:25 then
+begin while while repeat then | two begin if@1:22 if@1:28 again@1:34 then then
+2 0 do i leave loop | two a7 a5 do@1:20 19 leave loop@1:31
+2 0~?do 2~+loop | two a7 a5 ?do@2:1 a7 +loop@3:1
+case 1 of 2 endof dup of endof drop endcase | two case a6 of@1:23 a7 endof@1:28 47 of@1:38 endof@1:41 46 endcase
+do begin leave again loop | two do@1:16 begin leave again@1:31 loop@1:37
+do case of leave endof endcase loop | two do@1:16 case of@1:24 leave endof@1:33 endcase loop@1:47
+0 if : a ; then a | two a5 if@1:18 named:\"61#0 : ; then #0
+then | Unclosed at 1:16
+else | Unclosed at 1:16
+until | Unclosed at 1:16
+again | Unclosed at 1:16
+repeat | Unclosed at 1:16
+begin~repeat | Unclosed at 2:1
+loop | Unclosed at 1:16
++loop | Unclosed at 1:16
+begin leave again | Unclosed at 1:22
+do~: t leave ; loop | Unclosed at 2:5
+of | Unclosed at 1:16
+case do of endof loop endcase | Unclosed at 1:24
+case~if of endof then endcase | Unclosed at 2:4
+endof | Unclosed at 1:16
+endcase | Unclosed at 1:16
+; | Unclosed at 1:16
+: t if~; | Unclosed at 2:1
+if~do~then loop | Unclosed at 3:1
+do~if loop then | Unclosed at 2:4
+if~begin | Unclosed at 1:16
+~begin~if | Unclosed at 2:1
 ";
 
 #[test]
@@ -266,39 +298,44 @@ fn structures(rt: HostRuntime) -> Result<(), Fail> {
 
 /// What is wrong between `fcode-version2` and `fcode-end`.
 const FAULTS: &str = "\
-~xyzzy | Unknown(2)
-12x | Unknown(1)
-ahead | Unknown(1)
-b(lit) | Unknown(1)
-end0 | Unknown(1)
-new-token | Unknown(1)
-recurse | Unknown(1)
-: a : b ; ; | Unknown(1)
-: a~value b ; | Unknown(2)
-' if | Unknown(1)
-'~5 | Unknown(2)
-to : | Unknown(1)
-0 if offset16 then | Unknown(1)
-0 do~offset16 loop | Unknown(2)
-begin offset16 again | Unknown(1)
-case offset16 endcase | Unknown(1)
-: t if offset16 then ; | Unknown(1)
-\" abc | Unknown(1)
-~\" abc~\" | Unknown(2)
-s\" x~\" | Unknown(1)
-~~.\" x | Unknown(3)
-( abc~) | Unknown(1)
-: foo foo ; | Unknown(1)
-100000000 | BadNumber(1)
-~-80000001 | BadNumber(2)
-decimal 4294967296 | BadNumber(1)
-decimal 99999999999999999999 | BadNumber(1)
-~h#~xyz | BadNumber(2)
-d# 1f | BadNumber(1)
-h# 100000000 | BadNumber(1)
-~d# | BadNumber(2)
-: b2345678901234567890123456789012 ; | TooLong(1)
-value~b2345678901234567890123456789012 | TooLong(2)
+~xyzzy | Unknown at 2:1
+12x | Unknown at 1:16
+ahead | Unknown at 1:16
+b(lit) | Unknown at 1:16
+end0 | Unknown at 1:16
+new-token | Unknown at 1:16
+recurse | Unknown at 1:16
+: a : b ; ; | Unknown at 1:20
+: a~value b ; | Unknown at 2:1
+' if | Unknown at 1:18
+'~5 | Unknown at 2:1
+to : | Unknown at 1:19
+0 if offset16 then | Unknown at 1:21
+0 do~offset16 loop | Unknown at 2:1
+begin offset16 again | Unknown at 1:22
+case offset16 endcase | Unknown at 1:21
+do : t offset16 ; loop | Unknown at 1:23
+: t if offset16 then ; | Unknown at 1:23
+\" abc | Unknown at 1:16
+~\" abc~\" | Unknown at 2:1
+s\" x~\" | Unknown at 1:16
+~~.\" x | Unknown at 3:1
+( abc~) | Unknown at 1:16
+: t ['] t ; | Unknown at 1:24
+: t ' t ; | Unknown at 1:22
+: t to t ; | Unknown at 1:23
+: foo foo ; | Unknown at 1:22
+100000000 | BadNumber at 1:16
+~-80000001 | BadNumber at 2:1
+decimal 4294967296 | BadNumber at 1:24
+decimal 99999999999999999999 | BadNumber at 1:24
+~h#~xyz | BadNumber at 2:1
+decimal 1f | Unknown at 1:24
+d# 1f | BadNumber at 1:16
+h# 100000000 | BadNumber at 1:16
+~d# | BadNumber at 2:1
+: b2345678901234567890123456789012 ; | TooLong at 1:18
+value~b2345678901234567890123456789012 | TooLong at 2:1
 ";
 
 #[test]
@@ -333,11 +370,14 @@ fn limits(rt: HostRuntime) -> Result<(), Fail> {
     let string = repeated(alloc, "fcode-version2 s\" ", "x", 255, "\" fcode-end")?;
     assert_eq!(rt; item_count(alloc, &string), Ok(1));
     let string = repeated(alloc, "fcode-version2\n\" ", "x", 256, "\" fcode-end")?;
-    assert_eq!(rt; item_count(alloc, &string), Err(SourceFault::TooLong(2)));
+    assert_eq!(rt; item_count(alloc, &string), Err(SourceFault::TooLong(15)));
     let definitions = repeated(alloc, "fcode-version2 ", ": a ;\n", 2049, "fcode-end")?;
     assert_eq!(rt; item_count(alloc, &definitions), Ok(6147));
     let branches = repeated(alloc, "fcode-version2 : t ", "if ", 32, "else ; fcode-end")?;
-    assert_eq!(rt; item_count(alloc, &branches), Err(SourceFault::Unclosed(1)));
+    assert_eq!(rt;
+        item_count(alloc, &branches),
+        Err(SourceFault::Unclosed(120))
+    );
     Ok(())
 }
 
@@ -349,5 +389,56 @@ fn many_branches(rt: HostRuntime) -> Result<(), Fail> {
     let mut text = opened;
     text.extend_from_slice(&closed)?;
     assert_eq!(rt; item_count(alloc, &text), Ok(68));
+    Ok(())
+}
+
+#[test]
+fn long_text(rt: HostRuntime) -> Result<(), Fail> {
+    let alloc = rt.alloc();
+    let text = repeated(alloc, "fcode-version2 ", ": a ;\n", 12_000, "fcode-end")?;
+    assert_eq!(rt; item_count(alloc, &text), Ok(36_000));
+    Ok(())
+}
+
+/// The places of `\n` and of the letters of `ab\nc`, and of what is behind them.
+#[test]
+fn places(rt: HostRuntime) -> Result<(), Fail> {
+    let rows = [
+        (0, 1, 1),
+        (1, 1, 2),
+        (2, 1, 3),
+        (3, 2, 1),
+        (4, 2, 2),
+        (9, 2, 2),
+    ];
+    for (position, line, column) in rows {
+        assert_eq!(rt; place_in(b"ab\nc", position), Place { line, column });
+    }
+    assert_eq!(rt; place_in(b"\n\n", 2), Place { line: 3, column: 1 });
+    Ok(())
+}
+
+/// Whether a source may use a word by its name.
+fn is_ordinary(word: Option<Word>) -> bool {
+    !matches!(word, None | Some(Word::Stream(_)))
+}
+
+/// Each word of the board that acts on no image stands in a source for its own token.
+#[test]
+fn ordinary_words(rt: HostRuntime) -> Result<(), Fail> {
+    let alloc = rt.alloc();
+    let mut tried = Vec::new(alloc);
+    for number in 0..0x1000 {
+        let code = FCode(number);
+        let Some(name) = name_of(code) else { continue };
+        if !is_ordinary(word_of(code)) {
+            continue;
+        }
+        let text = format!(in alloc; "fcode-version2 {name} fcode-end")?;
+        let wanted = format!(in alloc; "two {number:x}")?;
+        assert_eq!(rt; outcome(alloc, text.as_bytes()), Ok(wanted), "{name}");
+        tried.push(number)?;
+    }
+    assert_eq!(rt; tried.len(), 224);
     Ok(())
 }

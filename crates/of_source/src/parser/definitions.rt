@@ -24,10 +24,10 @@ impl<'a> Parser<'a> {
         let Some(word) = self.rest.word() else {
             return Err(fault);
         };
-        if word.len() > 31 {
-            return Err(SourceFault::TooLong(self.rest.line()));
+        if word.bytes.len() > 31 {
+            return Err(SourceFault::TooLong(word.at));
         }
-        Ok(word)
+        Ok(word.bytes)
     }
 
     /// The token that gives the next definition its number.
@@ -72,8 +72,8 @@ impl<'a> Parser<'a> {
         if self.nesting.in_definition() {
             return self.unknown();
         }
-        let line = self.rest.line();
-        self.nesting.open_part(Part::Definition, line)?;
+        let at = self.at;
+        self.nesting.open_part(Part::Definition, at)?;
         let name = self.name(last)?;
         self.give_maker(name)?;
         self.give(Item::Colon)?;

@@ -25,17 +25,17 @@ impl Parser<'_> {
     pub(super) fn number_word(&mut self, radix: Radix) -> Result<bool, SourceFault>
         ensures { Steps (keyword_step 0 (keyword.NumberIn radix) self.old) self.new result }
     {
-        let line = self.rest.line();
+        let at = self.at;
         let Some(word) = self.rest.word() else {
-            return Err(SourceFault::BadNumber(line));
+            return Err(SourceFault::BadNumber(at));
         };
-        match number_in(word, radix.base()) {
+        match number_in(word.bytes, radix.base()) {
             Number::Value(x) => {
                 self.number(x)?;
                 Ok(true)
             }
-            Number::OutOfRange => Err(SourceFault::BadNumber(line)),
-            Number::NoNumber => Err(SourceFault::BadNumber(line)),
+            Number::OutOfRange => Err(SourceFault::BadNumber(at)),
+            Number::NoNumber => Err(SourceFault::BadNumber(at)),
         }
     }
 
@@ -47,7 +47,7 @@ impl Parser<'_> {
         let Some(word) = self.rest.word() else {
             return Err(fault);
         };
-        self.number(Cell(u32::from(word[0])))?;
+        self.number(Cell(u32::from(word.bytes[0])))?;
         Ok(true)
     }
 
@@ -69,8 +69,8 @@ impl Parser<'_> {
         let Some(word) = self.rest.word() else {
             return Err(fault);
         };
-        let Some(name) = self.named(word)? else {
-            return self.unknown();
+        let Some(name) = self.named(word.bytes)? else {
+            return Err(SourceFault::Unknown(word.at));
         };
         self.give(Item::Naming(token, name))?;
         Ok(true)
@@ -110,7 +110,7 @@ impl Parser<'_> {
             return self.unknown();
         };
         if bytes.len() > 255 {
-            return Err(SourceFault::TooLong(self.rest.line()));
+            return Err(SourceFault::TooLong(self.at));
         }
         self.give_string(bytes)?;
         Ok(true)
@@ -124,7 +124,7 @@ impl Parser<'_> {
             return self.unknown();
         };
         if bytes.len() > 255 {
-            return Err(SourceFault::TooLong(self.rest.line()));
+            return Err(SourceFault::TooLong(self.at));
         }
         self.give_string(bytes.to_vec(self.alloc)?)?;
         Ok(true)

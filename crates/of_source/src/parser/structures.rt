@@ -13,9 +13,9 @@ impl Parser<'_> {
     pub(super) fn if_word(&mut self) -> Result<bool, SourceFault>
         ensures { Steps (keyword_step 0 keyword.If self.old) self.new result }
     {
-        let line = self.rest.line();
-        self.nesting.open_branch(line)?;
-        self.give(Item::If(line))?;
+        let at = self.at;
+        self.nesting.open_branch(at)?;
+        self.give(Item::If(at))?;
         Ok(true)
     }
 
@@ -23,11 +23,11 @@ impl Parser<'_> {
     pub(super) fn else_word(&mut self) -> Result<bool, SourceFault>
         ensures { Steps (keyword_step 0 keyword.Else self.old) self.new result }
     {
-        let line = self.rest.line();
-        if !self.nesting.exchange_branch(line)? {
+        let at = self.at;
+        if !self.nesting.exchange_branch(at)? {
             return self.unclosed();
         }
-        self.give(Item::Else(line))?;
+        self.give(Item::Else(at))?;
         Ok(true)
     }
 
@@ -46,8 +46,8 @@ impl Parser<'_> {
     pub(super) fn begin_word(&mut self) -> Result<bool, SourceFault>
         ensures { Steps (keyword_step 0 keyword.Begin self.old) self.new result }
     {
-        let line = self.rest.line();
-        self.nesting.open_part(Part::Begin, line)?;
+        let at = self.at;
+        self.nesting.open_part(Part::Begin, at)?;
         self.give(Item::Begin)?;
         Ok(true)
     }
@@ -59,8 +59,8 @@ impl Parser<'_> {
         if !self.nesting.close_begin() {
             return self.unclosed();
         }
-        let line = self.rest.line();
-        self.give(Item::Back(tests, line))?;
+        let at = self.at;
+        self.give(Item::Back(tests, at))?;
         Ok(true)
     }
 
@@ -71,8 +71,8 @@ impl Parser<'_> {
         if !self.nesting.close_begin() || !self.nesting.close_branch() {
             return self.unclosed();
         }
-        let line = self.rest.line();
-        self.give(Item::Back(false, line))?;
+        let at = self.at;
+        self.give(Item::Back(false, at))?;
         self.give(Item::Then)?;
         Ok(true)
     }
@@ -81,9 +81,9 @@ impl Parser<'_> {
     pub(super) fn do_word(&mut self, skips: bool) -> Result<bool, SourceFault>
         ensures { Steps (keyword_step 0 (keyword.Do skips) self.old) self.new result }
     {
-        let line = self.rest.line();
-        self.nesting.open_part(Part::Do, line)?;
-        self.give(Item::Do(skips, line))?;
+        let at = self.at;
+        self.nesting.open_part(Part::Do, at)?;
+        self.give(Item::Do(skips, at))?;
         Ok(true)
     }
 
@@ -94,8 +94,8 @@ impl Parser<'_> {
         if !self.nesting.close_part(Part::Do) {
             return self.unclosed();
         }
-        let line = self.rest.line();
-        self.give(Item::Loop(takes, line))?;
+        let at = self.at;
+        self.give(Item::Loop(takes, at))?;
         Ok(true)
     }
 
@@ -114,8 +114,8 @@ impl Parser<'_> {
     pub(super) fn case_word(&mut self) -> Result<bool, SourceFault>
         ensures { Steps (keyword_step 0 keyword.Case self.old) self.new result }
     {
-        let line = self.rest.line();
-        self.nesting.open_part(Part::Case, line)?;
+        let at = self.at;
+        self.nesting.open_part(Part::Case, at)?;
         self.give(Item::Case)?;
         Ok(true)
     }
@@ -127,9 +127,9 @@ impl Parser<'_> {
         if !self.nesting.on_case() {
             return self.unclosed();
         }
-        let line = self.rest.line();
-        self.nesting.open_part(Part::Of, line)?;
-        self.give(Item::Of(line))?;
+        let at = self.at;
+        self.nesting.open_part(Part::Of, at)?;
+        self.give(Item::Of(at))?;
         Ok(true)
     }
 
@@ -140,8 +140,8 @@ impl Parser<'_> {
         if !self.nesting.close_part(Part::Of) {
             return self.unclosed();
         }
-        let line = self.rest.line();
-        self.give(Item::EndOf(line))?;
+        let at = self.at;
+        self.give(Item::EndOf(at))?;
         Ok(true)
     }
 

@@ -5,7 +5,8 @@ use Rattle.of_source.proofs.source.parts_of.Goals as goal
 pub returns-then-is_same_name-clause-ok : goal.returns-then-is_same_name-clause-ok
 returns-then-is_same_name-clause-ok c =
     rw (
-      parsed_two c.args.text.now c.in-Word.word.now c.in-Word.rest (rw c.new.ensures at c.in-Word.ensures)
+      parsed_two c.in-Word.word.at c.args.text.now c.in-Word.word.bytes.now c.in-Word.rest
+          (rw c.new.ensures at c.in-Word.ensures)
           (sym c.is_same_name.ensures ∙ c.if-is_same_name.true),
       ← c.new-then-is_same_name.ensures,
     ) c.words.ensures.ok
@@ -13,7 +14,8 @@ returns-then-is_same_name-clause-ok c =
 pub returns-then-is_same_name-clause-err : goal.returns-then-is_same_name-clause-err
 returns-then-is_same_name-clause-err c =
     rw (
-      parsed_two c.args.text.now c.in-Word.word.now c.in-Word.rest (rw c.new.ensures at c.in-Word.ensures)
+      parsed_two c.in-Word.word.at c.args.text.now c.in-Word.word.bytes.now c.in-Word.rest
+          (rw c.new.ensures at c.in-Word.ensures)
           (sym c.is_same_name.ensures ∙ c.if-is_same_name.true),
       ← c.new-then-is_same_name.ensures,
     ) c.words.ensures.err
@@ -21,7 +23,8 @@ returns-then-is_same_name-clause-err c =
 pub returns-then-is_same_name-2-clause-ok : goal.returns-then-is_same_name-2-clause-ok
 returns-then-is_same_name-2-clause-ok c =
     rw (
-      parsed_one c.args.text.now c.in-Word.word.now c.in-Word.rest (rw c.new.ensures at c.in-Word.ensures)
+      parsed_one c.in-Word.word.at c.args.text.now c.in-Word.word.bytes.now c.in-Word.rest
+          (rw c.new.ensures at c.in-Word.ensures)
           (sym c.is_same_name.ensures ∙ c.if-is_same_name.false)
           (sym c.is_same_name-in-Word.ensures ∙ c.if-is_same_name-2.true),
       ← c.new-then-is_same_name-2.ensures,
@@ -31,7 +34,8 @@ returns-then-is_same_name-2-clause-ok c =
 pub returns-then-is_same_name-2-clause-err : goal.returns-then-is_same_name-2-clause-err
 returns-then-is_same_name-2-clause-err c =
     rw (
-      parsed_one c.args.text.now c.in-Word.word.now c.in-Word.rest (rw c.new.ensures at c.in-Word.ensures)
+      parsed_one c.in-Word.word.at c.args.text.now c.in-Word.word.bytes.now c.in-Word.rest
+          (rw c.new.ensures at c.in-Word.ensures)
           (sym c.is_same_name.ensures ∙ c.if-is_same_name.false)
           (sym c.is_same_name-in-Word.ensures ∙ c.if-is_same_name-2.true),
       ← c.new-then-is_same_name-2.ensures,
