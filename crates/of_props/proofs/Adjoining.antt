@@ -1,11 +1,12 @@
 -- Arrays that adjoin are one.
-use Rattle.std.proofs.Common.{◌≡◌, ◌≢◌, ℕ, zero, suc, ◌+◌, ◌-◌, ◌*◌, ◌/◌, ◌%◌, ◌^◌, ◌<◌, ◌≤◌, eqb, Bool, true, false, ◌&&◌}
-use Rattle.std.proofs.Common.{List, [], ◌++◌, length, take, drop, None, Result, Ok, Err, if◌then◌else◌}
-use Rattle.std.proofs.Common.{refl, ap, sym, subst, ◌∙◌, arith, inl, inr}
+use Rattle.std.proofs.Common.{◌≡◌, ℕ, zero, suc, ◌+◌, ◌/◌, ◌%◌, ◌^◌, ◌<◌, ◌≤◌}
+use Rattle.std.proofs.Common.{eqb, Bool, true, false, ◌&&◌}
+use Rattle.std.proofs.Common.{List, [], ◌++◌, take, drop, None, Result, Ok, Err, if◌then◌else◌}
+use Rattle.std.proofs.Common.{refl, ap, sym, ◌∙◌, arith, inl, inr}
 use Rattle.std.specs.Result.{is_ok}
 use Rattle.std.proofs.lemmas.Bool.{cases_eq}
 use Rattle.std.proofs.lemmas.Bool.Decides.{nat_tests}
-use Rattle.std.proofs.lemmas.List.{append-nil, drop-drop}
+use Rattle.std.proofs.lemmas.List.{drop-drop}
 use Rattle.std.proofs.Math.Nat.{mod-eq_of_lt}
 use Rattle.std.proofs.Math.Seq.{take-add}
 use Rattle.of_cells.specs.Arithmetic.{plus}
@@ -19,7 +20,7 @@ use Rattle.of_props.specs.Laws.{ArraysAdjoin, Follows}
 use Rattle.of_props.specs.declared.arrays.Array.{Array}
 use Rattle.of_props.specs.declared.fault.PropFault.{PropFault}
 use Rattle.of_props.specs.declared.fault.PropFault.TheVariants.{Address, NotAdjacent}
-use Rattle.of_props.proofs.Encoded.{array, bytes_if}
+use Rattle.of_props.proofs.Encoded.{bytes_if}
 use Rattle.of_props.proofs.Readable.{byte_fault}
 
 -- what joining shows
@@ -45,7 +46,8 @@ read_if true x y e = (refl, cc)
 read_if false x y e = cc
 
 -- a test that each of n numbers passes, and each of k behind them
-all_both : (p : ℕ → Bool) (a n k : ℕ) → all_from p a n ≡ true → all_from p (a + n) k ≡ true → all_from p a (n + k) ≡ true
+all_both : (p : ℕ → Bool) (a n k : ℕ) → all_from p a n ≡ true → all_from p (a + n) k ≡ true
+    → all_from p a (n + k) ≡ true
 unfolding all_from
 all_both p a zero k e f = let z : a + 0 ≡ a = omega arith in let s : 0 + k ≡ k = omega arith in rw (s, ← z) f
 all_both p a (suc n) k e f =
@@ -64,7 +66,8 @@ abbrev Bytes : DataSpace → ℕ → ℕ → List ℕ → Type 0
 Bytes m a n xs = (are_readable m a n ≡ true) × (bytes_from m a n ≡ xs)
 
 -- where some bytes that can be read stand
-ends : RangesArePlaced → (m : DataSpace) (a n : ℕ) → are_readable m a n ≡ true → 0 < n → IsPlaced a n × (a + n ≤ 0x64_0000)
+ends : RangesArePlaced → (m : DataSpace) (a n : ℕ) → are_readable m a n ≡ true → 0 < n
+    → IsPlaced a n × (a + n ≤ 0x64_0000)
 ends placed m a n open_ l =
     let none : read_fault m a n One ≡ None = rw (byte_fault m a n, open_) refl in
     (placed.placed m a n One none l, placed.ends m a n One none l)

@@ -1,24 +1,23 @@
 -- Which arrays are refused, and for what.
-use Rattle.std.proofs.Common.{◌≡◌, ◌≢◌, ℕ, zero, suc, ◌+◌, ◌*◌, ◌<◌, ◌≤◌, eqb, nat_le, nat_lt, Bool, true, false, not}
-use Rattle.std.proofs.Common.{List, [], ◌∷◌, ◌++◌, length, drop, get_or, Option, Some, None, Result, Ok, Err, if◌then◌else◌}
-use Rattle.std.proofs.Common.{refl, ap, sym, ◌∙◌, arith, length-append, inl, inr}
-use Rattle.std.specs.List.{All, position, position_or_len}
+use Rattle.std.proofs.Common.{◌≡◌, ◌≢◌, ℕ, zero, suc, ◌+◌, ◌*◌, ◌<◌, ◌≤◌, eqb, nat_le, nat_lt, true, false}
+use Rattle.std.proofs.Common.{List, [], ◌∷◌, ◌++◌, length, drop, get_or}
+use Rattle.std.proofs.Common.{Ok, Err}
+use Rattle.std.proofs.Common.{refl, arith, length-append, inl, inr}
+use Rattle.std.specs.List.{All, position_or_len}
 use Rattle.std.specs.Result.{is_ok}
 use Rattle.std.proofs.lemmas.Bool.{cases_eq}
 use Rattle.std.proofs.lemmas.Bool.Decides.{nat_tests}
 use Rattle.std.proofs.lemmas.List.{length-take}
-use Rattle.std.proofs.lemmas.List.Sums.{position_or_len_is}
 use Rattle.of_cells.specs.declared.cells.Cell.{Cell}
 use Rattle.of_memory.specs.Regions.{data_limit, place_of}
 use Rattle.of_memory.specs.DataSpace.{DataSpace, IsSound, bytes_from}
 use Rattle.of_memory.specs.Access.{are_readable}
 use Rattle.of_memory.specs.RangeLaws.{RangesArePlaced}
 use Rattle.of_props.specs.Arrays.{bytes_of}
-use Rattle.of_props.specs.Decoding.{int_decoded, phys_decoded, string_decoded, string_in}
-use Rattle.of_props.specs.Encoding.{bytes_encoded, copy_encoded, string_encoded}
+use Rattle.of_props.specs.Decoding.{int_decoded, phys_decoded, string_decoded}
+use Rattle.of_props.specs.Encoding.{copy_encoded}
 use Rattle.of_props.specs.Laws.{DecodingsAreRefused, EncodingsAreRefused, IsReadable, IsUnreadable}
 use Rattle.of_props.specs.declared.arrays.Array.{Array}
-use Rattle.of_props.specs.declared.fault.PropFault.{PropFault}
 use Rattle.of_props.specs.declared.fault.PropFault.TheVariants.{Address, Full, Short}
 use Rattle.of_props.proofs.StringsBack.{many_bytes}
 

@@ -131,10 +131,6 @@ ok_bytes : (o : Option ℕ) (xs ys : List ℕ) → unless_unfit o xs ≡ Ok ys �
 ok_bytes None xs ys h = (cc, refl)
 ok_bytes (Some l) xs ys h = absurd cc
 
--- what is written is all bytes
-pub all_bytes : (ws : List Written) (bytes : List ℕ) → written_behind [] ws ≡ Ok bytes → bytes_of ws ≡ bytes
-all_bytes ws bytes r = (ok_bytes (first_unfit ws) (bytes_of ws) bytes r).0
-
 pub accepted : (s : Source) (ws : List Written) (bytes : List ℕ) → definitions s.items ≤ most_definitions
     → ws ≡ tokens s → header_length + length (bytes_of ws) ≤ most_bytes
     → written_behind [] ws ≡ Ok bytes → tokenized s ≡ Ok (header s.size bytes ++ bytes)

@@ -53,7 +53,7 @@ unfolding token_bytes
 aimed_length l code p t h = rw h (sized p.size)
   where
     sized : (z : OffsetSize)
-        → suc (length (offset_bytes z (offset_of (record { line = l; place = p; code = fcode code; target = t }))))
+        → suc (length (offset_bytes z (offset_of (record { word = l; place = p; code = fcode code; target = t }))))
         ≡ 1 + width z
     sized One = refl
     sized Two = refl

@@ -4,4 +4,8 @@ pub mod LayLemmas
 pub mod WriteLemmas
 pub mod PassLemmas
 pub mod ImageLemmas
+mod Placed
+mod AimLemmas
+mod FollowLemmas
 pub mod OrderLemmas
+mod HeaderLemmas

@@ -1,9 +1,8 @@
 -- Bytes of tokens, one after another.
-use Rattle.std.proofs.Common.{◌≡◌, ℕ, List, [], ◌∷◌, ◌++◌, map, reverse, Option, Some, None, Err, sym, ap, ◌∙◌}
+use Rattle.std.proofs.Common.{◌≡◌, ℕ, List, [], ◌∷◌, ◌++◌, map, reverse, Option, None, sym, ap, ◌∙◌}
 use Rattle.std.proofs.Common.{append_assoc}
 use Rattle.std.specs.Option.{option_or}
 use Rattle.std.proofs.lemmas.List.{map-append, reverse-append}
-use Rattle.of_tok.specs.declared.fault.TokFault.TheVariants.{OffsetTooLong}
 use Rattle.of_tok.specs.declared.written.Written.{Written as Held}
 use Rattle.of_tok.specs.Image.{bytes_of, first_unfit, unfit, unless_unfit, written_behind, written_bytes}
 use Rattle.of_tok.specs.Shown.{written_shown}
@@ -22,9 +21,3 @@ pub one_written : (before : List ℕ) (w : Written) (ws : List Written) → unfi
 one_written before w ws h =
     ap (λ (o : Option ℕ). unless_unfit (option_or o (first_unfit ws)) (before ++ (written_bytes w ++ bytes_of ws))) h
     ∙ ap (unless_unfit (first_unfit ws)) (sym (append_assoc before (written_bytes w) (bytes_of ws)))
-
--- one whose offset doesn't fit ends all
-pub one_unfit : (before : List ℕ) (w : Written) (ws : List Written) (l : ℕ) → unfit w ≡ Some l
-    → written_behind before (w ∷ ws) ≡ Err (OffsetTooLong l)
-one_unfit before w ws l h =
-    ap (λ (o : Option ℕ). unless_unfit (option_or o (first_unfit ws)) (before ++ (written_bytes w ++ bytes_of ws))) h

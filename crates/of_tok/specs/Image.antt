@@ -29,12 +29,12 @@ bytes_of ws = flat_map written_bytes ws
 abbrev pub fitting : Aim → Option ℤ
 fitting a = if is_offset a.place.size (offset_of a) then Some (offset_of a) else None
 
--- the line of a token's word, where its offset doesn't fit its size
+-- the position of a token's word, where its offset doesn't fit its size
 abbrev pub unfit : Written → Option ℕ
 unfit (Straight size t) = None
-unfit (Aimed a) = if is_offset a.place.size (offset_of a) then None else Some a.line
+unfit (Aimed a) = if is_offset a.place.size (offset_of a) then None else Some a.word
 
--- the line of the first word whose offset doesn't fit
+-- the position of the first word whose offset doesn't fit
 abbrev pub first_unfit : List Written → Option ℕ
 first_unfit [] = None
 first_unfit (w ∷ ws) = option_or (unfit w) (first_unfit ws)
@@ -60,7 +60,7 @@ most_bytes = 0x40000
 -- bytes, unless there is a word whose offset doesn't fit
 abbrev pub unless_unfit : Option ℕ → List ℕ → Result (List ℕ) TokFault
 unless_unfit None bytes = Ok bytes
-unless_unfit (Some line) bytes = Err (OffsetTooLong line)
+unless_unfit (Some word) bytes = Err (OffsetTooLong word)
 
 -- tokens behind bytes
 abbrev pub written_behind : List ℕ → List Written → Result (List ℕ) TokFault
@@ -97,6 +97,6 @@ IsRefused r ImageTooLong = r ≡ Err ImageTooLong
 
 -- a token wasn't written, since its offset doesn't fit, or for want of memory
 abbrev pub IsUnfit : Option ℕ → TokFault → Type 0
-IsUnfit line NoMemory = Unit {0}
-IsUnfit line (OffsetTooLong l) = line ≡ Some l
-IsUnfit line _ = ⊥
+IsUnfit word NoMemory = Unit {0}
+IsUnfit word (OffsetTooLong l) = word ≡ Some l
+IsUnfit word _ = ⊥

@@ -33,9 +33,9 @@ size_at (Aimed a) = a.place.size
 abbrev pub straight : ℕ → Place → Written
 straight code p = Straight p.size (bare code)
 
--- the token of an FCode at a place whose offset leads to a position, for a word on this line
+-- the token of an FCode at a place whose offset leads to a position, for the word at a position of the text
 abbrev pub aimed : ℕ → ℕ → Place → ℕ → Written
-aimed line code p target = Aimed (record { line = line; place = p; code = fcode code; target = target })
+aimed word code p target = Aimed (record { word = word; place = p; code = fcode code; target = target })
 
 -- `b?branch` or `bbranch`
 abbrev pub branch_code : Bool → ℕ

@@ -4,8 +4,8 @@ use thiserror::Error;
 /// Why a source has no image.
 #[derive(Clone, Copy, Debug, Error)]
 pub enum TokFault {
-    /// The offset of the word on this line doesn't fit its size.
-    #[error("line {0}: offset too long")]
+    /// The offset of the word at this position of the text doesn't fit its size.
+    #[error("position {0}: offset too long")]
     OffsetTooLong(usize),
 
     /// There are more than 2,048 definitions.

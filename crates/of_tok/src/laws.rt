@@ -1,6 +1,6 @@
 // A function without parameters does nothing: its contract is a law.
 
-ghost use Rattle.of_tok.specs.Laws.{ImageHasTokens};
+ghost use Rattle.of_tok.specs.Laws.{HeaderIsTheSum, ImageHasTokens, NestsEndAtTheirPlaces};
 ghost use Rattle.of_tok.specs.Layout.{PassesGiveTokens};
 
 use of_source::items_give_nest;
@@ -14,7 +14,7 @@ pub fn passes_give_tokens()
 {}
 
 /// The image of a source has the tokens of its nest behind the header, `end0` the last, and no
-/// others; each offset leads to its target.
+/// others, each at its place; each offset leads to its target, behind the header and before the end.
 #[tactic(auto, using(crate::proofs::OrderLemmas::image_has_tokens))]
 pub fn image_has_tokens()
     ensures { ImageHasTokens }
@@ -22,3 +22,16 @@ pub fn image_has_tokens()
     items_give_nest();
     tokens_read_back();
 }
+
+/// The header of an image says the sum and the length of its bytes, and begins it with the source's
+/// offset size.
+#[tactic(auto, using(crate::proofs::HeaderLemmas::header_is_the_sum))]
+pub fn header_is_the_sum()
+    ensures { HeaderIsTheSum }
+{}
+
+/// What follows the tokens of a nest in an image stands where the nest ends.
+#[tactic(auto, using(crate::proofs::FollowLemmas::nests_end))]
+pub fn nests_end_at_their_places()
+    ensures { NestsEndAtTheirPlaces }
+{}

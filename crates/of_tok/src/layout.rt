@@ -129,31 +129,31 @@ impl<'a> Laid<'a> {
     }
 
     /// `else`: closes the branch that opens before it, and opens its own.
-    fn lay_else(&mut self, line: usize, place: Place, next: usize) -> Result<(), AllocError>
-        ensures { OnOk result (self.new ≡ item_laid (item.Else line) place 0 next self.old) }
+    fn lay_else(&mut self, word: usize, place: Place, next: usize) -> Result<(), AllocError>
+        ensures { OnOk result (self.new ≡ item_laid (item.Else word) place 0 next self.old) }
     {
         let aim = self.take_aim();
         self.close(next)?;
         self.put(straight(FCode(0x0b2), place))?;
-        self.put(aimed(line, FCode(0x013), place, aim))
+        self.put(aimed(word, FCode(0x013), place, aim))
     }
 
     /// A token whose offset leads behind the part that begins with it.
-    fn lay_opener(&mut self, line: usize, code: FCode, place: Place) -> Result<(), AllocError>
+    fn lay_opener(&mut self, word: usize, code: FCode, place: Place) -> Result<(), AllocError>
         ensures { OnOk result
-            (self.new ≡ putting (aimed line code.0 place (first self.old.ends)) (without_end self.old)) }
+            (self.new ≡ putting (aimed word code.0 place (first self.old.ends)) (without_end self.old)) }
     {
         let end = self.take_end();
-        self.put(aimed(line, code, place, end))
+        self.put(aimed(word, code, place, end))
     }
 
     /// `endof`: leads behind the case, and ends its part.
-    fn lay_end_of(&mut self, line: usize, place: Place, next: usize) -> Result<(), AllocError>
-        ensures { OnOk result (self.new ≡ item_laid (item.EndOf line) place 0 next self.old) }
+    fn lay_end_of(&mut self, word: usize, place: Place, next: usize) -> Result<(), AllocError>
+        ensures { OnOk result (self.new ≡ item_laid (item.EndOf word) place 0 next self.old) }
     {
         let end = first(&self.ends);
         self.end(next)?;
-        self.put(aimed(line, FCode(0x0c6), place, end))
+        self.put(aimed(word, FCode(0x0c6), place, end))
     }
 
     /// `case`: begins a part.
@@ -173,11 +173,11 @@ impl<'a> Laid<'a> {
     }
 
     /// `if` or `while`: opens a branch.
-    fn lay_if(&mut self, line: usize, place: Place) -> Result<(), AllocError>
-        ensures { OnOk result (self.new ≡ item_laid (item.If line) place 0 0 self.old) }
+    fn lay_if(&mut self, word: usize, place: Place) -> Result<(), AllocError>
+        ensures { OnOk result (self.new ≡ item_laid (item.If word) place 0 0 self.old) }
     {
         let aim = self.take_aim();
-        self.put(aimed(line, FCode(0x014), place, aim))
+        self.put(aimed(word, FCode(0x014), place, aim))
     }
 
     /// `then`: closes a branch.
@@ -196,21 +196,21 @@ impl<'a> Laid<'a> {
             Piece::Plain(token) => self.put(Written::Straight(x.place.size, token)),
             Piece::Colon => self.put(straight(FCode(0x0b7), x.place)),
             Piece::Semicolon => self.put(straight(FCode(0x0c2), x.place)),
-            Piece::If(line) => self.lay_if(line, x.place),
-            Piece::Else(line) => self.lay_else(line, x.place, x.next),
+            Piece::If(word) => self.lay_if(word, x.place),
+            Piece::Else(word) => self.lay_else(word, x.place, x.next),
             Piece::Then => self.lay_then(x.place, x.next),
             Piece::Begin => self.put(straight(FCode(0x0b1), x.place)),
-            Piece::Back(tests, line) => {
-                self.put(aimed(line, branch_code(tests), x.place, x.start))
+            Piece::Back(tests, word) => {
+                self.put(aimed(word, branch_code(tests), x.place, x.start))
             }
-            Piece::Do(tests, line) => self.lay_opener(line, do_code(tests), x.place),
-            Piece::Loop(adds, line) => {
-                self.lay_closer(aimed(line, loop_code(adds), x.place, x.start), x.next)
+            Piece::Do(tests, word) => self.lay_opener(word, do_code(tests), x.place),
+            Piece::Loop(adds, word) => {
+                self.lay_closer(aimed(word, loop_code(adds), x.place, x.start), x.next)
             }
             Piece::Leave => self.put(straight(FCode(0x01b), x.place)),
             Piece::Case => self.lay_case(x.place),
-            Piece::Of(line) => self.lay_opener(line, FCode(0x01c), x.place),
-            Piece::EndOf(line) => self.lay_end_of(line, x.place, x.next),
+            Piece::Of(word) => self.lay_opener(word, FCode(0x01c), x.place),
+            Piece::EndOf(word) => self.lay_end_of(word, x.place, x.next),
             Piece::EndCase => self.lay_closer(straight(FCode(0x0c5), x.place), x.next),
         }
     }

@@ -13,5 +13,7 @@ mod writing;
 mod written;
 
 pub use fault::TokFault;
-pub use laws::{image_has_tokens, passes_give_tokens};
+pub use laws::{
+    header_is_the_sum, image_has_tokens, nests_end_at_their_places, passes_give_tokens,
+};
 pub use tokenizer::tokenize;

@@ -12,8 +12,8 @@ use of_fcodes::FCode;
 use of_source::{Item, Maker, Name};
 use of_stream::{Argument, Token};
 
-/// An item of a source: its token, or a word of control structures, with its line where its token
-/// carries an offset.
+/// An item of a source: its token, or a word of control structures, with its position in the text
+/// where its token carries an offset.
 #[derive(Clone, Copy)]
 pub enum Piece<'a> {
     /// A token without an offset.
@@ -109,17 +109,17 @@ pub fn piece_of(item: &Item) -> Piece<'_>
         }
         Item::Colon => Piece::Colon,
         Item::Semicolon => Piece::Semicolon,
-        Item::If(line) => Piece::If(*line),
-        Item::Else(line) => Piece::Else(*line),
+        Item::If(word) => Piece::If(*word),
+        Item::Else(word) => Piece::Else(*word),
         Item::Then => Piece::Then,
         Item::Begin => Piece::Begin,
-        Item::Back(tests, line) => Piece::Back(*tests, *line),
-        Item::Do(tests, line) => Piece::Do(*tests, *line),
-        Item::Loop(adds, line) => Piece::Loop(*adds, *line),
+        Item::Back(tests, word) => Piece::Back(*tests, *word),
+        Item::Do(tests, word) => Piece::Do(*tests, *word),
+        Item::Loop(adds, word) => Piece::Loop(*adds, *word),
         Item::Leave => Piece::Leave,
         Item::Case => Piece::Case,
-        Item::Of(line) => Piece::Of(*line),
-        Item::EndOf(line) => Piece::EndOf(*line),
+        Item::Of(word) => Piece::Of(*word),
+        Item::EndOf(word) => Piece::EndOf(*word),
         Item::EndCase => Piece::EndCase,
     }
 }

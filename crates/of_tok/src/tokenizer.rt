@@ -78,7 +78,7 @@ fn tokens_of(alloc: Global, source: &Source) -> Result<Vec<Written<'_>>, TokFaul
 /// of words, each offset in the size that holds at its token.
 ///
 /// TooManyWords where there are more than 2,048 definitions; ImageTooLong where the image has more
-/// than 262,144 bytes; OffsetTooLong with the line of the first word, in the order of the image,
+/// than 262,144 bytes; OffsetTooLong with the position of the first word, in the order of the image,
 /// whose offset doesn't fit; in this order. NoMemory.
 pub fn tokenize(alloc: Global, source: &Source) -> Result<Vec<u8>, TokFault>
     ensures ok { IfOk result (λ image. tokenized source.now ≡ Ok image.items) }

@@ -24,7 +24,7 @@ fn offset(aim: &Aim) -> Option<i16>
 
 /// Appends the bytes of a token.
 ///
-/// OffsetTooLong with the line of its word where its offset doesn't fit; NoMemory.
+/// OffsetTooLong with the position of its word where its offset doesn't fit; NoMemory.
 fn put(out: &mut Vec<u8>, token: &Written<'_>) -> Result<(), TokFault>
     requires { IsWritable (written_shown token.now) }
     ensures bytes { OnOk result (out.new.items ≡ out.old.items ++ written_bytes (written_shown token.now)) }
@@ -37,7 +37,7 @@ fn put(out: &mut Vec<u8>, token: &Written<'_>) -> Result<(), TokFault>
             Ok(())
         }
         Written::Aimed(aim) => match offset(aim) {
-            None => Err(TokFault::OffsetTooLong(aim.line)),
+            None => Err(TokFault::OffsetTooLong(aim.word)),
             Some(by) => {
                 let token = Token {
                     code: aim.code,
@@ -52,7 +52,7 @@ fn put(out: &mut Vec<u8>, token: &Written<'_>) -> Result<(), TokFault>
 
 /// The bytes of tokens, the last of which comes first.
 ///
-/// OffsetTooLong with the line of the first word, in the order of the image, whose offset doesn't
+/// OffsetTooLong with the position of the first word, in the order of the image, whose offset doesn't
 /// fit; NoMemory.
 #[tactic(auto, using(crate::proofs::WriteLemmas::one_written, crate::proofs::WriteLemmas::last_first))]
 pub fn write_tokens(alloc: Global, mut tokens: Vec<Written<'_>>) -> Result<Vec<u8>, TokFault>

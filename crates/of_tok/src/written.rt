@@ -9,8 +9,8 @@ use of_stream::{Argument, OffsetSize, Token};
 /// A token whose offset leads to a position.
 #[derive(Clone, Copy)]
 pub struct Aim {
-    /// The line of its word.
-    pub line: usize,
+    /// The position of its word in the text of the source.
+    pub word: usize,
     /// Where it stands.
     pub place: Place,
     /// Its FCode.
@@ -42,11 +42,11 @@ pub fn straight<'a>(code: FCode, place: Place) -> Written<'a>
 }
 
 /// The token of an FCode at a place whose offset leads to a position.
-pub fn aimed<'a>(line: usize, code: FCode, place: Place, target: usize) -> Written<'a>
-    ensures { written_shown result ≡ aimed line code.0 place target }
+pub fn aimed<'a>(word: usize, code: FCode, place: Place, target: usize) -> Written<'a>
+    ensures { written_shown result ≡ aimed word code.0 place target }
 {
     Written::Aimed(Aim {
-        line,
+        word,
         place,
         code,
         target,

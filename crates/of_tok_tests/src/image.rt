@@ -1,7 +1,10 @@
 //! Sources as lines of text, and their images.
 
-use of_source::parse;
-use of_tok::{passes_give_tokens, tokenize};
+use of_source::{Place, SourceFault, parse, place_in};
+use of_tok::{
+    TokFault, header_is_the_sum, image_has_tokens, nests_end_at_their_places, passes_give_tokens,
+    tokenize,
+};
 use std::alloc::{AllocError, Global};
 use std::test::Fail;
 
@@ -27,23 +30,31 @@ fcode-version1 offset16 if then fcode-end|fd0801950000000ecc140003b200
 ";
 
 /// Sources in which `$` ends a line, `@` is a string of 200 bytes and `a_b~3` stands for `a b a b a b`, and
-/// behind a bar the length of their images, or what is wrong with them.
+/// behind a bar the length of their images, or what is wrong with them, with the
+/// line and the column.
 const OUTCOMES: &str = "\
 fcode-version1 : t if noop~125 then ; fcode-end|144 bytes
-fcode-version1 $ : t $ if noop~126 then ; fcode-end|line 3: offset too long
+fcode-version1 $ : t $ if noop~126 then ; fcode-end|3:2: offset too long
 fcode-version1 offset16 : t if noop~126 then ; fcode-end|147 bytes
 fcode-version1 begin noop~127 again fcode-end|139 bytes
-fcode-version1 begin $ noop~128 again fcode-end|line 2: offset too long
+fcode-version1 begin $ noop~128 again fcode-end|2:642: offset too long
 fcode-version2 if noop~32764 then fcode-end|32777 bytes
-fcode-version2 if $ noop~32765 then fcode-end|line 1: offset too long
-fcode-version1 $ do $ if noop~126 then loop fcode-end|line 2: offset too long
+fcode-version2 if $ noop~32765 then fcode-end|1:16: offset too long
+fcode-version1 $ do $ if noop~126 then loop fcode-end|2:2: offset too long
 fcode-version2 variable_v~2048 fcode-end|12297 bytes
 fcode-version2 variable_v~2049 fcode-end|more than 2048 definitions
 fcode-version2 variable_v~2049 @~1298 fcode-end|more than 2048 definitions
 fcode-version2 @~1297 noop~141 fcode-end|262144 bytes
 fcode-version2 @~1297 noop~142 fcode-end|image over 262144 bytes
 fcode-version1 if @~1298 then fcode-end|image over 262144 bytes
-fcode-version2 $ if fcode-end|line 2: unclosed
+fcode-version2 $ if fcode-end|2:2: unclosed
+";
+
+/// Sources alike, and the headers of their images: the first has 8 tokens with the bytes 12 c8 and 200 times 2d, whose
+/// sum, 73,744, is 2010 in sixteen bits.
+const HEADERS: &str = "\
+fcode-version2 @~8 fcode-end|f108201000000659
+fcode-version1 fcode-end|fd08000000000009
 ";
 
 /// A string of 200 bytes.
@@ -79,14 +90,26 @@ fn digits(alloc: Global, image: &[u8]) -> Result<String, AllocError> {
     Ok(text)
 }
 
+/// What is wrong at a position of a text, with the line and the column.
+fn at(alloc: Global, text: &str, position: usize, wrong: &str) -> Result<String, AllocError> {
+    let Place { line, column } = place_in(text.as_bytes(), position);
+    format!(in alloc; "{line}:{column}: {wrong}")
+}
+
 /// The image of a source, or what is wrong with it.
 fn image_of(alloc: Global, text: &str) -> Result<Result<Vec<u8>, String>, AllocError> {
     let source = match parse(alloc, text.as_bytes()) {
         Ok(source) => source,
+        Err(SourceFault::Unclosed(position)) => {
+            return Ok(Err(at(alloc, text, position, "unclosed")?));
+        }
         Err(fault) => return Ok(Err(format!(in alloc; "{fault}")?)),
     };
     match tokenize(alloc, &source) {
         Ok(image) => Ok(Ok(image)),
+        Err(TokFault::OffsetTooLong(position)) => {
+            Ok(Err(at(alloc, text, position, "offset too long")?))
+        }
         Err(fault) => Ok(Err(format!(in alloc; "{fault}")?)),
     }
 }
@@ -127,7 +150,21 @@ fn outcomes(rt: HostRuntime) -> Result<(), Fail> {
 }
 
 #[test]
+fn headers(rt: HostRuntime) -> Result<(), Fail> {
+    for line in HEADERS.lines() {
+        let (words, wanted) = line.split_once('|').unwrap_or(("", ""));
+        let text = written_out(rt.alloc(), words)?;
+        let image = shown(rt.alloc(), &text)?;
+        assert!(rt; image.starts_with(wanted), "{words}: {image}");
+    }
+    Ok(())
+}
+
+#[test]
 fn laws(_rt: HostRuntime) -> Result<(), Fail> {
     passes_give_tokens();
+    image_has_tokens();
+    nests_end_at_their_places();
+    header_is_the_sum();
     Ok(())
 }
