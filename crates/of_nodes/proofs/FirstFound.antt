@@ -35,7 +35,7 @@ record IsMade (m after : DataSpace) (ns ms : List Node) (value : List ℕ) (p : 
   pub stays : (a : ℕ) (xs : List ℕ) → IsStored m a xs → IsStored after a xs
 
 -- two puts, one behind the other
-record ArePut (m : DataSpace) (name value : List ℕ) (x : ℕ × ℕ × DataSpace) (between : DataSpace) : Type 0 where
+pub record ArePut (m : DataSpace) (name value : List ℕ) (x : ℕ × ℕ × DataSpace) (between : DataSpace) : Type 0 where
   pub name_put : IsPut m between name x.0
   pub then_value : IsPut between x.2 value x.1
 
@@ -48,7 +48,7 @@ second_put m between name value a (Ok y) x p g e =
     rw (← same) record { name_put = p; then_value = is_put between value y g }
 second_put m between name value a (Err f) x p g e = cc
 
-first_put :
+pub first_put :
     (m : DataSpace) (name value : List ℕ) (r : Result (ℕ × DataSpace) MemFault) (x : ℕ × ℕ × DataSpace)
     → property_put m name ≡ r → value_put value r ≡ Ok x → (between : DataSpace) × ArePut m name value x between
 first_put m name value (Ok y) x g e =
@@ -158,7 +158,7 @@ third_found :
     → node_of m (named_node p ∷ named_node q ∷ named_node r ∷ []) (codes "/slot") ≡ Some 2
 third_found m p q r e g = rw (e, g) refl
 
-wide : (m : DataSpace) → IsSound m → IsWide m
+pub wide : (m : DataSpace) → IsSound m → IsWide m
 wide m s = record { bytes = s.bytes; from = s.properties_from }
 
 packages_found :

@@ -17,3 +17,5 @@ mod Put
 mod FirstFound
 mod TakenBack
 mod MethodLaw
+mod PropertyNames
+mod PropertyLaw

@@ -18,7 +18,7 @@ use Rattle.of_nodes.proofs.Fitting.{same_self}
 use Rattle.of_nodes.proofs.Rooted.{length-with_methods}
 use Rattle.of_nodes.proofs.TakenBack.{undone}
 
-same_is : (a b : List ℕ) → same_name a b ≡ true → a ≡ b
+pub same_is : (a b : List ℕ) → same_name a b ≡ true → a ≡ b
 same_is [] [] e = refl
 same_is [] (y ∷ ys) e = absurd cc
 same_is (x ∷ xs) [] e = absurd cc
@@ -26,7 +26,7 @@ same_is (x ∷ xs) (y ∷ ys) e =
     let parts = and_parts (nat_eq x y) (same_name xs ys) e in
     ap (λ z. z ∷ xs) (eqb-true x y parts.0) ∙ ap (λ (l : List ℕ). y ∷ l) (same_is xs ys parts.1)
 
-not_same : (a b : List ℕ) → a ≢ b → same_name a b ≡ false
+pub not_same : (a b : List ℕ) → a ≢ b → same_name a b ≡ false
 not_same a b apart = false_from_ne_true (same_name a b) (λ e. apart (same_is a b e))
 
 module _ {V : Type 0} where
@@ -35,7 +35,7 @@ module _ {V : Type 0} where
   found_step true e es name x h ih = rw h (rw h refl)
   found_step false e es name x h ih = rw h (rw h ih)
 
-  entry_found : (es : List (List ℕ × V)) (name : List ℕ) (x : V) → value_in (with_entry es name x) name ≡ Some x
+  pub entry_found : (es : List (List ℕ × V)) (name : List ℕ) (x : V) → value_in (with_entry es name x) name ≡ Some x
   entry_found [] name x = rw (same_self name) refl
   entry_found (e ∷ es) name x = found_step (same_name name e.0) e es name x refl (entry_found es name x)
 
@@ -49,7 +49,7 @@ module _ {V : Type 0} where
   other_step false true e es name other x h k apart ih = rw h (rw k refl)
   other_step false false e es name other x h k apart ih = rw h (rw k ih)
 
-  others_found : (es : List (List ℕ × V)) (name other : List ℕ) (x : V) → other ≢ name
+  pub others_found : (es : List (List ℕ × V)) (name other : List ℕ) (x : V) → other ≢ name
       → value_in (with_entry es name x) other ≡ value_in es other
   others_found [] name other x apart = rw (not_same other name apart) refl
   others_found (e ∷ es) name other x apart =
@@ -75,7 +75,7 @@ method_there (n ∷ ns) (suc i) name xt l good = method_there ns i name xt (omeg
 
 -- ---- the node of a phandle
 
-some_if : (b : Bool) (x i : ℕ) → ◌≡◌ {A = Option ℕ} (if b then Some x else None) (Some i) → (b ≡ true) × (x ≡ i)
+pub some_if : (b : Bool) (x i : ℕ) → ◌≡◌ {A = Option ℕ} (if b then Some x else None) (Some i) → (b ≡ true) × (x ≡ i)
 some_if true x i e = (refl, cc)
 some_if false x i e = absurd cc
 
@@ -89,7 +89,7 @@ number_if : (b : Bool) (count d i : ℕ) → ◌≡◌ {A = Option ℕ} (if b th
 number_if true count d i e = absurd cc
 number_if false count d i e = number_within_at count d i e
 
-number_within : (count : ℕ) (ph : Phandle) (i : ℕ) → number_of count ph ≡ Some i → i < count
+pub number_within : (count : ℕ) (ph : Phandle) (i : ℕ) → number_of count ph ≡ Some i → i < count
 number_within count ph i e = number_if (nat_lt ph.0.0 first_phandle) count (ph.0.0 - first_phandle) i e
 
 -- ---- what was added

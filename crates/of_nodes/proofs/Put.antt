@@ -51,13 +51,13 @@ no_fault m a n from to =
 
 -- a value that stands in the property region
 pub record IsStored (m : DataSpace) (a : ℕ) (xs : List ℕ) : Type 0 where
-  pub from : property_start ≤ a
+  pub from : first_property ≤ a
   pub to : a + length xs ≤ m.properties_end
   pub limit : a + length xs ≤ property_limit
   pub bytes : bytes_from m a (length xs) ≡ xs
 
 pub stored_reads : (m : DataSpace) (a : ℕ) (xs : List ℕ) → IsStored m a xs → read_bytes m a (length xs) ≡ Ok xs
-stored_reads m a xs s = rw (no_fault m a (length xs) s.from s.limit) (ap Ok s.bytes)
+stored_reads m a xs s = rw (no_fault m a (length xs) (omega (arith, s.from)) s.limit) (ap Ok s.bytes)
 
 -- a data space of all bytes, with values where they belong
 pub record IsWide (m : DataSpace) : Type 0 where
@@ -141,7 +141,7 @@ pub stays_stored :
     → IsStored after b ys
 stays_stored m after xs ys a b w p s =
     let here = place_is a (omega (arith, w.from, p.above)) (omega (arith, p.fits)) in
-    let there = place_is b s.from (omega (arith, s.limit)) in
+    let there = place_is b (omega (arith, s.from)) (omega (arith, s.limit)) in
     let apart : place_of b + length ys ≤ place_of a = omega (arith, here, there, s.to, p.above) in
     rw (p.after_is) record {
       from = s.from;
@@ -149,3 +149,17 @@ stays_stored m after xs ys a b w p s =
       limit = s.limit;
       bytes = read_before m.bytes xs (place_of a) (place_of b) (length ys) apart (room m after xs a w p) ∙ s.bytes;
     }
+
+-- and so does each range of the region below its end
+pub read_stays :
+    (m after : DataSpace) (xs : List ℕ) (a b n : ℕ) → IsWide m → IsPut m after xs a → first_property ≤ b
+    → b + n ≤ m.properties_end → read_bytes after b n ≡ read_bytes m b n
+read_stays m after xs a b n w p from to =
+    let start : property_start ≤ b = omega arith in
+    let limit : b + n ≤ property_limit = omega (arith, p.above, p.fits) in
+    let here = place_is a (omega (arith, w.from, p.above)) (omega (arith, p.fits)) in
+    let there = place_is b start (omega (arith, limit)) in
+    let apart : place_of b + n ≤ place_of a = omega (arith, here, there, p.above) in
+    let put : bytes_from (put_at m a xs) b n ≡ bytes_from m b n =
+    read_before m.bytes xs (place_of a) (place_of b) n apart (room m after xs a w p) in
+    rw (p.after_is) (rw (no_fault (put_at m a xs) b n start limit, no_fault m b n start limit) (ap Ok put))

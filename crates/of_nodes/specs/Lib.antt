@@ -12,3 +12,4 @@ pub mod TreePaths
 pub mod Ways
 pub mod FirstPaths
 pub mod MethodLaw
+pub mod PropertyLaw

@@ -1,6 +1,7 @@
 //! What the calls over the nodes say of the tree.
 ghost use Rattle.of_nodes.specs.FirstPaths.{FirstPathsFind};
 ghost use Rattle.of_nodes.specs.MethodLaw.{MethodsAreFound};
+ghost use Rattle.of_nodes.specs.PropertyLaw.{PropertiesAreFound};
 ghost use Rattle.of_nodes.specs.Tree.{TreeIsShown};
 ghost use Rattle.of_nodes.specs.TreePaths.{TreeFinds};
 ghost use Rattle.of_nodes.specs.Ways.{PathsFind};
@@ -37,4 +38,11 @@ pub fn first_paths_find()
 #[tactic(auto, using(crate::proofs::MethodLaw::methods_are_found))]
 pub fn methods_are_found()
     ensures { MethodsAreFound }
+{}
+
+/// A property that was set has its name's bytes and its value's, all others are as they were, and it keeps its
+/// place or goes last; one that was deleted is found no more. The names are met in their order, one after the other.
+#[tactic(auto, using(crate::proofs::PropertyLaw::properties_are_found))]
+pub fn properties_are_found()
+    ensures { PropertiesAreFound }
 {}

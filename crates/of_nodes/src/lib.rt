@@ -13,7 +13,10 @@ mod properties;
 mod tree;
 
 pub use fault::NodeFault;
-pub use laws::{first_paths_find, methods_are_found, paths_find, tree_finds, tree_is_shown};
+pub use laws::{
+    first_paths_find, methods_are_found, paths_find, properties_are_found, tree_finds,
+    tree_is_shown,
+};
 pub use methods::Methods;
 pub use phandles::Phandle;
 pub use properties::{Properties, Property, Span};

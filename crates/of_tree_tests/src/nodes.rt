@@ -2,8 +2,8 @@ use crate::calls::differing;
 use of_cells::Cell;
 use of_memory::Memory;
 use of_nodes::{
-    NodeFault, Phandle, Tree, first_paths_find, methods_are_found, paths_find, tree_finds,
-    tree_is_shown,
+    NodeFault, Phandle, Tree, first_paths_find, methods_are_found, paths_find,
+    properties_are_found, tree_finds, tree_is_shown,
 };
 use std::test::Fail;
 
@@ -12,6 +12,7 @@ fn laws_hold() {
     first_paths_find();
     methods_are_found();
     paths_find();
+    properties_are_found();
     tree_finds();
     tree_is_shown();
 }
