@@ -12,14 +12,14 @@ le_true x y h = grind (arith, common_steps)
 pub le_false : (x y : ℕ) → y < x → nat_le x y ≡ false
 le_false x y h = grind (arith, common_steps)
 
-le_from : (x y : ℕ) → nat_le x y ≡ true → x ≤ y
+pub le_from : (x y : ℕ) → nat_le x y ≡ true → x ≤ y
 le_from x y h = grind (arith, common_steps)
 
 true_or_false : (p : Bool) → (p ≡ true) ⊎ (p ≡ false)
 true_or_false true = inl refl
 true_or_false false = inr refl
 
-and_first : (p q : Bool) → (p && q) ≡ true → p ≡ true
+pub and_first : (p q : Bool) → (p && q) ≡ true → p ≡ true
 and_first true q e = refl
 and_first false q e = e
 

@@ -16,3 +16,4 @@ pub mod Grown
 pub mod Ranges
 pub mod Joined
 pub mod Latest
+pub mod PropertyRegion

@@ -66,11 +66,11 @@ unfolding write_fault
 good_write m a n w read may = rw (read, may) (same_or (eqb n 0))
 
 -- what some bytes that can be written show
-record CanWrite (m : DataSpace) (a n : ℕ) (w : Width) : Type 0 where
-  read : read_fault m a n w ≡ None
-  may : may_write (region_of a) ≡ true
+pub record CanWrite (m : DataSpace) (a n : ℕ) (w : Width) : Type 0 where
+  pub read : read_fault m a n w ≡ None
+  pub may : may_write (region_of a) ≡ true
 
-both_none : (f g : Option MemFault) → or_fault f g ≡ None → (f ≡ None) × (g ≡ None)
+pub both_none : (f g : Option MemFault) → or_fault f g ≡ None → (f ≡ None) × (g ≡ None)
 both_none None g e = (refl, e)
 both_none (Some f) g e = absurd (no_fault f e)
 
@@ -78,7 +78,7 @@ may_if : (z b : Bool) → z ≡ false → (if z || b then None else Some ReadOnl
 may_if z true f e = refl
 may_if z false f e = absurd (no_fault ReadOnly (rw f at e))
 
-can_write : (m : DataSpace) (a n : ℕ) (w : Width) → 0 < n → write_fault m a n w ≡ None → CanWrite m a n w
+pub can_write : (m : DataSpace) (a n : ℕ) (w : Width) → 0 < n → write_fault m a n w ≡ None → CanWrite m a n w
 unfolding write_fault
 can_write m a n w some e =
     let both = both_none (read_fault m a n w) (if eqb n 0 || may_write (region_of a) then None else Some ReadOnly) e in

@@ -10,3 +10,4 @@ pub mod Images
 pub mod BlockCalls
 pub mod Laws
 pub mod RangeLaws
+pub mod PropertyRegion

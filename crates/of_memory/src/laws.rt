@@ -1,5 +1,6 @@
 ghost use Rattle.of_memory.specs.Images.{LatestIsPushed};
 ghost use Rattle.of_memory.specs.Laws.{WritesChangeTheirBytes, ReadsGiveTheBytes, SpreadsGiveTheBytes};
+ghost use Rattle.of_memory.specs.PropertyRegion.{PropertiesChangeByPutsAlone};
 ghost use Rattle.of_memory.specs.RangeLaws.{PartsAreGood, FaultsStay, RangesArePlaced, ScratchIsOpen, WritesJoin};
 
 /// A write to bytes that can be read changes exactly these bytes of the map from address to byte.
@@ -54,4 +55,11 @@ pub fn writes_join()
 #[tactic(auto, using(crate::proofs::Latest::latest_is_pushed))]
 pub fn latest_is_pushed()
     ensures { LatestIsPushed }
+{}
+
+/// The property region from its first property on changes by puts of properties alone: every other call leaves
+/// what reads there as it was, and where the latest property ends.
+#[tactic(auto, using(crate::proofs::PropertyRegion::properties_change_by_puts_alone))]
+pub fn properties_change_by_puts_alone()
+    ensures { PropertiesChangeByPutsAlone }
 {}

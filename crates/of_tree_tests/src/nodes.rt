@@ -1,6 +1,6 @@
 use crate::calls::differing;
 use of_cells::Cell;
-use of_memory::Memory;
+use of_memory::{Memory, properties_change_by_puts_alone};
 use of_nodes::{
     NodeFault, Phandle, Tree, first_paths_find, methods_are_found, paths_find,
     properties_are_found, tree_finds, tree_is_shown,
@@ -13,6 +13,7 @@ fn laws_hold() {
     methods_are_found();
     paths_find();
     properties_are_found();
+    properties_change_by_puts_alone();
     tree_finds();
     tree_is_shown();
 }
