@@ -85,7 +85,7 @@ made :
 made m ns value y w e = made_of (named_put m (codes "name") value) m ns value y w refl e
 
 -- what was made before
-before_it :
+pub before_it :
     (r : Result (List Node × DataSpace) NodeFault) (value : List ℕ) (y : List Node × DataSpace)
     → then_child r value ≡ Ok y
     → (x : List Node × DataSpace) × (r ≡ Ok x) × (named_child x.0 x.1 0 value ≡ Ok y)

@@ -19,3 +19,4 @@ mod TakenBack
 mod MethodLaw
 mod PropertyNames
 mod PropertyLaw
+mod StoredLaw

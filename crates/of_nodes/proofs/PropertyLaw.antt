@@ -120,12 +120,12 @@ changes ns ph i qs at =
 
 -- ---- what setting a property puts
 
-record IsSetting (m after : DataSpace) (ns nodes : List Node) (ph : Phandle) (name value : List ℕ) : Type 0 where
-  i : ℕ
-  number : number_of (length ns) ph ≡ Some i
-  property : Property
-  put : stored m (value_in (properties_in ns i) name) name value ≡ Ok (property, after)
-  are : with_properties ns i (with_entry (properties_in ns i) name property) ≡ nodes
+pub record IsSetting (m after : DataSpace) (ns nodes : List Node) (ph : Phandle) (name value : List ℕ) : Type 0 where
+  pub i : ℕ
+  pub number : number_of (length ns) ph ≡ Some i
+  pub property : Property
+  pub put : stored m (value_in (properties_in ns i) name) name value ≡ Ok (property, after)
+  pub are : with_properties ns i (with_entry (properties_in ns i) name property) ≡ nodes
 
 never : (f : NodeFault) (x : List Node × DataSpace)
     → ◌≡◌ {A = Result (List Node × DataSpace) NodeFault} (Err f) (Ok x) → ⊥
@@ -161,7 +161,7 @@ setting_if true m after ns nodes ph name value i at e =
     setting_of (stored m (value_in (properties_in ns i) name) name value) m after ns nodes ph name value i at refl e
 setting_if false m after ns nodes ph name value i at e = absurd (never BadName (nodes, after) e)
 
-setting : (o : Option ℕ) (m after : DataSpace) (ns nodes : List Node) (ph : Phandle) (name value : List ℕ)
+pub setting : (o : Option ℕ) (m after : DataSpace) (ns nodes : List Node) (ph : Phandle) (name value : List ℕ)
     → number_of (length ns) ph ≡ o → set_at m ns name value o ≡ Ok (nodes, after)
     → IsSetting m after ns nodes ph name value
 setting None m after ns nodes ph name value at e = absurd (never NoNode (nodes, after) e)
@@ -170,6 +170,7 @@ setting (Some i) m after ns nodes ph name value at e =
 
 -- what a property is that was put where there was another one or none
 pub record IsKept (m after : DataSpace) (before : Option Property) (name value : List ℕ) (p : Property) : Type 0 where
+  pub wide : IsWide after
   pub value_length : p.value.length.0 ≡ length value
   pub value_stored : IsStored after p.value.address.0 value
   pub name_new : before ≡ None → (p.name.length.0 ≡ length name) × IsStored after p.name.address.0 name
@@ -183,7 +184,7 @@ ends_at m after xs a p = ap (λ (s : DataSpace). s.properties_end) p.after_is
 none_property : (q : Property) → ◌≡◌ {A = Option Property} None (Some q) → ⊥
 none_property q e = cc
 
-some_property : (p q : Property) → ◌≡◌ {A = Option Property} (Some p) (Some q) → p ≡ q
+pub some_property : (p q : Property) → ◌≡◌ {A = Option Property} (Some p) (Some q) → p ≡ q
 some_property p q e = cc
 
 put_is : (x y : Property × DataSpace) → ◌≡◌ {A = Result (Property × DataSpace) NodeFault} (Ok x) (Ok y) → x ≡ y
@@ -206,6 +207,7 @@ kept_both m between name value x w both =
     let then_above = both.then_value.above in
     let grows : m.properties_end ≤ between.properties_end = omega (arith, first_end, above) in
     record {
+      wide = wide_after between x.2 value x.1 w1 both.then_value;
       value_length = refl;
       value_stored = stored_after between x.2 value x.1 w1 both.then_value;
       name_new = λ z. (
@@ -238,6 +240,7 @@ kept_value m q name value x w put =
     let above = put.above in
     let end = ends_at m x.1 value x.0 put in
     record {
+      wide = wide_after m x.1 value x.0 w put;
       value_length = refl;
       value_stored = stored_after m x.1 value x.0 w put;
       name_new = λ z. absurd (none_property q (sym z));
@@ -301,11 +304,11 @@ set_to_is m after ns nodes ph name value sound s =
           ∙ ap (λ (l : List (List ℕ)). Ok (l ++ name ∷ [])) same);
     }
 
-never_left : (f : NodeFault) (x : Unit {0} × List Node)
+pub never_left : (f : NodeFault) (x : Unit {0} × List Node)
     → ◌≡◌ {A = Result (Unit {0} × List Node) NodeFault} (Err f) (Ok x) → ⊥
 never_left f x e = cc
 
-left_is : (x y : Unit {0} × List Node) → ◌≡◌ {A = Result (Unit {0} × List Node) NodeFault} (Ok x) (Ok y) → x ≡ y
+pub left_is : (x y : Unit {0} × List Node) → ◌≡◌ {A = Result (Unit {0} × List Node) NodeFault} (Ok x) (Ok y) → x ≡ y
 left_is x y e = cc
 
 without_is : (o : Option ℕ) (ns nodes : List Node) (ph : Phandle) (name : List ℕ) (all : List (List ℕ))

@@ -12,7 +12,7 @@ use Rattle.of_nodes.proofs.MethodLaw.{not_same, same_is}
 abbrev pub IsNew : List ℕ → List (List ℕ) → Type 0
 IsNew name names = AllByRecursion (λ other. same_name name other ≡ false) names
 
-differ : (a b : List ℕ) → same_name a b ≡ false → b ≢ a
+pub differ : (a b : List ℕ) → same_name a b ≡ false → b ≢ a
 differ a b h e =
     let same : true ≡ false = sym (same_self a) ∙ (ap (same_name a) (sym e) ∙ h) in
     cc
@@ -49,6 +49,17 @@ named_same name k e = ap (same_name name) e ∙ same_self name
 
 some_bytes : (n : ℕ) → 0 < n → (n == 0) ≡ false
 some_bytes n l = grind (arith, nat_tests)
+
+all_more : (x name : List ℕ) (ns : List (List ℕ)) → IsNew x ns → same_name x name ≡ false → IsNew x (ns ++ name ∷ [])
+all_more x name [] apart h = (h, tt)
+all_more x name (n ∷ ns) apart h = (apart.0, all_more x name ns apart.1 h)
+
+-- different names with one more that differs
+pub distinct_more : (ns : List (List ℕ)) (name : List ℕ) → IsDistinct same_name ns
+    → AllByRecursion (λ other. same_name other name ≡ false) ns → IsDistinct same_name (ns ++ name ∷ [])
+unfolding IsDistinct
+distinct_more [] name apart h = (tt, tt)
+distinct_more (n ∷ ns) name apart h = (all_more n name ns apart.0 h.0, distinct_more ns name apart.1 h.1)
 
 module _ {V : Type 0} where
   abbrev pub names : List (List ℕ × V) → List (List ℕ)
@@ -92,6 +103,18 @@ module _ {V : Type 0} where
       → names (with_entry es name x) ≡ names es ++ name ∷ []
   names_last [] name x none = refl
   names_last (e ∷ es) name x none = last_step (same_name name e.0) e es name x refl none (names_last es name x)
+
+  none_step : (b : Bool) (e : List ℕ × V) (es : List (List ℕ × V)) (name : List ℕ) → same_name name e.0 ≡ b
+      → value_in (e ∷ es) name ≡ None → (same_name e.0 name ≡ false) × (value_in es name ≡ None)
+  none_step true e es name h none = absurd (some_none e.1 (sym (present e es name h) ∙ none))
+  none_step false e es name h none = (turned name e.0 h, sym (absent e es name h) ∙ none)
+
+  pub none_named : (es : List (List ℕ × V)) (name : List ℕ) → value_in es name ≡ None
+      → AllByRecursion (λ other. same_name other name ≡ false) (names es)
+  none_named [] name none = tt
+  none_named (e ∷ es) name none =
+      let is = none_step (same_name name e.0) e es name refl none in
+      (is.0, none_named es name is.1)
 
   -- ---- deleted
 
@@ -142,6 +165,32 @@ module _ {V : Type 0} where
   unfolding IsDistinct
   order_left [] name apart = refl
   order_left (e ∷ es) name apart = order_step (same_name name e.0) e es name refl apart (order_left es name apart.1)
+
+  without_step : (b : Bool) (x : List ℕ) (e : List ℕ × V) (es : List (List ℕ × V)) (name : List ℕ)
+      → same_name name e.0 ≡ b → IsNew x (names (e ∷ es)) → IsNew x (names (without es name))
+      → IsNew x (names (without (e ∷ es) name))
+  without_step true x e es name h apart ih = rw h apart.1
+  without_step false x e es name h apart ih = rw h (apart.0, ih)
+
+  new_without : (x : List ℕ) (es : List (List ℕ × V)) (name : List ℕ) → IsNew x (names es)
+      → IsNew x (names (without es name))
+  new_without x [] name apart = apart
+  new_without x (e ∷ es) name apart =
+      without_step (same_name name e.0) x e es name refl apart (new_without x es name apart.1)
+
+  distinct_step : (b : Bool) (e : List ℕ × V) (es : List (List ℕ × V)) (name : List ℕ) → same_name name e.0 ≡ b
+      → IsDistinct same_name (names (e ∷ es)) → IsDistinct same_name (names (without es name))
+      → IsDistinct same_name (names (without (e ∷ es) name))
+  unfolding IsDistinct
+  distinct_step true e es name h apart ih = rw h apart.1
+  distinct_step false e es name h apart ih = rw h (new_without e.0 es name apart.0, ih)
+
+  pub distinct_without : (es : List (List ℕ × V)) (name : List ℕ) → IsDistinct same_name (names es)
+      → IsDistinct same_name (names (without es name))
+  unfolding IsDistinct
+  distinct_without [] name apart = apart
+  distinct_without (e ∷ es) name apart =
+      distinct_step (same_name name e.0) e es name refl apart (distinct_without es name apart.1)
 
   -- ---- one behind the other
 

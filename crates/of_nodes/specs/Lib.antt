@@ -13,3 +13,4 @@ pub mod Ways
 pub mod FirstPaths
 pub mod MethodLaw
 pub mod PropertyLaw
+pub mod Stored

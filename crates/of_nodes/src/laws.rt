@@ -2,6 +2,7 @@
 ghost use Rattle.of_nodes.specs.FirstPaths.{FirstPathsFind};
 ghost use Rattle.of_nodes.specs.MethodLaw.{MethodsAreFound};
 ghost use Rattle.of_nodes.specs.PropertyLaw.{PropertiesAreFound};
+ghost use Rattle.of_nodes.specs.Stored.{StoredStays};
 ghost use Rattle.of_nodes.specs.Tree.{TreeIsShown};
 ghost use Rattle.of_nodes.specs.TreePaths.{TreeFinds};
 ghost use Rattle.of_nodes.specs.Ways.{PathsFind};
@@ -45,4 +46,11 @@ pub fn methods_are_found()
 #[tactic(auto, using(crate::proofs::PropertyLaw::properties_are_found))]
 pub fn properties_are_found()
     ensures { PropertiesAreFound }
+{}
+
+/// Each property has the bytes of its name and those of its value in the property region, and no node has two of
+/// one name: so it is in the first tree, and stays whatever is done with tree and data space.
+#[tactic(auto, using(crate::proofs::StoredLaw::stored_stays))]
+pub fn stored_stays()
+    ensures { StoredStays }
 {}

@@ -3,7 +3,7 @@ use of_cells::Cell;
 use of_memory::{Memory, properties_change_by_puts_alone};
 use of_nodes::{
     NodeFault, Phandle, Tree, first_paths_find, methods_are_found, paths_find,
-    properties_are_found, tree_finds, tree_is_shown,
+    properties_are_found, stored_stays, tree_finds, tree_is_shown,
 };
 use std::test::Fail;
 
@@ -14,6 +14,7 @@ fn laws_hold() {
     paths_find();
     properties_are_found();
     properties_change_by_puts_alone();
+    stored_stays();
     tree_finds();
     tree_is_shown();
 }
