@@ -1,5 +1,5 @@
 -- A phrase that can stand where it does takes the source on to what is known behind it.
-use Rattle.std.proofs.Common.{◌≡◌, ◌≢◌, ℕ, ◌+◌, ◌<◌, ◌≤◌, Bool, true, false, List, [], ◌∷◌, ◌++◌, length, Option, Some}
+use Rattle.std.proofs.Common.{◌≡◌, ◌≢◌, ℕ, ◌+◌, ◌≤◌, Bool, true, false, List, [], ◌∷◌, ◌++◌, length, Option, Some}
 use Rattle.std.proofs.Common.{None, nat_lt, if◌then◌else◌, refl, sym, ap, subst, ◌∙◌, arith}
 use Rattle.std.specs.Prelude.{is_some}
 use Rattle.std.specs.List.{All}
@@ -11,7 +11,6 @@ use Rattle.of_source.specs.declared.fault.SourceFault.{SourceFault}
 use Rattle.of_source.specs.declared.fault.SourceFault.TheVariants.{BadNumber}
 use Rattle.of_source.specs.declared.keyword.Keyword.{Keyword}
 use Rattle.of_source.specs.declared.keyword.Keyword.TheVariants as keyword
-use Rattle.of_source.specs.declared.keyword.Quote.{Quote}
 use Rattle.of_source.specs.declared.keyword.Quote.TheVariants as quote
 use Rattle.of_source.specs.declared.keyword.Radix.{Radix}
 use Rattle.of_source.specs.declared.nesting.Part.TheVariants as part
@@ -26,19 +25,19 @@ use Rattle.of_source.specs.Nesting.{Nesting, with_branch, with_part, without_bra
 use Rattle.of_source.specs.Nesting.{then_without_branch, then_with_branch, opened_if, in_definition, in_loop, on_case}
 use Rattle.of_source.specs.Nesting.{is_straight}
 use Rattle.of_source.specs.Shapes.{Shape, nothing, run, shape_of}
-use Rattle.of_source.specs.Scan.{Rest, rest_at, left_of, start_of, next_word, Found}
+use Rattle.of_source.specs.Scan.{Rest, rest_at, left_of, start_of, next_word, Found, group}
 use Rattle.of_source.specs.Steps.{State, Step, Goes, giving, reading_on, with_next}
 use Rattle.of_source.specs.Steps.{with_name, name_found, with_string, with_code, if_open, if_ends, ended}
 use Rattle.of_source.specs.Steps.{number_or_bad, number_items, comment_step, code_named, recurse_step}
 use Rattle.of_source.specs.Steps.{keyword_step, number_word_step, ordinary_step, listed_step, own_step, word_step}
-use Rattle.of_source.specs.Phrases.{Phrase, Spelled, Known, in_digits, taken, written, items_of, behind}
+use Rattle.of_source.specs.Phrases.{Phrase, Spelled, Known, taken, written, items_of, behind}
 use Rattle.of_source.specs.Phrases.{next_own, named, string_items}
 use Rattle.of_source.specs.Phrases as phrase
-use Rattle.of_source.specs.Written.{IsWord, AreBetween, IsBetween, IsName, IsWithin, LeaveOpen, IsOutside, IsStraight}
-use Rattle.of_source.specs.Written.{own_of}
+use Rattle.of_source.specs.Strings.{Piece, pieces_bytes, IsWithin, ArePieces}
+use Rattle.of_source.specs.Written.{IsWord, AreBlanks, EndsLine, IsName, LeaveOpen, IsOutside, IsStraight, own_of}
 use Rattle.of_source.specs.Written.{IsKeyword, IsPlaced, IsFollowed}
-use Rattle.of_source.proofs.ReadingBack.{Parts, word_behind, left_behind, line_left, plain_behind, quoted_behind}
-use Rattle.of_source.proofs.ReadingBack.{digits_behind}
+use Rattle.of_source.proofs.ReadingBack.{Parts, ends_part, word_behind, left_behind, line_left, plain_behind}
+use Rattle.of_source.proofs.ReadingBack.{quoted_behind}
 use Rattle.of_source.proofs.Opening.{MayStand, then_goes, else_goes, back_goes, repeat_goes, semicolon_goes, loop_goes}
 use Rattle.of_source.proofs.Opening.{end_of_goes, end_case_goes, leave_goes, of_goes, colon_goes, outside_goes}
 use Rattle.of_source.proofs.Opening.{straight_goes}
@@ -76,14 +75,14 @@ with_items is k = record k { items = k.items ++ is }
 -- ---- words that read on
 
 next_by : (f : SourceFault) (blanks : List ℕ) (at : ℕ) (word more : List ℕ) (go : List ℕ → Rest → Step)
-    → AreBetween blanks → IsWord word → Parts more
+    → AreBlanks blanks → IsWord word → Parts more
     → with_next f (next_word (rest_at at ((blanks ++ word) ++ more))) go
     ≡ go word (rest_at (at + length (blanks ++ word)) more)
 next_by f blanks at word more go b h p = ap (λ o. with_next f o go) (word_behind blanks at word more b h p)
 
 pub number_goes : (last : ℕ) (base : Radix) (blanks word : List ℕ) (x : Cell) (at from : ℕ) (k : Known) (n : Nesting)
     (more : List ℕ)
-    → AreBetween blanks → IsWord word → number_in (base_of base) word ≡ Value x → Parts more
+    → AreBlanks blanks → IsWord word → number_in (base_of base) word ≡ Value x → Parts more
     → GoesOn (keyword_step last (keyword.NumberIn base) (state_at at (rest_at from ((blanks ++ word) ++ more)) k n))
     (with_items (number_items x) k) (rest_at (from + length (blanks ++ word)) more)
 number_goes last base blanks word x at from k n more b h e p = record {
@@ -96,7 +95,7 @@ number_goes last base blanks word x at from k n more b h e p = record {
 }
 
 pub character_goes : (last b : ℕ) (blanks word : List ℕ) (at from : ℕ) (k : Known) (n : Nesting) (more : List ℕ)
-    → AreBetween blanks → IsWord (b ∷ word) → Parts more
+    → AreBlanks blanks → IsWord (b ∷ word) → Parts more
     → GoesOn (keyword_step last keyword.Character (state_at at (rest_at from ((blanks ++ b ∷ word) ++ more)) k n))
     (with_items (number_items (record { 0 = b })) k) (rest_at (from + length (blanks ++ b ∷ word)) more)
 character_goes last b blanks word at from k n more c h p =
@@ -105,7 +104,7 @@ character_goes last b blanks word at from k n more c h p =
 
 pub naming_goes : (last : ℕ) (t : FCode) (blanks name : List ℕ) (c : FCode) (at from : ℕ) (k : Known) (n : Nesting)
     (more : List ℕ)
-    → AreBetween blanks → IsWord name → code_named k.names name ≡ Some c → Parts more
+    → AreBlanks blanks → IsWord name → code_named k.names name ≡ Some c → Parts more
     → GoesOn (keyword_step last (keyword.Naming t) (state_at at (rest_at from ((blanks ++ name) ++ more)) k n))
     (with_items (item.Plain (naming t c) ∷ []) k) (rest_at (from + length (blanks ++ name)) more)
 naming_goes last t blanks name c at from k n more b h e p =
@@ -135,40 +134,43 @@ string_taken at from k n bytes all more f go e l =
     short_string (state_at at (rest_at from (all ++ more)) k n) bytes more f go e l
     ∙ ap (λ r. go bytes (state_at at r k n)) (left_behind from all more)
 
-pub text_goes : (last : ℕ) (q : Quote) (b : ℕ) (bytes : List ℕ) (at from : ℕ) (k : Known) (n : Nesting)
-    (more : List ℕ)
-    → IsBetween b → length bytes ≤ 255 → IsWithin 34 bytes → Parts more
-    → GoesOn (keyword_step last (keyword.Text q) (state_at at (rest_at from ((b ∷ bytes ++ 34 ∷ []) ++ more)) k n))
-    (with_items (string_items q bytes) k) (rest_at (from + length (b ∷ bytes ++ 34 ∷ [])) more)
-text_goes last quote.Bytes b bytes at from k n more s l h p = record {
-  at = at;
-  nesting = n;
-  goes =
-      string_taken at from k n bytes (b ∷ bytes ++ 34 ∷ []) more _ _ (quoted_behind b bytes more s h p) l;
-}
-text_goes last quote.Plain b bytes at from k n more s l h p = record {
-  at = at;
-  nesting = n;
-  goes =
-      string_taken at from k n bytes (b ∷ bytes ++ 34 ∷ []) more _ _ (plain_behind 34 b bytes more s h) l;
-}
-text_goes last quote.Printed b bytes at from k n more s l h p = record {
+pub text_goes : (last : ℕ) (b : ℕ) (bytes : List ℕ) (at from : ℕ) (k : Known) (n : Nesting) (more : List ℕ)
+    → b ≢ 10 → length bytes ≤ 255 → IsWithin 34 bytes
+    → GoesOn (keyword_step last (keyword.Text quote.Plain)
+    (state_at at (rest_at from ((b ∷ bytes ++ 34 ∷ []) ++ more)) k n))
+    (with_items (string_items false bytes) k) (rest_at (from + length (b ∷ bytes ++ 34 ∷ [])) more)
+text_goes last b bytes at from k n more s l h = record {
   at = at;
   nesting = n;
   goes =
       string_taken at from k n bytes (b ∷ bytes ++ 34 ∷ []) more _ _ (plain_behind 34 b bytes more s h) l;
 }
 
-pub bytes_go : (last b : ℕ) (bytes : List ℕ) (at from : ℕ) (k : Known) (n : Nesting) (more : List ℕ)
-    → IsBetween b → length bytes ≤ 255 → All (λ c. c < 256) bytes → Parts more
-    → GoesOn (keyword_step last (keyword.Text quote.Bytes)
-    (state_at at (rest_at from (taken (phrase.Bytes b bytes) ++ more)) k n))
-    (with_items (item.Plain (string bytes) ∷ []) k) (rest_at (from + length (taken (phrase.Bytes b bytes))) more)
-bytes_go last b bytes at from k n more s l h p = record {
+pub printed_goes : (last : ℕ) (b : ℕ) (bytes : List ℕ) (at from : ℕ) (k : Known) (n : Nesting) (more : List ℕ)
+    → b ≢ 10 → length bytes ≤ 255 → IsWithin 34 bytes
+    → GoesOn (keyword_step last (keyword.Text quote.Printed)
+    (state_at at (rest_at from ((b ∷ bytes ++ 34 ∷ []) ++ more)) k n))
+    (with_items (string_items true bytes) k) (rest_at (from + length (b ∷ bytes ++ 34 ∷ [])) more)
+printed_goes last b bytes at from k n more s l h = record {
   at = at;
   nesting = n;
   goes =
-      string_taken at from k n bytes (taken (phrase.Bytes b bytes)) more _ _ (digits_behind b bytes more s h p) l;
+      string_taken at from k n bytes (b ∷ bytes ++ 34 ∷ []) more _ _ (plain_behind 34 b bytes more s h) l;
+}
+
+pub quoted_goes : (last b : ℕ) (ps : List Piece) (bytes : List ℕ) (at from : ℕ) (k : Known) (n : Nesting)
+    (more : List ℕ)
+    → b ≢ 10 → length (pieces_bytes ps ++ bytes) ≤ 255 → ArePieces ps → IsWithin 34 bytes → group more ≡ None
+    → GoesOn (keyword_step last (keyword.Text quote.Bytes)
+    (state_at at (rest_at from (taken (phrase.Quoted b ps bytes) ++ more)) k n))
+    (with_items (item.Plain (string (pieces_bytes ps ++ bytes)) ∷ []) k)
+    (rest_at (from + length (taken (phrase.Quoted b ps bytes))) more)
+quoted_goes last b ps bytes at from k n more s l h w g = record {
+  at = at;
+  nesting = n;
+  goes =
+      string_taken at from k n (pieces_bytes ps ++ bytes) (taken (phrase.Quoted b ps bytes)) more _ _
+      (quoted_behind b ps bytes more s h w g) l;
 }
 
 -- nothing is known but the items, of which no more are
@@ -177,7 +179,7 @@ no_items : (at : ℕ) (r : Rest) (k : Known) (n : Nesting)
 no_items at r k n = ap (λ is. Goes (state_at at r (record k { items = is }) n)) (sym (append-nil k.items))
 
 pub comment_goes : (last b : ℕ) (bytes : List ℕ) (at from : ℕ) (k : Known) (n : Nesting) (more : List ℕ)
-    → IsBetween b → IsWithin 41 bytes
+    → b ≢ 10 → IsWithin 41 bytes
     → GoesOn (keyword_step last keyword.Comment (state_at at (rest_at from ((b ∷ bytes ++ 41 ∷ []) ++ more)) k n))
     (with_items [] k) (rest_at (from + length (b ∷ bytes ++ 41 ∷ [])) more)
 comment_goes last b bytes at from k n more s h = record {
@@ -193,7 +195,7 @@ comment_goes last b bytes at from k n more s h = record {
 -- ---- definitions
 
 name_by : (last at from : ℕ) (blanks name more : List ℕ) (k : Known) (n : Nesting) (go : List ℕ → State → Step)
-    → AreBetween blanks → IsName name → Parts more
+    → AreBlanks blanks → IsName name → Parts more
     → with_name (name_found last (state_at at (rest_at from ((blanks ++ name) ++ more)) k n)
     (next_word (rest_at from ((blanks ++ name) ++ more)))) go
     ≡ go name (state_at at (rest_at (from + length (blanks ++ name)) more) k n)
@@ -214,7 +216,7 @@ when_so b x y h = rw h refl
 
 pub defining_goes : (last : ℕ) (t : FCode) (blanks name : List ℕ) (at from : ℕ) (k : Known) (n : Nesting)
     (more word : List ℕ)
-    → AreBetween blanks → IsName name → in_definition n.parts ≡ false → Parts more
+    → AreBlanks blanks → IsName name → in_definition n.parts ≡ false → Parts more
     → GoesOn (keyword_step last (keyword.Defining t) (state_at at (rest_at from ((blanks ++ name) ++ more)) k n))
     (behind word (phrase.Defining t blanks name) k) (rest_at (from + length (blanks ++ name)) more)
 defining_goes last t blanks name at from k n more word b h e p = record {
@@ -224,7 +226,7 @@ defining_goes last t blanks name at from k n more word b h e p = record {
 }
 
 pub colon_step_goes : (last : ℕ) (blanks name : List ℕ) (at from : ℕ) (k : Known) (n : Nesting) (more word : List ℕ)
-    → AreBetween blanks → IsName name → in_definition n.parts ≡ false → Parts more
+    → AreBlanks blanks → IsName name → in_definition n.parts ≡ false → Parts more
     → GoesOn (keyword_step last keyword.Colon (state_at at (rest_at from ((blanks ++ name) ++ more)) k n))
     (behind word (phrase.Colon blanks name) k) (rest_at (from + length (blanks ++ name)) more)
 colon_step_goes last blanks name at from k n more word b h e p = record {
@@ -330,7 +332,7 @@ offset16_goes : (last : ℕ) (at : ℕ) (r : Rest) (k : Known) (n : Nesting) →
 offset16_goes last at r k n h = record { at = at; nesting = n; goes = when_so (is_straight n) _ _ h }
 
 line_comment_goes : (last : ℕ) (bytes : List ℕ) (at from : ℕ) (k : Known) (n : Nesting) (more : List ℕ)
-    → All (λ b. b ≢ 10) bytes → IsFollowed (phrase.LineComment bytes) more
+    → All (λ b. b ≢ 10) bytes → EndsLine more
     → GoesOn (keyword_step last keyword.LineComment (state_at at (rest_at from (bytes ++ more)) k n)) (with_items [] k)
     (rest_at (from + length bytes) more)
 line_comment_goes last bytes at from k n more h f = record {
@@ -344,105 +346,108 @@ line_comment_goes last bytes at from k n more h f = record {
 
 -- each phrase goes on, where it can stand
 pub phrase_goes : (last from : ℕ) (word : List ℕ) (p : Phrase) (k : Known) (n : Nesting) (more : List ℕ)
-    → own_in k.names word ≡ own_of p → IsKeyword word p → IsPlaced k word p → Parts more
+    → own_in k.names word ≡ own_of p → IsKeyword word p → IsPlaced k word p
     → run k.items nothing ≡ Some (shape_of n) → MayStand (items_of p k) n → IsFollowed p more
     → Left (word_step last word (state_at k.at (rest_at from (taken p ++ more)) k n)) from word p k more
-phrase_goes last from word (phrase.OwnWord j) k n more h e w p r m f =
+phrase_goes last from word (phrase.OwnWord j) k n more h e w r m f =
     let b = behind word (phrase.OwnWord j) k in
     still _ from b more (own_goes last j word k.at (rest_at from more) k n h)
-phrase_goes last from word (phrase.BoardWord c) k n more h e w p r m f =
+phrase_goes last from word (phrase.BoardWord c) k n more h e w r m f =
     let s = state_at k.at (rest_at from more) k n in
     let b = behind word (phrase.BoardWord c) k in
     still _ from b more
     (goes_by _ _ b (rest_at from more) (keyed last word s None h e) (board_goes word c k.at (rest_at from more) k n w))
-phrase_goes last from word (phrase.Number x) k n more h e w p r m f =
+phrase_goes last from word (phrase.Number x) k n more h e w r m f =
     let s = state_at k.at (rest_at from more) k n in
     let b = behind word (phrase.Number x) k in
     still _ from b more
     (goes_by _ _ b (rest_at from more) (keyed last word s None h e)
     (digits_go word x k.at (rest_at from more) k n w.0 w.1))
-phrase_goes last from word (phrase.NumberIn base blanks digits x) k n more h e w p r m f =
+phrase_goes last from word (phrase.NumberIn base blanks digits x) k n more h e w r m f =
     by_keyword last from word _ (phrase.NumberIn base blanks digits x) k n more h e
-    (number_goes last base blanks digits x k.at from k n more w.0 w.1 w.2 p)
-phrase_goes last from word (phrase.Character blanks b bytes) k n more h e w p r m f =
+    (number_goes last base blanks digits x k.at from k n more w.0 w.1 w.2 (ends_part more f))
+phrase_goes last from word (phrase.Character blanks b bytes) k n more h e w r m f =
     by_keyword last from word _ (phrase.Character blanks b bytes) k n more h e
-    (character_goes last b blanks bytes k.at from k n more w.0 w.1 p)
-phrase_goes last from word (phrase.Short t) k n more h e w p r m f =
+    (character_goes last b blanks bytes k.at from k n more w.0 w.1 (ends_part more f))
+phrase_goes last from word (phrase.Short t) k n more h e w r m f =
     by_word last from word _ (phrase.Short t) k n more h e (record { at = k.at; nesting = n; goes = refl })
-phrase_goes last from word (phrase.Pair t u) k n more h e w p r m f =
+phrase_goes last from word (phrase.Pair t u) k n more h e w r m f =
     by_word last from word _ (phrase.Pair t u) k n more h e (record { at = k.at; nesting = n; goes = refl })
-phrase_goes last from word (phrase.Text q b bytes) k n more h e w p r m f =
-    by_keyword last from word _ (phrase.Text q b bytes) k n more h e
-    (text_goes last q b bytes k.at from k n more w.0 w.1 w.2 p)
-phrase_goes last from word (phrase.Bytes b bytes) k n more h e w p r m f =
-    by_keyword last from word _ (phrase.Bytes b bytes) k n more h e
-    (bytes_go last b bytes k.at from k n more w.0 w.1 w.2 p)
-phrase_goes last from word (phrase.Comment b bytes) k n more h e w p r m f =
+phrase_goes last from word (phrase.Text false b bytes) k n more h e w r m f =
+    by_keyword last from word _ (phrase.Text false b bytes) k n more h e
+    (text_goes last b bytes k.at from k n more w.0 w.1 w.2)
+phrase_goes last from word (phrase.Text true b bytes) k n more h e w r m f =
+    by_keyword last from word _ (phrase.Text true b bytes) k n more h e
+    (printed_goes last b bytes k.at from k n more w.0 w.1 w.2)
+phrase_goes last from word (phrase.Quoted b ps bytes) k n more h e w r m f =
+    by_keyword last from word _ (phrase.Quoted b ps bytes) k n more h e
+    (quoted_goes last b ps bytes k.at from k n more w.0 w.1 w.2 w.3 f)
+phrase_goes last from word (phrase.Comment b bytes) k n more h e w r m f =
     by_keyword last from word _ (phrase.Comment b bytes) k n more h e
     (comment_goes last b bytes k.at from k n more w.0 w.1)
-phrase_goes last from word (phrase.LineComment bytes) k n more h e w p r m f =
+phrase_goes last from word (phrase.LineComment bytes) k n more h e w r m f =
     by_keyword last from word _ (phrase.LineComment bytes) k n more h e
-    (line_comment_goes last bytes k.at from k n more w.0 f)
-phrase_goes last from word (phrase.Naming t blanks name c) k n more h e w p r m f =
+    (line_comment_goes last bytes k.at from k n more w f)
+phrase_goes last from word (phrase.Naming t blanks name c) k n more h e w r m f =
     by_keyword last from word _ (phrase.Naming t blanks name c) k n more h e
-    (naming_goes last t blanks name c k.at from k n more w.0 w.1 w.2 p)
-phrase_goes last from word (phrase.Headers maker) k n more h e w p r m f =
+    (naming_goes last t blanks name c k.at from k n more w.0 w.1 w.2 (ends_part more f))
+phrase_goes last from word (phrase.Headers maker) k n more h e w r m f =
     by_word last from word _ (phrase.Headers maker) k n more h e
     (record { at = k.at; nesting = n; goes = no_items k.at (rest_at from more) (record k { maker = maker }) n })
-phrase_goes last from word (phrase.Base base) k n more h e w p r m f =
+phrase_goes last from word (phrase.Base base) k n more h e w r m f =
     by_word last from word _ (phrase.Base base) k n more h e
     (record { at = k.at; nesting = n; goes = no_items k.at (rest_at from more) (record k { radix = base }) n })
-phrase_goes last from word (phrase.Defining t blanks name) k n more h e w p r m f =
+phrase_goes last from word (phrase.Defining t blanks name) k n more h e w r m f =
     by_keyword last from word _ (phrase.Defining t blanks name) k n more h e
-    (defining_goes last t blanks name k.at from k n more word w.0 w.1 (outside_there k n r w.2) p)
-phrase_goes last from word (phrase.Colon blanks name) k n more h e w p r m f =
+    (defining_goes last t blanks name k.at from k n more word w.0 w.1 (outside_there k n r w.2) (ends_part more f))
+phrase_goes last from word (phrase.Colon blanks name) k n more h e w r m f =
     let t = making k.maker name (own_code (length k.names)) in
     by_keyword last from word _ (phrase.Colon blanks name) k n more h e
-    (colon_step_goes last blanks name k.at from k n more word w.0 w.1 (colon_goes n t m) p)
-phrase_goes last from word phrase.Semicolon k n more h e w p r m f =
+    (colon_step_goes last blanks name k.at from k n more word w.0 w.1 (colon_goes n t m) (ends_part more f))
+phrase_goes last from word phrase.Semicolon k n more h e w r m f =
     by_word last from word _ phrase.Semicolon k n more h e
     (semicolon_step_goes (without_part part.Definition n) k.at (rest_at from more) k n word (semicolon_goes n m))
-phrase_goes last from word phrase.Recurse k n more h e w p r m f =
+phrase_goes last from word phrase.Recurse k n more h e w r m f =
     by_word last from word _ phrase.Recurse k n more h e (recurse_goes w.0 k.open_one k.at (rest_at from more) k n w.1)
-phrase_goes last from word phrase.Offset16 k n more h e w p r m f =
+phrase_goes last from word phrase.Offset16 k n more h e w r m f =
     by_word last from word _ phrase.Offset16 k n more h e
     (offset16_goes last k.at (rest_at from more) k n (straight_there k n r w))
-phrase_goes last from word phrase.If k n more h e w p r m f =
+phrase_goes last from word phrase.If k n more h e w r m f =
     by_word last from word _ phrase.If k n more h e
     (opened (Some (with_branch k.at n)) _ k.at (rest_at from more) k n refl)
-phrase_goes last from word phrase.Else k n more h e w p r m f =
+phrase_goes last from word phrase.Else k n more h e w r m f =
     by_word last from word _ phrase.Else k n more h e
     (opened (then_with_branch k.at (without_branch n)) _ k.at (rest_at from more) k n (else_goes k.at n m))
-phrase_goes last from word phrase.Then k n more h e w p r m f =
+phrase_goes last from word phrase.Then k n more h e w r m f =
     by_word last from word _ phrase.Then k n more h e
     (opened (without_branch n) _ k.at (rest_at from more) k n (then_goes n m))
-phrase_goes last from word phrase.Begin k n more h e w p r m f =
+phrase_goes last from word phrase.Begin k n more h e w r m f =
     by_word last from word _ phrase.Begin k n more h e
     (opened (Some (with_part part.Begin k.at n)) _ k.at (rest_at from more) k n refl)
-phrase_goes last from word (phrase.Back z) k n more h e w p r m f =
+phrase_goes last from word (phrase.Back z) k n more h e w r m f =
     by_word last from word _ (phrase.Back z) k n more h e
     (opened (without_begin n) _ k.at (rest_at from more) k n (back_goes z k.at n m))
-phrase_goes last from word phrase.Repeat k n more h e w p r m f =
+phrase_goes last from word phrase.Repeat k n more h e w r m f =
     by_word last from word _ phrase.Repeat k n more h e
     (opened (then_without_branch (without_begin n)) _ k.at (rest_at from more) k n (repeat_goes k.at n m))
-phrase_goes last from word (phrase.Do q) k n more h e w p r m f =
+phrase_goes last from word (phrase.Do q) k n more h e w r m f =
     by_word last from word _ (phrase.Do q) k n more h e
     (opened (Some (with_part part.Do k.at n)) _ k.at (rest_at from more) k n refl)
-phrase_goes last from word (phrase.Loop q) k n more h e w p r m f =
+phrase_goes last from word (phrase.Loop q) k n more h e w r m f =
     by_word last from word _ (phrase.Loop q) k n more h e
     (opened (without_part part.Do n) _ k.at (rest_at from more) k n (loop_goes q k.at n m))
-phrase_goes last from word phrase.Leave k n more h e w p r m f =
+phrase_goes last from word phrase.Leave k n more h e w r m f =
     by_word last from word _ phrase.Leave k n more h e
     (opened (opened_if (in_loop n.parts) n) _ k.at (rest_at from more) k n (leave_goes n m))
-phrase_goes last from word phrase.Case k n more h e w p r m f =
+phrase_goes last from word phrase.Case k n more h e w r m f =
     by_word last from word _ phrase.Case k n more h e
     (opened (Some (with_part part.Case k.at n)) _ k.at (rest_at from more) k n refl)
-phrase_goes last from word phrase.Of k n more h e w p r m f =
+phrase_goes last from word phrase.Of k n more h e w r m f =
     by_word last from word _ phrase.Of k n more h e
     (opened (opened_if (on_case n) (with_part part.Of k.at n)) _ k.at (rest_at from more) k n (of_goes k.at n m))
-phrase_goes last from word phrase.EndOf k n more h e w p r m f =
+phrase_goes last from word phrase.EndOf k n more h e w r m f =
     by_word last from word _ phrase.EndOf k n more h e
     (opened (without_part part.Of n) _ k.at (rest_at from more) k n (end_of_goes k.at n m))
-phrase_goes last from word phrase.EndCase k n more h e w p r m f =
+phrase_goes last from word phrase.EndCase k n more h e w r m f =
     by_word last from word _ phrase.EndCase k n more h e
     (opened (without_part part.Case n) _ k.at (rest_at from more) k n (end_case_goes n m))

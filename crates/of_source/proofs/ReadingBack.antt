@@ -1,23 +1,20 @@
 -- Words and strings that were written are read back.
-use Rattle.std.proofs.Common.{◌≡◌, ◌≢◌, ℕ, suc, ◌+◌, ◌-◌, ◌*◌, ◌/◌, ◌%◌, ◌<◌, ◌≤◌, Bool, true, false, not, List, []}
-use Rattle.std.proofs.Common.{◌∷◌, ◌++◌, length, take, drop, take_while, Option, Some, None, nat_eq, nat_lt, refl}
-use Rattle.std.proofs.Common.{ap, ◌∙◌, arith, append_assoc, if◌then◌else◌}
-use Rattle.std.specs.Char.{digit_char}
+use Rattle.std.proofs.Common.{◌≡◌, ◌≢◌, ℕ, zero, suc, ◌+◌, ◌-◌, ◌<◌, ◌≤◌, Bool, true, false, not, List, []}
+use Rattle.std.proofs.Common.{◌∷◌, ◌++◌, length, take, drop, take_while, Option, Some, None, nat_eq, refl}
+use Rattle.std.proofs.Common.{sym, ap, ◌∙◌, arith, append_assoc, if◌then◌else◌}
 use Rattle.std.specs.List.{All}
-use Rattle.std.proofs.Math.Nat.{div-add-mod}
 use Rattle.std.proofs.Math.Seq.{take-append_seam, drop-append_seam}
 use Rattle.std.proofs.lemmas.Bool.Decides.{nat_tests}
-use Rattle.std.proofs.lemmas.List.{append-nil, length-append}
+use Rattle.std.proofs.lemmas.List.{length-append}
 use Rattle.std.proofs.lemmas.List.Sums.{take_while-cons}
 use Rattle.std.proofs.lemmas.List.Elements.{All-head, All-tail}
-use Rattle.std.proofs.lemmas.Str.{digit_value-digit_char}
-use Rattle.of_format.specs.Digits.{digit_value, digit_of}
+use Rattle.of_format.specs.Digits.{digit_value}
 use Rattle.of_source.specs.Scan.{Rest, rest_at, left_of, is_blank, at_word, start_of, word_length, word_at, next_word}
 use Rattle.of_source.specs.Scan.{byte_before, up_to, behind_blank, byte_of, pairs, group, bytes_before, grouped}
 use Rattle.of_source.specs.Scan.{and_grouped, quoted, quoted_string, plain_string, line_end}
-use Rattle.of_source.specs.Phrases.{in_digits}
-use Rattle.of_source.specs.Phrases as phrase
-use Rattle.of_source.specs.Written.{IsWord, AreBlanks, AreBetween, IsBetween, IsWithin, IsFollowed}
+use Rattle.of_source.specs.Strings.{Digits, Byte, Blank, Piece, digits_written, digits_bytes, pieces_written}
+use Rattle.of_source.specs.Strings.{pieces_bytes, IsWithin, AreDigits, ArePieces}
+use Rattle.of_source.specs.Written.{IsWord, AreBlanks, EndsWord, EndsLine}
 use Rattle.of_source.proofs.Scanning.{passed}
 
 -- a text that ends the word before it
@@ -103,20 +100,20 @@ start_after blanks at word more b h =
     ap (λ (r : Rest). r.at) (blanks_passed blanks at (word ++ more) b ∙ at_first (at + length blanks) word more h)
 
 -- a word that another takes, behind blanks
-pub word_behind : (blanks : List ℕ) (at : ℕ) (word more : List ℕ) → AreBetween blanks → IsWord word → Parts more
+pub word_behind : (blanks : List ℕ) (at : ℕ) (word more : List ℕ) → AreBlanks blanks → IsWord word → Parts more
     → next_word (rest_at at ((blanks ++ word) ++ more))
     ≡ Some (word, rest_at (at + length (blanks ++ word)) more)
 word_behind blanks at word more b h p =
     let e : at + length blanks + length word ≡ at + length (blanks ++ word) =
     omega (arith, length-append blanks word) in
-    ap (λ t. next_word (rest_at at t)) (append_assoc blanks word more) ∙ word_after blanks at word more b.1 h p
+    ap (λ t. next_word (rest_at at t)) (append_assoc blanks word more) ∙ word_after blanks at word more b h p
     ∙ ap (λ n. Some (word, rest_at n more)) e
 
 -- where it begins
-pub start_behind : (blanks : List ℕ) (at : ℕ) (word more : List ℕ) → AreBetween blanks → IsWord word
+pub start_behind : (blanks : List ℕ) (at : ℕ) (word more : List ℕ) → AreBlanks blanks → IsWord word
     → start_of (rest_at at ((blanks ++ word) ++ more)) ≡ at + length blanks
 start_behind blanks at word more b h =
-    ap (λ t. start_of (rest_at at t)) (append_assoc blanks word more) ∙ start_after blanks at word more b.1 h
+    ap (λ t. start_of (rest_at at t)) (append_assoc blanks word more) ∙ start_after blanks at word more b h
 
 -- what is left behind these bytes
 pub left_behind : (at : ℕ) (bytes more : List ℕ)
@@ -133,14 +130,10 @@ no_word_after (b ∷ blanks) at h =
     let e : is_blank b ≡ true = blank_is b (All-head (λ c. c ≤ 0x20) b blanks h) in
     rw e (no_word_after blanks (at + 1) (All-tail (λ c. c ≤ 0x20) b blanks h))
 
--- blanks end the word before them
-pub blanks_part : (blanks text : List ℕ) → 0 < length blanks → AreBlanks blanks → Parts (blanks ++ text)
-blanks_part [] text l h = let k : 0 < 0 = l in absurd (omega (arith, k))
-blanks_part (b ∷ blanks) text l h = blank_is b (All-head (λ c. c ≤ 0x20) b blanks h)
-
-pub all_part : (blanks : List ℕ) → AreBlanks blanks → Parts blanks
-all_part [] h = tt
-all_part (b ∷ blanks) h = blank_is b (All-head (λ c. c ≤ 0x20) b blanks h)
+-- a text that ends the word before it, by its first byte
+pub ends_part : (text : List ℕ) → EndsWord text → Parts text
+ends_part [] h = tt
+ends_part (b ∷ text) h = blank_is b h
 
 -- ---- strings as they are
 
@@ -149,30 +142,30 @@ same_byte b = grind (arith, nat_tests)
 
 -- bytes up to the one that ends them
 pub all_up_to : (end : ℕ) (bytes more : List ℕ) → IsWithin end bytes
-    → up_to end ((bytes ++ end ∷ []) ++ more) ≡ Some (bytes, more)
+    → up_to end (bytes ++ end ∷ more) ≡ Some (bytes, more)
 all_up_to end [] more h = let e : nat_eq end end ≡ true = same_byte end in rw e refl
 all_up_to end (b ∷ bytes) more h =
     let w = All-head (λ c. (c ≢ end) × (c ≢ 10)) b bytes h in
-    passed end b ((bytes ++ end ∷ []) ++ more) w.0 w.1
+    passed end b (bytes ++ end ∷ more) w.0 w.1
     ∙ ap (byte_before b) (all_up_to end bytes more (All-tail (λ c. (c ≢ end) × (c ≢ 10)) b bytes h))
 
 -- behind the blank between a word and its string
-pub past_blank : (b : ℕ) (text : List ℕ) → IsBetween b → behind_blank (b ∷ text) ≡ text
-past_blank b text h = let e : nat_eq b 10 ≡ false = other b h.1 in rw e refl
+pub past_blank : (b : ℕ) (text : List ℕ) → b ≢ 10 → behind_blank (b ∷ text) ≡ text
+past_blank b text h = let e : nat_eq b 10 ≡ false = other b h in rw e refl
   where
     other : (b : ℕ) → b ≢ 10 → nat_eq b 10 ≡ false
     other b h = grind (arith, nat_tests)
 
 -- a string or comment behind a blank
-pub plain_behind : (end b : ℕ) (bytes more : List ℕ) → IsBetween b → IsWithin end bytes
+pub plain_behind : (end b : ℕ) (bytes more : List ℕ) → b ≢ 10 → IsWithin end bytes
     → plain_string end (b ∷ (bytes ++ end ∷ []) ++ more) ≡ Some (bytes, more)
 plain_behind end b bytes more s h =
-    ap (up_to end) (past_blank b ((bytes ++ end ∷ []) ++ more) s) ∙ all_up_to end bytes more h
+    ap (up_to end) (past_blank b ((bytes ++ end ∷ []) ++ more) s ∙ append_assoc bytes (end ∷ []) more)
+    ∙ all_up_to end bytes more h
 
 -- the rest of a line
-pub line_left : (bytes more : List ℕ) → All (λ b. b ≢ 10) bytes → IsFollowed (phrase.LineComment bytes) more
-    → line_end (bytes ++ more) ≡ more
-line_left [] [] h f = absurd f
+pub line_left : (bytes more : List ℕ) → All (λ b. b ≢ 10) bytes → EndsLine more → line_end (bytes ++ more) ≡ more
+line_left [] [] h f = refl
 line_left [] (b ∷ more) h f = let e : nat_eq b 10 ≡ true = ap (λ c. nat_eq c 10) f in rw e refl
 line_left (b ∷ bytes) more h f =
     let e : nat_eq b 10 ≡ false = other b (All-head (λ c. c ≢ 10) b bytes h) in
@@ -181,74 +174,91 @@ line_left (b ∷ bytes) more h f =
     other : (b : ℕ) → b ≢ 10 → nat_eq b 10 ≡ false
     other b h = grind (arith, nat_tests)
 
-no_group : (more : List ℕ) → Parts more → group more ≡ None
-no_group [] p = refl
-no_group (b ∷ more) p = let e : nat_eq b 40 ≡ false = blank b p in rw e refl
-  where
-    blank : (b : ℕ) → is_blank b ≡ true → nat_eq b 40 ≡ false
-    blank b h = grind (arith, nat_tests)
+-- ---- strings of pieces
 
--- a string behind `"` that no group follows
-pub quoted_behind : (b : ℕ) (bytes more : List ℕ) → IsBetween b → IsWithin 34 bytes → Parts more
-    → quoted_string (b ∷ (bytes ++ 34 ∷ []) ++ more) ≡ Some (bytes, more)
-quoted_behind b bytes more s h p =
-    let text = (bytes ++ 34 ∷ []) ++ more in
-    let next = quoted (length text) in
-    ap (quoted (length (b ∷ text))) (past_blank b text s)
-    ∙ ap (λ f. and_grouped f next) (all_up_to 34 bytes more h) ∙ ap (λ g. grouped bytes more g next) (no_group more p)
+digits_append : (ds : List Digits) (t more : List ℕ) → digits_written ds t ++ more ≡ digits_written ds (t ++ more)
+digits_append [] t more = refl
+digits_append (Byte b high low ∷ ds) t more = ap (λ l. high ∷ low ∷ l) (digits_append ds t more)
+digits_append (Blank b ∷ ds) t more = ap (λ l. b ∷ l) (digits_append ds t more)
 
--- ---- strings as digits
+pub pieces_append : (ps : List Piece) (t more : List ℕ)
+    → pieces_written ps t ++ more ≡ pieces_written ps (t ++ more)
+pieces_append [] t more = refl
+pieces_append (p ∷ ps) t more =
+    append_assoc p.bytes (34 ∷ 40 ∷ digits_written p.group (41 ∷ pieces_written ps t)) more
+    ∙ ap (λ l. p.bytes ++ 34 ∷ 40 ∷ l) (digits_append p.group (41 ∷ pieces_written ps t) more
+    ∙ ap (λ l. digits_written p.group (41 ∷ l)) (pieces_append ps t more))
 
-digit_back : (d : ℕ) → d < 16 → digit_value 16 (digit_char d) ≡ Some d
-unfolding digit_of
-digit_back d l =
-    let value = digit_value-digit_char d (omega arith) in
-    let small : nat_lt d 36 ≡ true = grind (arith, nat_tests) in
-    let below : nat_lt d 16 ≡ true = grind (arith, nat_tests) in
-    rw (value, small, below) refl
-
-high_digit : (d : ℕ) → 48 ≤ digit_char d
-high_digit d = pick (nat_lt d 10)
-  where
-    pick : (b : Bool) → 48 ≤ (if b then 48 + d else 87 + d)
-    pick true = omega arith
-    pick false = omega arith
-
-high_passes : (c d b : ℕ) (text : List ℕ) → 48 ≤ c → byte_of (digit_value 16 c) (digit_value 16 d) ≡ Some b
-    → pairs (c ∷ d ∷ text) ≡ byte_before b (pairs text)
-high_passes c d b text l e =
+pair_passes : (c d b : ℕ) (text : List ℕ) → 0x20 < c → c ≢ 41
+    → byte_of (digit_value 16 c) (digit_value 16 d) ≡ Some b → pairs (c ∷ d ∷ text) ≡ byte_before b (pairs text)
+pair_passes c d b text l n e =
     let x : nat_eq c 41 ≡ false = grind (arith, nat_tests) in
     let y : nat_eq c 10 ≡ false = grind (arith, nat_tests) in
     let z : is_blank c ≡ false = grind (arith, nat_tests) in
     rw (x, y, z, e) refl
 
-byte_back : (b : ℕ) → b < 256
-    → byte_of (digit_value 16 (digit_char (b / 16))) (digit_value 16 (digit_char (b % 16))) ≡ Some b
-byte_back b l =
-    let whole : 16 * (b / 16) + b % 16 ≡ b = div-add-mod b 16 in
-    let h : digit_value 16 (digit_char (b / 16)) ≡ Some (b / 16) = digit_back (b / 16) (omega arith) in
-    let k : digit_value 16 (digit_char (b % 16)) ≡ Some (b % 16) = digit_back (b % 16) (omega arith) in
-    ap (λ o. byte_of o (digit_value 16 (digit_char (b % 16)))) h ∙ ap (byte_of (Some (b / 16))) k
-    ∙ ap (λ n. Some n) (omega arith)
+blank_passes : (b : ℕ) (text : List ℕ) → b ≤ 0x20 → b ≢ 10 → 0 < length text → pairs (b ∷ text) ≡ pairs text
+blank_passes b [] l n s = absurd (omega (arith, s))
+blank_passes b (c ∷ text) l n s =
+    let x : nat_eq b 41 ≡ false = grind (arith, nat_tests) in
+    let y : nat_eq b 10 ≡ false = grind (arith, nat_tests) in
+    let z : is_blank b ≡ true = grind (arith, nat_tests) in
+    rw (x, y, z) refl
 
-pairs_back : (bytes more : List ℕ) → All (λ b. b < 256) bytes
-    → pairs ((in_digits bytes ++ 41 ∷ 34 ∷ []) ++ more) ≡ Some (bytes, 34 ∷ more)
-pairs_back [] more h = refl
-pairs_back (b ∷ bytes) more h =
-    high_passes (digit_char (b / 16)) (digit_char (b % 16)) b ((in_digits bytes ++ 41 ∷ 34 ∷ []) ++ more)
-    (high_digit (b / 16)) (byte_back b (All-head (λ c. c < 256) b bytes h))
-    ∙ ap (byte_before b) (pairs_back bytes more (All-tail (λ c. c < 256) b bytes h))
+group_ends : (more : List ℕ) → pairs (41 ∷ more) ≡ Some ([], more)
+group_ends [] = refl
+group_ends (b ∷ more) = refl
 
-last_piece : (n : ℕ) (more : List ℕ) → Parts more → quoted (suc n) (34 ∷ more) ≡ Some ([], more)
-last_piece n more p = ap (λ g. grouped [] more g (quoted n)) (no_group more p)
+some_left : (ds : List Digits) (more : List ℕ) → 0 < length (digits_written ds (41 ∷ more))
+some_left [] more = omega arith
+some_left (Byte b high low ∷ ds) more = omega arith
+some_left (Blank b ∷ ds) more = omega arith
 
--- a string behind `"` that is a group alone
-pub digits_behind : (b : ℕ) (bytes more : List ℕ) → IsBetween b → All (λ c. c < 256) bytes → Parts more
-    → quoted_string (b ∷ 34 ∷ 40 ∷ (in_digits bytes ++ 41 ∷ 34 ∷ []) ++ more) ≡ Some (bytes, more)
-digits_behind b bytes more s h p =
-    let text = (in_digits bytes ++ 41 ∷ 34 ∷ []) ++ more in
-    let next = quoted (length (34 ∷ 40 ∷ text)) in
-    ap (quoted (length (b ∷ 34 ∷ 40 ∷ text))) (past_blank b (34 ∷ 40 ∷ text) s)
-    ∙ ap (λ g. grouped [] (40 ∷ text) g next) (pairs_back bytes more h)
-    ∙ ap (bytes_before bytes) (last_piece (length (40 ∷ text)) more p)
-    ∙ ap (λ l. Some (l, more)) (append-nil bytes)
+-- the digits of a group
+digits_back : (ds : List Digits) (more : List ℕ) → AreDigits ds
+    → pairs (digits_written ds (41 ∷ more)) ≡ Some (digits_bytes ds, more)
+digits_back [] more h = group_ends more
+digits_back (Byte b high low ∷ ds) more h =
+    pair_passes high low b (digits_written ds (41 ∷ more)) h.0 h.1 h.2
+    ∙ ap (byte_before b) (digits_back ds more h.3)
+digits_back (Blank b ∷ ds) more h =
+    blank_passes b (digits_written ds (41 ∷ more)) h.0 h.1 (some_left ds more) ∙ digits_back ds more h.2
+
+-- as many groups as there are have as many bytes at least
+pub few_pieces : (ps : List Piece) (more : List ℕ) → length ps ≤ length (pieces_written ps more)
+few_pieces [] more = omega arith
+few_pieces (p ∷ ps) more =
+    let rest = 34 ∷ 40 ∷ digits_written p.group (41 ∷ pieces_written ps more) in
+    omega (arith, few_pieces ps more, few_digits p.group (41 ∷ pieces_written ps more), length-append p.bytes rest)
+  where
+    few_digits : (ds : List Digits) (more : List ℕ) → length more ≤ length (digits_written ds more)
+    few_digits [] more = omega arith
+    few_digits (Byte b high low ∷ ds) more = omega (arith, few_digits ds more)
+    few_digits (Blank b ∷ ds) more = omega (arith, few_digits ds more)
+
+pieces_back : (ps : List Piece) (bytes more : List ℕ) (n : ℕ) → ArePieces ps → IsWithin 34 bytes
+    → group more ≡ None → length ps < n
+    → quoted n (pieces_written ps (bytes ++ 34 ∷ more)) ≡ Some (pieces_bytes ps ++ bytes, more)
+pieces_back ps bytes more zero h w g l = absurd (omega (arith, l))
+pieces_back [] bytes more (suc n) h w g l =
+    ap (λ f. and_grouped f (quoted n)) (all_up_to 34 bytes more w) ∙ ap (λ f. grouped bytes more f (quoted n)) g
+pieces_back (p ∷ ps) bytes more (suc n) h w g l =
+    let next = pieces_written ps (bytes ++ 34 ∷ more) in
+    ap (λ f. and_grouped f (quoted n)) (all_up_to 34 p.bytes (40 ∷ digits_written p.group (41 ∷ next)) h.0)
+    ∙ ap (λ f. grouped p.bytes (40 ∷ digits_written p.group (41 ∷ next)) f (quoted n)) (digits_back p.group next h.1)
+    ∙ ap (bytes_before (p.bytes ++ digits_bytes p.group))
+    (pieces_back ps bytes more n h.2 w g (omega (arith, l)))
+    ∙ ap (λ l. Some (l, more)) (sym (append_assoc (p.bytes ++ digits_bytes p.group) (pieces_bytes ps) bytes))
+
+-- a string behind `"` that no group follows
+pub quoted_behind : (b : ℕ) (ps : List Piece) (bytes more : List ℕ) → b ≢ 10 → ArePieces ps → IsWithin 34 bytes
+    → group more ≡ None
+    → quoted_string (b ∷ pieces_written ps (bytes ++ 34 ∷ []) ++ more) ≡ Some (pieces_bytes ps ++ bytes, more)
+quoted_behind b ps bytes more s h w g =
+    let text = pieces_written ps (bytes ++ 34 ∷ []) ++ more in
+    let e : text ≡ pieces_written ps (bytes ++ 34 ∷ more) =
+    pieces_append ps (bytes ++ 34 ∷ []) more
+    ∙ ap (pieces_written ps) (append_assoc bytes (34 ∷ []) more) in
+    let n = length (b ∷ text) in
+    let l : length ps < n = omega (arith, few_pieces ps (bytes ++ 34 ∷ more), ap length e) in
+    ap (quoted n) (past_blank b text s ∙ e) ∙ pieces_back ps bytes more n h w g l

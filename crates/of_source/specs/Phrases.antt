@@ -1,6 +1,5 @@
 -- A source as a list of phrases: each is a word with all that it takes from the text.
-use Rattle.std.specs.Prelude.{ℕ, ◌+◌, ◌/◌, ◌%◌, Bool, false, List, [], ◌∷◌, ◌++◌, length, codes, Option, Some, None}
-use Rattle.std.specs.Char.{digit_char}
+use Rattle.std.specs.Prelude.{ℕ, ◌+◌, Bool, true, false, List, [], ◌∷◌, ◌++◌, length, codes, Option, Some, None}
 use Rattle.of_cells.specs.declared.cells.Cell.{Cell}
 use Rattle.of_fcodes.specs.declared.codes.FCode.{FCode}
 use Rattle.of_stream.specs.declared.stream.OffsetSize.{OffsetSize}
@@ -9,12 +8,11 @@ use Rattle.of_source.specs.declared.keyword.Maker.{Maker}
 use Rattle.of_source.specs.declared.keyword.Maker.TheVariants.{Named}
 use Rattle.of_source.specs.declared.keyword.Radix.{Radix}
 use Rattle.of_source.specs.declared.keyword.Radix.TheVariants.{Hexadecimal}
-use Rattle.of_source.specs.declared.keyword.Quote.{Quote}
-use Rattle.of_source.specs.declared.keyword.Quote.TheVariants as quote
 use Rattle.of_source.specs.Names.{Own}
 use Rattle.of_source.specs.Items.{Item, own_code, call, string, naming, making, bare}
 use Rattle.of_source.specs.Items as item
 use Rattle.of_source.specs.Steps.{number_items, known_with}
+use Rattle.of_source.specs.Strings.{Piece, pieces_written, pieces_bytes}
 
 -- a word with all that it takes from the text
 pub data Phrase : Type 0 where
@@ -25,8 +23,8 @@ pub data Phrase : Type 0 where
   Character : List ℕ → ℕ → List ℕ → Phrase  -- `char` or `[char]`, blanks and a word, of which the first byte counts
   Short : FCode → Phrase  -- a word that stands for this one, as `true`
   Pair : FCode → FCode → Phrase  -- a word that stands for these two, as `1+`
-  Text : Quote → ℕ → List ℕ → Phrase  -- `"`, `s"` or `."`, a blank and a string as it is
-  Bytes : ℕ → List ℕ → Phrase  -- `"`, a blank and a string as hexadecimal digits
+  Text : Bool → ℕ → List ℕ → Phrase  -- `s"`, or `."`, which prints; a blank and bytes up to the quote
+  Quoted : ℕ → List Piece → List ℕ → Phrase  -- `"`, a blank, pieces and bytes up to the quote
   Comment : ℕ → List ℕ → Phrase  -- `(`, a blank and bytes up to `)`
   LineComment : List ℕ → Phrase  -- `\` and bytes up to the end of the line
   Naming : FCode → List ℕ → List ℕ → FCode → Phrase  -- `'`, `[']` or `to`, blanks and a name of this FCode
@@ -57,24 +55,27 @@ pub record Spelled : Type 0 where
   pub word : List ℕ
   pub phrase : Phrase
 
--- the blanks and line ends before the word that ends a source, and those behind it
+-- comments, and the word that begins a source behind its blanks
+pub record Beginning : Type 0 where
+  pub comments : List Spelled
+  pub blanks : List ℕ
+  pub word : List ℕ
+
+-- the word that ends a source behind its blanks; comments, and the blanks behind them
 pub record Ending : Type 0 where
   pub blanks : List ℕ
+  pub word : List ℕ
+  pub comments : List Spelled
   pub more : List ℕ
 
 -- ---- as text
-
--- two hexadecimal digits for each byte
-abbrev pub in_digits : List ℕ → List ℕ
-in_digits [] = []
-in_digits (b ∷ bytes) = digit_char (b / 16) ∷ digit_char (b % 16) ∷ in_digits bytes
 
 -- what a phrase takes from the text behind its word
 abbrev pub taken : Phrase → List ℕ
 taken (NumberIn base blanks word x) = blanks ++ word
 taken (Character blanks b word) = blanks ++ b ∷ word
-taken (Text q blank bytes) = blank ∷ bytes ++ 34 ∷ []
-taken (Bytes blank bytes) = blank ∷ 34 ∷ 40 ∷ in_digits bytes ++ 41 ∷ 34 ∷ []
+taken (Text prints blank bytes) = blank ∷ bytes ++ 34 ∷ []
+taken (Quoted blank pieces bytes) = blank ∷ pieces_written pieces (bytes ++ 34 ∷ [])
 taken (Comment blank bytes) = blank ∷ bytes ++ 41 ∷ []
 taken (LineComment bytes) = bytes
 taken (Naming t blanks name c) = blanks ++ name
@@ -86,10 +87,18 @@ taken _ = []
 abbrev pub written : Spelled → List ℕ → List ℕ
 written p more = p.blanks ++ (p.word ++ (taken p.phrase ++ more))
 
+-- phrases, and then this text
+abbrev pub each_written : List Spelled → List ℕ → List ℕ
+each_written [] more = more
+each_written (p ∷ ps) more = written p (each_written ps more)
+
+-- the end of a source
+abbrev pub end_written : Ending → List ℕ
+end_written e = e.blanks ++ (e.word ++ each_written e.comments e.more)
+
 -- phrases, and the end of the source
 abbrev pub all_written : List Spelled → Ending → List ℕ
-all_written [] e = e.blanks ++ (codes "fcode-end" ++ e.more)
-all_written (p ∷ ps) e = written p (all_written ps e)
+all_written ps e = each_written ps (end_written e)
 
 -- the word that begins a source
 abbrev pub version_word : OffsetSize → List ℕ
@@ -97,8 +106,8 @@ version_word size.One = codes "fcode-version1"
 version_word size.Two = codes "fcode-version2"
 
 -- phrases as the text of a source
-abbrev pub text_of : OffsetSize → List Spelled → Ending → List ℕ
-text_of z ps e = version_word z ++ all_written ps e
+abbrev pub text_of : Beginning → List Spelled → Ending → List ℕ
+text_of b ps e = each_written b.comments (b.blanks ++ (b.word ++ all_written ps e))
 
 -- ---- as items
 
@@ -111,15 +120,14 @@ pub record Known : Type 0 where
   pub open_one : Option Own  -- the definition that is open
   pub items : List Item  -- the items before it
 
--- behind the word that begins a source
-abbrev pub nothing_known : Known
-nothing_known = record { at = 14; radix = Hexadecimal; maker = Named; names = []; open_one = None; items = [] }
+-- at this place nothing is known yet
+abbrev pub nothing_known : ℕ → Known
+nothing_known at = record { at = at; radix = Hexadecimal; maker = Named; names = []; open_one = None; items = [] }
 
 -- a string, which `."` also prints
-abbrev pub string_items : Quote → List ℕ → List Item
-string_items quote.Bytes bytes = item.Plain (string bytes) ∷ []
-string_items quote.Plain bytes = item.Plain (string bytes) ∷ []
-string_items quote.Printed bytes = item.Plain (string bytes) ∷ item.Plain (bare 0x090) ∷ []
+abbrev pub string_items : Bool → List ℕ → List Item
+string_items false bytes = item.Plain (string bytes) ∷ []
+string_items true bytes = item.Plain (string bytes) ∷ item.Plain (bare 0x090) ∷ []
 
 -- the open definition, if one is, by its number
 abbrev pub recursion : Option Own → List Item
@@ -139,8 +147,8 @@ items_of (NumberIn base blanks word x) k = number_items x
 items_of (Character blanks b word) k = number_items (record { 0 = b })
 items_of (Short t) k = item.Plain (call t) ∷ []
 items_of (Pair t u) k = item.Plain (call t) ∷ item.Plain (call u) ∷ []
-items_of (Text q blank bytes) k = string_items q bytes
-items_of (Bytes blank bytes) k = item.Plain (string bytes) ∷ []
+items_of (Text prints blank bytes) k = string_items prints bytes
+items_of (Quoted blank pieces bytes) k = item.Plain (string (pieces_bytes pieces ++ bytes)) ∷ []
 items_of (Comment blank bytes) k = []
 items_of (LineComment bytes) k = []
 items_of (Naming t blanks name c) k = item.Plain (naming t c) ∷ []
@@ -194,6 +202,16 @@ abbrev pub all_behind : List Spelled → Known → Known
 all_behind [] k = k
 all_behind (p ∷ ps) k = all_behind ps (behind p.word p.phrase (moved p.blanks k))
 
+-- the place behind these phrases
+abbrev pub place_behind : List Spelled → ℕ → ℕ
+place_behind [] at = at
+place_behind (p ∷ ps) at =
+    place_behind ps (at + length p.blanks + length p.word + length (taken p.phrase))
+
+-- what is known behind the word that begins a source
+abbrev pub begun_with : Beginning → Known
+begun_with b = nothing_known (place_behind b.comments 0 + length b.blanks + length b.word)
+
 -- the items of a source of these phrases
-abbrev pub items_in : List Spelled → List Item
-items_in ps = (all_behind ps nothing_known).items
+abbrev pub items_in : Beginning → List Spelled → List Item
+items_in b ps = (all_behind ps (begun_with b)).items

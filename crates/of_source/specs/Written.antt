@@ -1,5 +1,6 @@
 -- Which phrases can be written: what must hold of each where it stands.
-use Rattle.std.specs.Prelude.{◌≡◌, ◌≢◌, ℕ, ◌<◌, ◌≤◌, true, false, List, [], ◌∷◌, length, codes, Option, Some, None, Ok}
+use Rattle.std.specs.Prelude.{◌≡◌, ◌≢◌, ℕ, ◌<◌, ◌≤◌, true, false, List, [], ◌∷◌, ◌++◌, length, codes, Option, Some}
+use Rattle.std.specs.Prelude.{None, Ok}
 use Rattle.std.specs.List.{All, list_all}
 use Rattle.of_stream.specs.declared.stream.OffsetSize.{OffsetSize}
 use Rattle.of_source.specs.declared.keyword.Quote.TheVariants as quote
@@ -17,9 +18,11 @@ use Rattle.of_source.specs.Nest.{IsNested}
 use Rattle.of_source.specs.Nesting.{is_same}
 use Rattle.of_source.specs.Shapes.{Shape, nothing, around_of, run}
 use Rattle.of_source.specs.Steps.{code_named}
-use Rattle.of_source.specs.Parsing.{parsed}
-use Rattle.of_source.specs.Phrases.{Phrase, Spelled, Ending, Known, nothing_known, moved, behind, items_in}
-use Rattle.of_source.specs.Phrases.{all_written, text_of}
+use Rattle.of_source.specs.Parsing.{is_word, parsed}
+use Rattle.of_source.specs.Scan.{group}
+use Rattle.of_source.specs.Strings.{IsWithin, ArePieces, pieces_bytes}
+use Rattle.of_source.specs.Phrases.{Phrase, Spelled, Beginning, Ending, Known, begun_with, taken, moved, behind}
+use Rattle.of_source.specs.Phrases.{items_in, version_word, each_written, all_written, text_of}
 use Rattle.of_source.specs.Phrases as phrase
 
 -- one byte or more, and none of them a blank
@@ -30,14 +33,6 @@ IsWord word = (0 < length word) × All (λ b. 0x20 < b) word
 abbrev pub AreBlanks : List ℕ → Type 0
 AreBlanks bytes = All (λ b. b ≤ 0x20) bytes
 
--- between two words stand one or more of them
-abbrev pub AreBetween : List ℕ → Type 0
-AreBetween bytes = (0 < length bytes) × AreBlanks bytes
-
--- between a word and its string stands one, which ends no line
-abbrev pub IsBetween : ℕ → Type 0
-IsBetween b = (b ≤ 0x20) × (b ≢ 10)
-
 -- a text that ends the word before it: it begins with a blank, or there is none
 abbrev pub EndsWord : List ℕ → Type 0
 EndsWord [] = Unit {0}
@@ -46,10 +41,6 @@ EndsWord (b ∷ text) = b ≤ 0x20
 -- a word that a definition can be named by
 abbrev pub IsName : List ℕ → Type 0
 IsName name = IsWord name × (length name ≤ 31)
-
--- neither the end of a string or comment nor of a line
-abbrev pub IsWithin : ℕ → List ℕ → Type 0
-IsWithin end bytes = All (λ b. (b ≢ end) × (b ≢ 10)) bytes
 
 -- what is open behind these items is such
 abbrev pub LeaveOpen : List Item → (Shape → Type 0) → Type 0
@@ -72,8 +63,9 @@ keyword_of (phrase.NumberIn base blanks word x) = Some (keyword.NumberIn base)
 keyword_of (phrase.Character blanks b word) = Some keyword.Character
 keyword_of (phrase.Short t) = Some (keyword.One t)
 keyword_of (phrase.Pair t u) = Some (keyword.Two t u)
-keyword_of (phrase.Text q blank bytes) = Some (keyword.Text q)
-keyword_of (phrase.Bytes blank bytes) = Some (keyword.Text quote.Bytes)
+keyword_of (phrase.Text false blank bytes) = Some (keyword.Text quote.Plain)
+keyword_of (phrase.Text true blank bytes) = Some (keyword.Text quote.Printed)
+keyword_of (phrase.Quoted blank pieces bytes) = Some (keyword.Text quote.Bytes)
 keyword_of (phrase.Comment blank bytes) = Some keyword.Comment
 keyword_of (phrase.LineComment bytes) = Some keyword.LineComment
 keyword_of (phrase.Naming t blanks name c) = Some (keyword.Naming t)
@@ -113,38 +105,83 @@ abbrev pub IsPlaced : Known → List ℕ → Phrase → Type 0
 IsPlaced k word (phrase.BoardWord c) = ordinary_named word ≡ Some c
 IsPlaced k word (phrase.Number x) = (ordinary_named word ≡ None) × (number_in (base_of k.radix) word ≡ Value x)
 IsPlaced k word (phrase.NumberIn base blanks digits x) =
-    AreBetween blanks × IsWord digits × (number_in (base_of base) digits ≡ Value x)
-IsPlaced k word (phrase.Character blanks b bytes) = AreBetween blanks × IsWord (b ∷ bytes)
-IsPlaced k word (phrase.Text q blank bytes) = IsBetween blank × (length bytes ≤ 255) × IsWithin 34 bytes
-IsPlaced k word (phrase.Bytes blank bytes) = IsBetween blank × (length bytes ≤ 255) × All (λ b. b < 256) bytes
-IsPlaced k word (phrase.Comment blank bytes) = IsBetween blank × IsWithin 41 bytes
-IsPlaced k word (phrase.LineComment bytes) = All (λ b. b ≢ 10) bytes × EndsWord bytes
-IsPlaced k word (phrase.Naming t blanks name c) = AreBetween blanks × IsWord name × (code_named k.names name ≡ Some c)
-IsPlaced k word (phrase.Defining t blanks name) = AreBetween blanks × IsName name × LeaveOpen k.items IsOutside
-IsPlaced k word (phrase.Colon blanks name) = AreBetween blanks × IsName name
+    AreBlanks blanks × IsWord digits × (number_in (base_of base) digits ≡ Value x)
+IsPlaced k word (phrase.Character blanks b bytes) = AreBlanks blanks × IsWord (b ∷ bytes)
+IsPlaced k word (phrase.Text prints blank bytes) = (blank ≢ 10) × (length bytes ≤ 255) × IsWithin 34 bytes
+IsPlaced k word (phrase.Quoted blank pieces bytes) =
+    (blank ≢ 10) × (length (pieces_bytes pieces ++ bytes) ≤ 255) × ArePieces pieces × IsWithin 34 bytes
+IsPlaced k word (phrase.Comment blank bytes) = (blank ≢ 10) × IsWithin 41 bytes
+IsPlaced k word (phrase.LineComment bytes) = All (λ b. b ≢ 10) bytes
+IsPlaced k word (phrase.Naming t blanks name c) = AreBlanks blanks × IsWord name × (code_named k.names name ≡ Some c)
+IsPlaced k word (phrase.Defining t blanks name) = AreBlanks blanks × IsName name × LeaveOpen k.items IsOutside
+IsPlaced k word (phrase.Colon blanks name) = AreBlanks blanks × IsName name
 IsPlaced k word phrase.Recurse = (d : Own) × (k.open_one ≡ Some d)
 IsPlaced k word phrase.Offset16 = LeaveOpen k.items IsStraight
 IsPlaced k word _ = Unit {0}
 
--- a comment up to the end of the line is followed by that
+-- a text that begins with the end of a line, or has no bytes
+abbrev pub EndsLine : List ℕ → Type 0
+EndsLine [] = Unit {0}
+EndsLine (b ∷ text) = b ≡ 10
+
+-- what a phrase asks of the text that follows it: a word that it takes ends there, a comment up to the end of the line
+-- is followed by that, and a string of `"` by no group
 abbrev pub IsFollowed : Phrase → List ℕ → Type 0
-IsFollowed (phrase.LineComment bytes) [] = ⊥
-IsFollowed (phrase.LineComment bytes) (b ∷ more) = b ≡ 10
+IsFollowed (phrase.NumberIn base blanks digits x) more = EndsWord more
+IsFollowed (phrase.Character blanks b bytes) more = EndsWord more
+IsFollowed (phrase.Naming t blanks name c) more = EndsWord more
+IsFollowed (phrase.Defining t blanks name) more = EndsWord more
+IsFollowed (phrase.Colon blanks name) more = EndsWord more
+IsFollowed (phrase.LineComment bytes) more = EndsLine more
+IsFollowed (phrase.Quoted blank pieces bytes) more = group more ≡ None
 IsFollowed _ more = Unit {0}
 
--- a phrase can stand here, before this text: blanks are before its word, which is spelled so, and no own name hides it
+-- a phrase can stand here, before this text: its word stands behind blanks or none, is spelled so and ends there, and
+-- no own name hides it
 pub record IsSaid (k : Known) (p : Spelled) (more : List ℕ) : Type 0 where
-  pub apart : AreBetween p.blanks
+  pub blanks : AreBlanks p.blanks
   pub spelled : IsWord p.word
+  pub ends : EndsWord (taken p.phrase ++ more)
   pub own : own_in k.names p.word ≡ own_of p.phrase
   pub means : IsKeyword p.word p.phrase
   pub placed : IsPlaced k p.word p.phrase
   pub followed : IsFollowed p.phrase more
 
--- a source can end here: blanks are around the word that ends it, and no own name hides that
+-- a comment, with its word
+abbrev pub IsComment : List ℕ → Phrase → Type 0
+IsComment word (phrase.Comment blank bytes) = (is_word (codes "(") word ≡ true) × (blank ≢ 10) × IsWithin 41 bytes
+IsComment word (phrase.LineComment bytes) = (is_word (codes "\\") word ≡ true) × All (λ b. b ≢ 10) bytes
+IsComment word _ = ⊥
+
+-- a comment can stand before this text, where no names are known
+pub record IsRemark (p : Spelled) (more : List ℕ) : Type 0 where
+  pub blanks : AreBlanks p.blanks
+  pub spelled : IsWord p.word
+  pub ends : EndsWord (taken p.phrase ++ more)
+  pub means : IsComment p.word p.phrase
+  pub followed : IsFollowed p.phrase more
+
+-- comments can stand before this text
+abbrev pub AreRemarks : List Spelled → List ℕ → Type 0
+AreRemarks [] more = Unit {0}
+AreRemarks (p ∷ ps) more = IsRemark p (each_written ps more) × AreRemarks ps more
+
+-- a source with offsets of this size can begin so before this text: comments, and its word in letters of either case
+pub record IsBegun (z : OffsetSize) (b : Beginning) (more : List ℕ) : Type 0 where
+  pub comments : AreRemarks b.comments (b.blanks ++ (b.word ++ more))
+  pub blanks : AreBlanks b.blanks
+  pub spelled : IsWord b.word
+  pub ends : EndsWord more
+  pub means : is_word (version_word z) b.word ≡ true
+
+-- a source can end here: by its word, which no own name hides, and comments
 pub record IsEnded (k : Known) (e : Ending) : Type 0 where
-  pub apart : AreBetween e.blanks
-  pub own : own_in k.names (codes "fcode-end") ≡ None
+  pub blanks : AreBlanks e.blanks
+  pub spelled : IsWord e.word
+  pub ends : EndsWord (each_written e.comments e.more)
+  pub own : own_in k.names e.word ≡ None
+  pub means : keyword_named e.word ≡ Some keyword.Finish
+  pub comments : AreRemarks e.comments e.more
   pub more : AreBlanks e.more
 
 -- each phrase can stand where it does, and the source can end behind them
@@ -155,5 +192,6 @@ AreSaid (p ∷ ps) e k = IsSaid (moved p.blanks k) p (all_written ps e)
 
 -- phrases that are those of a nest are accepted, with the items of that nest
 abbrev pub WrittenIsParsed : Type 0
-WrittenIsParsed = (z : OffsetSize) (ps : List Spelled) (e : Ending) → AreSaid ps e nothing_known
-    → IsNested (items_in ps) → parsed (text_of z ps e) ≡ Ok (record { size = z; items = items_in ps })
+WrittenIsParsed = (z : OffsetSize) (b : Beginning) (ps : List Spelled) (e : Ending)
+    → IsBegun z b (all_written ps e) → AreSaid ps e (begun_with b) → IsNested (items_in b ps)
+    → parsed (text_of b ps e) ≡ Ok (record { size = z; items = items_in b ps })
