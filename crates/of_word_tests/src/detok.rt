@@ -142,6 +142,21 @@ fn deep_structures_are_indented(rt: HostRuntime) -> Result<(), Fail> {
     Ok(())
 }
 
+/// 100,000 tokens and `end0` behind them, each on a line of its own, that read back.
+#[test]
+fn a_long_image(rt: HostRuntime) -> Result<(), Fail> {
+    let mut image = hex::decode(rt.alloc(), "f108000000000000")?;
+    for _ in 0..100_000 {
+        image.push(0xa6)?;
+    }
+    image.push(0x00)?;
+    let listed = listing(rt.alloc(), &image, Extras::default())?;
+    assert!(rt; listed.ends_with(b"\n0186a7: a6  1\n0186a8: 00  end0\n"));
+    let read = read_listing(rt.alloc(), &listed)?;
+    assert!(rt; read == image);
+    Ok(())
+}
+
 /// Damaged images, each with its lines up to the fault, indented and with the names that it gives; an empty line
 /// between two. A name is said behind the FCode that has it, until `new-token` takes that away.
 const PARTIAL: &str = "\
