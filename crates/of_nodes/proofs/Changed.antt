@@ -1,7 +1,7 @@
 -- A node that was found by its phandle, read and written.
 use Rattle.std.proofs.Common.{◌≡◌, ℕ, ◌<◌, suc, zero, Bool, true, List, [], ◌∷◌, length, get_or, set, Some, Result}
 use Rattle.std.proofs.Common.{Ok, Err, Option}
-use Rattle.std.proofs.Common.{inl, inr, if◌then◌else◌, refl, ap, sym, ◌∙◌, arith}
+use Rattle.std.proofs.Common.{inl, inr, slice_get, if◌then◌else◌, refl, ap, sym, ◌∙◌, arith}
 use Rattle.of_memory.specs.DataSpace.{DataSpace}
 use Rattle.of_cells.specs.declared.cells.Cell.{Cell}
 use Rattle.of_nodes.specs.declared.tree.Node.{Node}
@@ -12,9 +12,10 @@ use Rattle.of_nodes.specs.declared.fault.NodeFault.TheVariants.{BadName}
 use Rattle.of_nodes.specs.Methods.{is_method_name, method_in, with_former, with_method}
 use Rattle.of_nodes.specs.Names.{may_hold}
 use Rattle.of_nodes.specs.Outcomes.{Sets}
-use Rattle.of_nodes.specs.Properties.{property_set, value_in, value_next, without}
+use Rattle.of_nodes.specs.Properties.{property_set, value_at, value_in, value_next, without}
 use Rattle.of_nodes.specs.Nodes.{AreNodes, next_at, next_found, deleted_at, number_of, properties_in, property_at}
 use Rattle.of_nodes.specs.Nodes.{added_at, method_added, method_at, method_found, methods_in, property_deleted}
+use Rattle.of_nodes.specs.Nodes.{method_in_place, method_placed, property_in_place, property_placed}
 use Rattle.of_nodes.specs.Nodes.{former_at, method_taken_back, with_methods}
 use Rattle.of_nodes.specs.Nodes.{property_found, set_at, set_in, tree_property_set, with_properties}
 use Rattle.of_nodes.proofs.Rooted.{changed, changed_methods, methods_read, properties_read, with_methods_is}
@@ -66,6 +67,13 @@ pub next_is :
 next_is ns old i count ph m name f =
     ap (next_at old name) (number_is ns old i count ph m f)
     ∙ ap (λ (ps : List (List ℕ × Property)). Ok (value_next ps name)) (properties_is ns old i count ph m f)
+
+pub placed_is :
+    (ns old : List Node) (i count : ℕ) (ph : Phandle) (m : Node) (place : ℕ) → IsFound ns old i count ph m
+    → property_placed old ph place ≡ Ok (value_at m.properties place)
+placed_is ns old i count ph m place f =
+    ap (property_in_place old place) (number_is ns old i count ph m f)
+    ∙ ap (λ (ps : List (List ℕ × Property)). Ok (value_at ps place)) (properties_is ns old i count ph m f)
 
 pub deleted_is :
     (ns old : List Node) (i count : ℕ) (ph : Phandle) (m : Node) (name : List ℕ) (ps : List (List ℕ × Property))
@@ -140,6 +148,13 @@ pub method_is :
 method_is ns old i count ph m name f =
     ap (method_at old name) (number_is ns old i count ph m f)
     ∙ ap (λ (ms : List (List ℕ × Cell)). Ok (method_in ms name)) (methods_is ns old i count ph m f)
+
+pub method_placed_is :
+    (ns old : List Node) (i count : ℕ) (ph : Phandle) (m : Node) (place : ℕ) → IsFound ns old i count ph m
+    → method_placed old ph place ≡ Ok (slice_get m.methods place)
+method_placed_is ns old i count ph m place f =
+    ap (method_in_place old place) (number_is ns old i count ph m f)
+    ∙ ap (λ (ms : List (List ℕ × Cell)). Ok (slice_get ms place)) (methods_is ns old i count ph m f)
 
 good_if : (t : Bool) (r : Result (List Node) NodeFault) → t ≡ true → (if t then r else Err BadName) ≡ r
 good_if t r e = rw e refl

@@ -1,7 +1,7 @@
 -- Nodes by number, the root first (IEEE 1275-1994, 3.2.1).
 use Rattle.std.specs.Prelude.{ℕ, ◌<◌, ◌≤◌, ◌+◌, ◌*◌, ◌-◌, ◌/◌, ◌%◌, ◌&&◌, ◌==◌, nat_le, nat_lt, zero, suc, max}
 use Rattle.std.specs.Prelude.{List, [], ◌∷◌, ◌++◌, length, drop, Option, Some, None, Result, Ok, Err, if◌then◌else◌}
-use Rattle.std.specs.Prelude.{codes}
+use Rattle.std.specs.Prelude.{codes, slice_get}
 use Rattle.of_memory.specs.DataSpace.{DataSpace}
 use Rattle.of_cells.specs.declared.cells.Cell.{Cell}
 use Rattle.of_nodes.specs.declared.tree.Node.{Node}
@@ -11,7 +11,7 @@ use Rattle.of_nodes.specs.declared.fault.NodeFault.{NodeFault}
 use Rattle.of_nodes.specs.declared.fault.NodeFault.TheVariants.{BadName, NoNode, TooManyNodes}
 use Rattle.of_nodes.specs.Methods.{is_method_name, method_in, with_former, with_method}
 use Rattle.of_nodes.specs.Names.{may_hold}
-use Rattle.of_nodes.specs.Properties.{property_set, value_in, value_next, without}
+use Rattle.of_nodes.specs.Properties.{property_set, value_at, value_in, value_next, without}
 
 -- the most nodes that are ever made
 abbrev pub most_nodes : ℕ
@@ -86,6 +86,14 @@ next_at ns name (Some i) = Ok (value_next (properties_in ns i) name)
 abbrev pub next_found : List Node → Phandle → List ℕ → Result (Option Property) NodeFault
 next_found ns ph name = next_at ns name (number_of (length ns) ph)
 
+-- the property at a place in the order, of the node with a phandle
+abbrev pub property_in_place : List Node → ℕ → Option ℕ → Result (Option Property) NodeFault
+property_in_place ns place None = Err NoNode
+property_in_place ns place (Some i) = Ok (value_at (properties_in ns i) place)
+
+abbrev pub property_placed : List Node → Phandle → ℕ → Result (Option Property) NodeFault
+property_placed ns ph place = property_in_place ns place (number_of (length ns) ph)
+
 -- the nodes with what was set at node i
 abbrev pub set_in :
     List Node → ℕ → Result (List (List ℕ × Property) × DataSpace) NodeFault → Result (List Node × DataSpace) NodeFault
@@ -129,6 +137,14 @@ method_at ns name (Some i) = Ok (method_in (methods_in ns i) name)
 
 abbrev pub method_found : List Node → Phandle → List ℕ → Result (Option Cell) NodeFault
 method_found ns ph name = method_at ns name (number_of (length ns) ph)
+
+-- the name and the word of the method at a place in the order, of the node with a phandle
+abbrev pub method_in_place : List Node → ℕ → Option ℕ → Result (Option (List ℕ × Cell)) NodeFault
+method_in_place ns place None = Err NoNode
+method_in_place ns place (Some i) = Ok (slice_get (methods_in ns i) place)
+
+abbrev pub method_placed : List Node → Phandle → ℕ → Result (Option (List ℕ × Cell)) NodeFault
+method_placed ns ph place = method_in_place ns place (number_of (length ns) ph)
 
 -- what making a word a method of the node with a phandle leaves
 abbrev pub added_at : List Node → List ℕ → Cell → Option ℕ → Result (List Node) NodeFault

@@ -29,6 +29,14 @@ components_to m ns (suc k) i =
 abbrev pub path_in : DataSpace → List Node → ℕ → List ℕ
 path_in m ns i = if i == 0 then 47 ∷ [] else components_to m ns i i
 
+-- how the node with a phandle stands in a path; the root stands in none
+abbrev pub component_at : DataSpace → List Node → Option ℕ → Result (List ℕ) NodeFault
+component_at m ns None = Err NoNode
+component_at m ns (Some i) = Ok (if i == 0 then [] else component_in m ns i)
+
+abbrev pub component_found : DataSpace → List Node → Phandle → Result (List ℕ) NodeFault
+component_found m ns ph = component_at m ns (number_of (length ns) ph)
+
 -- the path of the node with a phandle
 abbrev pub path_at : DataSpace → List Node → Option ℕ → Result (List ℕ) NodeFault
 path_at m ns None = Err NoNode

@@ -1,4 +1,4 @@
-ghost use Rattle.std.specs.Prelude.{◌≡◌, ◌≤◌, [], length, map, Ok};
+ghost use Rattle.std.specs.Prelude.{◌≡◌, ◌≤◌, [], length, map, option_map, slice_get, Ok};
 ghost use Rattle.std.specs.Char.{to_ascii_lowercase};
 ghost use Rattle.of_nodes.specs.Methods.{is_method_name, lower, method_in, with_former, with_method};
 ghost use Rattle.of_nodes.specs.Outcomes.{Sets};
@@ -75,6 +75,16 @@ impl Methods {
         }
         let key = key_of(name);
         self.kept(key.as_slice())
+    }
+
+    /// The name, in lower case, and the execution token of the method at a place in the order, if there are so many.
+    pub(crate) fn at(&self, index: usize) -> Option<(&[u8], Cell)>
+        ensures { option_map (λ e. (e.0.now, e.1)) result ≡ slice_get self.now index }
+    {
+        match self.entries.get_index(index) {
+            Some(entry) => Some((entry.0.as_slice(), *entry.1)),
+            None => None,
+        }
     }
 
     /// Makes a word the method of the name. A name that is there keeps its place.

@@ -18,7 +18,7 @@ pub(crate) fn node_at(nodes: &[Node], number: usize) -> &Node
 }
 
 /// Appends how a node below one stands in a path.
-fn push_component(
+pub(crate) fn push_component(
     memory: &Memory,
     above: &Node,
     node: &Node,

@@ -170,8 +170,8 @@ impl Properties {
         self.entries.get(name).copied()
     }
 
-    /// The property at a place in the order.
-    fn at(&self, index: usize) -> Option<Property>
+    /// The property at a place in the order, if there are so many.
+    pub(crate) fn at(&self, index: usize) -> Option<Property>
         ensures { result ≡ value_at self.now index }
     {
         match self.entries.get_index(index) {

@@ -1,11 +1,12 @@
 ghost use Rattle.std.specs.Prelude.{◌≡◌, ◌<◌, ◌≤◌, ◌+◌, ◌⊎◌, List, max, length, drop, nat_le, Ok, Err, IfSome, IfOk, IfErr};
-ghost use Rattle.std.specs.Prelude.{OnErr, OnOk, codes, vec_capacity, vec_len};
+ghost use Rattle.std.specs.Prelude.{MatchResult, OnErr, OnOk, codes, option_map, vec_capacity, vec_len};
 ghost use Rattle.of_nodes.specs.Nodes.{AreRooted, child_from, child_found, first_tree, method_added, method_found};
 ghost use Rattle.of_nodes.specs.Nodes.{method_taken_back};
 ghost use Rattle.of_nodes.specs.Nodes.{most_nodes, named_child, next_found, node_added, parent_found, parent_in, peer_found};
 ghost use Rattle.of_nodes.specs.Nodes.{property_deleted, property_found, tree_property_set};
 ghost use Rattle.of_nodes.specs.Lookup.{found, package_found};
-ghost use Rattle.of_nodes.specs.Paths.{cells_found, path_found};
+ghost use Rattle.of_nodes.specs.Nodes.{method_placed, property_placed};
+ghost use Rattle.of_nodes.specs.Paths.{cells_found, component_found, path_found};
 ghost use Rattle.of_nodes.specs.Outcomes.{Adds, Answers, Sets};
 
 use crate::components::address_cells;
@@ -13,7 +14,7 @@ use crate::fault::NodeFault;
 use crate::lookup::{Age, found_below};
 use crate::methods::{Methods, is_method_name};
 use crate::names::may_hold;
-use crate::paths::{node_at, push_path};
+use crate::paths::{node_at, push_component, push_path};
 use crate::phandles::Phandle;
 use crate::properties::{Place, Properties, Property};
 use of_cells::Cell;
@@ -248,6 +249,18 @@ impl Tree {
         Ok(self.nodes[number].properties.next(name))
     }
 
+    /// The property at a place in the order of a node, the first at 0, if it has so many.
+    ///
+    /// NoNode, if there is no such node.
+    pub fn property_at(&self, node: Phandle, place: usize) -> Result<Option<Property>, NodeFault>
+        ensures { result ≡ property_placed self.now node place }
+    {
+        let Some(number) = node.number(self.nodes.len()) else {
+            return Err(NodeFault::NoNode);
+        };
+        Ok(self.nodes[number].properties.at(place))
+    }
+
     /// Sets a property of a node to a value (IEEE 1275-1994, annex A, `property`), which is copied into
     /// the property region, after its name if the property is new. A property that is there keeps its
     /// place.
@@ -303,6 +316,21 @@ impl Tree {
         Ok(self.nodes[number].methods.get(name))
     }
 
+    /// The name, in lower case, and the execution token of the method at a place in the order of a node, the
+    /// first at 0, if it has so many.
+    ///
+    /// NoNode, if there is no such node.
+    pub fn method_at(&self, node: Phandle, place: usize) -> Result<Option<(&[u8], Cell)>, NodeFault>
+        ensures { MatchResult result
+            (λ found. method_placed self.now node place ≡ Ok (option_map (λ e. (e.0.now, e.1)) found))
+            (λ fault. method_placed self.now node place ≡ Err fault) }
+    {
+        let Some(number) = node.number(self.nodes.len()) else {
+            return Err(NodeFault::NoNode);
+        };
+        Ok(self.nodes[number].methods.at(place))
+    }
+
     /// Makes a word the method of a name of a node. A name that is there keeps its place.
     ///
     /// NoNode, if there is no such node; BadName, if the name doesn't have 1 to 31 bytes; or NoMemory.
@@ -355,6 +383,32 @@ impl Tree {
         }
         push_path(memory, &self.nodes, number, number, &mut path)?;
         Ok(path)
+    }
+
+    /// How a node stands in a path: its name, and `@` and its unit address if it has one (IEEE 1275-1994,
+    /// 3.2.1.1). The root stands in none, and has the empty text.
+    ///
+    /// NoNode, if there is no such node; or NoMemory.
+    #[tactic(auto, using(crate::proofs::Rooted::parent_within))]
+    pub fn component_of(&self, memory: &Memory, node: Phandle) -> Result<Vec<u8>, NodeFault>
+        ensures found { IfOk result (λ text. component_found memory.now self.now node ≡ Ok text.items) }
+        ensures refused { IfErr result (λ e. (e ≡ NodeFault.NoMemory)
+            ⊎ (component_found memory.now self.now node ≡ Err e)) }
+    {
+        let Some(number) = node.number(self.nodes.len()) else {
+            return Err(NodeFault::NoNode);
+        };
+        let mut text = Vec::new(self.alloc);
+        if number > 0 {
+            let above = parent_number(&self.nodes, number);
+            push_component(
+                memory,
+                node_at(&self.nodes, above),
+                node_at(&self.nodes, number),
+                &mut text,
+            )?;
+        }
+        Ok(text)
     }
 
     /// The node of a path, if there is one (IEEE 1275-1994, 4.3.1). The path begins with `/`; each component

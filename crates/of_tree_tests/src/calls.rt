@@ -47,6 +47,11 @@ impl Call<'_> {
         Phandle(Cell(number(self.target)))
     }
 
+    /// The place in an order that it is given.
+    fn place(&self) -> usize {
+        number(std::str::from_utf8(self.name).unwrap_or("")) as usize
+    }
+
     /// The xt that it is given.
     fn xt(&self) -> Option<Cell> {
         match self.value {
@@ -96,6 +101,16 @@ fn shown_property(alloc: Global, found: Option<Property>) -> Result<String, Allo
     }
 }
 
+/// A method's name and xt.
+fn shown_method(alloc: Global, found: Option<(&[u8], Cell)>) -> Result<String, AllocError> {
+    match found {
+        Some((name, Cell(bits))) => {
+            format!(in alloc; "{} {bits:x}", std::str::from_utf8(name).unwrap_or(""))
+        }
+        None => String::from_str(alloc, "-"),
+    }
+}
+
 /// A method's xt.
 fn shown_xt(alloc: Global, xt: Option<Cell>) -> Result<String, AllocError> {
     match xt {
@@ -117,6 +132,10 @@ fn placed(
         "peer" => shown_node(alloc, tree.peer(call.node())?)?,
         "find" => shown_node(alloc, tree.find(memory, call.target.as_bytes()))?,
         "find_package" => shown_node(alloc, tree.find_package(memory, call.target.as_bytes()))?,
+        "component_of" => {
+            let component = tree.component_of(memory, call.node())?;
+            String::from_str(alloc, std::str::from_utf8(&component).unwrap_or(""))?
+        }
         _ => {
             let path = tree.path_of(memory, call.node())?;
             String::from_str(alloc, std::str::from_utf8(&path).unwrap_or(""))?
@@ -131,6 +150,8 @@ fn had(alloc: Global, tree: &Tree, memory: &Memory, call: &Call<'_>) -> Result<S
         "property" => shown_property(alloc, tree.property(node, call.name)?)?,
         "next_property" => shown_property(alloc, tree.next_property(node, call.name)?)?,
         "method" => shown_xt(alloc, tree.method(node, call.name)?)?,
+        "property_at" => shown_property(alloc, tree.property_at(node, call.place())?)?,
+        "method_at" => shown_method(alloc, tree.method_at(node, call.place())?)?,
         "address_cells" => format!(in alloc; "{}", tree.address_cells(memory, node)?)?,
         _ => placed(alloc, tree, memory, call)?,
     })

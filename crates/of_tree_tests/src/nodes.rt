@@ -32,8 +32,12 @@ set_property d000000c reg 1234 = done
 property d000000c reg = 200038 3 20003c 4
 next_property d000000c - = 200038 3 20003c 4
 next_property d000000c reg = -
+property_at d000000c 0 = 200038 3 20003c 4
+property_at d000000c 1 = -
+property_at d0000010 0 = no such node
 delete_property d000000c reg = done
 property d000000c reg = -
+property_at d000000c 0 = -
 ";
 
 #[test]
@@ -96,6 +100,11 @@ find_package / = -
 find_package /p = -
 find_package packages = -
 path_of d0000000 = /
+component_of d0000000 =
+component_of d0000010 = card@2,a0
+component_of d0000018 = disk
+component_of d0000024 =
+component_of d0000040 = no such node
 path_of d0000010 = /slot/card@2,a0
 path_of d0000018 = /slot/disk
 path_of d000001c = /slot/disk/part
@@ -193,6 +202,12 @@ add_method d0000008 Open c0000000 = done
 add_method d0000008 OPEN c0000004 = done
 method d0000008 open = c0000004
 method d0000008 - = -
+add_method d0000008 Close c0000008 = done
+method_at d0000008 0 = open c0000004
+method_at d0000008 1 = close c0000008
+method_at d0000008 2 = -
+method_at d000000c 0 = no such node
+take_back_method d0000008 close - = done
 take_back_method d0000008 open c0000000 = done
 method d0000008 OPEN = c0000000
 take_back_method d0000008 Open - = done
