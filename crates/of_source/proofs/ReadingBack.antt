@@ -27,7 +27,7 @@ Parts (b ∷ text) = is_blank b ≡ true
 no_blank : (b : ℕ) → 0x20 < b → is_blank b ≡ false
 no_blank b l = grind (arith, nat_tests)
 
-while_if : (b : Bool) (c : ℕ) (l m : List ℕ) → b ≡ false → l ≡ m → (if not b then c ∷ l else []) ≡ c ∷ m
+pub while_if : (b : Bool) (c : ℕ) (l m : List ℕ) → b ≡ false → l ≡ m → (if not b then c ∷ l else []) ≡ c ∷ m
 while_if true c l m h e = absurd cc
 while_if false c l m h e = ap (λ k. c ∷ k) e
 
@@ -51,7 +51,7 @@ word_if : (at : ℕ) (text : List ℕ) (n m : ℕ) → n ≡ m → nat_eq m 0 �
     → (if nat_eq n 0 then None else cut_at n at text) ≡ cut_at m at text
 word_if at text n m e z = rw (e, z) refl
 
-word_there : (at : ℕ) (word more : List ℕ) → IsWord word → Parts more
+pub word_there : (at : ℕ) (word more : List ℕ) → IsWord word → Parts more
     → word_at (rest_at at (word ++ more)) ≡ Some (word, rest_at (at + length word) more)
 word_there at word more h p =
     word_if at (word ++ more) (word_length (word ++ more)) (length word) (ap length (word_taken word more h.1 p))
@@ -74,7 +74,7 @@ word_next at word more h p = ap word_at (at_first at word more h) ∙ word_there
 pub blank_is : (b : ℕ) → b ≤ 0x20 → is_blank b ≡ true
 blank_is b l = grind (arith, nat_tests)
 
-one_on : (at : ℕ) (b : ℕ) (blanks : List ℕ) → (at + 1) + length blanks ≡ at + length (b ∷ blanks)
+pub one_on : (at : ℕ) (b : ℕ) (blanks : List ℕ) → (at + 1) + length blanks ≡ at + length (b ∷ blanks)
 one_on at b blanks = omega arith
 
 -- past blanks

@@ -241,7 +241,7 @@ first_word (suc n) at text w r l h a b =
     ap (λ o. beyond_word (start_of (rest_at at text)) o (beyond n)) h ∙ rw (a, b) refl
 
 -- the word that begins a source, behind its comments
-abbrev headed : Beginning → List ℕ → List ℕ
+abbrev pub headed : Beginning → List ℕ → List ℕ
 headed b more = b.blanks ++ (b.word ++ more)
 
 -- where it begins
@@ -265,7 +265,7 @@ version_first z b more h =
     (no_comment z b.word h.means) (no_line_comment z b.word h.means)
 
 -- the words of a source are no more bytes than the text has
-head_longer : (b : Beginning) (more : List ℕ) → length more ≤ length (each_written b.comments (headed b more))
+pub head_longer : (b : Beginning) (more : List ℕ) → length more ≤ length (each_written b.comments (headed b more))
 head_longer b more =
     let l = length-append b.word more in
     let m = length-append b.blanks (b.word ++ more) in

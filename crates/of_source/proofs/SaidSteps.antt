@@ -1,0 +1,526 @@
+-- Each word with which a source goes on is the word of a phrase that can stand there.
+use Rattle.std.proofs.Common.{◌≡◌, ℕ, ◌+◌, ◌<◌, ◌≤◌, Bool, true, false, List, [], ◌∷◌, ◌++◌, length}
+use Rattle.std.proofs.Common.{Option, Some, None, Ok, Err, nat_eq, nat_lt, if◌then◌else◌, refl, sym, ap, subst}
+use Rattle.std.proofs.Common.{◌∙◌, arith, append_assoc}
+use Rattle.std.specs.Prelude.{slice_index}
+use Rattle.std.specs.List.{list_all}
+use Rattle.std.proofs.lemmas.Bool.Decides.{nat_tests}
+use Rattle.std.proofs.lemmas.List.{append-nil, length-append}
+use Rattle.of_fcodes.specs.declared.codes.FCode.{FCode}
+use Rattle.of_source.specs.declared.fault.SourceFault.{SourceFault}
+use Rattle.of_source.specs.declared.keyword.Keyword.{Keyword}
+use Rattle.of_source.specs.declared.keyword.Keyword.TheVariants as keyword
+use Rattle.of_source.specs.declared.keyword.Quote.{Quote}
+use Rattle.of_source.specs.declared.keyword.Quote.TheVariants as quote
+use Rattle.of_source.specs.declared.keyword.Radix.{Radix}
+use Rattle.of_source.specs.declared.nesting.Frame.{Frame}
+use Rattle.of_source.specs.declared.nesting.Part.{Part}
+use Rattle.of_source.specs.declared.nesting.Part.TheVariants as part
+use Rattle.of_source.specs.declared.number.Number.{Number}
+use Rattle.of_source.specs.declared.number.Number.TheVariants.{Value, OutOfRange, NoNumber}
+use Rattle.of_source.specs.Keywords.{keyword_named, ordinary_named}
+use Rattle.of_source.specs.Names.{Own, own_in}
+use Rattle.of_source.specs.Numbers.{number_in}
+use Rattle.of_source.specs.Radix.{base_of}
+use Rattle.of_source.specs.Items.{Item, call, string, naming, bare, own_code}
+use Rattle.of_source.specs.Items as item
+use Rattle.of_source.specs.Nesting.{Nesting, is_same, with_branch, with_part}
+use Rattle.of_source.specs.Nesting.{without_part, in_definition}
+use Rattle.of_source.specs.Nesting.{all_definitions, is_straight, is_closed}
+use Rattle.of_source.specs.Shapes.{shape_of}
+use Rattle.of_source.specs.Scan.{Rest, left_of, start_of, next_word, Found, plain_string, quoted_string, line_end}
+use Rattle.of_source.specs.Steps.{State, Step, Goes, Ends, Fails, giving, opening, reading_on, at_next, with_radix}
+use Rattle.of_source.specs.Steps.{with_maker, with_next, with_name, name_found, with_string, with_code, if_open}
+use Rattle.of_source.specs.Steps.{if_ends, number_or_bad, number_items, comment_step, code_named, recurse_step}
+use Rattle.of_source.specs.Steps.{text_step, keyword_step, number_word_step, ordinary_step, listed_step, own_step}
+use Rattle.of_source.specs.Steps.{word_step, next_step}
+use Rattle.of_source.specs.Phrases.{Phrase, Spelled, Known, taken, written, items_of, learned, moved, behind, recursion}
+use Rattle.of_source.specs.Phrases as phrase
+use Rattle.of_source.specs.Written.{IsWord, AreBlanks, EndsWord, IsStraight, own_of, IsKeyword, IsPlaced}
+use Rattle.of_source.specs.Written.{IsFollowed, IsSaid}
+use Rattle.of_source.proofs.Kept.{Inv, shapes, defines-shapes}
+use Rattle.of_source.proofs.ShapeLemmas.{both_true}
+use Rattle.of_source.proofs.FoundText.{FoundPlain, FoundQuoted, FoundWord, plain_found, quoted_found, line_found}
+use Rattle.of_source.proofs.FoundText.{next_found, left_place}
+
+-- what is known in a state, at this place
+abbrev pub known_at : ℕ → State → Known
+known_at at s = record {
+  at = at;
+  radix = s.radix;
+  maker = s.maker;
+  names = s.known;
+  open_one = s.open_one;
+  items = s.items;
+}
+
+-- at another place
+abbrev pub placed_at : ℕ → Known → Known
+placed_at at k = record k { at = at }
+
+-- from one state to another a phrase was said, whose word was read before
+record Says (u : State) (word : List ℕ) (t : State) : Type 0 where
+  phrase : Phrase
+  text : u.rest.text ≡ taken phrase ++ t.rest.text
+  place : t.rest.at ≡ u.rest.at + length (taken phrase)
+  own : own_in u.known word ≡ own_of phrase
+  means : IsKeyword word phrase
+  placed : IsPlaced (known_at u.at u) word phrase
+  followed : IsFollowed phrase t.rest.text
+  knows : (at : ℕ) → known_at at t ≡ placed_at at (behind word phrase (known_at u.at u))
+
+-- the word ends a source
+abbrev IsLast : State → List ℕ → State → Type 0
+IsLast u word t = (t ≡ u) × (own_in u.known word ≡ None) × (keyword_named word ≡ Some keyword.Finish)
+
+abbrev Said : State → List ℕ → Step → Type 0
+Said u word (Goes t) = Says u word t
+Said u word (Ends t) = IsLast u word t
+Said u word (Fails f) = Unit {0}
+
+stay : (at : ℕ) → at ≡ at + 0
+stay at = omega arith
+
+-- a phrase that takes nothing from the text
+alone : (u t : State) (word : List ℕ) (p : Phrase) → taken p ≡ [] → t.rest ≡ u.rest → own_in u.known word ≡ own_of p
+    → IsKeyword word p → IsPlaced (known_at u.at u) word p → IsFollowed p t.rest.text
+    → ((at : ℕ) → known_at at t ≡ placed_at at (behind word p (known_at u.at u))) → Says u word t
+alone u t word p e r own means placed followed knows = record {
+  phrase = p;
+  text = ap (λ (q : Rest). q.text) (sym r) ∙ ap (λ l. l ++ t.rest.text) (sym e);
+  place = ap (λ (q : Rest). q.at) r ∙ stay u.rest.at ∙ ap (λ l. u.rest.at + length l) (sym e);
+  own = own;
+  means = means;
+  placed = placed;
+  followed = followed;
+  knows = knows;
+}
+
+-- no items more
+same_items : (is : List Item) (f : List Item → Known) → f is ≡ f (is ++ [])
+same_items is f = ap f (sym (append-nil is))
+
+-- ---- the parts of a step
+
+said_if : (u : State) (word : List ℕ) (b : Bool) (f : SourceFault) (x : Step) → (b ≡ true → Said u word x)
+    → Said u word (if b then x else Fails f)
+said_if u word true f x k = k refl
+said_if u word false f x k = tt
+
+said_unless : (u : State) (word : List ℕ) (b : Bool) (f : SourceFault) (x : Step) → (b ≡ false → Said u word x)
+    → Said u word (if b then Fails f else x)
+said_unless u word true f x k = tt
+said_unless u word false f x k = k refl
+
+-- the word that a word takes
+abbrev Taken : State → List ℕ → Rest → Type 0
+Taken u w r = FoundWord u.rest.at u.rest.text (start_of u.rest) (Some (w, r))
+
+said_next : (u : State) (word : List ℕ) (f : SourceFault) (o : Option (List ℕ × Rest)) (go : List ℕ → Rest → Step)
+    → FoundWord u.rest.at u.rest.text (start_of u.rest) o
+    → ((w : List ℕ) (r : Rest) → Taken u w r → Said u word (go w r)) → Said u word (with_next f o go)
+said_next u word f None go h k = tt
+said_next u word f (Some w) go h k = k w.0 w.1 h
+
+short_name : (u : State) (word : List ℕ) (b : Bool) (f : SourceFault) (name : List ℕ) (s : State)
+    (go : List ℕ → State → Step)
+    → (b ≡ false → Said u word (go name s)) → Said u word (with_name (if b then Err f else Ok (name, s)) go)
+short_name u word true f name s go k = tt
+short_name u word false f name s go k = k refl
+
+no_longer : (l : ℕ) → nat_lt 31 l ≡ false → l ≤ 31
+no_longer l h = grind (arith, nat_tests)
+
+said_name : (last : ℕ) (u s : State) (word : List ℕ) (o : Option (List ℕ × Rest)) (go : List ℕ → State → Step)
+    → FoundWord u.rest.at u.rest.text (start_of u.rest) o
+    → ((name : List ℕ) (r : Rest) → Taken u name r → length name ≤ 31 → Said u word (go name (reading_on r s)))
+    → Said u word (with_name (name_found last s o) go)
+said_name last u s word None go h k = tt
+said_name last u s word (Some w) go h k =
+    short_name u word (nat_lt 31 (length w.0)) _ w.0 (reading_on w.1 s) go
+    (λ e. k w.0 w.1 h (no_longer (length w.0) e))
+
+no_longer_string : (l : ℕ) → nat_lt 255 l ≡ false → l ≤ 255
+no_longer_string l h = grind (arith, nat_tests)
+
+-- the text and the place behind a word that is taken
+operand_text : (u : State) (w : List ℕ) (r : Rest) → (h : Taken u w r) → u.rest.text ≡ (h.0 ++ w) ++ r.text
+operand_text u w r h = h.1 ∙ sym (append_assoc h.0 w r.text)
+
+operand_place : (u : State) (w : List ℕ) (r : Rest) → (h : Taken u w r) → r.at ≡ u.rest.at + length (h.0 ++ w)
+operand_place u w r h = h.6 ∙ together u.rest.at (length h.0) (length w) (length (h.0 ++ w)) (length-append h.0 w)
+  where
+    together : (a b c d : ℕ) → d ≡ b + c → a + b + c ≡ a + d
+    together a b c d e = omega (arith, e)
+
+-- ---- words that read on
+
+said_number : (u : State) (word : List ℕ) (base : Radix) (w : List ℕ) (r : Rest) (v : Number)
+    → own_in u.known word ≡ None → keyword_named word ≡ Some (keyword.NumberIn base) → Taken u w r
+    → number_in (base_of base) w ≡ v
+    → Said u word (number_or_bad u.at v (λ x. Goes (giving (number_items x) (reading_on r u))))
+said_number u word base w r (Value x) o m h e = record {
+  phrase = phrase.NumberIn base h.0 w x;
+  text = operand_text u w r h;
+  place = operand_place u w r h;
+  own = o;
+  means = m;
+  placed = (h.2, h.3, e);
+  followed = h.4;
+  knows = λ at. refl;
+}
+said_number u word base w r OutOfRange o m h e = tt
+said_number u word base w r NoNumber o m h e = tt
+
+said_character : (u : State) (word w : List ℕ) (r : Rest) → own_in u.known word ≡ None
+    → keyword_named word ≡ Some keyword.Character → Taken u w r
+    → Said u word (Goes (giving (number_items (record { 0 = slice_index w 0 })) (reading_on r u)))
+said_character u word [] r o m h = let l : 0 < 0 = h.3.0 in absurd (omega (arith, l))
+said_character u word (b ∷ bytes) r o m h = record {
+  phrase = phrase.Character h.0 b bytes;
+  text = operand_text u (b ∷ bytes) r h;
+  place = operand_place u (b ∷ bytes) r h;
+  own = o;
+  means = m;
+  placed = (h.2, h.3);
+  followed = h.4;
+  knows = λ at. refl;
+}
+
+said_naming : (u : State) (word : List ℕ) (t : FCode) (w : List ℕ) (r : Rest) (o : Option FCode)
+    → own_in u.known word ≡ None → keyword_named word ≡ Some (keyword.Naming t) → Taken u w r
+    → code_named u.known w ≡ o
+    → Said u word (with_code (start_of u.rest) o (λ c. Goes (giving (item.Plain (naming t c) ∷ []) (reading_on r u))))
+said_naming u word t w r None o m h e = tt
+said_naming u word t w r (Some c) o m h e = record {
+  phrase = phrase.Naming t h.0 w c;
+  text = operand_text u w r h;
+  place = operand_place u w r h;
+  own = o;
+  means = m;
+  placed = (h.2, h.3, e);
+  followed = h.4;
+  knows = λ at. refl;
+}
+
+said_comment : (u : State) (word : List ℕ) (o : Found) → own_in u.known word ≡ None
+    → keyword_named word ≡ Some keyword.Comment → FoundPlain 41 u.rest.text o → Said u word (comment_step u o)
+said_comment u word None n m h = tt
+said_comment u word (Some r) n m h = record {
+  phrase = phrase.Comment h.0 r.0;
+  text = h.1;
+  place = left_place u.rest (h.0 ∷ r.0 ++ 41 ∷ []) r.1 h.1;
+  own = n;
+  means = m;
+  placed = (h.2, h.3);
+  followed = tt;
+  knows = λ at. same_items u.items (λ is. record (known_at at u) { items = is });
+}
+
+said_line : (u : State) (word : List ℕ) → own_in u.known word ≡ None → keyword_named word ≡ Some keyword.LineComment
+    → Said u word (Goes (reading_on (left_of u.rest (line_end u.rest.text)) u))
+said_line u word n m =
+    let h = line_found u.rest.text in
+    record {
+      phrase = phrase.LineComment h.0;
+      text = h.1;
+      place = left_place u.rest h.0 (line_end u.rest.text) h.1;
+      own = n;
+      means = m;
+      placed = h.2;
+      followed = h.3;
+      knows = λ at. same_items u.items (λ is. record (known_at at u) { items = is });
+    }
+
+said_plain : (u : State) (word : List ℕ) (o : Found) → own_in u.known word ≡ None
+    → keyword_named word ≡ Some (keyword.Text quote.Plain) → FoundPlain 34 u.rest.text o
+    → Said u word (with_string u o (λ bytes t. Goes (giving (item.Plain (string bytes) ∷ []) t)))
+said_plain u word None n m h = tt
+said_plain u word (Some r) n m h =
+    said_unless u word (nat_lt 255 (length r.0)) _ _
+    (λ e. record {
+      phrase = phrase.Text false h.0 r.0;
+      text = h.1;
+      place = left_place u.rest (h.0 ∷ r.0 ++ 34 ∷ []) r.1 h.1;
+      own = n;
+      means = m;
+      placed = (h.2, no_longer_string (length r.0) e, h.3);
+      followed = tt;
+      knows = λ at. refl;
+    })
+
+said_printed : (u : State) (word : List ℕ) (o : Found) → own_in u.known word ≡ None
+    → keyword_named word ≡ Some (keyword.Text quote.Printed) → FoundPlain 34 u.rest.text o
+    → Said u word (with_string u o
+    (λ bytes t. Goes (giving (item.Plain (string bytes) ∷ item.Plain (bare 0x090) ∷ []) t)))
+said_printed u word None n m h = tt
+said_printed u word (Some r) n m h =
+    said_unless u word (nat_lt 255 (length r.0)) _ _
+    (λ e. record {
+      phrase = phrase.Text true h.0 r.0;
+      text = h.1;
+      place = left_place u.rest (h.0 ∷ r.0 ++ 34 ∷ []) r.1 h.1;
+      own = n;
+      means = m;
+      placed = (h.2, no_longer_string (length r.0) e, h.3);
+      followed = tt;
+      knows = λ at. refl;
+    })
+
+said_quoted : (u : State) (word : List ℕ) (o : Found) → own_in u.known word ≡ None
+    → keyword_named word ≡ Some (keyword.Text quote.Bytes) → FoundQuoted u.rest.text o
+    → Said u word (with_string u o (λ bytes t. Goes (giving (item.Plain (string bytes) ∷ []) t)))
+said_quoted u word None n m h = tt
+said_quoted u word (Some r) n m h =
+    said_unless u word (nat_lt 255 (length r.0)) _ _
+    (λ e. record {
+      phrase = phrase.Quoted h.0 h.1 h.2;
+      text = h.3;
+      place = left_place u.rest (taken (phrase.Quoted h.0 h.1 h.2)) r.1 h.3;
+      own = n;
+      means = m;
+      placed = (h.5, subst (λ l. length l ≤ 255) h.4 (no_longer_string (length r.0) e), h.6, h.7);
+      followed = h.8;
+      knows = λ at. ap (λ l. record (known_at at u) { items = u.items ++ item.Plain (string l) ∷ [] }) h.4;
+    })
+
+said_text : (q : Quote) (u : State) (word : List ℕ) → own_in u.known word ≡ None
+    → keyword_named word ≡ Some (keyword.Text q) → Said u word (text_step q u)
+said_text quote.Bytes u word n m = said_quoted u word (quoted_string u.rest.text) n m (quoted_found u.rest.text)
+said_text quote.Plain u word n m =
+    said_plain u word (plain_string 34 u.rest.text) n m (plain_found 34 u.rest.text refl)
+said_text quote.Printed u word n m =
+    said_printed u word (plain_string 34 u.rest.text) n m (plain_found 34 u.rest.text refl)
+
+-- ---- definitions
+
+said_recurse : (u : State) (word : List ℕ) (o : Option Own) → own_in u.known word ≡ None
+    → keyword_named word ≡ Some keyword.Recurse → u.open_one ≡ o → Said u word (recurse_step u o)
+said_recurse u word None n m e = tt
+said_recurse u word (Some d) n m e =
+    alone u _ word phrase.Recurse refl refl n m (d, e) tt
+    (λ at. ap (λ (p : Option Own). record (known_at at u) { items = u.items ++ recursion p }) (sym e))
+
+said_ends : (o : Option Nesting) (u : State) (word : List ℕ) → own_in u.known word ≡ None
+    → keyword_named word ≡ Some keyword.Semicolon → Said u word (if_ends o u)
+said_ends None u word n m = tt
+said_ends (Some p) u word n m = alone u _ word phrase.Semicolon refl refl n m tt tt (λ at. refl)
+
+-- ---- control structures
+
+said_open : (o : Option Nesting) (is : List Item) (u : State) (word : List ℕ) (p : Phrase) → taken p ≡ []
+    → own_in u.known word ≡ own_of p → IsKeyword word p → IsPlaced (known_at u.at u) word p
+    → IsFollowed p u.rest.text
+    → ((n : Nesting) (at : ℕ)
+    → known_at at (giving is (opening n u)) ≡ placed_at at (behind word p (known_at u.at u)))
+    → Said u word (if_open o is u)
+said_open None is u word p e n m l f k = tt
+said_open (Some x) is u word p e n m l f k = alone u (giving is (opening x u)) word p e refl n m l f (k x)
+
+-- ---- what is open, by its shape
+
+straight_shapes : (fs : List Frame) → all_definitions fs ≡ true
+    → list_all (λ (p : Part × ℕ). is_same p.0 part.Definition) (shapes fs) ≡ true
+straight_shapes [] h = refl
+straight_shapes (f ∷ fs) h =
+    let w = both_true (is_same f.part part.Definition) _ h in
+    rw w.0 (straight_shapes fs w.1)
+
+is_zero : (n : ℕ) → nat_eq n 0 ≡ true → n ≡ 0
+is_zero n h = grind (arith, nat_tests)
+
+straight_shape : (n : Nesting) → is_straight n ≡ true → IsStraight (shape_of n)
+straight_shape n h =
+    let w = both_true (nat_eq (length n.branches) 0) (all_definitions n.parts) h in
+    (is_zero (length n.branches) w.0, straight_shapes n.parts w.1)
+
+-- ---- one word
+
+said_keyword : (last : ℕ) (k : Keyword) (u : State) (word : List ℕ) → own_in u.known word ≡ None
+    → keyword_named word ≡ Some k → Inv u → Said u word (keyword_step last k u)
+said_keyword last keyword.Finish u word n m i = said_if u word (is_closed u.nesting) _ (Ends u) (λ e. (refl, n, m))
+said_keyword last keyword.Comment u word n m i =
+    said_comment u word (plain_string 41 u.rest.text) n m (plain_found 41 u.rest.text refl)
+said_keyword last keyword.LineComment u word n m i = said_line u word n m
+said_keyword last (keyword.Headers x) u word n m i =
+    alone u (with_maker x u) word (phrase.Headers x) refl refl n m tt tt
+    (λ at. same_items u.items (λ is. record (known_at at (with_maker x u)) { items = is }))
+said_keyword last (keyword.Radix x) u word n m i =
+    alone u (with_radix x u) word (phrase.Base x) refl refl n m tt tt
+    (λ at. same_items u.items (λ is. record (known_at at (with_radix x u)) { items = is }))
+said_keyword last (keyword.NumberIn base) u word n m i =
+    said_next u word _ (next_word u.rest) _ (next_found u.rest.at u.rest.text)
+    (λ w r h. said_number u word base w r (number_in (base_of base) w) n m h refl)
+said_keyword last keyword.Character u word n m i =
+    said_next u word _ (next_word u.rest) _ (next_found u.rest.at u.rest.text)
+    (λ w r h. said_character u word w r n m h)
+said_keyword last (keyword.Text q) u word n m i = said_text q u word n m
+said_keyword last keyword.Colon u word n m i =
+    said_unless u word (in_definition u.nesting.parts) _ _
+    (λ e. said_name last u (opening (with_part part.Definition u.at u.nesting) u) word (next_word u.rest) _
+    (next_found u.rest.at u.rest.text)
+    (λ name r h l. record {
+      phrase = phrase.Colon h.0 name;
+      text = operand_text u name r h;
+      place = operand_place u name r h;
+      own = n;
+      means = m;
+      placed = (h.2, (h.3, l));
+      followed = h.4;
+      knows = λ at. refl;
+    }))
+said_keyword last keyword.Semicolon u word n m i = said_ends (without_part part.Definition u.nesting) u word n m
+said_keyword last (keyword.Defining t) u word n m i =
+    said_unless u word (in_definition u.nesting.parts) _ _
+    (λ e. said_name last u u word (next_word u.rest) _ (next_found u.rest.at u.rest.text)
+    (λ name r h l. record {
+      phrase = phrase.Defining t h.0 name;
+      text = operand_text u name r h;
+      place = operand_place u name r h;
+      own = n;
+      means = m;
+      placed = (h.2, (h.3, l), (shape_of u.nesting, i, defines-shapes u.nesting.parts ∙ e));
+      followed = h.4;
+      knows = λ at. refl;
+    }))
+said_keyword last keyword.Recurse u word n m i = said_recurse u word u.open_one n m refl
+said_keyword last (keyword.Naming t) u word n m i =
+    said_next u word _ (next_word u.rest) _ (next_found u.rest.at u.rest.text)
+    (λ w r h. said_naming u word t w r (code_named u.known w) n m h refl)
+said_keyword last keyword.Offset16 u word n m i =
+    said_if u word (is_straight u.nesting) _ _
+    (λ e. alone u _ word phrase.Offset16 refl refl n m (shape_of u.nesting, i, straight_shape u.nesting e) tt
+    (λ at. refl))
+said_keyword last (keyword.One t) u word n m i = alone u _ word (phrase.Short t) refl refl n m tt tt (λ at. refl)
+said_keyword last (keyword.Two t x) u word n m i = alone u _ word (phrase.Pair t x) refl refl n m tt tt (λ at. refl)
+said_keyword last keyword.If u word n m i =
+    said_open (Some (with_branch u.at u.nesting)) _ u word phrase.If refl n m tt tt (λ x at. refl)
+said_keyword last keyword.Else u word n m i = said_open _ _ u word phrase.Else refl n m tt tt (λ x at. refl)
+said_keyword last keyword.Then u word n m i = said_open _ _ u word phrase.Then refl n m tt tt (λ x at. refl)
+said_keyword last keyword.Begin u word n m i =
+    said_open (Some (with_part part.Begin u.at u.nesting)) _ u word phrase.Begin refl n m tt tt (λ x at. refl)
+said_keyword last (keyword.Back z) u word n m i = said_open _ _ u word (phrase.Back z) refl n m tt tt (λ x at. refl)
+said_keyword last keyword.Repeat u word n m i = said_open _ _ u word phrase.Repeat refl n m tt tt (λ x at. refl)
+said_keyword last (keyword.Do q) u word n m i =
+    said_open (Some (with_part part.Do u.at u.nesting)) _ u word (phrase.Do q) refl n m tt tt (λ x at. refl)
+said_keyword last (keyword.Loop q) u word n m i = said_open _ _ u word (phrase.Loop q) refl n m tt tt (λ x at. refl)
+said_keyword last keyword.Leave u word n m i = said_open _ _ u word phrase.Leave refl n m tt tt (λ x at. refl)
+said_keyword last keyword.Case u word n m i =
+    said_open (Some (with_part part.Case u.at u.nesting)) _ u word phrase.Case refl n m tt tt (λ x at. refl)
+said_keyword last keyword.Of u word n m i = said_open _ _ u word phrase.Of refl n m tt tt (λ x at. refl)
+said_keyword last keyword.EndOf u word n m i = said_open _ _ u word phrase.EndOf refl n m tt tt (λ x at. refl)
+said_keyword last keyword.EndCase u word n m i = said_open _ _ u word phrase.EndCase refl n m tt tt (λ x at. refl)
+
+said_digits : (u : State) (word : List ℕ) (v : Number) → own_in u.known word ≡ None → keyword_named word ≡ None
+    → ordinary_named word ≡ None → number_in (base_of u.radix) word ≡ v → Said u word (number_word_step u v)
+said_digits u word (Value x) n m o e = alone u _ word (phrase.Number x) refl refl n m (o, e) tt (λ at. refl)
+said_digits u word OutOfRange n m o e = tt
+said_digits u word NoNumber n m o e = tt
+
+said_ordinary : (u : State) (word : List ℕ) (o : Option FCode) → own_in u.known word ≡ None
+    → keyword_named word ≡ None → ordinary_named word ≡ o → Said u word (ordinary_step word u o)
+said_ordinary u word (Some c) n m e = alone u _ word (phrase.BoardWord c) refl refl n m e tt (λ at. refl)
+said_ordinary u word None n m e = said_digits u word (number_in (base_of u.radix) word) n m e refl
+
+said_listed : (last : ℕ) (u : State) (word : List ℕ) (o : Option Keyword) → own_in u.known word ≡ None
+    → keyword_named word ≡ o → Inv u → Said u word (listed_step last word u o)
+said_listed last u word (Some k) n m i = said_keyword last k u word n m i
+said_listed last u word None n m i = said_ordinary u word (ordinary_named word) n m refl
+
+said_own : (last : ℕ) (u : State) (word : List ℕ) (o : Option ℕ) → own_in u.known word ≡ o → Inv u
+    → Said u word (own_step last word u o)
+said_own last u word (Some j) e i = alone u _ word (phrase.OwnWord j) refl refl e tt tt tt (λ at. refl)
+said_own last u word None e i = said_listed last u word (keyword_named word) e refl i
+
+said_word : (last : ℕ) (u : State) (word : List ℕ) → Inv u → Said u word (word_step last word u)
+unfolding word_step
+said_word last u word i = said_own last u word (own_in u.known word) refl i
+
+-- ---- the next word, with the blanks before it
+
+-- what is known at a word behind these blanks
+abbrev pub known_behind : List ℕ → State → Known
+known_behind blanks s = moved blanks (known_at s.rest.at s)
+
+-- from one state to the next a phrase was said
+pub record IsNext (s t : State) : Type 0 where
+  pub spelled : Spelled
+  pub text : s.rest.text ≡ written spelled t.rest.text
+  pub said : IsSaid (known_behind spelled.blanks s) spelled t.rest.text
+  pub knows : known_at t.rest.at t ≡ behind spelled.word spelled.phrase (known_behind spelled.blanks s)
+
+-- the next word ends the source
+pub record IsEnd (s t : State) : Type 0 where
+  pub blanks : List ℕ
+  pub word : List ℕ
+  pub text : s.rest.text ≡ blanks ++ (word ++ t.rest.text)
+  pub between : AreBlanks blanks
+  pub spelled : IsWord word
+  pub ends : EndsWord t.rest.text
+  pub own : own_in s.known word ≡ None
+  pub means : keyword_named word ≡ Some keyword.Finish
+  pub items : t.items ≡ s.items
+
+abbrev pub SaidNext : State → Step → Type 0
+SaidNext s (Goes t) = IsNext s t
+SaidNext s (Ends t) = IsEnd s t
+SaidNext s (Fails f) = Unit {0}
+
+abbrev Reads : State → List ℕ → Rest → Type 0
+Reads s w r = FoundWord s.rest.at s.rest.text (start_of s.rest) (Some (w, r))
+
+next_goes : (s : State) (w : List ℕ) (r : Rest) (t : State) → Reads s w r → Says (at_next r s) w t → IsNext s t
+next_goes s w r t h g =
+    let e : known_at (start_of s.rest) s ≡ known_behind h.0 s = ap (λ a. known_at a s) h.5 in
+    let at : t.rest.at ≡ s.rest.at + length h.0 + length w + length (taken g.phrase) =
+    g.place ∙ ap (λ a. a + length (taken g.phrase)) h.6 in
+    record {
+      spelled = record { blanks = h.0; word = w; phrase = g.phrase };
+      text = h.1 ∙ ap (λ l. h.0 ++ (w ++ l)) g.text;
+      said = record {
+        blanks = h.2;
+        spelled = h.3;
+        ends = subst EndsWord g.text h.4;
+        own = g.own;
+        means = g.means;
+        placed = subst (λ (k : Known). IsPlaced k w g.phrase) e g.placed;
+        followed = g.followed;
+      };
+      knows =
+          ap (λ a. known_at a t) at
+          ∙ g.knows (s.rest.at + length h.0 + length w + length (taken g.phrase))
+          ∙ ap (λ (k : Known). placed_at (s.rest.at + length h.0 + length w + length (taken g.phrase))
+          (behind w g.phrase k)) e;
+    }
+
+next_ends : (s : State) (w : List ℕ) (r : Rest) (t : State) → Reads s w r → IsLast (at_next r s) w t → IsEnd s t
+next_ends s w r t h g =
+    let e : at_next r s ≡ t = sym g.0 in
+    record {
+      blanks = h.0;
+      word = w;
+      text = h.1 ∙ ap (λ (x : State). h.0 ++ (w ++ x.rest.text)) e;
+      between = h.2;
+      spelled = h.3;
+      ends = subst (λ (x : State). EndsWord x.rest.text) e h.4;
+      own = g.1;
+      means = g.2;
+      items = ap (λ (x : State). x.items) g.0;
+    }
+
+next_said : (s : State) (w : List ℕ) (r : Rest) (x : Step) → Reads s w r → Said (at_next r s) w x → SaidNext s x
+next_said s w r (Goes t) h g = next_goes s w r t h g
+next_said s w r (Ends t) h g = next_ends s w r t h g
+next_said s w r (Fails f) h g = tt
+
+with_said : (s : State) (f : SourceFault) (o : Option (List ℕ × Rest)) (go : List ℕ → Rest → Step)
+    → FoundWord s.rest.at s.rest.text (start_of s.rest) o
+    → ((w : List ℕ) (r : Rest) → Said (at_next r s) w (go w r)) → SaidNext s (with_next f o go)
+with_said s f None go h k = tt
+with_said s f (Some w) go h k = next_said s w.0 w.1 (go w.0 w.1) h (k w.0 w.1)
+
+-- each word with which a source goes on is that of a phrase
+pub said : (last : ℕ) (s : State) → Inv s → SaidNext s (next_step last s)
+said last s i =
+    with_said s _ (next_word s.rest) _ (next_found s.rest.at s.rest.text)
+    (λ w r. said_word last (at_next r s) w i)
