@@ -20,3 +20,4 @@ mod MethodLaw
 mod PropertyNames
 mod PropertyLaw
 mod StoredLaw
+mod WayLaw

@@ -3,7 +3,7 @@ use Rattle.std.proofs.Common.{◌≡◌, ℕ, ◌==◌, Bool, true, false, List,
 use Rattle.of_memory.specs.DataSpace.{DataSpace}
 use Rattle.of_nodes.specs.declared.tree.Node.{Node}
 use Rattle.of_nodes.specs.declared.lookup.Age.{Age}
-use Rattle.of_nodes.specs.Lookup.{child_for, from, walk}
+use Rattle.of_nodes.specs.Lookup.{child_for, from, step_for, walk, way}
 use Rattle.of_nodes.specs.Texts.{before, behind, split, with_byte}
 
 -- what follows the first component
@@ -52,3 +52,35 @@ walk_on m ns age i j xs ys h e =
     ∙ ap (λ (r : Option (List ℕ)). walk m ns age j (rest_of r)) e)
 
 pub ruleset walks = (walk_ends, walk_last, walk_on)
+
+-- ---- up or down
+
+way_is :
+    (m : DataSpace) (ns : List Node) (i : ℕ) (xs : List ℕ)
+    → way m ns i (split xs)
+    ≡ from (step_for m ns i (before 47 xs)) (λ j. way m ns j (rest_of (behind 47 xs)))
+way_is m ns i xs = ap (way m ns i) (split_is xs)
+
+pub way_ends :
+    (m : DataSpace) (ns : List Node) (i : ℕ) (xs : List ℕ) → step_for m ns i (before 47 xs) ≡ None
+    → way m ns i (split xs) ≡ None
+way_ends m ns i xs h =
+    way_is m ns i xs ∙ ap (λ (r : Option ℕ). from r (λ j. way m ns j (rest_of (behind 47 xs)))) h
+
+pub way_last :
+    (m : DataSpace) (ns : List Node) (i j : ℕ) (xs : List ℕ) → step_for m ns i (before 47 xs) ≡ Some j
+    → behind 47 xs ≡ None → way m ns i (split xs) ≡ Some j
+way_last m ns i j xs h e =
+    way_is m ns i xs
+    ∙ (ap (λ (r : Option ℕ). from r (λ k. way m ns k (rest_of (behind 47 xs)))) h
+    ∙ ap (λ (r : Option (List ℕ)). way m ns j (rest_of r)) e)
+
+pub way_on :
+    (m : DataSpace) (ns : List Node) (i j : ℕ) (xs ys : List ℕ) → step_for m ns i (before 47 xs) ≡ Some j
+    → behind 47 xs ≡ Some ys → way m ns i (split xs) ≡ way m ns j (split ys)
+way_on m ns i j xs ys h e =
+    way_is m ns i xs
+    ∙ (ap (λ (r : Option ℕ). from r (λ k. way m ns k (rest_of (behind 47 xs)))) h
+    ∙ ap (λ (r : Option (List ℕ)). way m ns j (rest_of r)) e)
+
+pub ruleset ways = (way_ends, way_last, way_on)

@@ -30,7 +30,7 @@ join_step :
 join_step true x xs ys h ih = rw h (ap (λ (l : List (List ℕ)). [] ∷ l) ih)
 join_step false x xs ys h ih = rw h (ap (with_byte x) ih ∙ part_on x xs (split ys))
 
-split_join : (xs ys : List ℕ) → split (xs ++ 47 ∷ ys) ≡ split xs ++ split ys
+pub split_join : (xs ys : List ℕ) → split (xs ++ 47 ∷ ys) ≡ split xs ++ split ys
 split_join [] ys = refl
 split_join (x ∷ xs) ys = join_step (x == 47) x xs ys refl (split_join xs ys)
 

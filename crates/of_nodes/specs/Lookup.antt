@@ -1,13 +1,15 @@
 -- Finding a node by its path (IEEE 1275-1994, 4.3.1).
 use Rattle.std.specs.Prelude.{ℕ, suc, ◌&&◌, ◌||◌, ◌==◌, Bool, false, List, [], ◌∷◌, length, drop, codes}
-use Rattle.std.specs.Prelude.{Option, Some, None, if◌then◌else◌}
+use Rattle.std.specs.Prelude.{Option, Some, None, Result, Ok, Err, if◌then◌else◌}
 use Rattle.of_memory.specs.DataSpace.{DataSpace}
 use Rattle.of_nodes.specs.declared.tree.Node.{Node}
 use Rattle.of_nodes.specs.declared.phandles.Phandle.{Phandle}
 use Rattle.of_nodes.specs.declared.lookup.Age.{Age}
 use Rattle.of_nodes.specs.declared.lookup.Age.TheVariants.{Newest, Oldest}
 use Rattle.of_nodes.specs.Components.{address_cells, node_name, unit_in, value_of}
-use Rattle.of_nodes.specs.Nodes.{phandle_in}
+use Rattle.of_nodes.specs.declared.fault.NodeFault.{NodeFault}
+use Rattle.of_nodes.specs.declared.fault.NodeFault.TheVariants.{NoNode}
+use Rattle.of_nodes.specs.Nodes.{number_of, parent_in, phandle_in}
 use Rattle.of_nodes.specs.Paths.{node_in}
 use Rattle.of_nodes.specs.Properties.{same_name}
 use Rattle.of_nodes.specs.Texts.{before, behind, components}
@@ -72,6 +74,25 @@ node_of m ns (b ∷ text) = if b == 47 then walk m ns Oldest 0 (components text)
 
 abbrev pub found : DataSpace → List Node → List ℕ → Option Phandle
 found m ns path = phandle_in (node_of m ns path)
+
+-- Where a component leads to from node i in a path that may go up: `..` to the node above, which the root has none of,
+-- and each other to the oldest child that it fits.
+abbrev pub step_for : DataSpace → List Node → ℕ → List ℕ → Option ℕ
+step_for m ns i c =
+    if same_name c (codes "..") then (if i == 0 then None else Some (parent_in ns i)) else child_for m ns Oldest i c
+
+-- the node that components lead to from node i on, up or down
+abbrev pub way : DataSpace → List Node → ℕ → List (List ℕ) → Option ℕ
+way m ns i [] = Some i
+way m ns i (c ∷ cs) = from (step_for m ns i c) (λ j. way m ns j cs)
+
+-- the node of a path from the node with a phandle on
+abbrev pub way_at : DataSpace → List Node → List ℕ → Option ℕ → Result (Option Phandle) NodeFault
+way_at m ns text None = Err NoNode
+way_at m ns text (Some i) = Ok (phandle_in (way m ns i (components text)))
+
+abbrev pub way_found : DataSpace → List Node → Phandle → List ℕ → Result (Option Phandle) NodeFault
+way_found m ns ph text = way_at m ns text (number_of (length ns) ph)
 
 -- the node of a path below `/packages`; each component takes the newest child that it fits
 abbrev pub package_found : DataSpace → List Node → List ℕ → Option Phandle

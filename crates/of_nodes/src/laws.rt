@@ -5,6 +5,7 @@ ghost use Rattle.of_nodes.specs.PropertyLaw.{PropertiesAreFound};
 ghost use Rattle.of_nodes.specs.Stored.{StoredStays};
 ghost use Rattle.of_nodes.specs.Tree.{TreeIsShown};
 ghost use Rattle.of_nodes.specs.TreePaths.{TreeFinds};
+ghost use Rattle.of_nodes.specs.WayLaw.{WaysLead};
 ghost use Rattle.of_nodes.specs.Ways.{PathsFind};
 
 /// Each node stands in the tree; its parent is the one round it there, its child the first of its children,
@@ -53,4 +54,11 @@ pub fn properties_are_found()
 #[tactic(auto, using(crate::proofs::StoredLaw::stored_stays))]
 pub fn stored_stays()
     ensures { StoredStays }
+{}
+
+/// From a node the empty path leads to the node itself, `..` to its parent, a longer path on from where its first
+/// part leads to; and a path without `..` leads from the root to what it finds behind a slash.
+#[tactic(auto, using(crate::proofs::WayLaw::ways_lead))]
+pub fn ways_lead()
+    ensures { WaysLead }
 {}

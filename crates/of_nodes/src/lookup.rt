@@ -1,13 +1,14 @@
 ghost use Rattle.std.specs.Prelude.{◌≡◌, ◌<◌, ◌≤◌, ◌==◌, ◌&&◌, codes, length, option_map, IfSome};
 ghost use Rattle.std.specs.List.{position};
 ghost use Rattle.of_nodes.specs.Components.{unit_in, value_of};
-ghost use Rattle.of_nodes.specs.Lookup.{child_for, fits, fits_plain, is_unit, walk};
+ghost use Rattle.of_nodes.specs.Lookup.{child_for, fits, fits_plain, is_unit, step_for, walk, way};
+ghost use Rattle.of_nodes.specs.Nodes.{AreNodes};
 ghost use Rattle.of_nodes.specs.declared.lookup.Age.TheVariants.{Newest, Oldest};
 ghost use Rattle.of_nodes.specs.Texts.{before, behind, components, split};
 
 use crate::components::{address_cells, node_name, unit_address};
 use crate::paths::node_at;
-use crate::tree::Node;
+use crate::tree::{Node, parent_number};
 use of_memory::Memory;
 
 /// Which of the children that fit a component is taken.
@@ -136,6 +137,51 @@ fn walk(memory: &Memory, nodes: &[Node], age: Age, number: usize, text: &[u8]) -
         Some(rest) => walk(memory, nodes, age, child, rest),
         None => Some(child),
     }
+}
+
+/// Where a component leads to from a node in a path that may go up.
+#[tactic(auto, using(crate::proofs::Rooted::parent_within))]
+fn step_for(memory: &Memory, nodes: &[Node], number: usize, text: &[u8]) -> Option<usize>
+    requires nodes { AreNodes nodes.now }
+    requires within { number < length nodes.now }
+    ensures value { result ≡ step_for memory.now nodes.now number text.now }
+    ensures within { IfSome result (λ i. i < length nodes.now) }
+{
+    if text != b"..".as_slice() {
+        return child_for(memory, nodes, Age::Oldest, number, text);
+    }
+    if number == 0 {
+        return None;
+    }
+    Some(parent_number(nodes, number))
+}
+
+/// The node that the components of a text lead to from a node on, up or down.
+#[tactic(auto, using(crate::proofs::Walked::ways))]
+fn way(memory: &Memory, nodes: &[Node], number: usize, text: &[u8]) -> Option<usize>
+    requires nodes { AreNodes nodes.now }
+    requires within { number < length nodes.now }
+    ensures value { result ≡ way memory.now nodes.now number (split text.now) }
+    ensures within { IfSome result (λ i. i < length nodes.now) }
+{
+    let next = step_for(memory, nodes, number, before(text, b'/'))?;
+    match behind(text, b'/') {
+        Some(rest) => way(memory, nodes, next, rest),
+        None => Some(next),
+    }
+}
+
+/// The node that a text's components lead to from a node on, up or down.
+pub(crate) fn found_by(memory: &Memory, nodes: &[Node], number: usize, text: &[u8]) -> Option<usize>
+    requires nodes { AreNodes nodes.now }
+    requires within { number < length nodes.now }
+    ensures value { result ≡ way memory.now nodes.now number (components text.now) }
+    ensures within { IfSome result (λ i. i < length nodes.now) }
+{
+    if text.len() == 0 {
+        return Some(number);
+    }
+    way(memory, nodes, number, text)
 }
 
 /// The node that a text's components, of which the empty text has none, lead to from a node on.

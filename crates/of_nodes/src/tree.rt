@@ -1,17 +1,16 @@
-ghost use Rattle.std.specs.Prelude.{◌≡◌, ◌<◌, ◌≤◌, ◌+◌, ◌⊎◌, List, max, length, drop, nat_le, Ok, Err, IfSome, IfOk, IfErr};
-ghost use Rattle.std.specs.Prelude.{MatchResult, OnErr, OnOk, codes, option_map, vec_capacity, vec_len};
+ghost use Rattle.std.specs.Prelude.{◌≡◌, ◌<◌, ◌≤◌, ◌+◌, ◌⊎◌, List, max, length, drop, nat_le, codes, option_map};
+ghost use Rattle.std.specs.Prelude.{Ok, Err, IfErr, IfOk, IfSome, MatchResult, OnErr, OnOk, vec_capacity, vec_len};
+ghost use Rattle.of_nodes.specs.Lookup.{found, package_found, way_found};
 ghost use Rattle.of_nodes.specs.Nodes.{AreRooted, child_from, child_found, first_tree, method_added, method_found};
-ghost use Rattle.of_nodes.specs.Nodes.{method_taken_back};
-ghost use Rattle.of_nodes.specs.Nodes.{most_nodes, named_child, next_found, node_added, parent_found, parent_in, peer_found};
-ghost use Rattle.of_nodes.specs.Nodes.{property_deleted, property_found, tree_property_set};
-ghost use Rattle.of_nodes.specs.Lookup.{found, package_found};
-ghost use Rattle.of_nodes.specs.Nodes.{method_placed, property_placed};
-ghost use Rattle.of_nodes.specs.Paths.{cells_found, component_found, path_found};
+ghost use Rattle.of_nodes.specs.Nodes.{method_placed, method_taken_back, most_nodes, named_child, next_found, node_added};
+ghost use Rattle.of_nodes.specs.Nodes.{parent_found, parent_in, peer_found, property_deleted, property_found};
+ghost use Rattle.of_nodes.specs.Nodes.{property_placed, tree_property_set};
 ghost use Rattle.of_nodes.specs.Outcomes.{Adds, Answers, Sets};
+ghost use Rattle.of_nodes.specs.Paths.{cells_found, component_found, path_found};
 
 use crate::components::address_cells;
 use crate::fault::NodeFault;
-use crate::lookup::{Age, found_below};
+use crate::lookup::{Age, found_below, found_by};
 use crate::methods::{Methods, is_method_name};
 use crate::names::may_hold;
 use crate::paths::{node_at, push_component, push_path};
@@ -423,6 +422,28 @@ impl Tree {
         match found_below(memory, &self.nodes, Age::Oldest, ROOT, &path[1..]) {
             Some(number) => Some(Phandle::of(number)),
             None => None,
+        }
+    }
+
+    /// The node that a path leads to from a node on, if there is one. The path doesn't begin with `/`, and the
+    /// empty one is the node's own; a component `..` stands for the node above, which the root has none of, and
+    /// each other for the oldest child that it fits, as in [`Tree::find`].
+    ///
+    /// NoNode, if there is no such node.
+    pub fn find_from(
+        &self,
+        memory: &Memory,
+        node: Phandle,
+        path: &[u8],
+    ) -> Result<Option<Phandle>, NodeFault>
+        ensures { result ≡ way_found memory.now self.now node path.now }
+    {
+        let Some(number) = node.number(self.nodes.len()) else {
+            return Err(NodeFault::NoNode);
+        };
+        match found_by(memory, &self.nodes, number, path) {
+            Some(found) => Ok(Some(Phandle::of(found))),
+            None => Ok(None),
         }
     }
 

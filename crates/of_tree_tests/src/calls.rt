@@ -132,6 +132,7 @@ fn placed(
         "peer" => shown_node(alloc, tree.peer(call.node())?)?,
         "find" => shown_node(alloc, tree.find(memory, call.target.as_bytes()))?,
         "find_package" => shown_node(alloc, tree.find_package(memory, call.target.as_bytes()))?,
+        "find_from" => shown_node(alloc, tree.find_from(memory, call.node(), call.name)?)?,
         "component_of" => {
             let component = tree.component_of(memory, call.node())?;
             String::from_str(alloc, std::str::from_utf8(&component).unwrap_or(""))?

@@ -3,7 +3,7 @@ use of_cells::Cell;
 use of_memory::{Memory, properties_change_by_puts_alone};
 use of_nodes::{
     NodeFault, Phandle, Tree, first_paths_find, methods_are_found, paths_find,
-    properties_are_found, stored_stays, tree_finds, tree_is_shown,
+    properties_are_found, stored_stays, tree_finds, tree_is_shown, ways_lead,
 };
 use std::test::Fail;
 
@@ -17,6 +17,7 @@ fn laws_hold() {
     stored_stays();
     tree_finds();
     tree_is_shown();
+    ways_lead();
 }
 
 /// The tree at first, and a node that is added to it.
@@ -93,6 +94,17 @@ find /SLOT = -
 find /packages/ = d0000024
 find /packages/p = d0000028
 find /packages/: = d0000024
+find_from d0000008 - = d0000008
+find_from d0000008 card@2,a0 = d0000010
+find_from d0000018 ../disk/part = d000001c
+find_from d000001c .. = d0000014
+find_from d0000024 ../.. = d0000000
+find_from d0000024 ../../.. = -
+find_from d0000000 .. = -
+find_from d0000008 ../packages/p = d0000028
+find_from d0000008 ./card = -
+find_from d0000008 /card = -
+find_from d0000040 card = no such node
 find_package - = d0000004
 find_package p = d000002c
 find_package p:x = d000002c
