@@ -1,0 +1,298 @@
+-- The tokens of an accepted source that stand by themselves are plain.
+use Rattle.std.proofs.Common.{◌≡◌, ℕ, zero, suc, ◌+◌, ◌≤◌, Bool, true, false, ◌&&◌, ◌||◌, not}
+use Rattle.std.proofs.Common.{List, [], ◌∷◌, ◌++◌, length}
+use Rattle.std.proofs.Common.{Option, Some, None, Ok, nat_eq, nat_le, if◌then◌else◌, refl, sym, ap, subst, ◌∙◌, arith}
+use Rattle.std.proofs.Common.{append_assoc, inl, inr}
+use Rattle.std.specs.List.{list_all}
+use Rattle.std.specs.Str.{str_eq_ignore_ascii_case}
+use Rattle.std.proofs.lemmas.Bool.{false≢true}
+use Rattle.std.proofs.lemmas.Bool.Decides.{nat_tests}
+use Rattle.std.proofs.lemmas.List.{append-nil}
+use Rattle.of_cells.specs.declared.cells.Cell.{Cell}
+use Rattle.of_fcodes.specs.declared.codes.FCode.{FCode}
+use Rattle.of_fcodes.specs.Lookup.{number_named, row_numbered, word_numbered}
+use Rattle.of_fcodes.specs.Rows.{rows, first_rows, second_rows, third_rows, fourth_rows, fifth_rows, sixth_rows}
+use Rattle.of_fcodes.specs.Rows.{seventh_rows}
+use Rattle.of_stream.specs.Decoding.{Token}
+use Rattle.of_source.specs.declared.keyword.Keyword.{Keyword}
+use Rattle.of_source.specs.declared.keyword.Keyword.TheVariants as keyword
+use Rattle.of_source.specs.declared.keyword.Maker.{Maker}
+use Rattle.of_source.specs.declared.keyword.Maker.TheVariants.{Named, External, Unnamed}
+use Rattle.of_source.specs.Accepted.{IsWritten}
+use Rattle.of_source.specs.Items.{Item, Source, bare, call, literal, making, naming, own_code, string}
+use Rattle.of_source.specs.Items as item
+use Rattle.of_source.specs.Keywords.{control_rows, fcode, if_ordinary, is_ordinary, keyword_in, keyword_named, or_in}
+use Rattle.of_source.specs.Keywords.{ordinary_named, text_rows}
+use Rattle.of_source.specs.Keywords as keywords
+use Rattle.of_source.specs.Names.{Own}
+use Rattle.of_source.specs.Phrases.{Phrase, Spelled, Ending, Known, all_behind, behind, begun_with, items_of, moved}
+use Rattle.of_source.specs.Phrases as phrase
+use Rattle.of_source.specs.Plain.{AcceptedIsPlain, ArePlain, IsPlain, is_kind, is_plain_code}
+use Rattle.of_source.specs.Steps.{number_token}
+use Rattle.of_source.specs.Strings.{pieces_bytes}
+use Rattle.of_source.specs.Written.{AreSaid, IsKeyword, IsPlaced, IsStraight, LeaveOpen}
+use Rattle.of_source.proofs.AcceptedLemmas.{accepted_written}
+
+-- ---- lists of items
+
+behind_one : (front : List Item) (x : Item) (xs ys : List Item) → ArePlain (front ++ (x ∷ xs)) ys
+    → ArePlain ((front ++ x ∷ []) ++ xs) ys
+behind_one front x xs ys g = subst (λ is. ArePlain is ys) (sym (append_assoc front (x ∷ []) xs)) g
+
+-- plain items behind plain items
+onto : (front xs ys : List Item) → ArePlain front xs → ArePlain (front ++ xs) ys → ArePlain front (xs ++ ys)
+onto front [] ys f g = subst (λ is. ArePlain is ys) (append-nil front) g
+onto front (item.Plain t ∷ xs) ys f g =
+    (f.0, f.1, onto (front ++ item.Plain t ∷ []) xs ys f.2 (behind_one front (item.Plain t) xs ys g))
+onto front (item.Colon ∷ xs) ys f g = onto (front ++ item.Colon ∷ []) xs ys f (behind_one front item.Colon xs ys g)
+onto front (item.Semicolon ∷ xs) ys f g =
+    onto (front ++ item.Semicolon ∷ []) xs ys f (behind_one front item.Semicolon xs ys g)
+onto front (item.If l ∷ xs) ys f g = onto (front ++ item.If l ∷ []) xs ys f (behind_one front (item.If l) xs ys g)
+onto front (item.Else l ∷ xs) ys f g = onto (front ++ item.Else l ∷ []) xs ys f (behind_one front (item.Else l) xs ys g)
+onto front (item.Then ∷ xs) ys f g = onto (front ++ item.Then ∷ []) xs ys f (behind_one front item.Then xs ys g)
+onto front (item.Begin ∷ xs) ys f g = onto (front ++ item.Begin ∷ []) xs ys f (behind_one front item.Begin xs ys g)
+onto front (item.Back z l ∷ xs) ys f g =
+    onto (front ++ item.Back z l ∷ []) xs ys f (behind_one front (item.Back z l) xs ys g)
+onto front (item.Do q l ∷ xs) ys f g = onto (front ++ item.Do q l ∷ []) xs ys f (behind_one front (item.Do q l) xs ys g)
+onto front (item.Loop q l ∷ xs) ys f g =
+    onto (front ++ item.Loop q l ∷ []) xs ys f (behind_one front (item.Loop q l) xs ys g)
+onto front (item.Leave ∷ xs) ys f g = onto (front ++ item.Leave ∷ []) xs ys f (behind_one front item.Leave xs ys g)
+onto front (item.Case ∷ xs) ys f g = onto (front ++ item.Case ∷ []) xs ys f (behind_one front item.Case xs ys g)
+onto front (item.Of l ∷ xs) ys f g = onto (front ++ item.Of l ∷ []) xs ys f (behind_one front (item.Of l) xs ys g)
+onto front (item.EndOf l ∷ xs) ys f g =
+    onto (front ++ item.EndOf l ∷ []) xs ys f (behind_one front (item.EndOf l) xs ys g)
+onto front (item.EndCase ∷ xs) ys f g =
+    onto (front ++ item.EndCase ∷ []) xs ys f (behind_one front item.EndCase xs ys g)
+
+-- a plain token but `offset16`
+abbrev IsWord : Token → Type 0
+IsWord t = IsPlain t × (nat_eq t.code.0 0x0cc ≡ false)
+
+never : (front : List Item) (n : ℕ) → nat_eq n 0x0cc ≡ false → n ≡ 0x0cc → LeaveOpen front IsStraight
+never front n h e = let t : nat_eq n 0x0cc ≡ true = grind (arith, nat_tests, e) in absurd (false≢true (sym h ∙ t))
+
+one : (front : List Item) (t : Token) → IsWord t → ArePlain front (item.Plain t ∷ [])
+one front t h = (h.0, never front t.code.0 h.1, tt)
+
+two : (front : List Item) (t u : Token) → IsWord t → IsWord u → ArePlain front (item.Plain t ∷ item.Plain u ∷ [])
+two front t u h k = (h.0, never front t.code.0 h.1, one (front ++ item.Plain t ∷ []) u k)
+
+-- ---- FCodes
+
+both : (a b : Bool) → (a && b) ≡ true → (a ≡ true) × (b ≡ true)
+both true b h = (refl, h)
+both false b h = absurd cc
+
+not_false : (b : Bool) → not b ≡ true → b ≡ false
+not_false true h = absurd cc
+not_false false h = refl
+
+-- an ordinary word
+abbrev is_word : FCode → Bool
+is_word c = is_ordinary (word_numbered c.0) && not (nat_eq c.0 0x0cc)
+
+or_second : (a b : Bool) → b ≡ true → (a || b) ≡ true
+or_second true b h = refl
+or_second false b h = h
+
+or_first : (a b : Bool) → a ≡ true → (a || b) ≡ true
+or_first a b h = rw h refl
+
+ordinary_plain : (n : ℕ) → is_ordinary (word_numbered n) ≡ true → is_plain_code n ≡ true
+ordinary_plain n h =
+    or_second (nat_le 0x800 n) _ (or_first (is_ordinary (word_numbered n)) (is_kind n || nat_eq n 0x0cc) h)
+
+word_is : (c : FCode) → is_word c ≡ true → IsWord (call c)
+word_is c h =
+    let w = both (is_ordinary (word_numbered c.0)) (not (nat_eq c.0 0x0cc)) h in
+    (ordinary_plain c.0 w.0, not_false (nat_eq c.0 0x0cc) w.1)
+
+kind_is : (c : FCode) → is_kind c.0 ≡ true → IsWord (call c)
+kind_is c h =
+    let w = both (nat_le 0x0b8 c.0) (nat_le c.0 0x0be) h in
+    let other : nat_eq c.0 0x0cc ≡ false = grind (arith, nat_tests, w.1) in
+    let ordinary = is_ordinary (word_numbered c.0) in (
+      or_second (nat_le 0x800 c.0) _ (or_second ordinary _ (or_first (is_kind c.0) (nat_eq c.0 0x0cc) h)),
+      other,
+    )
+
+own_is : (k : ℕ) → IsWord (call (own_code k))
+own_is k =
+    let high : nat_le 0x800 (0x800 + k) ≡ true = grind (arith, nat_tests) in
+    let other : nat_eq (0x800 + k) 0x0cc ≡ false = grind (arith, nat_tests) in
+    (or_first (nat_le 0x800 (0x800 + k)) _ high, other)
+
+-- `offset16` is no ordinary word
+no_ordinary : is_ordinary (word_numbered 0x0cc) ≡ false
+unfolding row_numbered rows first_rows second_rows third_rows fourth_rows fifth_rows
+no_ordinary = refl
+
+ordinary_is : (n : ℕ) → is_ordinary (word_numbered n) ≡ true → IsWord (call (fcode n))
+ordinary_is n h = (ordinary_plain n h, other (nat_eq n 0x0cc) refl)
+  where
+    other : (b : Bool) → nat_eq n 0x0cc ≡ b → b ≡ false
+    other true e =
+        let same : n ≡ 0x0cc = grind (arith, nat_tests, e) in
+        absurd (false≢true (sym no_ordinary ∙ ap (λ k. is_ordinary (word_numbered k)) (sym same) ∙ h))
+    other false e = refl
+
+named_is : (name : List ℕ) (c : FCode) → ordinary_named name ≡ Some c → IsWord (call c)
+unfolding ordinary_named
+named_is name c h = named (number_named name) h
+  where
+    pick : (n : ℕ) (b : Bool) → is_ordinary (word_numbered n) ≡ b → (if b then Some (fcode n) else None) ≡ Some c
+        → IsWord (call c)
+    pick n true t e = let q : fcode n ≡ c = cc in subst (λ (x : FCode). IsWord (call x)) q (ordinary_is n t)
+    pick n false t e = absurd cc
+
+    named : (o : Option ℕ) → if_ordinary o ≡ Some c → IsWord (call c)
+    named None e = absurd cc
+    named (Some n) e = pick n (is_ordinary (word_numbered n)) refl e
+
+-- ---- keywords
+
+-- the tokens of a keyword
+abbrev is_fine : Keyword → Bool
+is_fine (keyword.Defining t) = is_kind t.0
+is_fine (keyword.Naming t) = nat_eq t.0 0x011 || nat_eq t.0 0x0c3
+is_fine (keyword.One t) = is_word t
+is_fine (keyword.Two t u) = is_word t && is_word u
+is_fine _ = true
+
+text_fine : list_all (λ (r : keywords.Row). is_fine r.1) text_rows ≡ true
+unfolding text_rows row_numbered rows first_rows second_rows third_rows fourth_rows fifth_rows sixth_rows seventh_rows
+text_fine = refl
+
+control_fine : list_all (λ (r : keywords.Row). is_fine r.1) control_rows ≡ true
+unfolding control_rows row_numbered rows first_rows second_rows third_rows fourth_rows fifth_rows sixth_rows
+control_fine = refl
+
+fine_in : (rs : List keywords.Row) → list_all (λ (r : keywords.Row). is_fine r.1) rs ≡ true
+    → (name : List ℕ) (k : Keyword) → keyword_in rs name ≡ Some k → is_fine k ≡ true
+fine_in [] h name k e = absurd cc
+fine_in (r ∷ rs) h name k e =
+    let w = both (is_fine r.1) (list_all (λ (x : keywords.Row). is_fine x.1) rs) h in
+    pick w.0 (fine_in rs w.1 name k) (str_eq_ignore_ascii_case r.0 name) e
+  where
+    pick : is_fine r.1 ≡ true → (keyword_in rs name ≡ Some k → is_fine k ≡ true) → (b : Bool)
+        → (if b then Some r.1 else keyword_in rs name) ≡ Some k → is_fine k ≡ true
+    pick w f true e = let q : r.1 ≡ k = cc in subst (λ x. is_fine x ≡ true) q w
+    pick w f false e = f e
+
+fine : (name : List ℕ) (k : Keyword) → keyword_named name ≡ Some k → is_fine k ≡ true
+unfolding keyword_named
+fine name k h = either (keyword_in text_rows name) refl h
+  where
+    either : (o : Option Keyword) → keyword_in text_rows name ≡ o → or_in o (keyword_in control_rows name) ≡ Some k
+        → is_fine k ≡ true
+    either None e h = fine_in control_rows control_fine name k h
+    either (Some x) e h = let q : x ≡ k = cc in fine_in text_rows text_fine name k (e ∙ ap (λ y. Some y) q)
+
+naming_is : (t c : FCode) → (nat_eq t.0 0x011 || nat_eq t.0 0x0c3) ≡ true → IsWord (naming t c)
+naming_is t c h = pick (nat_eq t.0 0x011) (nat_eq t.0 0x0c3) refl refl h
+  where
+    pick : (a b : Bool) → nat_eq t.0 0x011 ≡ a → nat_eq t.0 0x0c3 ≡ b → (a || b) ≡ true → IsWord (naming t c)
+    pick true b e f g =
+        let same : t.0 ≡ 0x011 = grind (arith, nat_tests, e) in
+        (inl same, grind (arith, nat_tests, same))
+    pick false true e f g =
+        let same : t.0 ≡ 0x0c3 = grind (arith, nat_tests, f) in
+        (inr (inl same), grind (arith, nat_tests, same))
+    pick false false e f g = absurd (false≢true g)
+
+-- ---- numbers, strings and makers
+
+number_is : (x : Cell) → IsWord (number_token x)
+unfolding row_numbered rows first_rows second_rows third_rows fourth_rows fifth_rows
+number_is x = pick (nat_eq x.0 0xffffffff) (nat_le x.0 3) refl
+  where
+    small : (n : ℕ) → n ≤ 3 → IsWord (bare (0x0a5 + n))
+    small zero l = (refl, refl)
+    small (suc zero) l = (refl, refl)
+    small (suc (suc zero)) l = (refl, refl)
+    small (suc (suc (suc zero))) l = (refl, refl)
+    small (suc (suc (suc (suc n)))) l = absurd (omega (arith, l))
+
+    pick : (a b : Bool) → nat_le x.0 3 ≡ b
+        → IsWord (if a then bare 0x0a4 else if b then bare (0x0a5 + x.0) else literal x)
+    pick true b e = (refl, refl)
+    pick false true e = small x.0 (grind (arith, nat_tests, e))
+    pick false false e = (refl, refl)
+
+type_is : IsWord (bare 0x090)
+unfolding row_numbered rows first_rows second_rows third_rows fourth_rows fifth_rows
+type_is = (refl, refl)
+
+making_is : (m : Maker) (name : List ℕ) (c : FCode) → IsWord (making m name c)
+making_is Unnamed name c = (inr (inr refl), refl)
+making_is Named name c = (inl refl, refl)
+making_is External name c = (inr refl, refl)
+
+-- ---- phrases
+
+strings : (prints : Bool) (front : List Item) (bytes : List ℕ) → ArePlain front (phrase.string_items prints bytes)
+strings false front bytes = one front (string bytes) (refl, refl)
+strings true front bytes = two front (string bytes) (bare 0x090) (refl, refl) type_is
+
+recursions : (o : Option Own) (front : List Item) → ArePlain front (phrase.recursion o)
+recursions None front = tt
+recursions (Some d) front = one front (call (own_code d.number)) (own_is d.number)
+
+phrase_plain : (p : Phrase) (k : Known) (word : List ℕ) → IsKeyword word p → IsPlaced k word p
+    → ArePlain k.items (items_of p k)
+unfolding row_numbered rows first_rows second_rows third_rows fourth_rows fifth_rows
+phrase_plain (phrase.OwnWord n) k word m h = one k.items (call (own_code n)) (own_is n)
+phrase_plain (phrase.BoardWord c) k word m h = one k.items (call c) (named_is word c h)
+phrase_plain (phrase.Number x) k word m h = one k.items (number_token x) (number_is x)
+phrase_plain (phrase.NumberIn base blanks digits x) k word m h = one k.items (number_token x) (number_is x)
+phrase_plain (phrase.Character blanks b bytes) k word m h =
+    one k.items (number_token (record { 0 = b })) (number_is (record { 0 = b }))
+phrase_plain (phrase.Short t) k word m h = one k.items (call t) (word_is t (fine word (keyword.One t) m))
+phrase_plain (phrase.Pair t u) k word m h =
+    let w = both (is_word t) (is_word u) (fine word (keyword.Two t u) m) in
+    two k.items (call t) (call u) (word_is t w.0) (word_is u w.1)
+phrase_plain (phrase.Text prints blank bytes) k word m h = strings prints k.items bytes
+phrase_plain (phrase.Quoted blank pieces bytes) k word m h =
+    one k.items (string (pieces_bytes pieces ++ bytes)) (refl, refl)
+phrase_plain (phrase.Comment blank bytes) k word m h = tt
+phrase_plain (phrase.LineComment bytes) k word m h = tt
+phrase_plain (phrase.Naming t blanks name c) k word m h =
+    one k.items (naming t c) (naming_is t c (fine word (keyword.Naming t) m))
+phrase_plain (phrase.Headers r) k word m h = tt
+phrase_plain (phrase.Base base) k word m h = tt
+phrase_plain (phrase.Defining t blanks name) k word m h =
+    let code = own_code (length k.names) in
+    two k.items (making k.maker name code) (call t) (making_is k.maker name code)
+    (kind_is t (fine word (keyword.Defining t) m))
+phrase_plain (phrase.Colon blanks name) k word m h =
+    let code = own_code (length k.names) in
+    one k.items (making k.maker name code) (making_is k.maker name code)
+phrase_plain phrase.Semicolon k word m h = tt
+phrase_plain phrase.Recurse k word m h = recursions k.open_one k.items
+phrase_plain phrase.Offset16 k word m h = (refl, λ e. h, tt)
+phrase_plain phrase.If k word m h = tt
+phrase_plain phrase.Else k word m h = tt
+phrase_plain phrase.Then k word m h = tt
+phrase_plain phrase.Begin k word m h = tt
+phrase_plain (phrase.Back z) k word m h = tt
+phrase_plain phrase.Repeat k word m h = tt
+phrase_plain (phrase.Do q) k word m h = tt
+phrase_plain (phrase.Loop q) k word m h = tt
+phrase_plain phrase.Leave k word m h = tt
+phrase_plain phrase.Case k word m h = tt
+phrase_plain phrase.Of k word m h = tt
+phrase_plain phrase.EndOf k word m h = tt
+phrase_plain phrase.EndCase k word m h = tt
+
+all_plain : (ps : List Spelled) (e : Ending) (k : Known) → AreSaid ps e k → ArePlain [] k.items
+    → ArePlain [] (all_behind ps k).items
+all_plain [] e k s h = h
+all_plain (p ∷ ps) e k s h =
+    let here = moved p.blanks k in
+    let more = phrase_plain p.phrase here p.word s.0.means s.0.placed in
+    all_plain ps e (behind p.word p.phrase here) s.1 (onto [] k.items (items_of p.phrase here) h more)
+
+pub accepted_plain : AcceptedIsPlain
+accepted_plain text s a =
+    let w = (accepted_written.accepted text s a).0 in
+    subst (ArePlain []) (sym w.items) (all_plain w.phrases w.ending (begun_with w.beginning) w.said tt)
