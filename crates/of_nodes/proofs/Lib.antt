@@ -21,3 +21,4 @@ mod PropertyNames
 mod PropertyLaw
 mod StoredLaw
 mod WayLaw
+mod Preorder

@@ -53,7 +53,7 @@ exact_if false count x i h e =
     let from = not_less x first_phandle h in
     omega (arith, far, from)
 
-exact : (count : ℕ) (ph : Phandle) (i : ℕ) → number_of count ph ≡ Some i → ph.0.0 ≡ first_phandle + 4 * i
+pub exact : (count : ℕ) (ph : Phandle) (i : ℕ) → number_of count ph ≡ Some i → ph.0.0 ≡ first_phandle + 4 * i
 exact count ph i e = exact_if (nat_lt ph.0.0 first_phandle) count ph.0.0 i refl e
 
 same_phandle : (a b : Phandle) → a.0.0 ≡ b.0.0 → a ≡ b

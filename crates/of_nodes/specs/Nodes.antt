@@ -2,6 +2,7 @@
 use Rattle.std.specs.Prelude.{ℕ, ◌<◌, ◌≤◌, ◌+◌, ◌*◌, ◌-◌, ◌/◌, ◌%◌, ◌&&◌, ◌==◌, nat_le, nat_lt, zero, suc, max}
 use Rattle.std.specs.Prelude.{List, [], ◌∷◌, ◌++◌, length, drop, Option, Some, None, Result, Ok, Err, if◌then◌else◌}
 use Rattle.std.specs.Prelude.{codes, slice_get}
+use Rattle.std.specs.Option.{option_or}
 use Rattle.of_memory.specs.DataSpace.{DataSpace}
 use Rattle.of_cells.specs.declared.cells.Cell.{Cell}
 use Rattle.of_nodes.specs.declared.tree.Node.{Node}
@@ -225,3 +226,19 @@ peer_at ns (Some i) =
 
 abbrev pub peer_found : List Node → Phandle → Result (Option Phandle) NodeFault
 peer_found ns ph = peer_at ns (number_of (length ns) ph)
+
+-- The node behind all that is below node i, which is at most k levels below the root: its peer, or else the one
+-- behind all that is below the node above it.
+abbrev pub behind_in : List Node → ℕ → ℕ → Option ℕ
+behind_in ns zero i = None
+behind_in ns (suc k) i =
+    if i == 0 then None
+    else option_or (child_from (i + 1) (drop (i + 1) ns) (parent_in ns i)) (behind_in ns k (parent_in ns i))
+
+-- the next node in preorder: the first child, or else the node behind all that is below it
+abbrev pub after_at : List Node → Option ℕ → Result (Option Phandle) NodeFault
+after_at ns None = Err NoNode
+after_at ns (Some i) = Ok (phandle_in (option_or (child_from 1 (drop 1 ns) i) (behind_in ns i i)))
+
+abbrev pub after_found : List Node → Phandle → Result (Option Phandle) NodeFault
+after_found ns ph = after_at ns (number_of (length ns) ph)

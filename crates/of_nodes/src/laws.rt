@@ -1,6 +1,7 @@
 //! What the calls over the nodes say of the tree.
 ghost use Rattle.of_nodes.specs.FirstPaths.{FirstPathsFind};
 ghost use Rattle.of_nodes.specs.MethodLaw.{MethodsAreFound};
+ghost use Rattle.of_nodes.specs.Preorder.{AfterRuns};
 ghost use Rattle.of_nodes.specs.PropertyLaw.{PropertiesAreFound};
 ghost use Rattle.of_nodes.specs.Stored.{StoredStays};
 ghost use Rattle.of_nodes.specs.Tree.{TreeIsShown};
@@ -61,4 +62,10 @@ pub fn stored_stays()
 #[tactic(auto, using(crate::proofs::WayLaw::ways_lead))]
 pub fn ways_lead()
     ensures { WaysLead }
+{}
+
+/// From the root on `after` goes through the tree in preorder, from each node to the next, to the last.
+#[tactic(auto, using(crate::proofs::Preorder::after_runs))]
+pub fn after_runs()
+    ensures { AfterRuns }
 {}

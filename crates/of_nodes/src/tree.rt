@@ -1,9 +1,11 @@
 ghost use Rattle.std.specs.Prelude.{◌≡◌, ◌<◌, ◌≤◌, ◌+◌, ◌⊎◌, List, max, length, drop, nat_le, codes, option_map};
 ghost use Rattle.std.specs.Prelude.{Ok, Err, IfErr, IfOk, IfSome, MatchResult, OnErr, OnOk, vec_capacity, vec_len};
+ghost use Rattle.std.specs.Option.{option_or};
 ghost use Rattle.of_nodes.specs.Lookup.{found, package_found, way_found};
-ghost use Rattle.of_nodes.specs.Nodes.{AreRooted, child_from, child_found, first_tree, method_added, method_found};
-ghost use Rattle.of_nodes.specs.Nodes.{method_placed, method_taken_back, most_nodes, named_child, next_found, node_added};
-ghost use Rattle.of_nodes.specs.Nodes.{parent_found, parent_in, peer_found, property_deleted, property_found};
+ghost use Rattle.of_nodes.specs.Nodes.{AreNodes, AreRooted, after_found, behind_in, child_from, child_found};
+ghost use Rattle.of_nodes.specs.Nodes.{first_tree, method_added, method_found};
+ghost use Rattle.of_nodes.specs.Nodes.{method_placed, method_taken_back, most_nodes, named_child, next_found};
+ghost use Rattle.of_nodes.specs.Nodes.{node_added, parent_found, parent_in, peer_found, property_deleted, property_found};
 ghost use Rattle.of_nodes.specs.Nodes.{property_placed, tree_property_set};
 ghost use Rattle.of_nodes.specs.Outcomes.{Adds, Answers, Sets};
 ghost use Rattle.of_nodes.specs.Paths.{cells_found, component_found, path_found};
@@ -84,6 +86,37 @@ pub(crate) fn parent_number(nodes: &[Node], number: usize) -> usize
     ensures { result ≡ parent_in nodes.now number }
 {
     nodes[number].parent
+}
+
+/// The node behind all that is below one, which is at most so many levels below the root, if there is one.
+#[tactic(auto, using(crate::proofs::Rooted::parent_within))]
+fn behind_all(nodes: &[Node], most: usize, number: usize) -> Option<usize>
+    requires nodes { AreNodes nodes.now }
+    requires within { number < length nodes.now }
+    ensures value { result ≡ behind_in nodes.now most number }
+    ensures within { IfSome result (λ i. i < length nodes.now) }
+{
+    if most == 0 || number == 0 {
+        return None;
+    }
+    let parent = parent_number(nodes, number);
+    match next_child(nodes, number + 1, parent) {
+        Some(peer) => Some(peer),
+        None => behind_all(nodes, most - 1, parent),
+    }
+}
+
+/// The next node in preorder, if there is one.
+fn next_node(nodes: &[Node], number: usize) -> Option<usize>
+    requires nodes { AreNodes nodes.now }
+    requires within { number < length nodes.now }
+    ensures value { result ≡ option_or (child_from 1 (drop 1 nodes.now) number) (behind_in nodes.now number number) }
+    ensures within { IfSome result (λ i. i < length nodes.now) }
+{
+    match next_child(nodes, 1, number) {
+        Some(child) => Some(child),
+        None => behind_all(nodes, number, number),
+    }
 }
 
 /// Whether there are as many nodes as are ever made.
@@ -195,6 +228,22 @@ impl Tree {
         let parent = parent_number(&self.nodes, number);
         match next_child(&self.nodes, number + 1, parent) {
             Some(peer) => Ok(Some(Phandle::of(peer))),
+            None => Ok(None),
+        }
+    }
+
+    /// The next node in preorder, if there is one: the oldest child, or else the node behind all that is below
+    /// this one.
+    ///
+    /// NoNode, if there is no such node.
+    pub fn after(&self, node: Phandle) -> Result<Option<Phandle>, NodeFault>
+        ensures { result ≡ after_found self.now node }
+    {
+        let Some(number) = node.number(self.nodes.len()) else {
+            return Err(NodeFault::NoNode);
+        };
+        match next_node(&self.nodes, number) {
+            Some(next) => Ok(Some(Phandle::of(next))),
             None => Ok(None),
         }
     }

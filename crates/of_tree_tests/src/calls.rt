@@ -130,6 +130,7 @@ fn placed(
         "parent" => shown_node(alloc, tree.parent(call.node())?)?,
         "child" => shown_node(alloc, tree.child(call.node())?)?,
         "peer" => shown_node(alloc, tree.peer(call.node())?)?,
+        "after" => shown_node(alloc, tree.after(call.node())?)?,
         "find" => shown_node(alloc, tree.find(memory, call.target.as_bytes()))?,
         "find_package" => shown_node(alloc, tree.find_package(memory, call.target.as_bytes()))?,
         "find_from" => shown_node(alloc, tree.find_from(memory, call.node(), call.name)?)?,

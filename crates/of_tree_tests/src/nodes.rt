@@ -2,13 +2,14 @@ use crate::calls::differing;
 use of_cells::Cell;
 use of_memory::{Memory, properties_change_by_puts_alone};
 use of_nodes::{
-    NodeFault, Phandle, Tree, first_paths_find, methods_are_found, paths_find,
+    NodeFault, Phandle, Tree, after_runs, first_paths_find, methods_are_found, paths_find,
     properties_are_found, stored_stays, tree_finds, tree_is_shown, ways_lead,
 };
 use std::test::Fail;
 
 #[test]
 fn laws_hold() {
+    after_runs();
     first_paths_find();
     methods_are_found();
     paths_find();
@@ -111,6 +112,15 @@ find_package p:x = d000002c
 find_package / = -
 find_package /p = -
 find_package packages = -
+after d0000000 = d0000004
+after d0000004 = d0000024
+after d0000024 = d0000028
+after d000002c = d0000008
+after d0000010 = d0000014
+after d0000014 = d000001c
+after d000001c = d0000018
+after d0000020 = -
+after d0000030 = no such node
 path_of d0000000 = /
 component_of d0000000 =
 component_of d0000010 = card@2,a0
