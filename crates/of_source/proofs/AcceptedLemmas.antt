@@ -19,6 +19,7 @@ use Rattle.of_source.specs.Phrases.{nothing_known, begun_with, items_in}
 use Rattle.of_source.specs.Phrases as phrase
 use Rattle.of_source.specs.Written.{IsWord, AreBlanks, EndsWord, IsRemark, AreRemarks, IsBegun, IsSaid}
 use Rattle.of_source.specs.Written.{AreSaid, EndsLine}
+use Rattle.of_source.specs.Faults.{HasWord}
 use Rattle.of_source.specs.Accepted.{IsWritten, AcceptedIsWritten}
 use Rattle.of_source.proofs.Kept.{Inv, Kept, kept, parsed_nested}
 use Rattle.of_source.proofs.Shrinking.{Shrinks, shrinks, NextWithin, next_word-within, FoundWithin, plain-within}
@@ -30,28 +31,42 @@ use Rattle.of_source.proofs.WrittenLemmas.{head_longer, written_parsed}
 -- ---- comments
 
 -- a text is comments and then blanks alone
-record IsTrailing (all : List ℕ) : Type 0 where
-  comments : List Spelled
-  more : List ℕ
-  text : all ≡ each_written comments more
-  remarks : AreRemarks comments more
-  blanks : AreBlanks more
+pub record IsTrailing (all : List ℕ) : Type 0 where
+  pub comments : List Spelled
+  pub more : List ℕ
+  pub text : all ≡ each_written comments more
+  pub remarks : AreRemarks comments more
+  pub blanks : AreBlanks more
 
--- a text that begins here is comments and then a word
-record IsLeading (at : ℕ) (all word : List ℕ) (r : Rest) : Type 0 where
-  comments : List Spelled
-  blanks : List ℕ
-  text : all ≡ each_written comments (blanks ++ (word ++ r.text))
-  remarks : AreRemarks comments (blanks ++ (word ++ r.text))
-  between : AreBlanks blanks
-  spelled : IsWord word
-  ends : EndsWord r.text
-  place : r.at ≡ place_behind comments at + length blanks + length word
+-- a text that begins here is comments and then a word at this place
+pub record IsLeading (from : ℕ) (all : List ℕ) (at : ℕ) (word : List ℕ) (r : Rest) : Type 0 where
+  pub comments : List Spelled
+  pub blanks : List ℕ
+  pub text : all ≡ each_written comments (blanks ++ (word ++ r.text))
+  pub remarks : AreRemarks comments (blanks ++ (word ++ r.text))
+  pub between : AreBlanks blanks
+  pub spelled : IsWord word
+  pub ends : EndsWord r.text
+  pub start : at ≡ place_behind comments from + length blanks
+  pub place : r.at ≡ place_behind comments from + length blanks + length word
+  pub no_parenthesis : is_word (codes "(") word ≡ false
+  pub no_line : is_word (codes "\\") word ≡ false
 
-abbrev FoundBeyond : Rest → Beyond → Type 0
+-- a text that begins here is comments and then one at this place whose end isn't on its line
+pub record IsOpenEnded (from : ℕ) (all : List ℕ) (at : ℕ) : Type 0 where
+  pub comments : List Spelled
+  pub rest : List ℕ
+  pub word : HasWord rest
+  pub text : all ≡ each_written comments rest
+  pub remarks : AreRemarks comments rest
+  pub parenthesis : is_word (codes "(") word.word ≡ true
+  pub no_end : plain_string 41 word.more ≡ None
+  pub start : at ≡ place_behind comments from + length word.blanks
+
+abbrev pub FoundBeyond : Rest → Beyond → Type 0
 FoundBeyond r Nothing = IsTrailing r.text
-FoundBeyond r (Word at w q) = IsLeading r.at r.text w q
-FoundBeyond r (Bad at) = Unit {0}
+FoundBeyond r (Word at w q) = IsLeading r.at r.text at w q
+FoundBeyond r (Bad at) = IsOpenEnded r.at r.text at
 
 -- a comment before what was found
 comment_before : (p : Spelled) (r q : Rest) (b : Beyond) → r.text ≡ written p q.text
@@ -72,9 +87,21 @@ comment_before p r q (Word at w t) e a k h = record {
   between = h.between;
   spelled = h.spelled;
   ends = h.ends;
+  start = h.start ∙ ap (λ n. place_behind h.comments n + length h.blanks) a;
   place = h.place ∙ ap (λ n. place_behind h.comments n + length h.blanks + length w) a;
+  no_parenthesis = h.no_parenthesis;
+  no_line = h.no_line;
 }
-comment_before p r q (Bad at) e a k h = tt
+comment_before p r q (Bad at) e a k h = record {
+  comments = p ∷ h.comments;
+  rest = h.rest;
+  word = h.word;
+  text = e ∙ ap (written p) h.text;
+  remarks = (k (each_written h.comments h.rest) h.text, h.remarks);
+  parenthesis = h.parenthesis;
+  no_end = h.no_end;
+  start = h.start ∙ ap (λ n. place_behind h.comments n + length h.word.blanks) a;
+}
 
 -- the word of a comment
 abbrev Reads : Rest → List ℕ → Rest → Type 0
@@ -87,12 +114,21 @@ phrase_place : (r q : Rest) (w : List ℕ) (p : phrase.Phrase) (more : Rest) →
 phrase_place r q w p more h e = e ∙ ap (λ n. n + length (taken p)) h.6
 
 -- beyond a comment in parentheses
-parenthesis_found : (r q : Rest) (w : List ℕ) (at : ℕ) (o : Found) (next : Rest → Beyond) → Reads r w q
-    → is_word (codes "(") w ≡ true → FoundPlain 41 q.text o
+parenthesis_found : (r q : Rest) (w : List ℕ) (o : Found) (next : Rest → Beyond) → Reads r w q
+    → is_word (codes "(") w ≡ true → FoundPlain 41 q.text o → plain_string 41 q.text ≡ o
     → ((t : Rest) → (f : List ℕ × List ℕ) → o ≡ Some f → t ≡ left_of q f.1 → FoundBeyond t (next t))
-    → FoundBeyond r (skipped_comment at q o next)
-parenthesis_found r q w at None next h e f k = tt
-parenthesis_found r q w at (Some g) next h e f k =
+    → FoundBeyond r (skipped_comment (start_of r) q o next)
+parenthesis_found r q w None next h e f d k = record {
+  comments = [];
+  rest = r.text;
+  word = record { blanks = h.0; word = w; more = q.text; text = h.1; between = h.2; spelled = h.3; ends = h.4 };
+  text = refl;
+  remarks = tt;
+  parenthesis = e;
+  no_end = d;
+  start = h.5;
+}
+parenthesis_found r q w (Some g) next h e f o k =
     let p : Spelled = record { blanks = h.0; word = w; phrase = phrase.Comment f.0 g.0 } in
     comment_before p r (left_of q g.1) (next (left_of q g.1))
     (h.1 ∙ ap (λ l. h.0 ++ (w ++ l)) f.1)
@@ -129,7 +165,7 @@ beyond_if : (r q : Rest) (w : List ℕ) (x y : Bool) (next : Rest → Beyond) �
     → FoundBeyond r (if x then skipped_comment (start_of r) q (plain_string 41 q.text) next else
     if y then next (left_of q (line_end q.text)) else Word (start_of r) w q)
 beyond_if r q w true y next e d h k =
-    parenthesis_found r q w (start_of r) (plain_string 41 q.text) next h e (plain_found 41 q.text refl)
+    parenthesis_found r q w (plain_string 41 q.text) next h e (plain_found 41 q.text refl) refl
     (λ t f g s. k t (shorter t f g s))
   where
     shorter : (t : Rest) (f : List ℕ × List ℕ) → plain_string 41 q.text ≡ Some f → t ≡ left_of q f.1
@@ -149,7 +185,10 @@ beyond_if r q w false false next e d h k = record {
   between = h.2;
   spelled = h.3;
   ends = h.4;
+  start = h.5;
   place = h.6;
+  no_parenthesis = e;
+  no_line = d;
 }
 
 beyond_word_found : (n : ℕ) (r : Rest) (o : Option (List ℕ × Rest)) (next : Rest → Beyond)
@@ -161,11 +200,11 @@ beyond_word_found n r (Some w) next h s l k =
     beyond_if r w.1 w.0 (is_word (codes "(") w.0) (is_word (codes "\\") w.0) next refl refl h
     (λ t m. k t (omega (arith, m, s, l)))
 
-no_bytes : (text : List ℕ) → length text ≤ 0 → AreBlanks text
+pub no_bytes : (text : List ℕ) → length text ≤ 0 → AreBlanks text
 no_bytes [] h = All-nil (λ b. b ≤ 0x20)
 no_bytes (b ∷ text) h = absurd (omega (arith, h))
 
-beyond_found : (n : ℕ) (r : Rest) → length r.text ≤ n → FoundBeyond r (beyond n r)
+pub beyond_found : (n : ℕ) (r : Rest) → length r.text ≤ n → FoundBeyond r (beyond n r)
 beyond_found zero r l =
     record { comments = []; more = r.text; text = refl; remarks = tt; blanks = no_bytes r.text l }
 beyond_found (suc n) r l =
@@ -223,14 +262,15 @@ rest_more z s t src g f = record {
   size = f.size;
 }
 
-end_shorter : (s t : State) → IsEnd s t → length t.rest.text ≤ length s.rest.text
+pub end_shorter : (s t : State) → IsEnd s t → length t.rest.text ≤ length s.rest.text
 end_shorter s t g =
     let e = ap length g.text in
     let a = length-append g.blanks (g.word ++ t.rest.text) in
     let b = length-append g.word t.rest.text in
     omega (arith, e, a, b)
 
-rest_step : (text : List ℕ) (z : OffsetSize) (n : ℕ) (s : State) (x : Step) (src : Source) → SaidNext s x → Kept x
+rest_step : (text : List ℕ) (z : OffsetSize) (n : ℕ) (s : State) (x : Step) (src : Source)
+    → SaidNext (last_place text) s x → Kept x
     → Shrinks (length s.rest.text) x → length s.rest.text ≤ length text
     → ((t : State) → Inv t → length t.rest.text ≤ length text → words text z n t ≡ Ok src → IsRest z t src)
     → stepped text z x (words text z n) ≡ Ok src → IsRest z s src
@@ -250,38 +290,51 @@ rest_words text z (suc n) s src i l h =
 
 -- ---- a whole text
 
-whole : (text : List ℕ) (z : OffsetSize) (w : List ℕ) (r : Rest) (src : Source) → IsLeading 0 text w r
+-- the beginning that was read
+abbrev pub begun_by : (text : List ℕ) (at : ℕ) (w : List ℕ) (r : Rest) → IsLeading 0 text at w r → Beginning
+begun_by text at w r l = record { comments = l.comments; blanks = l.blanks; word = w }
+
+pub is_begun : (text : List ℕ) (at : ℕ) (z : OffsetSize) (w : List ℕ) (r : Rest) (more : List ℕ)
+    → (l : IsLeading 0 text at w r) → is_word (version_word z) w ≡ true → r.text ≡ more
+    → IsBegun z (begun_by text at w r l) more
+is_begun text at z w r more l v e = record {
+  comments = subst (λ t. AreRemarks l.comments (l.blanks ++ (w ++ t))) e l.remarks;
+  blanks = l.between;
+  spelled = l.spelled;
+  ends = subst EndsWord e l.ends;
+  means = v;
+}
+
+-- what follows it is no longer than the text
+pub begun_longer : (text : List ℕ) (at : ℕ) (w : List ℕ) (r : Rest) → IsLeading 0 text at w r
+    → length r.text ≤ length text
+begun_longer text at w r l = omega (arith, head_longer (begun_by text at w r l) r.text, ap length l.text)
+
+whole : (text : List ℕ) (at : ℕ) (z : OffsetSize) (w : List ℕ) (r : Rest) (src : Source) → IsLeading 0 text at w r
     → is_word (version_word z) w ≡ true → words text z (length text) (beginning r) ≡ Ok src → IsWritten text src
-whole text z w r src l v h =
-    let b : Beginning = record { comments = l.comments; blanks = l.blanks; word = w } in
-    let few : length r.text ≤ length text = omega (arith, head_longer b r.text, ap length l.text) in
-    let f = rest_words text z (length text) (beginning r) src refl few h in
+whole text at z w r src l v h =
+    let b = begun_by text at w r l in
+    let f = rest_words text z (length text) (beginning r) src refl (begun_longer text at w r l) h in
     let k : nothing_known r.at ≡ begun_with b = ap nothing_known l.place in
     let more = all_written f.phrases f.ending in
-    let begun : IsBegun z b more = record {
-      comments = subst (λ t. AreRemarks l.comments (l.blanks ++ (w ++ t))) f.text l.remarks;
-      blanks = l.between;
-      spelled = l.spelled;
-      ends = subst EndsWord f.text l.ends;
-      means = v;
-    } in
     record {
       beginning = b;
       phrases = f.phrases;
       ending = f.ending;
       written = l.text ∙ ap (λ t. each_written l.comments (l.blanks ++ (w ++ t))) f.text;
-      begun = subst (λ (y : OffsetSize). IsBegun y b more) (sym f.size) begun;
+      begun =
+          subst (λ (y : OffsetSize). IsBegun y b more) (sym f.size) (is_begun text at z w r more l v f.text);
       said = subst (AreSaid f.phrases f.ending) k f.said;
       items = f.items ∙ ap (λ (x : Known). (all_behind f.phrases x).items) k;
     }
 
-whole_if : (text : List ℕ) (at : ℕ) (w : List ℕ) (r : Rest) (src : Source) (x y : Bool) → IsLeading 0 text w r
+whole_if : (text : List ℕ) (at : ℕ) (w : List ℕ) (r : Rest) (src : Source) (x y : Bool) → IsLeading 0 text at w r
     → is_word (codes "fcode-version2") w ≡ x → is_word (codes "fcode-version1") w ≡ y
     → (if x then words text size.Two (length text) (beginning r) else
     if y then words text size.One (length text) (beginning r) else Err (misplaced at 16 w)) ≡ Ok src
     → IsWritten text src
-whole_if text at w r src true y l e d h = whole text size.Two w r src l e h
-whole_if text at w r src false true l e d h = whole text size.One w r src l d h
+whole_if text at w r src true y l e d h = whole text at size.Two w r src l e h
+whole_if text at w r src false true l e d h = whole text at size.One w r src l d h
 whole_if text at w r src false false l e d h = absurd (refused (misplaced at 16 w) h)
   where
     refused : (f : SourceFault) → (let q : Result Source SourceFault = Err f in q) ≡ Ok src → ⊥

@@ -6,8 +6,10 @@ use Rattle.std.specs.Prelude.{slice_index}
 use Rattle.std.specs.List.{list_all}
 use Rattle.std.proofs.lemmas.Bool.Decides.{nat_tests}
 use Rattle.std.proofs.lemmas.List.{append-nil, length-append}
+use Rattle.of_cells.specs.declared.cells.Cell.{Cell}
 use Rattle.of_fcodes.specs.declared.codes.FCode.{FCode}
 use Rattle.of_source.specs.declared.fault.SourceFault.{SourceFault}
+use Rattle.of_source.specs.declared.fault.SourceFault.TheVariants.{Unknown, TooLong}
 use Rattle.of_source.specs.declared.keyword.Keyword.{Keyword}
 use Rattle.of_source.specs.declared.keyword.Keyword.TheVariants as keyword
 use Rattle.of_source.specs.declared.keyword.Quote.{Quote}
@@ -28,16 +30,20 @@ use Rattle.of_source.specs.Nesting.{Nesting, is_same, with_branch, with_part}
 use Rattle.of_source.specs.Nesting.{without_part, in_definition}
 use Rattle.of_source.specs.Nesting.{all_definitions, is_straight, is_closed}
 use Rattle.of_source.specs.Shapes.{shape_of}
-use Rattle.of_source.specs.Scan.{Rest, left_of, start_of, next_word, Found, plain_string, quoted_string, line_end}
+use Rattle.of_source.specs.Scan.{Rest, rest_at, left_of, start_of, next_word, Found, plain_string, quoted_string}
+use Rattle.of_source.specs.Scan.{line_end}
 use Rattle.of_source.specs.Steps.{State, Step, Goes, Ends, Fails, giving, opening, reading_on, at_next, with_radix}
 use Rattle.of_source.specs.Steps.{with_maker, with_next, with_name, name_found, with_string, with_code, if_open}
 use Rattle.of_source.specs.Steps.{if_ends, number_or_bad, number_items, comment_step, code_named, recurse_step}
 use Rattle.of_source.specs.Steps.{text_step, keyword_step, number_word_step, ordinary_step, listed_step, own_step}
-use Rattle.of_source.specs.Steps.{word_step, next_step}
+use Rattle.of_source.specs.Steps.{word_step, next_step, ended}
 use Rattle.of_source.specs.Phrases.{Phrase, Spelled, Known, taken, written, items_of, learned, moved, behind, recursion}
 use Rattle.of_source.specs.Phrases as phrase
-use Rattle.of_source.specs.Written.{IsWord, AreBlanks, EndsWord, IsStraight, own_of, IsKeyword, IsPlaced}
+use Rattle.of_source.specs.Written.{IsWord, AreBlanks, EndsWord, IsStraight, own_of, keyword_of, IsKeyword, IsPlaced}
 use Rattle.of_source.specs.Written.{IsFollowed, IsSaid}
+use Rattle.of_source.specs.Faults.{opened, HasWord, MakesName, IsWrong, no_opener, left_open, no_word, no_name}
+use Rattle.of_source.specs.Faults.{no_digits, bad_digits, long_name, long_string, no_end, no_code, not_outside}
+use Rattle.of_source.specs.Faults.{not_inside, not_straight, out_of_range, no_meaning, IsFailure, cut, wrong}
 use Rattle.of_source.proofs.Kept.{Inv, shapes, defines-shapes}
 use Rattle.of_source.proofs.ShapeLemmas.{both_true}
 use Rattle.of_source.proofs.FoundText.{FoundPlain, FoundQuoted, FoundWord, plain_found, quoted_found, line_found}
@@ -68,15 +74,21 @@ record Says (u : State) (word : List ℕ) (t : State) : Type 0 where
   placed : IsPlaced (known_at u.at u) word phrase
   followed : IsFollowed phrase t.rest.text
   knows : (at : ℕ) → known_at at t ≡ placed_at at (behind word phrase (known_at u.at u))
+  opens : opened phrase u.at u.nesting ≡ Some t.nesting
 
 -- the word ends a source
 abbrev IsLast : State → List ℕ → State → Type 0
-IsLast u word t = (t ≡ u) × (own_in u.known word ≡ None) × (keyword_named word ≡ Some keyword.Finish)
+IsLast u word t =
+    (t ≡ u) × (own_in u.known word ≡ None) × (keyword_named word ≡ Some keyword.Finish) × (is_closed u.nesting ≡ true)
 
-abbrev Said : State → List ℕ → Step → Type 0
-Said u word (Goes t) = Says u word t
-Said u word (Ends t) = IsLast u word t
-Said u word (Fails f) = Unit {0}
+-- the word can't stand there, and the last byte of the text is at this place
+abbrev Failed : ℕ → State → List ℕ → SourceFault → Type 0
+Failed last u word f = (own_in u.known word ≡ None) × IsWrong last (known_at u.at u) u.nesting word u.rest f
+
+abbrev Said : ℕ → State → List ℕ → Step → Type 0
+Said last u word (Goes t) = Says u word t
+Said last u word (Ends t) = IsLast u word t
+Said last u word (Fails f) = Failed last u word f
 
 stay : (at : ℕ) → at ≡ at + 0
 stay at = omega arith
@@ -84,8 +96,9 @@ stay at = omega arith
 -- a phrase that takes nothing from the text
 alone : (u t : State) (word : List ℕ) (p : Phrase) → taken p ≡ [] → t.rest ≡ u.rest → own_in u.known word ≡ own_of p
     → IsKeyword word p → IsPlaced (known_at u.at u) word p → IsFollowed p t.rest.text
-    → ((at : ℕ) → known_at at t ≡ placed_at at (behind word p (known_at u.at u))) → Says u word t
-alone u t word p e r own means placed followed knows = record {
+    → ((at : ℕ) → known_at at t ≡ placed_at at (behind word p (known_at u.at u)))
+    → opened p u.at u.nesting ≡ Some t.nesting → Says u word t
+alone u t word p e r own means placed followed knows opens = record {
   phrase = p;
   text = ap (λ (q : Rest). q.text) (sym r) ∙ ap (λ l. l ++ t.rest.text) (sym e);
   place = ap (λ (q : Rest). q.at) r ∙ stay u.rest.at ∙ ap (λ l. u.rest.at + length l) (sym e);
@@ -94,6 +107,7 @@ alone u t word p e r own means placed followed knows = record {
   placed = placed;
   followed = followed;
   knows = knows;
+  opens = opens;
 }
 
 -- no items more
@@ -102,43 +116,59 @@ same_items is f = ap f (sym (append-nil is))
 
 -- ---- the parts of a step
 
-said_if : (u : State) (word : List ℕ) (b : Bool) (f : SourceFault) (x : Step) → (b ≡ true → Said u word x)
-    → Said u word (if b then x else Fails f)
-said_if u word true f x k = k refl
-said_if u word false f x k = tt
+said_if : (last : ℕ) (u : State) (word : List ℕ) (b : Bool) (f : SourceFault) (x : Step)
+    → (b ≡ false → Failed last u word f) → (b ≡ true → Said last u word x)
+    → Said last u word (if b then x else Fails f)
+said_if last u word true f x w k = k refl
+said_if last u word false f x w k = w refl
 
-said_unless : (u : State) (word : List ℕ) (b : Bool) (f : SourceFault) (x : Step) → (b ≡ false → Said u word x)
-    → Said u word (if b then Fails f else x)
-said_unless u word true f x k = tt
-said_unless u word false f x k = k refl
+said_unless : (last : ℕ) (u : State) (word : List ℕ) (b : Bool) (f : SourceFault) (x : Step)
+    → (b ≡ true → Failed last u word f) → (b ≡ false → Said last u word x)
+    → Said last u word (if b then Fails f else x)
+said_unless last u word true f x w k = w refl
+said_unless last u word false f x w k = k refl
 
 -- the word that a word takes
 abbrev Taken : State → List ℕ → Rest → Type 0
 Taken u w r = FoundWord u.rest.at u.rest.text (start_of u.rest) (Some (w, r))
 
-said_next : (u : State) (word : List ℕ) (f : SourceFault) (o : Option (List ℕ × Rest)) (go : List ℕ → Rest → Step)
+said_next : (last : ℕ) (u : State) (word : List ℕ) (f : SourceFault) (o : Option (List ℕ × Rest))
+    (go : List ℕ → Rest → Step)
     → FoundWord u.rest.at u.rest.text (start_of u.rest) o
-    → ((w : List ℕ) (r : Rest) → Taken u w r → Said u word (go w r)) → Said u word (with_next f o go)
-said_next u word f None go h k = tt
-said_next u word f (Some w) go h k = k w.0 w.1 h
+    → (AreBlanks u.rest.text → Failed last u word f)
+    → ((w : List ℕ) (r : Rest) → Taken u w r → Said last u word (go w r)) → Said last u word (with_next f o go)
+said_next last u word f None go h n k = n h
+said_next last u word f (Some w) go h n k = k w.0 w.1 h
 
-short_name : (u : State) (word : List ℕ) (b : Bool) (f : SourceFault) (name : List ℕ) (s : State)
+short_name : (last : ℕ) (u : State) (word : List ℕ) (b : Bool) (f : SourceFault) (name : List ℕ) (s : State)
     (go : List ℕ → State → Step)
-    → (b ≡ false → Said u word (go name s)) → Said u word (with_name (if b then Err f else Ok (name, s)) go)
-short_name u word true f name s go k = tt
-short_name u word false f name s go k = k refl
+    → (b ≡ true → Failed last u word f) → (b ≡ false → Said last u word (go name s))
+    → Said last u word (with_name (if b then Err f else Ok (name, s)) go)
+short_name last u word true f name s go n k = n refl
+short_name last u word false f name s go n k = k refl
+
+too_long : (m l : ℕ) → nat_lt m l ≡ true → m < l
+too_long m l h = grind (arith, nat_tests)
 
 no_longer : (l : ℕ) → nat_lt 31 l ≡ false → l ≤ 31
 no_longer l h = grind (arith, nat_tests)
 
 said_name : (last : ℕ) (u s : State) (word : List ℕ) (o : Option (List ℕ × Rest)) (go : List ℕ → State → Step)
     → FoundWord u.rest.at u.rest.text (start_of u.rest) o
-    → ((name : List ℕ) (r : Rest) → Taken u name r → length name ≤ 31 → Said u word (go name (reading_on r s)))
-    → Said u word (with_name (name_found last s o) go)
-said_name last u s word None go h k = tt
-said_name last u s word (Some w) go h k =
-    short_name u word (nat_lt 31 (length w.0)) _ w.0 (reading_on w.1 s) go
-    (λ e. k w.0 w.1 h (no_longer (length w.0) e))
+    → (AreBlanks u.rest.text → Failed last u word (ended last s))
+    → ((name : List ℕ) (r : Rest) → Taken u name r → 31 < length name
+    → Failed last u word (TooLong (start_of s.rest)))
+    → ((name : List ℕ) (r : Rest) → Taken u name r → length name ≤ 31 → Said last u word (go name (reading_on r s)))
+    → Said last u word (with_name (name_found last s o) go)
+said_name last u s word None go h n t k = n h
+said_name last u s word (Some w) go h n t k =
+    short_name last u word (nat_lt 31 (length w.0)) _ w.0 (reading_on w.1 s) go
+    (λ e. t w.0 w.1 h (too_long 31 (length w.0) e)) (λ e. k w.0 w.1 h (no_longer (length w.0) e))
+
+-- the word that a word takes, as it stands in the text
+abbrev has_word : (u : State) (w : List ℕ) (r : Rest) → Taken u w r → HasWord u.rest.text
+has_word u w r h =
+    record { blanks = h.0; word = w; more = r.text; text = h.1; between = h.2; spelled = h.3; ends = h.4 }
 
 no_longer_string : (l : ℕ) → nat_lt 255 l ≡ false → l ≤ 255
 no_longer_string l h = grind (arith, nat_tests)
@@ -155,11 +185,11 @@ operand_place u w r h = h.6 ∙ together u.rest.at (length h.0) (length w) (leng
 
 -- ---- words that read on
 
-said_number : (u : State) (word : List ℕ) (base : Radix) (w : List ℕ) (r : Rest) (v : Number)
+said_number : (last : ℕ) (u : State) (word : List ℕ) (base : Radix) (w : List ℕ) (r : Rest) (v : Number)
     → own_in u.known word ≡ None → keyword_named word ≡ Some (keyword.NumberIn base) → Taken u w r
     → number_in (base_of base) w ≡ v
-    → Said u word (number_or_bad u.at v (λ x. Goes (giving (number_items x) (reading_on r u))))
-said_number u word base w r (Value x) o m h e = record {
+    → Said last u word (number_or_bad u.at v (λ x. Goes (giving (number_items x) (reading_on r u))))
+said_number last u word base w r (Value x) o m h e = record {
   phrase = phrase.NumberIn base h.0 w x;
   text = operand_text u w r h;
   place = operand_place u w r h;
@@ -168,15 +198,24 @@ said_number u word base w r (Value x) o m h e = record {
   placed = (h.2, h.3, e);
   followed = h.4;
   knows = λ at. refl;
+  opens = refl;
 }
-said_number u word base w r OutOfRange o m h e = tt
-said_number u word base w r NoNumber o m h e = tt
+said_number last u word base w r OutOfRange o m h e =
+    (o, bad_digits base (has_word u w r h) m (λ x d. absurd (no_value x (sym e ∙ d))))
+  where
+    no_value : (x : Cell) → OutOfRange ≡ Value x → ⊥
+    no_value x d = cc
+said_number last u word base w r NoNumber o m h e =
+    (o, bad_digits base (has_word u w r h) m (λ x d. absurd (no_value x (sym e ∙ d))))
+  where
+    no_value : (x : Cell) → NoNumber ≡ Value x → ⊥
+    no_value x d = cc
 
-said_character : (u : State) (word w : List ℕ) (r : Rest) → own_in u.known word ≡ None
+said_character : (last : ℕ) (u : State) (word w : List ℕ) (r : Rest) → own_in u.known word ≡ None
     → keyword_named word ≡ Some keyword.Character → Taken u w r
-    → Said u word (Goes (giving (number_items (record { 0 = slice_index w 0 })) (reading_on r u)))
-said_character u word [] r o m h = let l : 0 < 0 = h.3.0 in absurd (omega (arith, l))
-said_character u word (b ∷ bytes) r o m h = record {
+    → Said last u word (Goes (giving (number_items (record { 0 = slice_index w 0 })) (reading_on r u)))
+said_character last u word [] r o m h = let l : 0 < 0 = h.3.0 in absurd (omega (arith, l))
+said_character last u word (b ∷ bytes) r o m h = record {
   phrase = phrase.Character h.0 b bytes;
   text = operand_text u (b ∷ bytes) r h;
   place = operand_place u (b ∷ bytes) r h;
@@ -185,14 +224,20 @@ said_character u word (b ∷ bytes) r o m h = record {
   placed = (h.2, h.3);
   followed = h.4;
   knows = λ at. refl;
+  opens = refl;
 }
 
-said_naming : (u : State) (word : List ℕ) (t : FCode) (w : List ℕ) (r : Rest) (o : Option FCode)
+said_naming : (last : ℕ) (u : State) (word : List ℕ) (t : FCode) (w : List ℕ) (r : Rest) (o : Option FCode)
     → own_in u.known word ≡ None → keyword_named word ≡ Some (keyword.Naming t) → Taken u w r
     → code_named u.known w ≡ o
-    → Said u word (with_code (start_of u.rest) o (λ c. Goes (giving (item.Plain (naming t c) ∷ []) (reading_on r u))))
-said_naming u word t w r None o m h e = tt
-said_naming u word t w r (Some c) o m h e = record {
+    → Said last u word (with_code (start_of u.rest) o
+    (λ c. Goes (giving (item.Plain (naming t c) ∷ []) (reading_on r u))))
+said_naming last u word t w r None o m h e = (
+  o,
+  subst (λ (a : ℕ). IsWrong last (known_at u.at u) u.nesting word u.rest (Unknown a)) (sym h.5)
+      (no_code t (has_word u w r h) m e),
+)
+said_naming last u word t w r (Some c) o m h e = record {
   phrase = phrase.Naming t h.0 w c;
   text = operand_text u w r h;
   place = operand_place u w r h;
@@ -201,12 +246,14 @@ said_naming u word t w r (Some c) o m h e = record {
   placed = (h.2, h.3, e);
   followed = h.4;
   knows = λ at. refl;
+  opens = refl;
 }
 
-said_comment : (u : State) (word : List ℕ) (o : Found) → own_in u.known word ≡ None
-    → keyword_named word ≡ Some keyword.Comment → FoundPlain 41 u.rest.text o → Said u word (comment_step u o)
-said_comment u word None n m h = tt
-said_comment u word (Some r) n m h = record {
+said_comment : (last : ℕ) (u : State) (word : List ℕ) (o : Found) → own_in u.known word ≡ None
+    → keyword_named word ≡ Some keyword.Comment → FoundPlain 41 u.rest.text o → plain_string 41 u.rest.text ≡ o
+    → Said last u word (comment_step u o)
+said_comment last u word None n m h d = (n, no_end keyword.Comment m (ap (λ (o : Found). Some o) d))
+said_comment last u word (Some r) n m h d = record {
   phrase = phrase.Comment h.0 r.0;
   text = h.1;
   place = left_place u.rest (h.0 ∷ r.0 ++ 41 ∷ []) r.1 h.1;
@@ -215,11 +262,13 @@ said_comment u word (Some r) n m h = record {
   placed = (h.2, h.3);
   followed = tt;
   knows = λ at. same_items u.items (λ is. record (known_at at u) { items = is });
+  opens = refl;
 }
 
-said_line : (u : State) (word : List ℕ) → own_in u.known word ≡ None → keyword_named word ≡ Some keyword.LineComment
-    → Said u word (Goes (reading_on (left_of u.rest (line_end u.rest.text)) u))
-said_line u word n m =
+said_line : (last : ℕ) (u : State) (word : List ℕ) → own_in u.known word ≡ None
+    → keyword_named word ≡ Some keyword.LineComment
+    → Said last u word (Goes (reading_on (left_of u.rest (line_end u.rest.text)) u))
+said_line last u word n m =
     let h = line_found u.rest.text in
     record {
       phrase = phrase.LineComment h.0;
@@ -230,14 +279,18 @@ said_line u word n m =
       placed = h.2;
       followed = h.3;
       knows = λ at. same_items u.items (λ is. record (known_at at u) { items = is });
+      opens = refl;
     }
 
-said_plain : (u : State) (word : List ℕ) (o : Found) → own_in u.known word ≡ None
+said_plain : (last : ℕ) (u : State) (word : List ℕ) (o : Found) → own_in u.known word ≡ None
     → keyword_named word ≡ Some (keyword.Text quote.Plain) → FoundPlain 34 u.rest.text o
-    → Said u word (with_string u o (λ bytes t. Goes (giving (item.Plain (string bytes) ∷ []) t)))
-said_plain u word None n m h = tt
-said_plain u word (Some r) n m h =
-    said_unless u word (nat_lt 255 (length r.0)) _ _
+    → plain_string 34 u.rest.text ≡ o
+    → Said last u word (with_string u o (λ bytes t. Goes (giving (item.Plain (string bytes) ∷ []) t)))
+said_plain last u word None n m h d =
+    (n, no_end (keyword.Text quote.Plain) m (ap (λ (o : Found). Some o) d))
+said_plain last u word (Some r) n m h d =
+    said_unless last u word (nat_lt 255 (length r.0)) _ _
+    (λ e. (n, long_string quote.Plain r.0 r.1 m (ap (λ (o : Found). Some o) d) (too_long 255 (length r.0) e)))
     (λ e. record {
       phrase = phrase.Text false h.0 r.0;
       text = h.1;
@@ -247,15 +300,19 @@ said_plain u word (Some r) n m h =
       placed = (h.2, no_longer_string (length r.0) e, h.3);
       followed = tt;
       knows = λ at. refl;
+      opens = refl;
     })
 
-said_printed : (u : State) (word : List ℕ) (o : Found) → own_in u.known word ≡ None
+said_printed : (last : ℕ) (u : State) (word : List ℕ) (o : Found) → own_in u.known word ≡ None
     → keyword_named word ≡ Some (keyword.Text quote.Printed) → FoundPlain 34 u.rest.text o
-    → Said u word (with_string u o
+    → plain_string 34 u.rest.text ≡ o
+    → Said last u word (with_string u o
     (λ bytes t. Goes (giving (item.Plain (string bytes) ∷ item.Plain (bare 0x090) ∷ []) t)))
-said_printed u word None n m h = tt
-said_printed u word (Some r) n m h =
-    said_unless u word (nat_lt 255 (length r.0)) _ _
+said_printed last u word None n m h d =
+    (n, no_end (keyword.Text quote.Printed) m (ap (λ (o : Found). Some o) d))
+said_printed last u word (Some r) n m h d =
+    said_unless last u word (nat_lt 255 (length r.0)) _ _
+    (λ e. (n, long_string quote.Printed r.0 r.1 m (ap (λ (o : Found). Some o) d) (too_long 255 (length r.0) e)))
     (λ e. record {
       phrase = phrase.Text true h.0 r.0;
       text = h.1;
@@ -265,14 +322,18 @@ said_printed u word (Some r) n m h =
       placed = (h.2, no_longer_string (length r.0) e, h.3);
       followed = tt;
       knows = λ at. refl;
+      opens = refl;
     })
 
-said_quoted : (u : State) (word : List ℕ) (o : Found) → own_in u.known word ≡ None
+said_quoted : (last : ℕ) (u : State) (word : List ℕ) (o : Found) → own_in u.known word ≡ None
     → keyword_named word ≡ Some (keyword.Text quote.Bytes) → FoundQuoted u.rest.text o
-    → Said u word (with_string u o (λ bytes t. Goes (giving (item.Plain (string bytes) ∷ []) t)))
-said_quoted u word None n m h = tt
-said_quoted u word (Some r) n m h =
-    said_unless u word (nat_lt 255 (length r.0)) _ _
+    → quoted_string u.rest.text ≡ o
+    → Said last u word (with_string u o (λ bytes t. Goes (giving (item.Plain (string bytes) ∷ []) t)))
+said_quoted last u word None n m h d =
+    (n, no_end (keyword.Text quote.Bytes) m (ap (λ (o : Found). Some o) d))
+said_quoted last u word (Some r) n m h d =
+    said_unless last u word (nat_lt 255 (length r.0)) _ _
+    (λ e. (n, long_string quote.Bytes r.0 r.1 m (ap (λ (o : Found). Some o) d) (too_long 255 (length r.0) e)))
     (λ e. record {
       phrase = phrase.Quoted h.0 h.1 h.2;
       text = h.3;
@@ -282,40 +343,44 @@ said_quoted u word (Some r) n m h =
       placed = (h.5, subst (λ l. length l ≤ 255) h.4 (no_longer_string (length r.0) e), h.6, h.7);
       followed = h.8;
       knows = λ at. ap (λ l. record (known_at at u) { items = u.items ++ item.Plain (string l) ∷ [] }) h.4;
+      opens = refl;
     })
 
-said_text : (q : Quote) (u : State) (word : List ℕ) → own_in u.known word ≡ None
-    → keyword_named word ≡ Some (keyword.Text q) → Said u word (text_step q u)
-said_text quote.Bytes u word n m = said_quoted u word (quoted_string u.rest.text) n m (quoted_found u.rest.text)
-said_text quote.Plain u word n m =
-    said_plain u word (plain_string 34 u.rest.text) n m (plain_found 34 u.rest.text refl)
-said_text quote.Printed u word n m =
-    said_printed u word (plain_string 34 u.rest.text) n m (plain_found 34 u.rest.text refl)
+said_text : (last : ℕ) (q : Quote) (u : State) (word : List ℕ) → own_in u.known word ≡ None
+    → keyword_named word ≡ Some (keyword.Text q) → Said last u word (text_step q u)
+said_text last quote.Bytes u word n m =
+    said_quoted last u word (quoted_string u.rest.text) n m (quoted_found u.rest.text) refl
+said_text last quote.Plain u word n m =
+    said_plain last u word (plain_string 34 u.rest.text) n m (plain_found 34 u.rest.text refl) refl
+said_text last quote.Printed u word n m =
+    said_printed last u word (plain_string 34 u.rest.text) n m (plain_found 34 u.rest.text refl) refl
 
 -- ---- definitions
 
-said_recurse : (u : State) (word : List ℕ) (o : Option Own) → own_in u.known word ≡ None
-    → keyword_named word ≡ Some keyword.Recurse → u.open_one ≡ o → Said u word (recurse_step u o)
-said_recurse u word None n m e = tt
-said_recurse u word (Some d) n m e =
+said_recurse : (last : ℕ) (u : State) (word : List ℕ) (o : Option Own) → own_in u.known word ≡ None
+    → keyword_named word ≡ Some keyword.Recurse → u.open_one ≡ o → Said last u word (recurse_step u o)
+said_recurse last u word None n m e = (n, not_inside m e)
+said_recurse last u word (Some d) n m e =
     alone u _ word phrase.Recurse refl refl n m (d, e) tt
-    (λ at. ap (λ (p : Option Own). record (known_at at u) { items = u.items ++ recursion p }) (sym e))
+    (λ at. ap (λ (p : Option Own). record (known_at at u) { items = u.items ++ recursion p }) (sym e)) refl
 
-said_ends : (o : Option Nesting) (u : State) (word : List ℕ) → own_in u.known word ≡ None
-    → keyword_named word ≡ Some keyword.Semicolon → Said u word (if_ends o u)
-said_ends None u word n m = tt
-said_ends (Some p) u word n m = alone u _ word phrase.Semicolon refl refl n m tt tt (λ at. refl)
+said_ends : (last : ℕ) (o : Option Nesting) (u : State) (word : List ℕ) → own_in u.known word ≡ None
+    → keyword_named word ≡ Some keyword.Semicolon → without_part part.Definition u.nesting ≡ o
+    → Said last u word (if_ends o u)
+said_ends last None u word n m e = (n, no_opener phrase.Semicolon m e)
+said_ends last (Some p) u word n m e = alone u _ word phrase.Semicolon refl refl n m tt tt (λ at. refl) e
 
 -- ---- control structures
 
-said_open : (o : Option Nesting) (is : List Item) (u : State) (word : List ℕ) (p : Phrase) → taken p ≡ []
-    → own_in u.known word ≡ own_of p → IsKeyword word p → IsPlaced (known_at u.at u) word p
-    → IsFollowed p u.rest.text
+said_open : (last : ℕ) (o : Option Nesting) (is : List Item) (u : State) (word : List ℕ) (p : Phrase) → taken p ≡ []
+    → own_of p ≡ None → own_in u.known word ≡ None → keyword_named word ≡ keyword_of p → IsKeyword word p
+    → IsPlaced (known_at u.at u) word p → IsFollowed p u.rest.text
     → ((n : Nesting) (at : ℕ)
     → known_at at (giving is (opening n u)) ≡ placed_at at (behind word p (known_at u.at u)))
-    → Said u word (if_open o is u)
-said_open None is u word p e n m l f k = tt
-said_open (Some x) is u word p e n m l f k = alone u (giving is (opening x u)) word p e refl n m l f (k x)
+    → opened p u.at u.nesting ≡ o → Said last u word (if_open o is u)
+said_open last None is u word p e c n m q l f k d = (n, no_opener p m d)
+said_open last (Some x) is u word p e c n m q l f k d =
+    alone u (giving is (opening x u)) word p e refl (n ∙ sym c) q l f (k x) d
 
 -- ---- what is open, by its shape
 
@@ -336,29 +401,42 @@ straight_shape n h =
 
 -- ---- one word
 
+-- a name of more than 31 bytes
+named_long : (last : ℕ) (u : State) (word : List ℕ) (key : Keyword) (name : List ℕ) (r : Rest) → Taken u name r
+    → own_in u.known word ≡ None → keyword_named word ≡ Some key → MakesName key
+    → in_definition u.nesting.parts ≡ false → 31 < length name → Failed last u word (TooLong (start_of u.rest))
+named_long last u word key name r h n m c e l = (
+  n,
+  subst (λ (a : ℕ). IsWrong last (known_at u.at u) u.nesting word u.rest (TooLong a)) (sym h.5)
+      (long_name key (has_word u name r h) m c e l),
+)
+
 said_keyword : (last : ℕ) (k : Keyword) (u : State) (word : List ℕ) → own_in u.known word ≡ None
-    → keyword_named word ≡ Some k → Inv u → Said u word (keyword_step last k u)
-said_keyword last keyword.Finish u word n m i = said_if u word (is_closed u.nesting) _ (Ends u) (λ e. (refl, n, m))
+    → keyword_named word ≡ Some k → Inv u → Said last u word (keyword_step last k u)
+said_keyword last keyword.Finish u word n m i = said_if last u word (is_closed u.nesting) _ (Ends u)
+    (λ e. (n, left_open m e)) (λ e. (refl, n, m, e))
 said_keyword last keyword.Comment u word n m i =
-    said_comment u word (plain_string 41 u.rest.text) n m (plain_found 41 u.rest.text refl)
-said_keyword last keyword.LineComment u word n m i = said_line u word n m
+    said_comment last u word (plain_string 41 u.rest.text) n m (plain_found 41 u.rest.text refl) refl
+said_keyword last keyword.LineComment u word n m i = said_line last u word n m
 said_keyword last (keyword.Headers x) u word n m i =
     alone u (with_maker x u) word (phrase.Headers x) refl refl n m tt tt
-    (λ at. same_items u.items (λ is. record (known_at at (with_maker x u)) { items = is }))
+    (λ at. same_items u.items (λ is. record (known_at at (with_maker x u)) { items = is })) refl
 said_keyword last (keyword.Radix x) u word n m i =
     alone u (with_radix x u) word (phrase.Base x) refl refl n m tt tt
-    (λ at. same_items u.items (λ is. record (known_at at (with_radix x u)) { items = is }))
+    (λ at. same_items u.items (λ is. record (known_at at (with_radix x u)) { items = is })) refl
 said_keyword last (keyword.NumberIn base) u word n m i =
-    said_next u word _ (next_word u.rest) _ (next_found u.rest.at u.rest.text)
-    (λ w r h. said_number u word base w r (number_in (base_of base) w) n m h refl)
+    said_next last u word _ (next_word u.rest) _ (next_found u.rest.at u.rest.text)
+    (λ c. (n, no_digits base m c)) (λ w r h. said_number last u word base w r (number_in (base_of base) w) n m h refl)
 said_keyword last keyword.Character u word n m i =
-    said_next u word _ (next_word u.rest) _ (next_found u.rest.at u.rest.text)
-    (λ w r h. said_character u word w r n m h)
-said_keyword last (keyword.Text q) u word n m i = said_text q u word n m
+    said_next last u word _ (next_word u.rest) _ (next_found u.rest.at u.rest.text)
+    (λ c. (n, no_word keyword.Character m tt c)) (λ w r h. said_character last u word w r n m h)
+said_keyword last (keyword.Text q) u word n m i = said_text last q u word n m
 said_keyword last keyword.Colon u word n m i =
-    said_unless u word (in_definition u.nesting.parts) _ _
+    said_unless last u word (in_definition u.nesting.parts) _ _
+    (λ e. (n, not_outside keyword.Colon m tt e))
     (λ e. said_name last u (opening (with_part part.Definition u.at u.nesting) u) word (next_word u.rest) _
-    (next_found u.rest.at u.rest.text)
+    (next_found u.rest.at u.rest.text) (λ c. (n, no_name keyword.Colon m tt e c))
+    (λ name r h l. named_long last u word keyword.Colon name r h n m tt e l)
     (λ name r h l. record {
       phrase = phrase.Colon h.0 name;
       text = operand_text u name r h;
@@ -368,11 +446,16 @@ said_keyword last keyword.Colon u word n m i =
       placed = (h.2, (h.3, l));
       followed = h.4;
       knows = λ at. refl;
+      opens = refl;
     }))
-said_keyword last keyword.Semicolon u word n m i = said_ends (without_part part.Definition u.nesting) u word n m
+said_keyword last keyword.Semicolon u word n m i =
+    said_ends last (without_part part.Definition u.nesting) u word n m refl
 said_keyword last (keyword.Defining t) u word n m i =
-    said_unless u word (in_definition u.nesting.parts) _ _
+    said_unless last u word (in_definition u.nesting.parts) _ _
+    (λ e. (n, not_outside (keyword.Defining t) m tt e))
     (λ e. said_name last u u word (next_word u.rest) _ (next_found u.rest.at u.rest.text)
+    (λ c. (n, no_name (keyword.Defining t) m tt e c))
+    (λ name r h l. named_long last u word (keyword.Defining t) name r h n m tt e l)
     (λ name r h l. record {
       phrase = phrase.Defining t h.0 name;
       text = operand_text u name r h;
@@ -382,57 +465,73 @@ said_keyword last (keyword.Defining t) u word n m i =
       placed = (h.2, (h.3, l), (shape_of u.nesting, i, defines-shapes u.nesting.parts ∙ e));
       followed = h.4;
       knows = λ at. refl;
+      opens = refl;
     }))
-said_keyword last keyword.Recurse u word n m i = said_recurse u word u.open_one n m refl
+said_keyword last keyword.Recurse u word n m i = said_recurse last u word u.open_one n m refl
 said_keyword last (keyword.Naming t) u word n m i =
-    said_next u word _ (next_word u.rest) _ (next_found u.rest.at u.rest.text)
-    (λ w r h. said_naming u word t w r (code_named u.known w) n m h refl)
+    said_next last u word _ (next_word u.rest) _ (next_found u.rest.at u.rest.text)
+    (λ c. (n, no_word (keyword.Naming t) m tt c))
+    (λ w r h. said_naming last u word t w r (code_named u.known w) n m h refl)
 said_keyword last keyword.Offset16 u word n m i =
-    said_if u word (is_straight u.nesting) _ _
+    said_if last u word (is_straight u.nesting) _ _ (λ e. (n, not_straight m e))
     (λ e. alone u _ word phrase.Offset16 refl refl n m (shape_of u.nesting, i, straight_shape u.nesting e) tt
-    (λ at. refl))
-said_keyword last (keyword.One t) u word n m i = alone u _ word (phrase.Short t) refl refl n m tt tt (λ at. refl)
-said_keyword last (keyword.Two t x) u word n m i = alone u _ word (phrase.Pair t x) refl refl n m tt tt (λ at. refl)
+    (λ at. refl) refl)
+said_keyword last (keyword.One t) u word n m i = alone u _ word (phrase.Short t) refl refl n m tt tt (λ at. refl) refl
+said_keyword last (keyword.Two t x) u word n m i =
+    alone u _ word (phrase.Pair t x) refl refl n m tt tt (λ at. refl) refl
 said_keyword last keyword.If u word n m i =
-    said_open (Some (with_branch u.at u.nesting)) _ u word phrase.If refl n m tt tt (λ x at. refl)
-said_keyword last keyword.Else u word n m i = said_open _ _ u word phrase.Else refl n m tt tt (λ x at. refl)
-said_keyword last keyword.Then u word n m i = said_open _ _ u word phrase.Then refl n m tt tt (λ x at. refl)
+    said_open last (Some (with_branch u.at u.nesting)) _ u word phrase.If refl refl n m m tt tt (λ x at. refl) refl
+said_keyword last keyword.Else u word n m i =
+    said_open last _ _ u word phrase.Else refl refl n m m tt tt (λ x at. refl) refl
+said_keyword last keyword.Then u word n m i =
+    said_open last _ _ u word phrase.Then refl refl n m m tt tt (λ x at. refl) refl
 said_keyword last keyword.Begin u word n m i =
-    said_open (Some (with_part part.Begin u.at u.nesting)) _ u word phrase.Begin refl n m tt tt (λ x at. refl)
-said_keyword last (keyword.Back z) u word n m i = said_open _ _ u word (phrase.Back z) refl n m tt tt (λ x at. refl)
-said_keyword last keyword.Repeat u word n m i = said_open _ _ u word phrase.Repeat refl n m tt tt (λ x at. refl)
+    said_open last (Some (with_part part.Begin u.at u.nesting)) _ u word phrase.Begin
+    refl refl n m m tt tt (λ x at. refl) refl
+said_keyword last (keyword.Back z) u word n m i =
+    said_open last _ _ u word (phrase.Back z) refl refl n m m tt tt (λ x at. refl) refl
+said_keyword last keyword.Repeat u word n m i =
+    said_open last _ _ u word phrase.Repeat refl refl n m m tt tt (λ x at. refl) refl
 said_keyword last (keyword.Do q) u word n m i =
-    said_open (Some (with_part part.Do u.at u.nesting)) _ u word (phrase.Do q) refl n m tt tt (λ x at. refl)
-said_keyword last (keyword.Loop q) u word n m i = said_open _ _ u word (phrase.Loop q) refl n m tt tt (λ x at. refl)
-said_keyword last keyword.Leave u word n m i = said_open _ _ u word phrase.Leave refl n m tt tt (λ x at. refl)
+    said_open last (Some (with_part part.Do u.at u.nesting)) _ u word (phrase.Do q)
+    refl refl n m m tt tt (λ x at. refl) refl
+said_keyword last (keyword.Loop q) u word n m i =
+    said_open last _ _ u word (phrase.Loop q) refl refl n m m tt tt (λ x at. refl) refl
+said_keyword last keyword.Leave u word n m i =
+    said_open last _ _ u word phrase.Leave refl refl n m m tt tt (λ x at. refl) refl
 said_keyword last keyword.Case u word n m i =
-    said_open (Some (with_part part.Case u.at u.nesting)) _ u word phrase.Case refl n m tt tt (λ x at. refl)
-said_keyword last keyword.Of u word n m i = said_open _ _ u word phrase.Of refl n m tt tt (λ x at. refl)
-said_keyword last keyword.EndOf u word n m i = said_open _ _ u word phrase.EndOf refl n m tt tt (λ x at. refl)
-said_keyword last keyword.EndCase u word n m i = said_open _ _ u word phrase.EndCase refl n m tt tt (λ x at. refl)
+    said_open last (Some (with_part part.Case u.at u.nesting)) _ u word phrase.Case
+    refl refl n m m tt tt (λ x at. refl) refl
+said_keyword last keyword.Of u word n m i =
+    said_open last _ _ u word phrase.Of refl refl n m m tt tt (λ x at. refl) refl
+said_keyword last keyword.EndOf u word n m i =
+    said_open last _ _ u word phrase.EndOf refl refl n m m tt tt (λ x at. refl) refl
+said_keyword last keyword.EndCase u word n m i =
+    said_open last _ _ u word phrase.EndCase refl refl n m m tt tt (λ x at. refl) refl
 
-said_digits : (u : State) (word : List ℕ) (v : Number) → own_in u.known word ≡ None → keyword_named word ≡ None
-    → ordinary_named word ≡ None → number_in (base_of u.radix) word ≡ v → Said u word (number_word_step u v)
-said_digits u word (Value x) n m o e = alone u _ word (phrase.Number x) refl refl n m (o, e) tt (λ at. refl)
-said_digits u word OutOfRange n m o e = tt
-said_digits u word NoNumber n m o e = tt
+said_digits : (last : ℕ) (u : State) (word : List ℕ) (v : Number) → own_in u.known word ≡ None
+    → keyword_named word ≡ None
+    → ordinary_named word ≡ None → number_in (base_of u.radix) word ≡ v → Said last u word (number_word_step u v)
+said_digits last u word (Value x) n m o e = alone u _ word (phrase.Number x) refl refl n m (o, e) tt (λ at. refl) refl
+said_digits last u word OutOfRange n m o e = (n, out_of_range m o e)
+said_digits last u word NoNumber n m o e = (n, no_meaning m o e)
 
-said_ordinary : (u : State) (word : List ℕ) (o : Option FCode) → own_in u.known word ≡ None
-    → keyword_named word ≡ None → ordinary_named word ≡ o → Said u word (ordinary_step word u o)
-said_ordinary u word (Some c) n m e = alone u _ word (phrase.BoardWord c) refl refl n m e tt (λ at. refl)
-said_ordinary u word None n m e = said_digits u word (number_in (base_of u.radix) word) n m e refl
+said_ordinary : (last : ℕ) (u : State) (word : List ℕ) (o : Option FCode) → own_in u.known word ≡ None
+    → keyword_named word ≡ None → ordinary_named word ≡ o → Said last u word (ordinary_step word u o)
+said_ordinary last u word (Some c) n m e = alone u _ word (phrase.BoardWord c) refl refl n m e tt (λ at. refl) refl
+said_ordinary last u word None n m e = said_digits last u word (number_in (base_of u.radix) word) n m e refl
 
 said_listed : (last : ℕ) (u : State) (word : List ℕ) (o : Option Keyword) → own_in u.known word ≡ None
-    → keyword_named word ≡ o → Inv u → Said u word (listed_step last word u o)
+    → keyword_named word ≡ o → Inv u → Said last u word (listed_step last word u o)
 said_listed last u word (Some k) n m i = said_keyword last k u word n m i
-said_listed last u word None n m i = said_ordinary u word (ordinary_named word) n m refl
+said_listed last u word None n m i = said_ordinary last u word (ordinary_named word) n m refl
 
 said_own : (last : ℕ) (u : State) (word : List ℕ) (o : Option ℕ) → own_in u.known word ≡ o → Inv u
-    → Said u word (own_step last word u o)
-said_own last u word (Some j) e i = alone u _ word (phrase.OwnWord j) refl refl e tt tt tt (λ at. refl)
+    → Said last u word (own_step last word u o)
+said_own last u word (Some j) e i = alone u _ word (phrase.OwnWord j) refl refl e tt tt tt (λ at. refl) refl
 said_own last u word None e i = said_listed last u word (keyword_named word) e refl i
 
-said_word : (last : ℕ) (u : State) (word : List ℕ) → Inv u → Said u word (word_step last word u)
+said_word : (last : ℕ) (u : State) (word : List ℕ) → Inv u → Said last u word (word_step last word u)
 unfolding word_step
 said_word last u word i = said_own last u word (own_in u.known word) refl i
 
@@ -448,6 +547,7 @@ pub record IsNext (s t : State) : Type 0 where
   pub text : s.rest.text ≡ written spelled t.rest.text
   pub said : IsSaid (known_behind spelled.blanks s) spelled t.rest.text
   pub knows : known_at t.rest.at t ≡ behind spelled.word spelled.phrase (known_behind spelled.blanks s)
+  pub opens : opened spelled.phrase (known_behind spelled.blanks s).at s.nesting ≡ Some t.nesting
 
 -- the next word ends the source
 pub record IsEnd (s t : State) : Type 0 where
@@ -459,12 +559,19 @@ pub record IsEnd (s t : State) : Type 0 where
   pub ends : EndsWord t.rest.text
   pub own : own_in s.known word ≡ None
   pub means : keyword_named word ≡ Some keyword.Finish
+  pub closed : is_closed s.nesting ≡ true
   pub items : t.items ≡ s.items
+  pub radix : t.radix ≡ s.radix
+  pub place : t.rest.at ≡ s.rest.at + length blanks + length word
 
-abbrev pub SaidNext : State → Step → Type 0
-SaidNext s (Goes t) = IsNext s t
-SaidNext s (Ends t) = IsEnd s t
-SaidNext s (Fails f) = Unit {0}
+-- the next word can't stand there, or the text ends
+abbrev pub IsStop : ℕ → State → SourceFault → Type 0
+IsStop last s f = IsFailure last (known_at s.rest.at s) s.nesting s.rest.text f
+
+abbrev pub SaidNext : ℕ → State → Step → Type 0
+SaidNext last s (Goes t) = IsNext s t
+SaidNext last s (Ends t) = IsEnd s t
+SaidNext last s (Fails f) = IsStop last s f
 
 abbrev Reads : State → List ℕ → Rest → Type 0
 Reads s w r = FoundWord s.rest.at s.rest.text (start_of s.rest) (Some (w, r))
@@ -491,6 +598,7 @@ next_goes s w r t h g =
           ∙ g.knows (s.rest.at + length h.0 + length w + length (taken g.phrase))
           ∙ ap (λ (k : Known). placed_at (s.rest.at + length h.0 + length w + length (taken g.phrase))
           (behind w g.phrase k)) e;
+      opens = ap (λ a. opened g.phrase a s.nesting) (sym h.5) ∙ g.opens;
     }
 
 next_ends : (s : State) (w : List ℕ) (r : Rest) (t : State) → Reads s w r → IsLast (at_next r s) w t → IsEnd s t
@@ -505,22 +613,40 @@ next_ends s w r t h g =
       ends = subst (λ (x : State). EndsWord x.rest.text) e h.4;
       own = g.1;
       means = g.2;
+      closed = g.3;
       items = ap (λ (x : State). x.items) g.0;
+      radix = ap (λ (x : State). x.radix) g.0;
+      place = ap (λ (x : State). x.rest.at) g.0 ∙ h.6;
     }
 
-next_said : (s : State) (w : List ℕ) (r : Rest) (x : Step) → Reads s w r → Said (at_next r s) w x → SaidNext s x
-next_said s w r (Goes t) h g = next_goes s w r t h g
-next_said s w r (Ends t) h g = next_ends s w r t h g
-next_said s w r (Fails f) h g = tt
+-- the word that was read, as it stands in the text
+abbrev word_of : (s : State) (w : List ℕ) (r : Rest) → Reads s w r → HasWord s.rest.text
+word_of s w r h =
+    record { blanks = h.0; word = w; more = r.text; text = h.1; between = h.2; spelled = h.3; ends = h.4 }
 
-with_said : (s : State) (f : SourceFault) (o : Option (List ℕ × Rest)) (go : List ℕ → Rest → Step)
+next_fails : (last : ℕ) (s : State) (w : List ℕ) (r : Rest) (f : SourceFault) → Reads s w r
+    → Failed last (at_next r s) w f → IsStop last s f
+next_fails last s w r f h g =
+    let e : known_at (start_of s.rest) s ≡ known_behind h.0 s = ap (λ a. known_at a s) h.5 in
+    let q : r ≡ rest_at (s.rest.at + length h.0 + length w) r.text = ap (λ a. rest_at a r.text) h.6 in
+    let P : Known → Type 0 = λ (k : Known). IsWrong last k s.nesting w r f in
+    let Q : Rest → Type 0 = λ (x : Rest). IsWrong last (known_behind h.0 s) s.nesting w x f in
+    wrong f (word_of s w r h) g.0 (subst Q q (subst P e g.1))
+
+next_said : (last : ℕ) (s : State) (w : List ℕ) (r : Rest) (x : Step) → Reads s w r → Said last (at_next r s) w x
+    → SaidNext last s x
+next_said last s w r (Goes t) h g = next_goes s w r t h g
+next_said last s w r (Ends t) h g = next_ends s w r t h g
+next_said last s w r (Fails f) h g = next_fails last s w r f h g
+
+with_said : (last : ℕ) (s : State) (o : Option (List ℕ × Rest)) (go : List ℕ → Rest → Step)
     → FoundWord s.rest.at s.rest.text (start_of s.rest) o
-    → ((w : List ℕ) (r : Rest) → Said (at_next r s) w (go w r)) → SaidNext s (with_next f o go)
-with_said s f None go h k = tt
-with_said s f (Some w) go h k = next_said s w.0 w.1 (go w.0 w.1) h (k w.0 w.1)
+    → ((w : List ℕ) (r : Rest) → Said last (at_next r s) w (go w r)) → SaidNext last s (with_next (ended last s) o go)
+with_said last s None go h k = cut h
+with_said last s (Some w) go h k = next_said last s w.0 w.1 (go w.0 w.1) h (k w.0 w.1)
 
--- each word with which a source goes on is that of a phrase
-pub said : (last : ℕ) (s : State) → Inv s → SaidNext s (next_step last s)
+-- each word with which a source goes on is that of a phrase, and another can't stand where it does
+pub said : (last : ℕ) (s : State) → Inv s → SaidNext last s (next_step last s)
 said last s i =
-    with_said s _ (next_word s.rest) _ (next_found s.rest.at s.rest.text)
+    with_said last s (next_word s.rest) _ (next_found s.rest.at s.rest.text)
     (λ w r. said_word last (at_next r s) w i)
