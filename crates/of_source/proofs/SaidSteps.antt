@@ -27,6 +27,8 @@ use Rattle.of_source.specs.Radix.{base_of}
 use Rattle.of_source.specs.Items.{Item, call, string, naming, bare, own_code}
 use Rattle.of_source.specs.Items as item
 use Rattle.of_source.specs.Nesting.{Nesting, is_same, with_branch, with_part}
+use Rattle.of_source.specs.Nesting.{opened_if}
+use Rattle.std.specs.Prelude.{not}
 use Rattle.of_source.specs.Nesting.{without_part, in_definition}
 use Rattle.of_source.specs.Nesting.{all_definitions, is_straight, is_closed}
 use Rattle.of_source.specs.Shapes.{shape_of}
@@ -41,7 +43,8 @@ use Rattle.of_source.specs.Phrases.{Phrase, Spelled, Known, taken, written, item
 use Rattle.of_source.specs.Phrases as phrase
 use Rattle.of_source.specs.Written.{IsWord, AreBlanks, EndsWord, IsStraight, own_of, keyword_of, IsKeyword, IsPlaced}
 use Rattle.of_source.specs.Written.{IsFollowed, IsSaid}
-use Rattle.of_source.specs.Faults.{opened, HasWord, MakesName, IsWrong, no_opener, left_open, no_word, no_name}
+use Rattle.of_source.specs.Faults.{opened, IsCloser, HasWord, MakesName, IsWrong, no_opener, left_open, no_word}
+use Rattle.of_source.specs.Faults.{no_name}
 use Rattle.of_source.specs.Faults.{no_digits, bad_digits, long_name, long_string, no_end, no_code, not_outside}
 use Rattle.of_source.specs.Faults.{not_inside, not_straight, out_of_range, no_meaning, IsFailure, cut, wrong}
 use Rattle.of_source.proofs.Kept.{Inv, shapes, defines-shapes}
@@ -367,7 +370,7 @@ said_recurse last u word (Some d) n m e =
 said_ends : (last : ℕ) (o : Option Nesting) (u : State) (word : List ℕ) → own_in u.known word ≡ None
     → keyword_named word ≡ Some keyword.Semicolon → without_part part.Definition u.nesting ≡ o
     → Said last u word (if_ends o u)
-said_ends last None u word n m e = (n, no_opener phrase.Semicolon m e)
+said_ends last None u word n m e = (n, no_opener phrase.Semicolon tt m e)
 said_ends last (Some p) u word n m e = alone u _ word phrase.Semicolon refl refl n m tt tt (λ at. refl) e
 
 -- ---- control structures
@@ -377,9 +380,9 @@ said_open : (last : ℕ) (o : Option Nesting) (is : List Item) (u : State) (word
     → IsPlaced (known_at u.at u) word p → IsFollowed p u.rest.text
     → ((n : Nesting) (at : ℕ)
     → known_at at (giving is (opening n u)) ≡ placed_at at (behind word p (known_at u.at u)))
-    → opened p u.at u.nesting ≡ o → Said last u word (if_open o is u)
-said_open last None is u word p e c n m q l f k d = (n, no_opener p m d)
-said_open last (Some x) is u word p e c n m q l f k d =
+    → IsCloser p → opened p u.at u.nesting ≡ o → Said last u word (if_open o is u)
+said_open last None is u word p e c n m q l f k j d = (n, no_opener p j m d)
+said_open last (Some x) is u word p e c n m q l f k j d =
     alone u (giving is (opening x u)) word p e refl (n ∙ sym c) q l f (k x) d
 
 -- ---- what is open, by its shape
@@ -446,7 +449,7 @@ said_keyword last keyword.Colon u word n m i =
       placed = (h.2, (h.3, l));
       followed = h.4;
       knows = λ at. refl;
-      opens = refl;
+      opens = ap (λ (b : Bool). opened_if (not b) (with_part part.Definition u.at u.nesting)) e;
     }))
 said_keyword last keyword.Semicolon u word n m i =
     said_ends last (without_part part.Definition u.nesting) u word n m refl
@@ -479,35 +482,28 @@ said_keyword last keyword.Offset16 u word n m i =
 said_keyword last (keyword.One t) u word n m i = alone u _ word (phrase.Short t) refl refl n m tt tt (λ at. refl) refl
 said_keyword last (keyword.Two t x) u word n m i =
     alone u _ word (phrase.Pair t x) refl refl n m tt tt (λ at. refl) refl
-said_keyword last keyword.If u word n m i =
-    said_open last (Some (with_branch u.at u.nesting)) _ u word phrase.If refl refl n m m tt tt (λ x at. refl) refl
+said_keyword last keyword.If u word n m i = alone u _ word phrase.If refl refl n m tt tt (λ at. refl) refl
 said_keyword last keyword.Else u word n m i =
-    said_open last _ _ u word phrase.Else refl refl n m m tt tt (λ x at. refl) refl
+    said_open last _ _ u word phrase.Else refl refl n m m tt tt (λ x at. refl) tt refl
 said_keyword last keyword.Then u word n m i =
-    said_open last _ _ u word phrase.Then refl refl n m m tt tt (λ x at. refl) refl
-said_keyword last keyword.Begin u word n m i =
-    said_open last (Some (with_part part.Begin u.at u.nesting)) _ u word phrase.Begin
-    refl refl n m m tt tt (λ x at. refl) refl
+    said_open last _ _ u word phrase.Then refl refl n m m tt tt (λ x at. refl) tt refl
+said_keyword last keyword.Begin u word n m i = alone u _ word phrase.Begin refl refl n m tt tt (λ at. refl) refl
 said_keyword last (keyword.Back z) u word n m i =
-    said_open last _ _ u word (phrase.Back z) refl refl n m m tt tt (λ x at. refl) refl
+    said_open last _ _ u word (phrase.Back z) refl refl n m m tt tt (λ x at. refl) tt refl
 said_keyword last keyword.Repeat u word n m i =
-    said_open last _ _ u word phrase.Repeat refl refl n m m tt tt (λ x at. refl) refl
-said_keyword last (keyword.Do q) u word n m i =
-    said_open last (Some (with_part part.Do u.at u.nesting)) _ u word (phrase.Do q)
-    refl refl n m m tt tt (λ x at. refl) refl
+    said_open last _ _ u word phrase.Repeat refl refl n m m tt tt (λ x at. refl) tt refl
+said_keyword last (keyword.Do q) u word n m i = alone u _ word (phrase.Do q) refl refl n m tt tt (λ at. refl) refl
 said_keyword last (keyword.Loop q) u word n m i =
-    said_open last _ _ u word (phrase.Loop q) refl refl n m m tt tt (λ x at. refl) refl
+    said_open last _ _ u word (phrase.Loop q) refl refl n m m tt tt (λ x at. refl) tt refl
 said_keyword last keyword.Leave u word n m i =
-    said_open last _ _ u word phrase.Leave refl refl n m m tt tt (λ x at. refl) refl
-said_keyword last keyword.Case u word n m i =
-    said_open last (Some (with_part part.Case u.at u.nesting)) _ u word phrase.Case
-    refl refl n m m tt tt (λ x at. refl) refl
+    said_open last _ _ u word phrase.Leave refl refl n m m tt tt (λ x at. refl) tt refl
+said_keyword last keyword.Case u word n m i = alone u _ word phrase.Case refl refl n m tt tt (λ at. refl) refl
 said_keyword last keyword.Of u word n m i =
-    said_open last _ _ u word phrase.Of refl refl n m m tt tt (λ x at. refl) refl
+    said_open last _ _ u word phrase.Of refl refl n m m tt tt (λ x at. refl) tt refl
 said_keyword last keyword.EndOf u word n m i =
-    said_open last _ _ u word phrase.EndOf refl refl n m m tt tt (λ x at. refl) refl
+    said_open last _ _ u word phrase.EndOf refl refl n m m tt tt (λ x at. refl) tt refl
 said_keyword last keyword.EndCase u word n m i =
-    said_open last _ _ u word phrase.EndCase refl refl n m m tt tt (λ x at. refl) refl
+    said_open last _ _ u word phrase.EndCase refl refl n m m tt tt (λ x at. refl) tt refl
 
 said_digits : (last : ℕ) (u : State) (word : List ℕ) (v : Number) → own_in u.known word ≡ None
     → keyword_named word ≡ None

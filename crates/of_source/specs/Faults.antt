@@ -1,5 +1,5 @@
 -- Which fault a text has: that of its first word that can't stand where it does.
-use Rattle.std.specs.Prelude.{◌≡◌, ◌≢◌, ℕ, ◌+◌, ◌<◌, Bool, true, false, ◌||◌, List, [], ◌∷◌, ◌++◌, length, codes}
+use Rattle.std.specs.Prelude.{◌≡◌, ◌≢◌, ℕ, ◌+◌, ◌<◌, Bool, true, false, not, ◌||◌, List, [], ◌∷◌, ◌++◌, length, codes}
 use Rattle.std.specs.Prelude.{Option}
 use Rattle.std.specs.Prelude.{Some, None, Err, option_and_then}
 use Rattle.of_cells.specs.declared.cells.Cell.{Cell}
@@ -31,9 +31,10 @@ use Rattle.of_source.specs.Written.{IsWord, AreBlanks, EndsWord, keyword_of, IsS
 
 -- ---- what is open
 
--- what is open behind a phrase at this place; none where a closer, `of` or `leave` has nothing to close or stand in
+-- what is open behind a phrase at this place; none where a closer, `of` or `leave` has nothing to close or stand in,
+-- and where a definition would begin in another
 abbrev pub opened : Phrase → ℕ → Nesting → Option Nesting
-opened (phrase.Colon blanks name) at n = Some (with_part part.Definition at n)
+opened (phrase.Colon blanks name) at n = opened_if (not (in_definition n.parts)) (with_part part.Definition at n)
 opened phrase.Semicolon at n = without_part part.Definition n
 opened phrase.If at n = Some (with_branch at n)
 opened phrase.Else at n = then_with_branch at (without_branch n)
@@ -58,6 +59,20 @@ all_opened (p ∷ ps) k n =
     (opened p.phrase (moved p.blanks k).at n)
 
 -- ---- one word
+
+-- a closer, `of` or `leave`
+abbrev pub IsCloser : Phrase → Type 0
+IsCloser phrase.Semicolon = Unit {0}
+IsCloser phrase.Else = Unit {0}
+IsCloser phrase.Then = Unit {0}
+IsCloser (phrase.Back z) = Unit {0}
+IsCloser phrase.Repeat = Unit {0}
+IsCloser (phrase.Loop q) = Unit {0}
+IsCloser phrase.Leave = Unit {0}
+IsCloser phrase.Of = Unit {0}
+IsCloser phrase.EndOf = Unit {0}
+IsCloser phrase.EndCase = Unit {0}
+IsCloser _ = ⊥
 
 -- a text begins with blanks or none and a word, which ends there
 pub record HasWord (all : List ℕ) : Type 0 where
@@ -98,7 +113,7 @@ string_behind _ text = None
 -- byte of the text is at `last`
 pub data IsWrong (last : ℕ) (k : Known) (n : Nesting) (word : List ℕ) (r : Rest) : SourceFault → Type 0 where
   -- a closer, `of` or `leave` with nothing to close or to stand in
-  no_opener : (p : Phrase) → keyword_named word ≡ keyword_of p → opened p k.at n ≡ None
+  no_opener : (p : Phrase) → IsCloser p → keyword_named word ≡ keyword_of p → opened p k.at n ≡ None
       → IsWrong last k n word r (Unclosed k.at)
   -- `fcode-end`, where something is open
   left_open : keyword_named word ≡ Some keyword.Finish → is_closed n ≡ false
