@@ -13,7 +13,7 @@ use Rattle.of_commands.specs.Files.{first_place, is_binary, behind, dense, image
 use Rattle.of_commands.specs.Files.{stray_from, Decides, IsStray}
 use Rattle.of_commands.specs.declared.fault.Fault.{Fault}
 use Rattle.of_commands.specs.declared.part.Part.{Part}
-use Rattle.of_commands.specs.declared.place.Place.{Place}
+use Rattle.of_source.specs.declared.place.Place.{Place}
 
 -- the first stray byte of a text without one stands in what follows the text
 pub stray_behind : (p : Place) (a b : List ℕ) → stray_from p a ≡ None → stray_from p (a ++ b) ≡ stray_from (past a p) b
@@ -102,15 +102,6 @@ goes_on (Some file) (Some o) (Some left) a b bytes n d c l h =
     let longer : length o ≡ length bytes + length left = ap length c ∙ length-append bytes left in
     let fewer = d.1 in
     (h left ∙ ap (image_with a) (sym c) ∙ d.0, omega (arith, longer, fewer, l))
-
--- a part that can't go on decides that the file has no image
-pub gives_up : (first old new : Option (List ℕ)) (a : Part) (bytes : List ℕ) (n : ℕ) (f : Fault) → Decides first old a n
-    → Consumes old new bytes → ((rest : List ℕ) → image_with a (bytes ++ rest) ≡ Err f)
-    → IfSome first (λ file. image_in file ≡ Err f)
-gives_up None old new a bytes n f d c h = tt
-gives_up (Some file) None new a bytes n f d c h = absurd d
-gives_up (Some file) (Some o) None a bytes n f d c h = absurd c
-gives_up (Some file) (Some o) (Some left) a bytes n f d c h = sym d.0 ∙ ap (image_with a) c ∙ h left
 
 -- at the end of the file the part is all
 pub ends : (first old new : Option (List ℕ)) (a : Part) (n : ℕ) (r : Result (List ℕ) Fault) → Decides first old a n

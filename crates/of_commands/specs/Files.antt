@@ -8,7 +8,7 @@ use Rattle.of_commands.specs.declared.fault.Fault.{Fault}
 use Rattle.of_commands.specs.declared.fault.Fault.TheVariants as fault
 use Rattle.of_commands.specs.declared.part.Part.{Part as HeldPart}
 use Rattle.of_commands.specs.declared.part.Part.TheVariants as held
-use Rattle.of_commands.specs.declared.place.Place.{Place}
+use Rattle.of_source.specs.declared.place.Place.{Place}
 
 -- a start word of an image, which no text of digits begins with: 0xF0 to 0xF3, or 0xFD
 abbrev pub is_start : ℕ → Bool

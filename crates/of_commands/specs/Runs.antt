@@ -15,6 +15,8 @@ use Rattle.of_machine.specs.States.{MachineState, image_refusal, Refuses}
 use Rattle.of_machine.specs.Runs.{RunsTo}
 use Rattle.of_source.specs.declared.fault.SourceFault.{SourceFault}
 use Rattle.of_source.specs.declared.fault.SourceFault.TheVariants as source
+use Rattle.of_source.specs.declared.place.Place.{Place}
+use Rattle.of_source.specs.Places.{column_at, line_at}
 use Rattle.of_source.specs.Items.{Source}
 use Rattle.of_source.specs.Parsing.{parsed}
 use Rattle.of_source.specs.Parsing.{IsRefused as IsUnsaid}
@@ -35,7 +37,6 @@ abbrev pub status_of : Fault → Status
 status_of fault.ArgumentNotText = status.Usage
 status_of fault.NoMemory = status.NoMemory
 status_of (fault.Refused refusal.NoMemory) = status.NoMemory
-status_of (fault.NoSource source.NoMemory) = status.NoMemory
 status_of (fault.NoImage tok.NoMemory) = status.NoMemory
 status_of (fault.Unopened code) = status.Fault
 status_of (fault.Unread code) = status.Fault
@@ -48,23 +49,37 @@ status_of (fault.Refused refusal.ImageTooLong) = status.Fault
 status_of (fault.Refused (refusal.BadStart f)) = status.Fault
 status_of (fault.Refused refusal.NoNode) = status.Fault
 status_of (fault.Unlisted f) = status.Fault
-status_of (fault.NoSource (source.Unclosed line)) = status.Fault
-status_of (fault.NoSource (source.Unknown line)) = status.Fault
-status_of (fault.NoSource (source.BadNumber line)) = status.Fault
-status_of (fault.NoSource (source.TooLong line)) = status.Fault
-status_of (fault.NoImage (tok.OffsetTooLong line)) = status.Fault
+status_of (fault.NoSource place f) = status.Fault
+status_of (fault.OffsetTooLong place) = status.Fault
+status_of (fault.NoImage (tok.OffsetTooLong at)) = status.Fault
 status_of (fault.NoImage tok.TooManyWords) = status.Fault
 status_of (fault.NoImage tok.ImageTooLong) = status.Fault
 status_of (fault.Unwritten code) = status.Fault
 
--- the line of a source that has a fault
-abbrev pub source_line_of : Fault → Option ℕ
-source_line_of (fault.NoSource (source.Unclosed line)) = Some line
-source_line_of (fault.NoSource (source.Unknown line)) = Some line
-source_line_of (fault.NoSource (source.BadNumber line)) = Some line
-source_line_of (fault.NoSource (source.TooLong line)) = Some line
-source_line_of (fault.NoImage (tok.OffsetTooLong line)) = Some line
-source_line_of _ = None
+-- the place in a source that has a fault
+abbrev pub source_place_of : Fault → Option Place
+source_place_of (fault.NoSource place f) = Some place
+source_place_of (fault.OffsetTooLong place) = Some place
+source_place_of _ = None
+
+-- the place of a position in a text
+abbrev pub place_at : List ℕ → ℕ → Place
+place_at text at = record { line = line_at text at; column = column_at text at }
+
+-- the fault of a text that is no source
+abbrev pub no_source : List ℕ → SourceFault → Fault
+no_source text (source.Unclosed at) = fault.NoSource (place_at text at) (source.Unclosed at)
+no_source text (source.Unknown at) = fault.NoSource (place_at text at) (source.Unknown at)
+no_source text (source.BadNumber at) = fault.NoSource (place_at text at) (source.BadNumber at)
+no_source text (source.TooLong at) = fault.NoSource (place_at text at) (source.TooLong at)
+no_source text source.NoMemory = fault.NoMemory
+
+-- the fault of a text whose source has no image
+abbrev pub no_image : List ℕ → TokFault → Fault
+no_image text (tok.OffsetTooLong at) = fault.OffsetTooLong (place_at text at)
+no_image text tok.TooManyWords = fault.NoImage tok.TooManyWords
+no_image text tok.ImageTooLong = fault.NoImage tok.ImageTooLong
+no_image text tok.NoMemory = fault.NoMemory
 
 -- the status with which the program ends: that of what was done, or that of the fault
 abbrev pub ended_with : Result Status Fault → Status
@@ -167,8 +182,8 @@ TokenizesAll file old new = (digits : List ℕ) × TokenizesFile file digits × 
 abbrev pub FaultsSource : List ℕ → Fault → Type 0
 FaultsSource text f =
     (f ≡ fault.NoMemory)
-    ⊎ ((p : SourceFault) × (f ≡ fault.NoSource p) × IsUnsaid (parsed text) p)
-    ⊎ ((s : Source) × (parsed text ≡ Ok s) × ((t : TokFault) × (f ≡ fault.NoImage t) × HasNoImage (tokenized s) t))
+    ⊎ ((p : SourceFault) × (f ≡ no_source text p) × IsUnsaid (parsed text) p)
+    ⊎ ((s : Source) × (parsed text ≡ Ok s) × ((t : TokFault) × (f ≡ no_image text t) × HasNoImage (tokenized s) t))
 
 -- the faults of a source's file: of a read, of its end, of a write or of the source
 abbrev pub FaultsSourceFile : List ℕ → Fault → Type 0

@@ -13,7 +13,7 @@ ghost use Rattle.of_commands.specs.Runs.{FaultsSource, FaultsSourceFile, FaultsW
 ghost use Rattle.of_commands.specs.Runs.{TokenizesFile, Writes, Does, Answers, is_done, is_explained};
 
 use crate::explain::say_end;
-use crate::fault::Fault;
+use crate::fault::{Fault, no_image, no_source};
 use crate::input::{read_image, read_whole};
 use crate::messages::Messages;
 use crate::output::{report, write_whole};
@@ -228,11 +228,11 @@ fn image_of(alloc: Global, text: &[u8]) -> Result<Vec<u8>, Fault>
 {
     let source = match parse(alloc, text) {
         Ok(source) => source,
-        Err(fault) => return Err(Fault::NoSource(fault)),
+        Err(fault) => return Err(no_source(text, fault)),
     };
     match tokenize(alloc, &source) {
         Ok(image) => Ok(image),
-        Err(fault) => Err(Fault::NoImage(fault)),
+        Err(fault) => Err(no_image(text, fault)),
     }
 }
 

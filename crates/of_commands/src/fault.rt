@@ -1,10 +1,10 @@
 ghost use Rattle.std.specs.Prelude.{◌≡◌, option_map};
 ghost use Rattle.of_commands.specs.Messages.{start_byte_of};
+ghost use Rattle.of_commands.specs.Runs.{no_image, no_source, place_at};
 
-use crate::place::Place;
 use of_arguments::Status;
 use of_machine::Refusal;
-use of_source::SourceFault;
+use of_source::{Place, SourceFault, place_in};
 use of_stream::StreamFault;
 use of_tok::TokFault;
 use thiserror::Error;
@@ -45,9 +45,17 @@ pub enum Fault {
     #[error(transparent)]
     Unlisted(StreamFault),
     /// A text is no source.
-    #[error(transparent)]
-    NoSource(SourceFault),
-    /// A source has no image.
+    #[error("{fault}")]
+    NoSource {
+        /// Where the word stands that fits nowhere.
+        place: Place,
+        /// What is wrong with it.
+        fault: SourceFault,
+    },
+    /// The offset of the word of a source at this place doesn't fit its size.
+    #[error("offset too long")]
+    OffsetTooLong(Place),
+    /// A source has no image for another reason.
     #[error(transparent)]
     NoImage(TokFault),
     /// A write failed, with the system's number of the reason.
@@ -68,9 +76,55 @@ fn start_byte(fault: StreamFault) -> Option<u8>
     }
 }
 
+/// What is wrong with a word of a source.
+fn wrong_of(fault: SourceFault) -> &'static str {
+    match fault {
+        SourceFault::Unclosed(_) => "unclosed",
+        SourceFault::Unknown(_) => "unknown word",
+        SourceFault::BadNumber(_) => "bad number",
+        SourceFault::TooLong(_) => "too long: a name has at most 31 bytes, a string 255",
+        SourceFault::NoMemory => "no memory",
+    }
+}
+
+/// The fault of a text whose word at a position fits nowhere.
+fn fault_at(text: &[u8], position: usize, fault: SourceFault) -> Fault
+    ensures { result ≡ Fault.NoSource (place_at text.now position) fault }
+{
+    Fault::NoSource {
+        place: place_in(text, position),
+        fault,
+    }
+}
+
+/// The fault of a text that is no source.
+pub(crate) fn no_source(text: &[u8], fault: SourceFault) -> Fault
+    ensures { result ≡ no_source text.now fault }
+{
+    match fault {
+        SourceFault::Unclosed(position) => fault_at(text, position, fault),
+        SourceFault::Unknown(position) => fault_at(text, position, fault),
+        SourceFault::BadNumber(position) => fault_at(text, position, fault),
+        SourceFault::TooLong(position) => fault_at(text, position, fault),
+        SourceFault::NoMemory => Fault::NoMemory,
+    }
+}
+
+/// The fault of a text whose source has no image.
+pub(crate) fn no_image(text: &[u8], fault: TokFault) -> Fault
+    ensures { result ≡ no_image text.now fault }
+{
+    match fault {
+        TokFault::OffsetTooLong(position) => Fault::OffsetTooLong(place_in(text, position)),
+        TokFault::TooManyWords => Fault::NoImage(fault),
+        TokFault::ImageTooLong => Fault::NoImage(fault),
+        TokFault::NoMemory => Fault::NoMemory,
+    }
+}
+
 impl Fault {
     ghost use Rattle.of_commands.specs.Messages.{bad_start_of};
-    ghost use Rattle.of_commands.specs.Runs.{source_line_of, status_of};
+    ghost use Rattle.of_commands.specs.Runs.{source_place_of, status_of};
 
     /// The first byte of the image, where it is the byte that is wrong.
     pub(crate) fn bad_start(self) -> Option<u8>
@@ -83,20 +137,14 @@ impl Fault {
         }
     }
 
-    /// The line of a source that has this fault, and what is wrong there.
-    pub(crate) fn source_line(self) -> Option<(usize, &'static str)>
-        ensures { option_map (λ place. place.0) result ≡ source_line_of self }
+    /// The place in a source that has this fault, and what is wrong there.
+    pub(crate) fn source_place(self) -> Option<(Place, &'static str)>
+        ensures { option_map (λ found. found.0) result ≡ source_place_of self }
     {
         match self {
-            Fault::NoSource(SourceFault::Unclosed(line)) => Some((line, "unclosed")),
-            Fault::NoSource(SourceFault::Unknown(line)) => Some((line, "unknown word")),
-            Fault::NoSource(SourceFault::BadNumber(line)) => Some((line, "bad number")),
-            Fault::NoSource(SourceFault::TooLong(line)) => Some((
-                line,
-                "too long: a name has at most 31 bytes, a string 255",
-            )),
-            Fault::NoImage(TokFault::OffsetTooLong(line)) => Some((
-                line,
+            Fault::NoSource { place, fault } => Some((place, wrong_of(fault))),
+            Fault::OffsetTooLong(place) => Some((
+                place,
                 "offset too long: 16 bits hold -32768 to 32767, 8 bits -128 to 127",
             )),
             _ => None,
@@ -111,7 +159,6 @@ impl Fault {
             Fault::ArgumentNotText => Status::Usage,
             Fault::NoMemory => Status::NoMemory,
             Fault::Refused(Refusal::NoMemory) => Status::NoMemory,
-            Fault::NoSource(SourceFault::NoMemory) => Status::NoMemory,
             Fault::NoImage(TokFault::NoMemory) => Status::NoMemory,
             Fault::Unopened(_) => Status::Fault,
             Fault::Unread(_) => Status::Fault,
@@ -124,7 +171,8 @@ impl Fault {
             Fault::Refused(Refusal::BadStart(_)) => Status::Fault,
             Fault::Refused(Refusal::NoNode) => Status::Fault,
             Fault::Unlisted(_) => Status::Fault,
-            Fault::NoSource(_) => Status::Fault,
+            Fault::NoSource { .. } => Status::Fault,
+            Fault::OffsetTooLong(_) => Status::Fault,
             Fault::NoImage(_) => Status::Fault,
             Fault::Unwritten(_) => Status::Fault,
         }

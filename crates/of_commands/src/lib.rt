@@ -14,4 +14,3 @@ pub use engine::{answer, image, keep};
 pub use fault::Fault;
 pub use messages::Messages;
 pub use output::report;
-pub use place::Place;

@@ -5,9 +5,9 @@ ghost use Rattle.of_commands.specs.Runs.{IsUnwritten, status_of};
 
 use crate::fault::Fault;
 use crate::messages::Messages;
-use crate::place::Place;
 use hex::encode_to_slice;
 use of_arguments::Status;
+use of_source::Place;
 use std::io::{self, Error, ErrorKind, Write};
 
 /// Writes all bytes, in as many writes as it takes.
@@ -79,8 +79,8 @@ fn say_stray<E: Write>(path: &str, place: Place, byte: u8, errors: &mut E) -> io
 
 /// Says what is wrong where that is no start byte: of a file behind its path, of a text with the place.
 fn say_other<E: Write>(path: &str, fault: Fault, errors: &mut E) -> io::Result<()> {
-    if let Some((line, wrong)) = fault.source_line() {
-        return writeln!(errors, "{path}:{line}: {wrong}");
+    if let Some((Place { line, column }, wrong)) = fault.source_place() {
+        return writeln!(errors, "ofw: {path}:{line}:{column}: {wrong}");
     }
     match fault {
         Fault::Unwritten(code) => say_unwritten(code, errors),

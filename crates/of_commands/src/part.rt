@@ -3,8 +3,9 @@ ghost use Rattle.std.specs.Prelude.{IfOk, IfErr, OnOk};
 ghost use Rattle.of_commands.specs.Files.{dense, image_with, counted, is_binary, is_text, past, stray_from, IsStray};
 
 use crate::fault::Fault;
-use crate::place::Place;
+use crate::place::{behind, first_place};
 use hex::FromHexError;
+use of_source::Place;
 use std::alloc::Global;
 
 /// What was read of the file of an image.
@@ -54,7 +55,7 @@ fn take_digits(digits: &mut Vec<u8>, place: Place, text: &[u8]) -> Result<Place,
         if !byte.is_ascii_whitespace() && digits.push(*byte).is_err() {
             return Err(Fault::NoMemory);
         }
-        here = here.behind(*byte);
+        here = behind(here, *byte);
         rest = tail;
     }
     Ok(here)
@@ -79,7 +80,7 @@ fn first_part(alloc: Global, bytes: &[u8]) -> Result<Part, Fault>
         };
     }
     let mut digits = Vec::new(alloc);
-    match take_digits(&mut digits, Place::first(), bytes) {
+    match take_digits(&mut digits, first_place(), bytes) {
         Ok(place) => Ok(Part::Digits(digits, place)),
         Err(fault) => Err(fault),
     }

@@ -1,4 +1,4 @@
-use of_arguments::{Request, lines_ask, parse};
+use of_arguments::{Request, lines_ask, parse, status_of};
 use of_detok::Extras;
 use std::alloc::Global;
 use std::test::Fail;
@@ -30,6 +30,20 @@ ofw run a.hex b.hex:
 ofw run -a.hex:
 ofw run ./-a.hex:./-a.hex 1000000
 ofw:";
+
+/// Words of a command line that ask for no file, and behind `:` how the program ends.
+const STATUSES: &str = "\
+ofw --help:Some(Done)
+ofw --version:Some(Done)
+ofw help:Some(Done)
+ofw run --help:Some(Done)
+ofw detok --help:Some(Done)
+ofw:Some(Usage)
+ofw walk:Some(Usage)
+ofw tok:Some(Usage)
+ofw run a.hex --steps 5:Some(Usage)
+ofw run a.hex:None
+";
 
 /// A name behind a blank where a flag is given.
 fn flag(is_given: bool, name: &str) -> &str {
@@ -81,16 +95,40 @@ fn asked(alloc: Global, line: &[String]) -> Result<String, Fail> {
     }
 }
 
+/// The words of a command line.
+fn words_of(alloc: Global, line: &str) -> Result<Vec<String>, Fail> {
+    let mut words = Vec::new(alloc);
+    for word in line.split(' ') {
+        words.push(String::from_str(alloc, word)?)?;
+    }
+    Ok(words)
+}
+
+/// How the program ends by the words of a line alone, as it stands behind `:`.
+fn ended(alloc: Global, line: &[String]) -> Result<String, Fail> {
+    let status = match parse(alloc, line) {
+        Ok(_) => None,
+        Err(error) => Some(status_of(&error)),
+    };
+    Ok(format!(in alloc; "{status:?}")?)
+}
+
+#[test]
+fn statuses(rt: HostRuntime) -> Result<(), Fail> {
+    for case in STATUSES.lines() {
+        let (words, wanted) = case.split_once(':').unwrap_or(("", ""));
+        let ended = ended(rt.alloc(), &words_of(rt.alloc(), words)?)?;
+        assert_eq!(rt; ended.as_str(), wanted, "{case}");
+    }
+    Ok(())
+}
+
 #[test]
 fn arguments(rt: HostRuntime) -> Result<(), Fail> {
     lines_ask();
     for case in LINES.lines() {
         let (words, wanted) = case.split_once(':').unwrap_or(("", ""));
-        let mut line = Vec::new(rt.alloc());
-        for word in words.split(' ') {
-            line.push(String::from_str(rt.alloc(), word)?)?;
-        }
-        let asked = asked(rt.alloc(), &line)?;
+        let asked = asked(rt.alloc(), &words_of(rt.alloc(), words)?)?;
         assert_eq!(rt; asked.as_str(), wanted, "{case}");
     }
     Ok(())

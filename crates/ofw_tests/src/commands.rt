@@ -130,11 +130,11 @@ x;
 detok a.hex|99|2|1|ofw: the output can't be written: other error|00|f108020a0000000da7a81e9d00;
 tok card.fs|99|999|0||f108075c000000211204636172640201b604616464330800b7a81ec2a708009d00|fcode-version2
 \" card\" device-name : add3 3 + ; 2 add3 . fcode-end;
-tok card.fs|99|999|1|card.fs:2: unknown word||fcode-version2
+tok card.fs|99|999|1|ofw: card.fs:2:1: unknown word||fcode-version2
 zork fcode-end;
-tok card.fs|99|999|1|card.fs:2: too long: a name has at most 31 bytes, a string 255||fcode-version2
+tok card.fs|99|999|1|ofw: card.fs:2:3: too long: a name has at most 31 bytes, a string 255||fcode-version2
 : a23456789b123456789c123456789d12 fcode-end;
-tok card.fs|99|999|1|card.fs:3: unclosed||fcode-version2
+tok card.fs|99|999|1|ofw: card.fs:3:1: unclosed||fcode-version2
 5
 then fcode-end;
 tok card.fs|2|999|1|ofw: card.fs: other error||fcode-version2 fcode-end;
@@ -174,7 +174,7 @@ fn an_image_is_kept(rt: HostRuntime) {
     assert_eq!(rt; out.text.as_slice(), wanted);
 }
 
-/// What is wrong with a source whose image is to be kept is said with its path and line.
+/// What is wrong with a source whose image is to be kept is said with its path, line and column.
 #[test]
 fn an_image_that_cannot_be_made(rt: HostRuntime) {
     let mut file = reader_of(b"fcode-version2 zork fcode-end", 99);
@@ -185,7 +185,7 @@ fn an_image_that_cannot_be_made(rt: HostRuntime) {
         Err(status) => status,
     };
     assert_eq!(rt; status, Status::Fault);
-    let said = b"a.fs:1: unknown word\n".as_slice();
+    let said = b"ofw: a.fs:1:16: unknown word\n".as_slice();
     assert_eq!(rt; screen.text.as_slice(), said);
 }
 
