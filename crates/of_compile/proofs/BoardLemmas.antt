@@ -292,9 +292,6 @@ points ds c s q e =
 
 -- ---- where words begin
 
-place_same : (m n : ℕ) → m ≡ n → place_of m ≡ place_of n
-place_same m n e = ap place_of e
-
 starts_if :
     (b : Bool) (d : Definition) (ds : List Definition) (rest : Option Spot) (others : Option Start) →
     start_place others ≡ begun_place rest →

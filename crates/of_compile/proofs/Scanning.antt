@@ -67,13 +67,3 @@ aimed_step w to c d e n m q l g h =
 
 pub aimed_past : (w : Waiting) (to : Place) (c : Code) (n : ℕ) → length c.cells ≤ n → aimed_from w (place_of n) to c ≡ c
 aimed_past w to c n l = ap (λ k. record c { cells = k }) (past_cells w to c.cells n l)
-
--- at the beginning n is reached, or it lies past the end
-pub aimed_end :
-    (w : Waiting) (to : Place) (c d : Code) (n m : ℕ) → (n ≤ m) ⊎ (m ≡ length c.cells) → m ≤ n →
-    d ≡ aimed_from w (place_of m) to c → d ≡ aimed_from w (place_of n) to c
-aimed_end w to c d n m h l e =
-    ⊎_elim
-    (λ g. let same : m ≡ n = omega (arith, g, l) in e ∙ ap (λ k. aimed_from w (place_of k) to c) same)
-    (λ g. e ∙ aimed_past w to c m (omega (arith, g)) ∙ sym (aimed_past w to c n (omega (arith, g, l))))
-    h

@@ -165,13 +165,6 @@ do_aimed : (z : Bool) (from to : Place) → with_place (do_item z from) to ≡ d
 do_aimed true from to = refl
 do_aimed false from to = refl
 
-plain_aimed : (a : PlainItem) (to : Place) → with_place (plain_item a) to ≡ plain_item a
-plain_aimed (P.Operation xt) to = refl
-plain_aimed (P.Literal v) to = refl
-plain_aimed (P.String address n) to = refl
-plain_aimed (P.Call xt) to = refl
-plain_aimed (P.Store xt) to = refl
-
 re_aimed :
     (cell : ℕ → ℕ) (make : Place → Item) (x : Item) (t v : ℕ) (W V : Type 0) →
     ((from to : Place) → with_place (make from) to ≡ make to) → Aims cell make x t W →

@@ -101,10 +101,3 @@ name_changed f [] n h = refl
 name_changed f (None ∷ words) zero h = refl
 name_changed f (Some w ∷ words) zero h = h w
 name_changed f (w ∷ words) (suc n) h = name_changed f words n h
-
--- the word that was made has the name that was announced
-pub pushed_named : (words : List (Option Word)) (w : Word) (name : Option (List ℕ)) → length words < capacity
-    → w.name ≡ name → named_next words name ≡ named_at (words ++ Some w ∷ []) (length words)
-pushed_named words w None small e = rw (at-push words (Some w) None, e) refl
-pushed_named words w (Some name) small e =
-    rw (at-push words (Some w) None, e, lt-ltb (length words) capacity small) refl

@@ -215,13 +215,6 @@ tokens_cut text image n k notes position size l h =
     let less : n - k ≡ suc (n - (k + 1)) = omega arith in
     rw (less, h) (ap (λ xs. (xs, Some (Ended position))) (append-nil text))
 
--- the bound on the number of tokens is reached
-pub tokens_out : (text image : List ℕ) (n k : ℕ) (notes : Notes) (position : ℕ) (size : OffsetSize) → n ≤ k
-    → text_behind text (lines_from image (n - k) notes position size) ≡ (text, Some (Ended position))
-tokens_out text image n k notes position size l =
-    let none : n - k ≡ 0 = omega arith in
-    rw none (ap (λ xs. (xs, Some (Ended position))) (append-nil text))
-
 -- one more line behind the end token
 pub trailing_more : (text image : List ℕ) (count k position : ℕ) → k < count
     → (text ++ line_text (record {

@@ -85,9 +85,6 @@ found-push words w name =
     (λ k l. ap (bears_it name) (below-push words w k l)) in
     rw (len, last, below) refl
 
-and_true : (b : Bool) → b ≡ true → (b && true) ≡ true
-and_true b e = rw e refl
-
 and_not_true : (b : Bool) → (b && not true) ≡ false
 and_not_true false = refl
 and_not_true true = refl

@@ -95,11 +95,6 @@ bearer-hidden : (words : List (Option Word)) (n : ℕ) (name : List ℕ) → nam
     → is_hidden_in (word_at words n) ≡ true → visible_from words (Some n) ≡ newest_below (bears words name) n
 bearer-hidden words n name e hidden = rw (e, has_own_key words n name e, hidden) refl
 
--- a word that isn't hidden is what is found from it on
-pub visible_from-shown : (words : List (Option Word)) (n : ℕ) → IsNamed words (Some n)
-    → is_hidden_in (word_at words n) ≡ false → visible_from words (Some n) ≡ Some n
-visible_from-shown words n named shown = bearer-shown words n named.1.0 named.1.1 shown
-
 -- from a hidden word on, what is found is found from the next older one of its name
 pub visible_from-hidden : (words : List (Option Word)) (older : List (Option ℕ))
     (newest : ArrayVec ℕ → Option ℕ) (n : ℕ)

@@ -45,10 +45,6 @@ pub free_from : (ends : List ℕ) → AreStacked ends → image_start ≤ free_a
 free_from [] h = omega arith
 free_from (end ∷ ends) h = omega (arith, h.0, h.1)
 
-pub free_to : (ends : List ℕ) → AreStacked ends → free_after ends ≤ image_limit
-free_to [] h = omega arith
-free_to (end ∷ ends) h = h.2
-
 low_place : (a : ℕ) → image_start ≤ a → a ≤ image_limit → 0x14_0000 ≤ place_of a
 low_place a from to = omega (arith, from, to)
 
