@@ -22,3 +22,4 @@ mod PropertyLaw
 mod StoredLaw
 mod WayLaw
 mod Preorder
+mod ComponentLaw

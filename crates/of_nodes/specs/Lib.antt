@@ -10,6 +10,7 @@ pub mod Lookup
 pub mod Tree
 pub mod TreePaths
 pub mod Ways
+pub mod ComponentLaw
 pub mod Preorder
 pub mod WayLaw
 pub mod FirstPaths

@@ -1,4 +1,5 @@
 //! What the calls over the nodes say of the tree.
+ghost use Rattle.of_nodes.specs.ComponentLaw.{ComponentsAreMeant};
 ghost use Rattle.of_nodes.specs.FirstPaths.{FirstPathsFind};
 ghost use Rattle.of_nodes.specs.MethodLaw.{MethodsAreFound};
 ghost use Rattle.of_nodes.specs.Preorder.{AfterRuns};
@@ -68,4 +69,11 @@ pub fn ways_lead()
 #[tactic(auto, using(crate::proofs::Preorder::after_runs))]
 pub fn after_runs()
     ensures { AfterRuns }
+{}
+
+/// Names, unit addresses and components are what the standard says: which names are good, which `#address-cells`
+/// count, how a unit address is written, and which nodes a component fits.
+#[tactic(auto, using(crate::proofs::ComponentLaw::components_are_meant))]
+pub fn components_are_meant()
+    ensures { ComponentsAreMeant }
 {}

@@ -5,8 +5,8 @@ ghost use Rattle.of_nodes.specs.Lookup.{found, package_found, way_found};
 ghost use Rattle.of_nodes.specs.Nodes.{AreNodes, AreRooted, after_found, behind_in, child_from, child_found};
 ghost use Rattle.of_nodes.specs.Nodes.{first_tree, method_added, method_found};
 ghost use Rattle.of_nodes.specs.Nodes.{method_placed, method_taken_back, most_nodes, named_child, next_found};
-ghost use Rattle.of_nodes.specs.Nodes.{node_added, parent_found, parent_in, peer_found, property_deleted, property_found};
-ghost use Rattle.of_nodes.specs.Nodes.{property_placed, tree_property_set};
+ghost use Rattle.of_nodes.specs.Nodes.{node_added, parent_found, parent_in, peer_found, property_deleted};
+ghost use Rattle.of_nodes.specs.Nodes.{property_found, property_placed, tree_property_set};
 ghost use Rattle.of_nodes.specs.Outcomes.{Adds, Answers, Sets};
 ghost use Rattle.of_nodes.specs.Paths.{cells_found, component_found, path_found};
 

@@ -2,14 +2,16 @@ use crate::calls::differing;
 use of_cells::Cell;
 use of_memory::{Memory, properties_change_by_puts_alone};
 use of_nodes::{
-    NodeFault, Phandle, Tree, after_runs, first_paths_find, methods_are_found, paths_find,
-    properties_are_found, stored_stays, tree_finds, tree_is_shown, ways_lead,
+    NodeFault, Phandle, Tree, after_runs, components_are_meant, first_paths_find,
+    methods_are_found, paths_find, properties_are_found, stored_stays, tree_finds, tree_is_shown,
+    ways_lead,
 };
 use std::test::Fail;
 
 #[test]
 fn laws_hold() {
     after_runs();
+    components_are_meant();
     first_paths_find();
     methods_are_found();
     paths_find();
