@@ -23,6 +23,7 @@ use Rattle.of_source.proofs.Kept.{Inv, Kept, kept}
 use Rattle.of_source.proofs.Shrinking.{Shrinks, shrinks}
 use Rattle.of_source.proofs.SaidSteps.{known_at, known_behind, IsNext, IsEnd, IsStop, SaidNext, said}
 use Rattle.of_source.proofs.AcceptedLemmas.{IsLeading, IsOpenEnded, FoundBeyond, beyond_found, no_bytes}
+use Rattle.of_source.proofs.FaultsBack.{fault_back}
 use Rattle.of_source.proofs.AcceptedLemmas.{end_shorter, begun_by, is_begun, begun_longer}
 
 fault_is : (f g : SourceFault) → (let r : Result Source SourceFault = Err f in r) ≡ Err g → f ≡ g
@@ -202,4 +203,4 @@ fault_parsed text f h =
 
 -- the fault of a text is that of its first word that can't stand where it does
 pub faults : FaultsAreThese
-faults = record { faults = fault_parsed }
+faults = record { refused = fault_parsed; faulty = λ text f h. fault_back text h }

@@ -192,7 +192,7 @@ then_closed m n h =
 
 -- ---- parts
 
-part_at : (k : Part) (bs : List ℕ) (fs : List Frame) (n : Nesting) → ((b c : ℕ) → is_even k b c ≡ nat_eq b c)
+pub part_at : (k : Part) (bs : List ℕ) (fs : List Frame) (n : Nesting) → ((b c : ℕ) → is_even k b c ≡ nat_eq b c)
     → without_part k (record { branches = bs; parts = fs }) ≡ Some n
     → closing k (length bs) (shapes fs) ≡ Some (shape_of n)
 part_at k bs [] n e h = absurd cc
@@ -201,7 +201,7 @@ part_at k bs (f ∷ fs) n e h =
     let w = if_some (is_same f.part k && nat_eq f.beneath (length bs)) m n h in
     rw (e, w.0) (ap (λ (x : Nesting). Some (shape_of x)) w.1)
 
-begin_at : (bs : List ℕ) (fs : List Frame) (n : Nesting)
+pub begin_at : (bs : List ℕ) (fs : List Frame) (n : Nesting)
     → without_begin (record { branches = bs; parts = fs }) ≡ Some n
     → closing part.Begin (length bs) (shapes fs) ≡ Some (shape_of n)
 begin_at bs [] n h = absurd cc
@@ -210,7 +210,7 @@ begin_at bs (f ∷ fs) n h =
     let w = if_some (is_same f.part part.Begin) m n h in
     rw w.0 (ap (λ (x : Nesting). Some (shape_of x)) w.1)
 
-repeat_at : (l : ℕ) (m n : Nesting) (o : Option Nesting) → without_begin m ≡ o → then_without_branch o ≡ Some n
+pub repeat_at : (l : ℕ) (m n : Nesting) (o : Option Nesting) → without_begin m ≡ o → then_without_branch o ≡ Some n
     → run (item.Back false l ∷ item.Then ∷ []) (shape_of m) ≡ Some (shape_of n)
 repeat_at l m n None e h = absurd cc
 repeat_at l m n (Some x) e h = ap (option_and_then (run (item.Then ∷ []))) (begin_at m.branches m.parts x e)
@@ -233,21 +233,21 @@ else_at l (b ∷ bs) fs x h =
     ap (λ k. nat_lt k (length (b ∷ bs))) (floor-shapes fs) ∙ w.0 in
     rw t (ap (λ (y : Nesting). Some (shape_of (with_branch l y))) w.1)
 
-else_closed : (l : ℕ) (m n : Nesting) (o : Option Nesting) → without_branch m ≡ o → then_with_branch l o ≡ Some n
+pub else_closed : (l : ℕ) (m n : Nesting) (o : Option Nesting) → without_branch m ≡ o → then_with_branch l o ≡ Some n
     → run (item.Else l ∷ []) (shape_of m) ≡ Some (shape_of n)
 else_closed l m n None e h = absurd cc
 else_closed l m n (Some x) e h =
     let q : with_branch l x ≡ n = cc in
     else_at l m.branches m.parts x e ∙ ap (λ (y : Nesting). Some (shape_of y)) q
 
-leave_at : (m n : Nesting) → opened_if (in_loop m.parts) m ≡ Some n
+pub leave_at : (m n : Nesting) → opened_if (in_loop m.parts) m ≡ Some n
     → run (item.Leave ∷ []) (shape_of m) ≡ Some (shape_of n)
 leave_at m n h =
     let w = if_some (in_loop m.parts) m n h in
     let t : (around_of (shapes m.parts)).loops ≡ true = loops-shapes m.parts ∙ w.0 in
     rw t (ap (λ (y : Nesting). Some (shape_of y)) w.1)
 
-of_at : (l : ℕ) (m n : Nesting) → opened_if (on_case m) (with_part part.Of l m) ≡ Some n
+pub of_at : (l : ℕ) (m n : Nesting) → opened_if (on_case m) (with_part part.Of l m) ≡ Some n
     → run (item.Of l ∷ []) (shape_of m) ≡ Some (shape_of n)
 of_at l m n h =
     let w = if_some (on_case m) (with_part part.Of l m) n h in
@@ -260,7 +260,7 @@ of_at l m n h =
 some_is : (x n : Nesting) → Some x ≡ Some n → x ≡ n
 some_is x n h = cc
 
-pushes : (i : Item) (m x n : Nesting) → run (i ∷ []) (shape_of m) ≡ Some (shape_of x) → Some x ≡ Some n
+pub pushes : (i : Item) (m x n : Nesting) → run (i ∷ []) (shape_of m) ≡ Some (shape_of x) → Some x ≡ Some n
     → run (i ∷ []) (shape_of m) ≡ Some (shape_of n)
 pushes i m x n e h = e ∙ ap (λ (y : Nesting). Some (shape_of y)) (some_is x n h)
 
@@ -304,7 +304,7 @@ kept_finish : (b : Bool) (s : State) (f : SourceFault) → Inv s → (b ≡ true
 kept_finish true s f h k = h ∙ ap (λ (o : Shape). Some o) (k refl)
 kept_finish false s f h k = tt
 
-definition_opens : (l : ℕ) (m : Nesting) (t : Token) → in_definition m.parts ≡ false
+pub definition_opens : (l : ℕ) (m : Nesting) (t : Token) → in_definition m.parts ≡ false
     → run (item.Plain t ∷ item.Colon ∷ []) (shape_of m) ≡ Some (shape_of (with_part part.Definition l m))
 definition_opens l m t e =
     let d : (around_of (shapes m.parts)).defines ≡ false = defines-shapes m.parts ∙ e in

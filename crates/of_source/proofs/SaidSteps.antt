@@ -26,7 +26,7 @@ use Rattle.of_source.specs.Numbers.{number_in}
 use Rattle.of_source.specs.Radix.{base_of}
 use Rattle.of_source.specs.Items.{Item, call, string, naming, bare, own_code}
 use Rattle.of_source.specs.Items as item
-use Rattle.of_source.specs.Nesting.{Nesting, is_same, with_branch, with_part}
+use Rattle.of_source.specs.Nesting.{Nesting, is_same, with_part}
 use Rattle.of_source.specs.Nesting.{opened_if}
 use Rattle.std.specs.Prelude.{not}
 use Rattle.of_source.specs.Nesting.{without_part, in_definition}
@@ -68,16 +68,16 @@ abbrev pub placed_at : ℕ → Known → Known
 placed_at at k = record k { at = at }
 
 -- from one state to another a phrase was said, whose word was read before
-record Says (u : State) (word : List ℕ) (t : State) : Type 0 where
-  phrase : Phrase
-  text : u.rest.text ≡ taken phrase ++ t.rest.text
-  place : t.rest.at ≡ u.rest.at + length (taken phrase)
-  own : own_in u.known word ≡ own_of phrase
-  means : IsKeyword word phrase
-  placed : IsPlaced (known_at u.at u) word phrase
-  followed : IsFollowed phrase t.rest.text
-  knows : (at : ℕ) → known_at at t ≡ placed_at at (behind word phrase (known_at u.at u))
-  opens : opened phrase u.at u.nesting ≡ Some t.nesting
+pub record Says (u : State) (word : List ℕ) (t : State) : Type 0 where
+  pub phrase : Phrase
+  pub text : u.rest.text ≡ taken phrase ++ t.rest.text
+  pub place : t.rest.at ≡ u.rest.at + length (taken phrase)
+  pub own : own_in u.known word ≡ own_of phrase
+  pub means : IsKeyword word phrase
+  pub placed : IsPlaced (known_at u.at u) word phrase
+  pub followed : IsFollowed phrase t.rest.text
+  pub knows : (at : ℕ) → known_at at t ≡ placed_at at (behind word phrase (known_at u.at u))
+  pub opens : opened phrase u.at u.nesting ≡ Some t.nesting
 
 -- the word ends a source
 abbrev IsLast : State → List ℕ → State → Type 0
@@ -88,7 +88,7 @@ IsLast u word t =
 abbrev Failed : ℕ → State → List ℕ → SourceFault → Type 0
 Failed last u word f = (own_in u.known word ≡ None) × IsWrong last (known_at u.at u) u.nesting word u.rest f
 
-abbrev Said : ℕ → State → List ℕ → Step → Type 0
+abbrev pub Said : ℕ → State → List ℕ → Step → Type 0
 Said last u word (Goes t) = Says u word t
 Said last u word (Ends t) = IsLast u word t
 Said last u word (Fails f) = Failed last u word f
@@ -527,7 +527,7 @@ said_own : (last : ℕ) (u : State) (word : List ℕ) (o : Option ℕ) → own_i
 said_own last u word (Some j) e i = alone u _ word (phrase.OwnWord j) refl refl e tt tt tt (λ at. refl) refl
 said_own last u word None e i = said_listed last u word (keyword_named word) e refl i
 
-said_word : (last : ℕ) (u : State) (word : List ℕ) → Inv u → Said last u word (word_step last word u)
+pub said_word : (last : ℕ) (u : State) (word : List ℕ) → Inv u → Said last u word (word_step last word u)
 unfolding word_step
 said_word last u word i = said_own last u word (own_in u.known word) refl i
 

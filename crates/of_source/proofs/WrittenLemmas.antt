@@ -52,7 +52,7 @@ no_parenthesis word h = other_name (codes "\\") (codes "(") word h refl
 -- ---- one phrase
 
 -- the next word is the one behind the blanks
-read_word : (last at : ℕ) (blanks word more : List ℕ) (k : Known) (n : Nesting) → AreBlanks blanks → IsWord word
+pub read_word : (last at : ℕ) (blanks word more : List ℕ) (k : Known) (n : Nesting) → AreBlanks blanks → IsWord word
     → Parts more
     → next_step last (state_at at (rest_at k.at (blanks ++ (word ++ more))) k n)
     ≡ word_step last word
@@ -64,7 +64,7 @@ read_word last at blanks word more k n b h p =
     ∙ ap (λ a. word_step last word (state_at a (rest_at (k.at + length blanks + length word) more) k n))
     (start_after blanks k.at word more b h)
 
-said_goes : (last at : ℕ) (p : Spelled) (k : Known) (n : Nesting) (more : List ℕ) (o : Shape)
+pub said_goes : (last at : ℕ) (p : Spelled) (k : Known) (n : Nesting) (more : List ℕ) (o : Shape)
     → IsSaid (moved p.blanks k) p more → run k.items nothing ≡ Some (shape_of n)
     → run (behind p.word p.phrase (moved p.blanks k)).items nothing ≡ Some o
     → GoesOn (next_step last (state_at at (rest_at k.at (written p more)) k n))
@@ -117,7 +117,7 @@ remark_passed p at more n h =
     h.followed
 
 -- a phrase has a byte at least
-some_written : (p : Spelled) (more : List ℕ) → IsWord p.word → length more < length (written p more)
+pub some_written : (p : Spelled) (more : List ℕ) → IsWord p.word → length more < length (written p more)
 some_written p more h =
     let a = length-append (taken p.phrase) more in
     let b = length-append p.word (taken p.phrase ++ more) in
@@ -126,12 +126,12 @@ some_written p more h =
     omega (arith, a, b, c, some)
 
 -- what lies beyond comments, where as many words as bytes may be passed
-record Passed (n at : ℕ) (ps : List Spelled) (more : List ℕ) : Type 0 where
-  left : ℕ
-  enough : length more ≤ left
-  passes : beyond n (rest_at at (each_written ps more)) ≡ beyond left (rest_at (place_behind ps at) more)
+pub record Passed (n at : ℕ) (ps : List Spelled) (more : List ℕ) : Type 0 where
+  pub left : ℕ
+  pub enough : length more ≤ left
+  pub passes : beyond n (rest_at at (each_written ps more)) ≡ beyond left (rest_at (place_behind ps at) more)
 
-remarks_passed : (ps : List Spelled) (n at : ℕ) (more : List ℕ) → AreRemarks ps more
+pub remarks_passed : (ps : List Spelled) (n at : ℕ) (more : List ℕ) → AreRemarks ps more
     → length (each_written ps more) ≤ n → Passed n at ps more
 remarks_passed [] n at more h l = record { left = n; enough = l; passes = refl }
 remarks_passed (p ∷ ps) zero at more h l =
@@ -148,7 +148,7 @@ remarks_passed (p ∷ ps) (suc n) at more h l =
 
 -- ---- the end
 
-nothing_beyond : (n at : ℕ) (more : List ℕ) → AreBlanks more → beyond n (rest_at at more) ≡ Nothing
+pub nothing_beyond : (n at : ℕ) (more : List ℕ) → AreBlanks more → beyond n (rest_at at more) ≡ Nothing
 nothing_beyond zero at more h = refl
 nothing_beyond (suc n) at more h =
     ap (λ o. beyond_word (start_of (rest_at at more)) o (beyond n)) (no_word_after more at h)
@@ -233,7 +233,7 @@ all_decide text z (p ∷ ps) e at k n t h r c =
 
 -- ---- a whole text
 
-first_word : (n at : ℕ) (text w : List ℕ) (r : Rest) → 0 < n → next_word (rest_at at text) ≡ Some (w, r)
+pub first_word : (n at : ℕ) (text w : List ℕ) (r : Rest) → 0 < n → next_word (rest_at at text) ≡ Some (w, r)
     → is_word (codes "(") w ≡ false → is_word (codes "\\") w ≡ false
     → beyond n (rest_at at text) ≡ Word (start_of (rest_at at text)) w r
 first_word zero at text w r l h a b = absurd (omega (arith, l))
@@ -245,10 +245,10 @@ abbrev pub headed : Beginning → List ℕ → List ℕ
 headed b more = b.blanks ++ (b.word ++ more)
 
 -- where it begins
-abbrev head_at : Beginning → List ℕ → ℕ
+abbrev pub head_at : Beginning → List ℕ → ℕ
 head_at b more = start_of (rest_at (place_behind b.comments 0) (headed b more))
 
-version_first : (z : OffsetSize) (b : Beginning) (more : List ℕ) → IsBegun z b more
+pub version_first : (z : OffsetSize) (b : Beginning) (more : List ℕ) → IsBegun z b more
     → beyond (length (each_written b.comments (headed b more))) (rest_at 0 (each_written b.comments (headed b more)))
     ≡ Word (head_at b more) b.word (rest_at (begun_with b).at more)
 version_first z b more h =

@@ -206,6 +206,7 @@ pub data IsFault (text : List ℕ) : SourceFault → Type 0 where
       → all_opened ps (begun_with b) nothing_open ≡ Some n
       → IsFailure (last_place text) (all_behind ps (begun_with b)) n more f → IsFault text f
 
--- a text that is no source has such a fault
+-- a text is refused for a fault just where it has it
 pub record FaultsAreThese : Type 0 where
-  pub faults : (text : List ℕ) (f : SourceFault) → parsed text ≡ Err f → IsFault text f
+  pub refused : (text : List ℕ) (f : SourceFault) → parsed text ≡ Err f → IsFault text f
+  pub faulty : (text : List ℕ) (f : SourceFault) → IsFault text f → parsed text ≡ Err f
