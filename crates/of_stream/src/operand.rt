@@ -3,7 +3,8 @@
 
 ghost use Rattle.std.specs.Prelude.{◌≡◌, ◌<◌, ◌≤◌, length, IfSome, Some, None};
 ghost use Rattle.std.specs.Option.{option_map};
-ghost use Rattle.of_stream.specs.Decoding.{code, cell_from, literal, counted, offset, argument, code_read, literal_read};
+ghost use Rattle.of_stream.specs.Decoding.{code, cell_from, literal, counted, offset, argument};
+ghost use Rattle.of_stream.specs.Decoding.{code_read, literal_read};
 ghost use Rattle.of_stream.specs.Decoding.{counted_read, offset_read, argument_read, argument_shown, IsShort};
 
 use crate::stream::OffsetSize;
