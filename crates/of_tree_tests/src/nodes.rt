@@ -311,7 +311,9 @@ fn a_refused_growth_changes_nothing(rt: HostRuntime) -> Result<(), Fail> {
 fn a_tree_without_room(rt: HostRuntime) -> Result<(), Fail> {
     let mut memory = Memory::new(rt.alloc())?;
     assert_eq!(rt; memory.property_room(), 0x1fff0);
-    memory.put_property(&vec![in rt.alloc(); 0u8; 0x1fff0 - 36]?)?;
+    let mut value = Vec::new(rt.alloc());
+    value.resize("131020".parse()?, 1)?;
+    memory.put_property(value.as_slice())?;
     assert_eq!(rt; memory.property_room(), 36);
     let refused = Tree::new(rt.alloc(), &mut memory);
     assert!(rt; matches!(&refused, Err(NodeFault::PropertyFull)));
