@@ -159,8 +159,7 @@ pub data IsWrong (last : ℕ) (k : Known) (n : Nesting) (word : List ℕ) (r : R
 -- beyond comments stands a comment whose end isn't on its line, or another word than is meant there
 pub data IsAstray (radix : ℕ) (meant : List ℕ → Bool) (r : Rest) : SourceFault → Type 0 where
   open_comment : (cs : List Spelled) (text : List ℕ) (w : HasWord text) → r.text ≡ each_written cs text
-      → AreRemarks cs text
-      → is_word (codes "(") w.word ≡ true → plain_string 41 w.more ≡ None
+      → AreRemarks cs text → is_word (codes "(") w.word ≡ true → plain_string 41 w.more ≡ None
       → IsAstray radix meant r (Unknown (place_behind cs r.at + length w.blanks))
   another : (cs : List Spelled) (text : List ℕ) (w : HasWord text) → r.text ≡ each_written cs text → AreRemarks cs text
       → is_word (codes "(") w.word ≡ false → is_word (codes "\\") w.word ≡ false → meant w.word ≡ false
@@ -192,7 +191,7 @@ AllSaid (p ∷ ps) text k = IsSaid (moved p.blanks k) p (each_written ps text)
 abbrev pub begins_source : List ℕ → Bool
 begins_source word = is_word (codes "fcode-version2") word || is_word (codes "fcode-version1") word
 
--- a text has this fault: of the words that fit one after the other none is left out, and then comes what doesn't
+-- a text has this fault: it begins no source, or phrases fit one behind the other and what follows them doesn't
 pub data IsFault (text : List ℕ) : SourceFault → Type 0 where
   -- there are comments alone
   no_source : (cs : List Spelled) (more : List ℕ) → text ≡ each_written cs more → AreRemarks cs more → AreBlanks more
