@@ -214,7 +214,10 @@ fn holds_8192_words(rt: HostRuntime) -> Result<(), Fail> {
     fill(&mut dict)?;
     dict.remove();
     assert_eq!(rt; dict.add(Some(b""), PLAIN), Err(DictFault::EmptyName));
-    assert_eq!(rt; dict.add(Some(&[b'a'; 32]), PLAIN), Err(DictFault::LongName));
+    assert_eq!(rt;
+        dict.add(Some(&[b'a'; 32]), PLAIN),
+        Err(DictFault::LongName)
+    );
     assert_eq!(rt; dict.add(Some(&[b'a'; 31]), PLAIN), Err(DictFault::Full));
     assert_eq!(rt; dict.add(None, PLAIN), Err(DictFault::Full));
     assert_eq!(rt; dict.newest(), Some(OwnWord(8190)));
