@@ -265,7 +265,7 @@ spot_start :
 spot_start start b None s e = let bad : ⊥ = cc in absurd bad
 spot_start start b (Some k) s e = sym (same_end (record { start = start; body = b; number = k }) s e)
 
-spot_below :
+pub spot_below :
     (ds : List Definition) (c : ℕ) (s : Spot) → spot_in ds c ≡ Some s →
     s.start + total (map item_cells (items_of s.body)) < length (laid_all ds)
 spot_below [] c s e = let bad : ⊥ = cc in absurd bad
@@ -314,10 +314,10 @@ starts law d xt =
     ap (λ l. start_place (find (λ (s : Start). s.xt.0 == xt.0) l))
     (ap (λ (c : Code). c.starts) (law.kept (code_of d.finished) d.elements refl)) ∙ starts_all d.finished xt
 
-lt_other : {X : Type 0} → (k n : ℕ) (s t : X) → n ≤ k → (if nat_lt k n then s else t) ≡ t
+pub lt_other : {X : Type 0} → (k n : ℕ) (s t : X) → n ≤ k → (if nat_lt k n then s else t) ≡ t
 lt_other k n s t l = ap (λ b. if b then s else t) (le-ltb k n l)
 
-lt_this : {X : Type 0} → (k n : ℕ) (s t : X) → k < n → (if nat_lt k n then s else t) ≡ s
+pub lt_this : {X : Type 0} → (k n : ℕ) (s t : X) → k < n → (if nat_lt k n then s else t) ≡ s
 lt_this k n s t l = ap (λ b. if b then s else t) (lt-ltb k n l)
 
 -- the spot of a word that begins here

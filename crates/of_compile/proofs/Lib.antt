@@ -11,6 +11,7 @@ mod LawLemmas
 mod Fetching
 mod BoardLemmas
 mod PlaceLemmas
+mod RunLemmas
 mod Pins
 mod FaultLemmas
 mod WordsLemmas

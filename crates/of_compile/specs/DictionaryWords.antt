@@ -1,7 +1,7 @@
 -- What the words on words and numbers make of words and data stack, the top first, or throw (IEEE 1275-1994, annex A,
 -- `get-token` to `behavior`; Forth 2012, 6.1.1710, 6.1.0550, 6.2.2295).
 use Rattle.std.specs.Prelude.{ℕ, Bool, true, false, nat_eq, not, List, [], ◌∷◌, length, Option, Some, None, Result}
-use Rattle.std.specs.Prelude.{Ok, Err}
+use Rattle.std.specs.Prelude.{Ok, Err, if◌then◌else◌}
 use Rattle.of_cells.specs.declared.cells.Cell.{Cell}
 use Rattle.of_cells.specs.Numbers.{flag}
 use Rattle.of_stacks.specs.declared.throws.Throw.{Throw}
@@ -101,13 +101,17 @@ abbrev pub replaced : Result Cell Throw → List Cell → Result (List Cell) Thr
 replaced (Ok x) s = Ok (x ∷ s)
 replaced (Err t) s = Err t
 
+-- what is found of the word of an execution token; a number that is no word is a bad handle
+abbrev pub found_of : WordsState → Cell → Result Cell Throw → Result Cell Throw
+found_of w xt r = if is_word w.dictionary xt.0 then r else Err bad_handle
+
 abbrev pub behavior_entry : WordsState → List Cell → Result (List Cell) Throw
 behavior_entry w [] = Err stack_underflow
-behavior_entry w (xt ∷ s) = replaced (behavior_of (kind_at w xt.0)) s
+behavior_entry w (xt ∷ s) = replaced (found_of w xt (behavior_of (kind_at w xt.0))) s
 
 abbrev pub to_body_entry : WordsState → List Cell → Result (List Cell) Throw
 to_body_entry w [] = Err stack_underflow
-to_body_entry w (xt ∷ s) = replaced (body_of (kind_at w xt.0)) s
+to_body_entry w (xt ∷ s) = replaced (found_of w xt (body_of (kind_at w xt.0))) s
 
 -- whether a kind is that of a created word with this address
 abbrev pub is_body : ℕ → Option Kind → Bool

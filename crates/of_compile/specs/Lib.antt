@@ -5,6 +5,7 @@ pub mod Law
 pub mod Board
 pub mod BoardLaw
 pub mod PlacesLaw
+pub mod RunsLaw
 pub mod Tokens
 pub mod Words
 pub mod Defining

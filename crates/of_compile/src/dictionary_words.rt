@@ -217,22 +217,28 @@ impl Words {
 
     /// `behavior` ( xt -- xt ): what a defer executes, 0 where it was never set.
     ///
-    /// -4 without a cell, -32 for any other word or number, -260 for a defer of an instance.
+    /// -4 without a cell, -263 for a number that is no word, -32 for any other word, -260 for a defer of an instance.
     pub fn behavior(&self, stack: &mut DataStack) -> Result<(), Throw>
         ensures { Becomes (behavior_entry self.now stack.old) stack.old stack.new result }
     {
         let xt = stack.peek()?;
+        if !is_word(&self.dictionary, xt) {
+            return Err(Throw::BAD_HANDLE);
+        }
         stack.replace_top(behavior_of(kind_at(&self.dictionary, xt))?);
         Ok(())
     }
 
     /// `>body` ( xt -- a ): the address of a word of `create` or `variable` (Forth 2012, 6.1.0550).
     ///
-    /// -4 without a cell, -31 for any other word or number.
+    /// -4 without a cell, -263 for a number that is no word, -31 for any other word.
     pub fn to_body(&self, stack: &mut DataStack) -> Result<(), Throw>
         ensures { Becomes (to_body_entry self.now stack.old) stack.old stack.new result }
     {
         let xt = stack.peek()?;
+        if !is_word(&self.dictionary, xt) {
+            return Err(Throw::BAD_HANDLE);
+        }
         stack.replace_top(body_of(kind_at(&self.dictionary, xt))?);
         Ok(())
     }

@@ -3,9 +3,12 @@ ghost use Rattle.of_compile.specs.BoardLaw.{BoardIsFlat};
 ghost use Rattle.of_compile.specs.Law.{CompilesReading};
 ghost use Rattle.of_compile.specs.LifeLaw.{DefinitionsComeAndGo};
 ghost use Rattle.of_compile.specs.PlacesLaw.{PlacesAreNumbered};
+ghost use Rattle.of_compile.specs.RunsLaw.{RunsByStructure};
 
 use crate::PlainItem;
-use of_control::{calls_follow_matching, closed_is_read, compiled_is_flat, runs_by_places};
+use of_control::{
+    calls_follow_matching, closed_is_read, compiled_is_flat, runs_by_places, runs_by_points,
+};
 use of_dict::changes_are_found;
 use of_fcodes::table_is_map;
 
@@ -37,6 +40,15 @@ pub fn places_are_numbered()
 {
     compiles_reading();
     board_is_flat();
+}
+
+/// What is fetched at the place of a point that is reached in the body of a finished word is what the body's structure
+/// takes at that point, and behind it comes the place of the next point: a finished word runs as its structure reads.
+pub fn runs_by_structure()
+    ensures { RunsByStructure }
+{
+    runs_by_places::<PlainItem>();
+    runs_by_points::<PlainItem>();
 }
 
 /// While a definition is open, its number names it and its name isn't found; once it is ended, its name is found and is

@@ -17,6 +17,9 @@ pub use coding::Coding;
 pub use defining::DefiningWord;
 pub use definitions::{abandon_definition, compile_call, end_definition};
 pub use element::{Element, PlainItem};
-pub use laws::{board_is_flat, compiles_reading, definitions_come_and_go, places_are_numbered};
+pub use laws::{
+    board_is_flat, compiles_reading, definitions_come_and_go, places_are_numbered,
+    runs_by_structure,
+};
 pub use tokens::{CompiledOperand, called, text_elements, token_element};
 pub use words::{Pending, TokenMaker, Words};

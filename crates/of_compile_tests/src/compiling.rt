@@ -6,7 +6,7 @@ use of_cells::Cell;
 use of_code::{CodeStore, Item, ListCode, Place};
 use of_compile::{
     Coding, Element, PlainItem, board_is_flat, compiles_reading, definitions_come_and_go,
-    places_are_numbered,
+    places_are_numbered, runs_by_structure,
 };
 use of_stacks::Throw;
 use std::alloc::Global;
@@ -493,4 +493,5 @@ fn laws() {
     board_is_flat();
     definitions_come_and_go();
     places_are_numbered();
+    runs_by_structure();
 }

@@ -262,6 +262,13 @@ c0000080 1 7ff set-token -> throw -24
 c0000080 1 1000 set-token -> throw -24
 1 810 set-token -> throw -4
 c0000080 >body -> throw -31
+c0000080 behavior -> throw -32
+1234 >body -> throw -263
+1234 behavior -> throw -263
+c0001000 >body -> throw -263
+c0001000 behavior -> throw -263
+>body -> throw -4
+behavior -> throw -4
 1234 body> -> throw -263
 new:811 create new:812 create 100010 body> -> c000056c
 new:813 fffffffc buffer -> throw -8

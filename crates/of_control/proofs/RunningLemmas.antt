@@ -513,6 +513,7 @@ runs_by_points A = record {
   begins = λ b. numbered_point b (at b []) (start_point b);
   next = λ b k l. numbered_point b (step_at b k).next (goes b k (omega (arith, l))).next;
   target = λ b k p l e. numbered_point b p (if_point b _ p (goes b k (omega (arith, l))).target e);
+  reached = λ b p ps h. numbered_point b p (run_point b p ps h);
   item = λ b p ps h. item b (number b p)
       ∙ ap (λ s. numbered b s.taken) (sym (numbered_point b p (run_point b p ps h)));
 }

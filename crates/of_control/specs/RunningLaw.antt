@@ -32,6 +32,7 @@ pub record RunsByPoints (A : Type 0) : Type 0 where
   pub target :
       (b : Body A) (k : ℕ) (p : Point A) →
       k < body_size b → target_of (step_at b k).taken ≡ Some p → IsNumbered b p
+  pub reached : (b : Body A) (p : Point A) (ps : List (Point A)) → IsRun b (p ∷ ps) → IsNumbered b p
   pub item :
       (b : Body A) (p : Point A) (ps : List (Point A)) →
       IsRun b (p ∷ ps) → slice_get (items_of b) (number b p) ≡ numbered b (step_from b p).taken
