@@ -1,71 +1,156 @@
--- The tokens that a source's words write have bytes, where there are FCodes for all definitions.
-use Rattle.std.proofs.Common.{◌≡◌, ℕ, zero, suc, ◌+◌, ◌<◌, ◌≤◌, Bool, true, false, List, [], ◌∷◌, ◌++◌, length}
-use Rattle.std.proofs.Common.{Option, Some, None, Result, Ok, Err, nat_lt, if◌then◌else◌, refl, ap, subst, arith}
-use Rattle.std.specs.Prelude.{slice_index}
+-- The tokens of an accepted source have bytes, where there are FCodes for all definitions, and these are numbered in
+-- their order.
+use Rattle.std.proofs.Common.{◌≡◌, ℕ, ◌+◌, ◌<◌, ◌≤◌, Bool, true, false, not, ◌&&◌, List, [], ◌∷◌, ◌++◌, length, Option}
+use Rattle.std.proofs.Common.{Some, None, Ok, if◌then◌else◌, refl, sym, ap, subst, ◌∙◌, arith}
+use Rattle.std.specs.Prelude.{option_and_then, is_some}
 use Rattle.std.specs.List.{All}
+use Rattle.std.proofs.lemmas.Bool.{false≢true}
 use Rattle.std.proofs.lemmas.List.Elements.{All-append, All-cons}
-use Rattle.std.proofs.lemmas.Bool.Decides.{nat_tests}
 use Rattle.std.specs.Str.{str_eq_ignore_ascii_case}
 use Rattle.of_fcodes.specs.declared.codes.FCode.{FCode}
-use Rattle.of_stream.specs.declared.stream.OffsetSize.{OffsetSize}
-use Rattle.of_stream.specs.declared.stream.OffsetSize.TheVariants as size
-use Rattle.of_source.specs.declared.number.Number.{Number}
-use Rattle.of_source.specs.declared.number.Number.TheVariants.{Value, OutOfRange, NoNumber}
-use Rattle.of_source.specs.declared.fault.SourceFault.{SourceFault}
-use Rattle.of_source.specs.declared.keyword.Keyword.{Keyword}
 use Rattle.of_source.specs.declared.keyword.Keyword.TheVariants as keyword
 use Rattle.of_source.specs.declared.keyword.Maker.{Maker}
-use Rattle.of_source.specs.declared.keyword.Maker.TheVariants.{Named, External, Unnamed}
-use Rattle.of_source.specs.declared.keyword.Quote.{Quote}
-use Rattle.of_source.specs.declared.keyword.Quote.TheVariants as quote
+use Rattle.of_source.specs.declared.nesting.Part.{Part}
 use Rattle.of_source.specs.declared.nesting.Part.TheVariants as part
-use Rattle.of_source.specs.Scan.{Rest, Found, rest_at, left_of, last_place, next_word, plain_string, quoted_string}
-use Rattle.of_source.specs.Numbers.{number_in}
-use Rattle.of_source.specs.Radix.{base_of}
-use Rattle.of_source.specs.Keywords.{keyword_named, ordinary_named}
-use Rattle.of_source.specs.Items.{Item, Source, call, string, naming, making, bare, own_code}
+use Rattle.of_source.specs.Encodable.{AreEncodable, AreNumbered, HasBytes, IsNumbered, IsSound, defines, definitions}
+use Rattle.of_source.specs.Encodable.{made_by, most_definitions}
+use Rattle.of_source.specs.Items.{Item, Made, Source, call, string, naming, bare, own_code}
 use Rattle.of_source.specs.Items as item
-use Rattle.of_source.specs.Encodable.{AreEncodable, HasBytes, IsSound, defines, definitions, is_maker, most_definitions}
+use Rattle.of_source.specs.Keywords.{ordinary_named}
 use Rattle.of_source.specs.Names.{Own, own_in}
-use Rattle.of_source.specs.Nesting.{Nesting, in_definition, with_branch, with_part, is_straight, is_closed}
-use Rattle.of_source.specs.Steps.{State, Step, Goes, Ends, Fails, giving, opening, reading_on, at_next, with_next}
-use Rattle.of_source.specs.Steps.{with_name}
-use Rattle.of_source.specs.Steps.{name_found, with_string, if_open, if_ends, number_or_bad, named_code}
-use Rattle.of_source.specs.Steps.{number_word_step, number_items, number_token, comment_step, with_code, recurse_step}
-use Rattle.of_source.specs.Steps.{text_step, keyword_step, ordinary_step, listed_step, own_step, word_step, next_step}
-use Rattle.of_source.specs.Steps.{code_named, knowing, defining, defined, making_items, beginning}
-use Rattle.of_source.specs.Parsing.{Beyond, Word, Nothing, Bad, trailed, beyond, stepped, words, begun, misplaced}
+use Rattle.of_source.specs.Nest.{IsNested}
+use Rattle.of_source.specs.Nesting.{is_same}
 use Rattle.of_source.specs.Parsing.{parsed}
-use Rattle.of_source.proofs.Kept.{parsed_nested}
-use Rattle.of_source.proofs.Tables.{IsBare, bare_bytes, bare_good, is_good, is_naming, keyword_good, making_bytes}
-use Rattle.of_source.proofs.Tables.{naming_bytes, number_bytes, offset16_bytes, ordinary_bare, own_bare, string_bytes}
-use Rattle.of_source.proofs.Tables.{two_good, type_bytes}
+use Rattle.of_source.specs.Phrases.{Phrase, Spelled, Ending, Known, all_behind, behind, begun_with, items_in, items_of}
+use Rattle.of_source.specs.Phrases.{moved, recursion, string_items}
+use Rattle.of_source.specs.Phrases as phrase
+use Rattle.of_source.specs.Shapes.{Shape, nothing, around_of, around_part, closing, is_even, opens, pushed, run, when}
+use Rattle.of_source.specs.Steps.{code_named, known_with, named_code, number_token}
+use Rattle.of_source.specs.Strings.{pieces_bytes}
+use Rattle.of_source.specs.Written.{AreSaid, IsKeyword, IsPlaced, own_of}
+use Rattle.of_source.proofs.AcceptedLemmas.{accepted_written}
+use Rattle.of_source.proofs.RunLemmas.{nested_runs, earlier_runs, later_run}
+use Rattle.of_source.proofs.ShapeLemmas.{both_true, not_true, same_kind, when_some}
+use Rattle.of_source.proofs.Tables.{IsBare, bare_bytes, bare_good, keyword_good, making_bytes, naming_bytes, number_bytes}
+use Rattle.of_source.proofs.Tables.{offset16_bytes, ordinary_bare, own_bare, string_bytes, two_good, type_bytes}
+use Rattle.of_source.proofs.WrittenLemmas.{before_runs}
 
--- ---- what a parser keeps
+-- ---- items that neither begin a definition nor end one
 
-abbrev pub AreBelow : ℕ → List Own → Type 0
+abbrev IsInner : Item → Type 0
+IsInner (item.Colon m) = ⊥
+IsInner (item.Defining m t) = ⊥
+IsInner item.Semicolon = ⊥
+IsInner _ = Unit {0}
+
+abbrev AreInner : List Item → Type 0
+AreInner [] = Unit {0}
+AreInner (i ∷ is) = IsInner i × AreInner is
+
+makes_none : (i : Item) → IsInner i → made_by i ≡ None
+makes_none (item.Colon m) h = absurd h
+makes_none (item.Defining m t) h = absurd h
+makes_none _ h = refl
+
+inner_count : (is : List Item) → AreInner is → definitions is ≡ 0
+inner_count [] h = refl
+inner_count (i ∷ is) h =
+    let count : Bool → ℕ = λ b. if b then 1 else 0 in
+    let e : count (defines i) ≡ 0 = ap (λ (o : Option Made). count (is_some o)) (makes_none i h.0) in
+    omega (arith, e, inner_count is h.1)
+
+inner_numbers : (is : List Item) (n : ℕ) → AreInner is → AreNumbered n is
+inner_numbers [] n h = tt
+inner_numbers (i ∷ is) n h = (subst (IsNumbered n) (sym (makes_none i h.0)) tt, inner_numbers is _ h.1)
+
+-- whether a definition is open
+abbrev in_one : Shape → Bool
+in_one o = (around_of o.parts).defines
+
+same_part : (x p : Shape) → Some x ≡ Some p → in_one p ≡ in_one x
+same_part x p h = let e : x ≡ p = cc in ap (λ (o : Shape). in_one o) (sym e)
+
+when_same : (b : Bool) (x p : Shape) → when b x ≡ Some p → in_one p ≡ in_one x
+when_same true x p h = same_part x p h
+when_same false x p h = absurd cc
+
+part_around : (k : Part) (ps : List (Part × ℕ)) → is_same k part.Definition ≡ false
+    → (around_part k (around_of ps)).defines ≡ (around_of ps).defines
+part_around part.Definition ps h = absurd cc
+part_around part.Begin ps h = refl
+part_around part.Do ps h = refl
+part_around part.Case ps h = refl
+part_around part.Of ps h = refl
+
+closing_same : (k : Part) (n : ℕ) (ps : List (Part × ℕ)) (p : Shape) → is_same k part.Definition ≡ false
+    → closing k n ps ≡ Some p → in_one p ≡ (around_of ps).defines
+closing_same k n [] p e h = absurd cc
+closing_same k n (q ∷ ps) p e h =
+    let o : Shape = record { count = n; parts = ps } in
+    let w = when_some (is_same q.0 k && is_even k q.1 n) o (run []) p (some_run (is_same q.0 k && is_even k q.1 n) o p h) in
+    let s : q.0 ≡ k = same_kind q.0 k (both_true (is_same q.0 k) (is_even k q.1 n) w.0).0 in
+    same_part o p w.1
+    ∙ sym (part_around k ps e)
+    ∙ ap (λ (j : Part). (around_part j (around_of ps)).defines) (sym s)
+  where
+    some_run : (b : Bool) (o p : Shape) → when b o ≡ Some p → option_and_then (run []) (when b o) ≡ Some p
+    some_run true o p h = h
+    some_run false o p h = h
+
+inner_around : (i : Item) (o p : Shape) → IsInner i → opens i o ≡ Some p → in_one p ≡ in_one o
+inner_around (item.Plain t) o p n h = same_part _ p h
+inner_around (item.Colon m) o p n h = absurd n
+inner_around (item.Defining m t) o p n h = absurd n
+inner_around item.Semicolon o p n h = absurd n
+inner_around (item.If l) o p n h = same_part _ p h
+inner_around (item.Else l) o p n h = when_same _ _ p h
+inner_around item.Then o p n h = when_same _ _ p h
+inner_around item.Begin o p n h = same_part (pushed part.Begin o) p h
+inner_around (item.Back z l) o p n h = closing_same part.Begin o.count o.parts p refl h
+inner_around (item.Do q l) o p n h = same_part (pushed part.Do o) p h
+inner_around (item.Loop q l) o p n h = closing_same part.Do o.count o.parts p refl h
+inner_around item.Leave o p n h = when_same _ _ p h
+inner_around item.Case o p n h = same_part (pushed part.Case o) p h
+inner_around (item.Of l) o p n h = when_same _ (pushed part.Of o) p h
+inner_around (item.EndOf l) o p n h = closing_same part.Of o.count o.parts p refl h
+inner_around item.EndCase o p n h = closing_same part.Case o.count o.parts p refl h
+
+first_inner : (i : Item) (is : List Item) (o p : Shape) → IsInner i
+    → ((q : Shape) → run is q ≡ Some p → in_one p ≡ in_one q) → (r : Option Shape) → opens i o ≡ r
+    → option_and_then (run is) r ≡ Some p → in_one p ≡ in_one o
+first_inner i is o p n others None e h = absurd cc
+first_inner i is o p n others (Some q) e h = others q h ∙ inner_around i o q n e
+
+inner_run : (is : List Item) (o p : Shape) → AreInner is → run is o ≡ Some p → in_one p ≡ in_one o
+inner_run [] o p n h = same_part o p h
+inner_run (i ∷ is) o p n h = first_inner i is o p n.0 (λ q e. inner_run is q p n.1 e) (opens i o) refl h
+
+-- ---- what is known behind phrases
+
+abbrev AreBelow : ℕ → List Own → Type 0
 AreBelow n [] = Unit {0}
 AreBelow n (d ∷ ds) = (d.number < n) × AreBelow n ds
 
-abbrev pub IsBelow : ℕ → Option Own → Type 0
+abbrev IsBelow : ℕ → Option Own → Type 0
 IsBelow n None = Unit {0}
 IsBelow n (Some d) = d.number < n
 
-abbrev pub opened : Option Own → ℕ
+abbrev opened : Option Own → ℕ
 opened None = 0
 opened (Some d) = 1
 
--- each definition that can be named was made, and the tokens so far have bytes
-pub record Inv (s : State) : Type 0 where
-  pub few : length s.known + opened s.open_one ≤ definitions s.items
-  pub known : AreBelow (definitions s.items) s.known
-  pub latest : IsBelow (definitions s.items) s.open_one
-  pub bytes : AreEncodable s.items
+-- each definition that was made can be named, but the open one, which is none outside definitions; they are numbered
+-- in their order, and the tokens so far have bytes
+record Inv (names : List Own) (one : Option Own) (items : List Item) : Type 0 where
+  counted : length names + opened one ≡ definitions items
+  known : AreBelow (definitions items) names
+  latest : IsBelow (definitions items) one
+  outside : (o : Shape) → run items nothing ≡ Some o → in_one o ≡ false → one ≡ None
+  numbered : AreNumbered 0 items
+  bytes : AreEncodable items
 
-abbrev pub Kept : Step → Type 0
-Kept (Goes t) = Inv t
-Kept (Ends t) = Inv t
-Kept (Fails f) = Unit {0}
+abbrev Holds : Known → Type 0
+Holds k = Inv k.names k.open_one k.items
 
 raised : (m n : ℕ) (ds : List Own) → m ≤ n → AreBelow m ds → AreBelow n ds
 raised m n [] l h = tt
@@ -75,26 +160,21 @@ raised_one : (m n : ℕ) (o : Option Own) → m ≤ n → IsBelow m o → IsBelo
 raised_one m n None l h = tt
 raised_one m n (Some d) l h = omega (arith, l, h)
 
-counted : (xs ys : List Item) → definitions (xs ++ ys) ≡ definitions xs + definitions ys
-counted [] ys = omega arith
-counted (x ∷ xs) ys = either (defines x) (counted xs ys)
+both_counted : (xs ys : List Item) → definitions (xs ++ ys) ≡ definitions xs + definitions ys
+both_counted [] ys = omega arith
+both_counted (x ∷ xs) ys = either (defines x) (both_counted xs ys)
   where
     either : (b : Bool) → definitions (xs ++ ys) ≡ definitions xs + definitions ys
         → (if b then 1 else 0) + definitions (xs ++ ys) ≡ (if b then 1 else 0) + definitions xs + definitions ys
     either b h = omega (arith, h)
 
--- more items that have bytes
-given : (more : List Item) (s : State) → Inv s → (definitions (s.items ++ more) ≤ most_definitions → All HasBytes more)
-    → Inv (giving more s)
-given more s h b =
-    let c = counted s.items more in
-    let l : definitions s.items ≤ definitions (s.items ++ more) = omega (arith, c) in
-    record {
-      few = omega (arith, c, h.few);
-      known = raised (definitions s.items) (definitions (s.items ++ more)) s.known l h.known;
-      latest = raised_one (definitions s.items) (definitions (s.items ++ more)) s.open_one l h.latest;
-      bytes = λ e. All-append HasBytes s.items more (h.bytes (omega (arith, l, e))) (b e);
-    }
+both_numbered : (n : ℕ) (xs ys : List Item) → AreNumbered n xs → AreNumbered (n + definitions xs) ys
+    → AreNumbered n (xs ++ ys)
+both_numbered n [] ys f g = let e : n + 0 ≡ n = omega arith in subst (λ k. AreNumbered k ys) e g
+both_numbered n (x ∷ xs) ys f g =
+    let one = if defines x then 1 else 0 in
+    let e : n + (one + definitions xs) ≡ n + one + definitions xs = omega arith in
+    (f.0, both_numbered (n + one) xs ys f.1 (subst (λ k. AreNumbered k ys) e g))
 
 nothing_more : All HasBytes []
 nothing_more = λ k d l. absurd (omega (arith, l))
@@ -105,131 +185,120 @@ one_more i h = All-cons HasBytes i [] h nothing_more
 two_more : (i j : Item) → HasBytes i → HasBytes j → All HasBytes (i ∷ j ∷ [])
 two_more i j h k = All-cons HasBytes i (j ∷ []) h (one_more j k)
 
-one : (i : Item) (s : State) → Inv s → HasBytes i → Inv (giving (i ∷ []) s)
-one i s h b = given (i ∷ []) s h (λ e. one_more i b)
-
-two : (i j : Item) (s : State) → Inv s → HasBytes i → HasBytes j → Inv (giving (i ∷ j ∷ []) s)
-two i j s h b c = given (i ∷ j ∷ []) s h (λ e. two_more i j b c)
-
--- ---- the parts of a step
-
-kept_next : (f : SourceFault) (o : Option (List ℕ × Rest)) (go : List ℕ → Rest → Step)
-    → ((w : List ℕ) (r : Rest) → Kept (go w r)) → Kept (with_next f o go)
-kept_next f None go k = tt
-kept_next f (Some w) go k = k w.0 w.1
-
-kept_unless : (b : Bool) (f : SourceFault) (x : Step) → (b ≡ false → Kept x) → Kept (if b then Fails f else x)
-kept_unless true f x k = tt
-kept_unless false f x k = k refl
-
-kept_if : (b : Bool) (f : SourceFault) (x : Step) → Kept x → Kept (if b then x else Fails f)
-kept_if true f x k = k
-kept_if false f x k = tt
-
-short_name : (b : Bool) (f : SourceFault) (name : List ℕ) (s : State) (go : List ℕ → State → Step)
-    → (b ≡ false → Kept (go name s)) → Kept (with_name (if b then Err f else Ok (name, s)) go)
-short_name true f name s go k = tt
-short_name false f name s go k = k refl
-
-kept_name : (last : ℕ) (s : State) (o : Option (List ℕ × Rest)) (go : List ℕ → State → Step)
-    → ((name : List ℕ) (r : Rest) → length name < 256 → Kept (go name (reading_on r s)))
-    → Kept (with_name (name_found last s o) go)
-kept_name last s None go k = tt
-kept_name last s (Some w) go k =
-    short_name (nat_lt 31 (length w.0)) _ w.0 (reading_on w.1 s) go (λ e. k w.0 w.1 (grind (arith, nat_tests, e)))
-
-kept_string : (s : State) (o : Found) (go : List ℕ → State → Step)
-    → ((bytes : List ℕ) (r : Rest) → length bytes < 256 → Kept (go bytes (reading_on r s)))
-    → Kept (with_string s o go)
-kept_string s None go k = tt
-kept_string s (Some r) go k =
-    kept_unless (nat_lt 255 (length r.0)) _ _ (λ e. k r.0 (left_of s.rest r.1) (grind (arith, nat_tests, e)))
-
-moved : (n : Nesting) (s : State) → Inv s → Inv (opening n s)
-moved n s h = record { few = h.few; known = h.known; latest = h.latest; bytes = h.bytes }
-
--- a control structure's items stand for no token by themselves
-kept_open : (o : Option Nesting) (more : List Item) (s : State) → Inv s → All HasBytes more → Kept (if_open o more s)
-kept_open None more s h b = tt
-kept_open (Some n) more s h b = given more (opening n s) (moved n s h) (λ e. b)
-
-closed : (s : State) (o : Option Own) → s.open_one ≡ o → Inv s → Inv (defined s)
-closed s None e h =
-    let o : s.open_one ≡ None = e in
+-- more items that neither begin a definition nor end one
+stays : (names : List Own) (one : Option Own) (items more : List Item) (o : Shape) → AreInner more
+    → run items nothing ≡ Some o → (definitions items ≤ most_definitions → All HasBytes more) → Inv names one items
+    → Inv names one (items ++ more)
+stays names one items more o n r b h =
+    let e : definitions (items ++ more) ≡ definitions items =
+    omega (arith, both_counted items more, inner_count more n) in
     record {
-      few = rw o (omega (arith, h.few));
-      known = rw o h.known;
-      latest = tt;
-      bytes = h.bytes;
+      counted = h.counted ∙ sym e;
+      known = subst (λ d. AreBelow d names) (sym e) h.known;
+      latest = subst (λ d. IsBelow d one) (sym e) h.latest;
+      outside = λ p s t. h.outside o r (sym (inner_run more o p n (later_run items more o p r s)) ∙ t);
+      numbered = both_numbered 0 items more h.numbered (inner_numbers more _ n);
+      bytes = λ l. All-append HasBytes items more (h.bytes (omega (arith, l, e))) (b (omega (arith, l, e)));
     }
-closed s (Some d) e h =
-    let f : length s.known + 1 ≤ definitions s.items = ap_few s d e h.few in
-    let b : d.number < definitions s.items = subst (IsBelow (definitions s.items)) e h.latest in
-    record {
-      few = rw e (omega (arith, f));
-      known = rw e (b, h.known);
-      latest = tt;
-      bytes = h.bytes;
-    }
-  where
-    ap_few : (s : State) (d : Own) → s.open_one ≡ Some d → length s.known + opened s.open_one ≤ definitions s.items
-        → length s.known + 1 ≤ definitions s.items
-    ap_few s d e l = subst (λ (o : Option Own). length s.known + opened o ≤ definitions s.items) e l
 
-kept_ends : (o : Option Nesting) (s : State) → Inv s → Kept (if_ends o s)
-kept_ends None s h = tt
-kept_ends (Some n) s h =
-    let t = giving (item.Semicolon ∷ []) (opening n s) in
-    closed t t.open_one refl (one item.Semicolon (opening n s) (moved n s h) tt)
+one_stays : (k : Known) (i : Item) (o : Shape) → IsInner i → run k.items nothing ≡ Some o → HasBytes i → Holds k
+    → Inv k.names k.open_one (k.items ++ i ∷ [])
+one_stays k i o n r b h = stays k.names k.open_one k.items (i ∷ []) o (n, tt) r (λ l. one_more i b) h
+
+two_stay : (k : Known) (i j : Item) (o : Shape) → IsInner i → IsInner j → run k.items nothing ≡ Some o → HasBytes i
+    → HasBytes j → Holds k → Inv k.names k.open_one (k.items ++ i ∷ j ∷ [])
+two_stay k i j o m n r b c h =
+    stays k.names k.open_one k.items (i ∷ j ∷ []) o (m, (n, tt)) r (λ l. two_more i j b c) h
+
+none_stay : (k : Known) (o : Shape) → run k.items nothing ≡ Some o → Holds k
+    → Inv k.names k.open_one (k.items ++ [])
+none_stay k o r h = stays k.names k.open_one k.items [] o tt r (λ l. nothing_more) h
 
 -- ---- definitions
 
-maker_is : (m : Maker) (name : List ℕ) (c : FCode) → is_maker (making m name c).code.0 ≡ true
-maker_is Unnamed name c = refl
-maker_is Named name c = refl
-maker_is External name c = refl
+-- outside definitions the next number is how many there are
+none_open : (names : List Own) (one : Option Own) (n : ℕ) → one ≡ None → length names + opened one ≡ n
+    → length names ≡ n
+none_open names one n e h =
+    let c : length names + 0 ≡ n = subst (λ (o : Option Own). length names + opened o ≡ n) e h in omega (arith, c)
 
--- a definition is one more
-made : (m : Maker) (name : List ℕ) (k : ℕ) (i : Item) (xs : List Item)
-    → definitions xs + 1 ≤ definitions (xs ++ (item.Plain (making m name (own_code k)) ∷ i ∷ []))
-made m name k i xs =
-    let c = counted xs (item.Plain (making m name (own_code k)) ∷ i ∷ []) in
-    let e : definitions (item.Plain (making m name (own_code k)) ∷ i ∷ []) ≡ 1 + definitions (i ∷ []) =
-    ap (λ (b : Bool). (if b then 1 else 0) + definitions (i ∷ [])) (maker_is m name (own_code k)) in
-    omega (arith, c, e)
+-- the definition that begins behind these names
+abbrev next : Maker → List ℕ → List Own → Made
+next maker name names = record { maker = maker; name = name; number = length names }
 
-made_known : (name : List ℕ) (s t : State) (i : Item) → length name < 256 → HasBytes i → Inv t → t.items ≡ s.items
-    → t.known ≡ s.known → Inv (giving (making_items name s i) t)
-made_known name s t i l b h e k =
-    given (making_items name s i) t h
-    (λ f.
-    let g : length s.known < 2048 =
-    omega (arith, made s.maker name (length s.known) i t.items, f, h.few, ap length k) in
-    two_more (item.Plain (making s.maker name (own_code (length s.known)))) i
-    (making_bytes s.maker name (length s.known) l g) b)
-
-known_more : (name : List ℕ) (s t : State) (i : Item) → Inv (giving (making_items name s i) t)
-    → length t.known + opened t.open_one ≤ definitions t.items
-    → Inv (knowing name (giving (making_items name s i) t))
-known_more name s t i h f =
-    let m = made s.maker name (length s.known) i t.items in
+begins_one : (maker : Maker) (name : List ℕ) (names : List Own) (one : Option Own) (items : List Item) (o q : Shape)
+    → length name ≤ 31 → run items nothing ≡ Some o → run (item.Colon (next maker name names) ∷ []) o ≡ Some q
+    → Inv names one items
+    → Inv names (Some (record { name = name; number = length names }))
+    (items ++ item.Colon (next maker name names) ∷ [])
+begins_one maker name names one items o q s r f h =
+    let i = item.Colon (next maker name names) in
+    let w = when_some (not (in_one o)) (pushed part.Definition o) (run []) q f in
+    let none = h.outside o r (not_true (in_one o) w.0) in
+    let n : length names ≡ definitions items = none_open names one (definitions items) none h.counted in
+    let c = both_counted items (i ∷ []) in
     record {
-      few = omega (arith, m, f);
-      known = (omega (arith, m, f), h.known);
-      latest = h.latest;
-      bytes = h.bytes;
+      counted = omega (arith, c, n);
+      known = raised (definitions items) _ names (omega (arith, c)) h.known;
+      latest = omega (arith, c, n);
+      outside =
+          λ p t u.
+          let v = when_some (not (in_one o)) (pushed part.Definition o) (run []) p (later_run items (i ∷ []) o p r t) in
+          absurd (false≢true (sym u ∙ same_part (pushed part.Definition o) p v.1));
+      numbered = both_numbered 0 items (i ∷ []) h.numbered (omega (arith, n), tt);
+      bytes =
+          λ l. All-append HasBytes items (i ∷ []) (h.bytes (omega (arith, l, c)))
+          (one_more i (making_bytes maker name (length names) (omega (arith, s)) (omega (arith, l, c, n))));
     }
 
-open_more : (name : List ℕ) (s t : State) (i : Item) → Inv (giving (making_items name s i) t)
-    → length t.known + opened t.open_one ≤ definitions t.items
-    → Inv (defining name (giving (making_items name s i) t))
-open_more name s t i h f =
-    let m = made s.maker name (length s.known) i t.items in
+makes_one : (maker : Maker) (name : List ℕ) (t : FCode) (names : List Own) (one : Option Own) (items : List Item)
+    (o q : Shape) → length name ≤ 31 → IsBare t → run items nothing ≡ Some o
+    → run (item.Defining (next maker name names) t ∷ []) o ≡ Some q → Inv names one items
+    → Inv (record { name = name; number = length names } ∷ names) one
+    (items ++ item.Defining (next maker name names) t ∷ [])
+makes_one maker name t names one items o q s b r f h =
+    let i = item.Defining (next maker name names) t in
+    let w = when_some (not (in_one o)) o (run []) q f in
+    let none = h.outside o r (not_true (in_one o) w.0) in
+    let n : length names ≡ definitions items = none_open names one (definitions items) none h.counted in
+    let c = both_counted items (i ∷ []) in
     record {
-      few = omega (arith, m, f);
-      known = h.known;
-      latest = omega (arith, m, f);
-      bytes = h.bytes;
+      counted = omega (arith, c, h.counted);
+      known = (omega (arith, c, n), raised (definitions items) _ names (omega (arith, c)) h.known);
+      latest = raised_one (definitions items) _ one (omega (arith, c)) h.latest;
+      outside = λ p t u. none;
+      numbered = both_numbered 0 items (i ∷ []) h.numbered (omega (arith, n), tt);
+      bytes =
+          λ l. All-append HasBytes items (i ∷ []) (h.bytes (omega (arith, l, c)))
+          (one_more i
+          (making_bytes maker name (length names) (omega (arith, s)) (omega (arith, l, c, n)), bare_bytes t b));
+    }
+
+ends_one : (names : List Own) (one : Option Own) (items : List Item) → Inv names one items
+    → Inv (known_with one names) None (items ++ item.Semicolon ∷ [])
+ends_one names None items h =
+    let c = both_counted items (item.Semicolon ∷ []) in
+    record {
+      counted = omega (arith, c, h.counted);
+      known = raised (definitions items) _ names (omega (arith, c)) h.known;
+      latest = tt;
+      outside = λ p t u. refl;
+      numbered = both_numbered 0 items (item.Semicolon ∷ []) h.numbered (tt, tt);
+      bytes =
+          λ l. All-append HasBytes items (item.Semicolon ∷ []) (h.bytes (omega (arith, l, c)))
+          (one_more item.Semicolon tt);
+    }
+ends_one names (Some d) items h =
+    let c = both_counted items (item.Semicolon ∷ []) in
+    record {
+      counted = omega (arith, c, h.counted);
+      known = raised (definitions items) _ (d ∷ names) (omega (arith, c)) (h.latest, h.known);
+      latest = tt;
+      outside = λ p t u. refl;
+      numbered = both_numbered 0 items (item.Semicolon ∷ []) h.numbered (tt, tt);
+      bytes =
+          λ l. All-append HasBytes items (item.Semicolon ∷ []) (h.bytes (omega (arith, l, c)))
+          (one_more item.Semicolon tt);
     }
 
 -- ---- names
@@ -255,207 +324,117 @@ named_bare name n ds c h l e = either (own_in ds name) refl e
         let b = own_below n ds name k h t in
         subst IsBare q (own_bare k (omega (arith, b, l)))
 
-kept_code : (at : ℕ) (o : Option FCode) (name : List ℕ) (t : FCode) (s u : State) → is_naming t ≡ true → Inv u
-    → u.known ≡ s.known → code_named s.known name ≡ o
-    → Kept (with_code at o (λ c. Goes (giving (item.Plain (naming t c) ∷ []) u)))
-kept_code at None name t s u g h k e = tt
-kept_code at (Some c) name t s u g h k e =
-    let f = counted u.items (item.Plain (naming t c) ∷ []) in
-    given (item.Plain (naming t c) ∷ []) u h
+-- the open definition calls itself
+recursion_inner : (one : Option Own) → AreInner (recursion one)
+recursion_inner None = tt
+recursion_inner (Some d) = (tt, tt)
+
+recursion_bytes : (one : Option Own) (n : ℕ) → IsBelow n one → n ≤ most_definitions → All HasBytes (recursion one)
+recursion_bytes None n h l = nothing_more
+recursion_bytes (Some d) n h l =
+    one_more (item.Plain (call (own_code d.number)))
+    (bare_bytes (own_code d.number) (own_bare d.number (omega (arith, h, l))))
+
+-- ---- phrases
+
+strings : (prints : Bool) (bytes : List ℕ) (k : Known) (o : Shape) → length bytes ≤ 255
+    → run k.items nothing ≡ Some o → Holds k → Inv k.names k.open_one (k.items ++ string_items prints bytes)
+strings false bytes k o l r h =
+    one_stays k (item.Plain (string bytes)) o tt r (string_bytes bytes (omega (arith, l))) h
+strings true bytes k o l r h =
+    two_stay k (item.Plain (string bytes)) (item.Plain (bare 0x090)) o tt tt r (string_bytes bytes (omega (arith, l)))
+    type_bytes h
+
+phrase_keeps : (p : Phrase) (k : Known) (word : List ℕ) (o q : Shape) → own_in k.names word ≡ own_of p
+    → IsKeyword word p → IsPlaced k word p → run k.items nothing ≡ Some o → run (items_of p k) o ≡ Some q → Holds k
+    → Holds (behind word p k)
+phrase_keeps (phrase.OwnWord n) k word o q e m w r f h =
+    stays k.names k.open_one k.items (item.Plain (call (own_code n)) ∷ []) o (tt, tt) r
+    (λ l. one_more (item.Plain (call (own_code n)))
+    (bare_bytes (own_code n)
+    (own_bare n (omega (arith, l, own_below (definitions k.items) k.names word n h.known e))))) h
+phrase_keeps (phrase.BoardWord c) k word o q e m w r f h =
+    one_stays k (item.Plain (call c)) o tt r (bare_bytes c (ordinary_bare word c w)) h
+phrase_keeps (phrase.Number x) k word o q e m w r f h =
+    one_stays k (item.Plain (number_token x)) o tt r (number_bytes x) h
+phrase_keeps (phrase.NumberIn base blanks digits x) k word o q e m w r f h =
+    one_stays k (item.Plain (number_token x)) o tt r (number_bytes x) h
+phrase_keeps (phrase.Character blanks b bytes) k word o q e m w r f h =
+    one_stays k (item.Plain (number_token (record { 0 = b }))) o tt r (number_bytes (record { 0 = b })) h
+phrase_keeps (phrase.Short t) k word o q e m w r f h =
+    one_stays k (item.Plain (call t)) o tt r (bare_bytes t (bare_good t (keyword_good word (keyword.One t) m))) h
+phrase_keeps (phrase.Pair t u) k word o q e m w r f h =
+    let b = two_good t u (keyword_good word (keyword.Two t u) m) in
+    two_stay k (item.Plain (call t)) (item.Plain (call u)) o tt tt r (bare_bytes t b.0) (bare_bytes u b.1) h
+phrase_keeps (phrase.Text prints blank bytes) k word o q e m w r f h = strings prints bytes k o w.1 r h
+phrase_keeps (phrase.Quoted blank pieces bytes) k word o q e m w r f h =
+    strings false (pieces_bytes pieces ++ bytes) k o w.1 r h
+phrase_keeps (phrase.Comment blank bytes) k word o q e m w r f h = none_stay k o r h
+phrase_keeps (phrase.LineComment bytes) k word o q e m w r f h = none_stay k o r h
+phrase_keeps (phrase.Naming t blanks name c) k word o q e m w r f h =
+    stays k.names k.open_one k.items (item.Plain (naming t c) ∷ []) o (tt, tt) r
     (λ l. one_more (item.Plain (naming t c))
-    (naming_bytes t c g (named_bare name (definitions u.items) u.known c h.known (omega (arith, f, l)) (rw k e))))
+    (naming_bytes t c (keyword_good word (keyword.Naming t) m)
+    (named_bare name (definitions k.items) k.names c h.known l w.2))) h
+phrase_keeps (phrase.Headers x) k word o q e m w r f h = none_stay k o r h
+phrase_keeps (phrase.Base base) k word o q e m w r f h = none_stay k o r h
+phrase_keeps (phrase.Defining t blanks name) k word o q e m w r f h =
+    makes_one k.maker name t k.names k.open_one k.items o q w.1.1
+    (bare_good t (keyword_good word (keyword.Defining t) m)) r f h
+phrase_keeps (phrase.Colon blanks name) k word o q e m w r f h =
+    begins_one k.maker name k.names k.open_one k.items o q w.1.1 r f h
+phrase_keeps phrase.Semicolon k word o q e m w r f h = ends_one k.names k.open_one k.items h
+phrase_keeps phrase.Recurse k word o q e m w r f h =
+    stays k.names k.open_one k.items (recursion k.open_one) o (recursion_inner k.open_one) r
+    (recursion_bytes k.open_one (definitions k.items) h.latest) h
+phrase_keeps phrase.Offset16 k word o q e m w r f h = one_stays k (item.Plain (bare 0x0cc)) o tt r offset16_bytes h
+phrase_keeps phrase.If k word o q e m w r f h = one_stays k (item.If k.at) o tt r tt h
+phrase_keeps phrase.Else k word o q e m w r f h = one_stays k (item.Else k.at) o tt r tt h
+phrase_keeps phrase.Then k word o q e m w r f h = one_stays k item.Then o tt r tt h
+phrase_keeps phrase.Begin k word o q e m w r f h = one_stays k item.Begin o tt r tt h
+phrase_keeps (phrase.Back z) k word o q e m w r f h = one_stays k (item.Back z k.at) o tt r tt h
+phrase_keeps phrase.Repeat k word o q e m w r f h = two_stay k (item.Back false k.at) item.Then o tt tt r tt tt h
+phrase_keeps (phrase.Do x) k word o q e m w r f h = one_stays k (item.Do x k.at) o tt r tt h
+phrase_keeps (phrase.Loop x) k word o q e m w r f h = one_stays k (item.Loop x k.at) o tt r tt h
+phrase_keeps phrase.Leave k word o q e m w r f h = one_stays k item.Leave o tt r tt h
+phrase_keeps phrase.Case k word o q e m w r f h = one_stays k item.Case o tt r tt h
+phrase_keeps phrase.Of k word o q e m w r f h = one_stays k (item.Of k.at) o tt r tt h
+phrase_keeps phrase.EndOf k word o q e m w r f h = one_stays k (item.EndOf k.at) o tt r tt h
+phrase_keeps phrase.EndCase k word o q e m w r f h = one_stays k item.EndCase o tt r tt h
 
--- ---- words
-
-kept_comment : (s : State) (o : Found) → Inv s → Kept (comment_step s o)
-kept_comment s None h = tt
-kept_comment s (Some r) h = record { few = h.few; known = h.known; latest = h.latest; bytes = h.bytes }
-
-read : (r : Rest) (s : State) → Inv s → Inv (reading_on r s)
-read r s h = record { few = h.few; known = h.known; latest = h.latest; bytes = h.bytes }
-
-kept_bad : (at : ℕ) (n : Number) (s : State) → Inv s
-    → Kept (number_or_bad at n (λ x. Goes (giving (number_items x) s)))
-kept_bad at (Value x) s h = one (item.Plain (number_token x)) s h (number_bytes x)
-kept_bad at OutOfRange s h = tt
-kept_bad at NoNumber s h = tt
-
-stand : (r : Rest) (s : State) → Inv s → Inv (at_next r s)
-stand r s h = record { few = h.few; known = h.known; latest = h.latest; bytes = h.bytes }
-
-own_call : (k : ℕ) (s : State) → Inv s → k < definitions s.items → Inv (giving (item.Plain (call (own_code k)) ∷ []) s)
-own_call k s h l =
-    let f = counted s.items (item.Plain (call (own_code k)) ∷ []) in
-    given (item.Plain (call (own_code k)) ∷ []) s h
-    (λ e. one_more (item.Plain (call (own_code k))) (bare_bytes (own_code k) (own_bare k (omega (arith, f, e, l)))))
-
-kept_recurse : (s : State) (o : Option Own) → s.open_one ≡ o → Inv s → Kept (recurse_step s o)
-kept_recurse s None e h = tt
-kept_recurse s (Some d) e h = own_call d.number s h (subst (IsBelow (definitions s.items)) e h.latest)
-
-kept_text : (q : Quote) (s : State) → Inv s → Kept (text_step q s)
-kept_text quote.Bytes s h =
-    kept_string s (quoted_string s.rest.text) _
-    (λ bytes r l. one (item.Plain (string bytes)) (reading_on r s) (read r s h) (string_bytes bytes l))
-kept_text quote.Plain s h =
-    kept_string s (plain_string 34 s.rest.text) _
-    (λ bytes r l. one (item.Plain (string bytes)) (reading_on r s) (read r s h) (string_bytes bytes l))
-kept_text quote.Printed s h =
-    kept_string s (plain_string 34 s.rest.text) _
-    (λ bytes r l. two (item.Plain (string bytes)) (item.Plain (bare 0x090)) (reading_on r s) (read r s h)
-    (string_bytes bytes l) type_bytes)
-
-kept_finish : (b : Bool) (s : State) (f : SourceFault) → Inv s → Kept (if b then Ends s else Fails f)
-kept_finish true s f h = h
-kept_finish false s f h = tt
-
-same : (s t : State) → Inv s → t.items ≡ s.items → t.known ≡ s.known → t.open_one ≡ s.open_one → Inv t
-same s t h a b c =
-    record {
-      few = rw (a, b, c) h.few;
-      known = rw (a, b) h.known;
-      latest = rw (a, c) h.latest;
-      bytes = rw a h.bytes;
-    }
-
-kept_keyword : (last : ℕ) (k : Keyword) (s : State) → is_good k ≡ true → Inv s → Kept (keyword_step last k s)
-kept_keyword last keyword.Finish s g h = kept_finish (is_closed s.nesting) s _ h
-kept_keyword last keyword.Comment s g h = kept_comment s (plain_string 41 s.rest.text) h
-kept_keyword last keyword.LineComment s g h = same s _ h refl refl refl
-kept_keyword last (keyword.Headers m) s g h = same s _ h refl refl refl
-kept_keyword last (keyword.Radix base) s g h = same s _ h refl refl refl
-kept_keyword last (keyword.NumberIn base) s g h =
-    kept_next _ (next_word s.rest) _
-    (λ word r. kept_bad s.at (number_in (base_of base) word) (reading_on r s) (read r s h))
-kept_keyword last keyword.Character s g h =
-    kept_next _ (next_word s.rest) _
-    (λ word r. one (item.Plain (number_token (record { 0 = slice_index word 0 }))) (reading_on r s) (read r s h)
-    (number_bytes (record { 0 = slice_index word 0 })))
-kept_keyword last (keyword.Text q) s g h = kept_text q s h
-kept_keyword last keyword.Colon s g h =
-    let n = with_part part.Definition s.at s.nesting in
-    kept_unless (in_definition s.nesting.parts) _ _
-    (λ e. kept_name last (opening n s) (next_word s.rest) _
-    (λ name r l. open_more name s (reading_on r (opening n s)) item.Colon
-    (made_known name s (reading_on r (opening n s)) item.Colon l tt
-    (read r (opening n s) (moved n s h)) refl refl) h.few))
-kept_keyword last keyword.Semicolon s g h = kept_ends _ s h
-kept_keyword last (keyword.Defining t) s g h =
-    kept_unless (in_definition s.nesting.parts) _ _
-    (λ e. kept_name last s (next_word s.rest) _
-    (λ name r l. known_more name s (reading_on r s) (item.Plain (call t))
-    (made_known name s (reading_on r s) (item.Plain (call t)) l (bare_bytes t (bare_good t g))
-    (read r s h) refl refl) h.few))
-kept_keyword last keyword.Recurse s g h = kept_recurse s s.open_one refl h
-kept_keyword last (keyword.Naming t) s g h =
-    kept_next _ (next_word s.rest) _
-    (λ name r. kept_code _ (code_named s.known name) name t s (reading_on r s) g (read r s h) refl refl)
-kept_keyword last keyword.Offset16 s g h =
-    kept_if (is_straight s.nesting) _ _ (one (item.Plain (bare 0x0cc)) s h offset16_bytes)
-kept_keyword last (keyword.One t) s g h = one (item.Plain (call t)) s h (bare_bytes t (bare_good t g))
-kept_keyword last (keyword.Two t u) s g h =
-    let w = two_good t u g in
-    two (item.Plain (call t)) (item.Plain (call u)) s h (bare_bytes t w.0) (bare_bytes u w.1)
-kept_keyword last keyword.If s g h =
-    kept_open (Some (with_branch s.at s.nesting)) (item.If s.at ∷ []) s h (one_more _ tt)
-kept_keyword last keyword.Else s g h = kept_open _ (item.Else s.at ∷ []) s h (one_more _ tt)
-kept_keyword last keyword.Then s g h = kept_open _ (item.Then ∷ []) s h (one_more _ tt)
-kept_keyword last keyword.Begin s g h =
-    kept_open (Some (with_part part.Begin s.at s.nesting)) (item.Begin ∷ []) s h (one_more _ tt)
-kept_keyword last (keyword.Back z) s g h = kept_open _ (item.Back z s.at ∷ []) s h (one_more _ tt)
-kept_keyword last keyword.Repeat s g h =
-    kept_open _ (item.Back false s.at ∷ item.Then ∷ []) s h (two_more _ _ tt tt)
-kept_keyword last (keyword.Do q) s g h =
-    kept_open (Some (with_part part.Do s.at s.nesting)) (item.Do q s.at ∷ []) s h (one_more _ tt)
-kept_keyword last (keyword.Loop q) s g h = kept_open _ (item.Loop q s.at ∷ []) s h (one_more _ tt)
-kept_keyword last keyword.Leave s g h = kept_open _ (item.Leave ∷ []) s h (one_more _ tt)
-kept_keyword last keyword.Case s g h =
-    kept_open (Some (with_part part.Case s.at s.nesting)) (item.Case ∷ []) s h (one_more _ tt)
-kept_keyword last keyword.Of s g h = kept_open _ (item.Of s.at ∷ []) s h (one_more _ tt)
-kept_keyword last keyword.EndOf s g h = kept_open _ (item.EndOf s.at ∷ []) s h (one_more _ tt)
-kept_keyword last keyword.EndCase s g h = kept_open _ (item.EndCase ∷ []) s h (one_more _ tt)
-
-kept_number : (s : State) (n : Number) → Inv s → Kept (number_word_step s n)
-kept_number s (Value x) h = one (item.Plain (number_token x)) s h (number_bytes x)
-kept_number s OutOfRange h = tt
-kept_number s NoNumber h = tt
-
-kept_ordinary : (word : List ℕ) (s : State) (o : Option FCode) → ordinary_named word ≡ o → Inv s
-    → Kept (ordinary_step word s o)
-kept_ordinary word s (Some c) e h = one (item.Plain (call c)) s h (bare_bytes c (ordinary_bare word c e))
-kept_ordinary word s None e h = kept_number s (number_in (base_of s.radix) word) h
-
-kept_listed : (last : ℕ) (word : List ℕ) (s : State) (o : Option Keyword) → keyword_named word ≡ o → Inv s
-    → Kept (listed_step last word s o)
-kept_listed last word s (Some k) e h = kept_keyword last k s (keyword_good word k e) h
-kept_listed last word s None e h = kept_ordinary word s (ordinary_named word) refl h
-
-kept_own : (last : ℕ) (word : List ℕ) (s : State) (o : Option ℕ) → own_in s.known word ≡ o → Inv s
-    → Kept (own_step last word s o)
-kept_own last word s (Some k) e h = own_call k s h (own_below (definitions s.items) s.known word k h.known e)
-kept_own last word s None e h = kept_listed last word s (keyword_named word) refl h
-
-kept_word : (last : ℕ) (word : List ℕ) (s : State) → Inv s → Kept (word_step last word s)
-unfolding word_step
-kept_word last word s h = kept_own last word s (own_in s.known word) refl h
-
--- each word keeps it
-pub kept : (last : ℕ) (s : State) → Inv s → Kept (next_step last s)
-kept last s h = kept_next _ (next_word s.rest) _ (λ word r. kept_word last word (at_next r s) (stand r s h))
-
--- ---- a whole text
-
-accepted_beyond : (z : OffsetSize) (t : State) (b : Beyond) (src : Source) → AreEncodable t.items
-    → trailed z t b ≡ Ok src → AreEncodable src.items
-accepted_beyond z t Nothing src k h =
-    let e : t.items ≡ src.items = ap (λ (x : Source). x.items) (ok_is (record { size = z; items = t.items }) src h) in
-    subst AreEncodable e k
-  where
-    ok_is : (x y : Source) → (let r : Result Source SourceFault = Ok x in r) ≡ Ok y → x ≡ y
-    ok_is x y h = cc
-accepted_beyond z t (Bad l) src k h = absurd cc
-accepted_beyond z t (Word at w r) src k h = absurd cc
-
-accepted_step : (text : List ℕ) (z : OffsetSize) (st : Step) (next : State → Result Source SourceFault) (src : Source)
-    → Kept st → ((t : State) → Inv t → next t ≡ Ok src → AreEncodable src.items)
-    → stepped text z st next ≡ Ok src → AreEncodable src.items
-accepted_step text z (Goes t) next src k ih h = ih t k h
-accepted_step text z (Ends t) next src k ih h = accepted_beyond z t (beyond (length text) t.rest) src k.bytes h
-accepted_step text z (Fails f) next src k ih h = absurd cc
-
-accepted_words : (text : List ℕ) (z : OffsetSize) (n : ℕ) (s : State) (src : Source) → Inv s
-    → words text z n s ≡ Ok src → AreEncodable src.items
-accepted_words text z zero s src k h = absurd cc
-accepted_words text z (suc n) s src k h =
-    accepted_step text z (next_step (last_place text) s) (words text z n) src (kept (last_place text) s k)
-    (λ t i e. accepted_words text z n t src i e) h
-
-accepted_if : (b : Bool) (x y : Result Source SourceFault) (src : Source)
-    → (x ≡ Ok src → AreEncodable src.items) → (y ≡ Ok src → AreEncodable src.items)
-    → (if b then x else y) ≡ Ok src → AreEncodable src.items
-accepted_if true x y src f g h = f h
-accepted_if false x y src f g h = g h
-
-no_source : (f : SourceFault) (src : Source) → (let r : Result Source SourceFault = Err f in r) ≡ Ok src
-    → AreEncodable src.items
-no_source f src h = absurd cc
-
-begins : (r : Rest) → Inv (beginning r)
-begins r = record { few = omega arith; known = tt; latest = tt; bytes = λ e. nothing_more }
-
-accepted_begun : (text : List ℕ) (b : Beyond) (src : Source) → begun text b ≡ Ok src → AreEncodable src.items
-accepted_begun text Nothing src h = absurd cc
-accepted_begun text (Bad l) src h = absurd cc
-accepted_begun text (Word at w r) src h =
-    accepted_if _ _ _ src (accepted_words text size.Two (length text) (beginning r) src (begins r))
-    (accepted_if _ _ _ src (accepted_words text size.One (length text) (beginning r) src (begins r))
-    (no_source (misplaced at 16 w) src)) h
-
--- the tokens of an accepted source have bytes
-pub parsed_encodable : (text : List ℕ) (src : Source) → parsed text ≡ Ok src → AreEncodable src.items
-unfolding parsed
-parsed_encodable text src h = accepted_begun text (beyond (length text) (rest_at 0 text)) src h
+all_keep : (ps : List Spelled) (e : Ending) (k : Known) → AreSaid ps e k
+    → run (all_behind ps k).items nothing ≡ Some nothing → Holds k → Holds (all_behind ps k)
+all_keep [] e k s r h = h
+all_keep (p ∷ ps) e k s r h =
+    let here = moved p.blanks k in
+    let more = items_of p.phrase here in
+    let there = before_runs ps (behind p.word p.phrase here) nothing r in
+    let before = earlier_runs k.items more there.0 there.1 in
+    let fits = later_run k.items more before.0 there.0 before.1 there.1 in
+    all_keep ps e (behind p.word p.phrase here) s.1 r
+    (phrase_keeps p.phrase here p.word before.0 there.0 s.0.own s.0.means s.0.placed before.1 fits h)
 
 -- what holds of an accepted source
 pub parsed_sound : (text : List ℕ) (src : Source) → parsed text ≡ Ok src → IsSound src.items
-parsed_sound text src h = record { nested = parsed_nested text src h; encodable = parsed_encodable text src h }
+parsed_sound text src h =
+    let w = accepted_written.accepted text src h in
+    let runs : run (items_in w.0.beginning w.0.phrases) nothing ≡ Some nothing =
+    subst (λ is. run is nothing ≡ Some nothing) w.0.items (nested_runs src.items w.1) in
+    let begins : Holds (begun_with w.0.beginning) = record {
+      counted = refl;
+      known = tt;
+      latest = tt;
+      outside = λ o r t. refl;
+      numbered = tt;
+      bytes = λ l. nothing_more;
+    } in
+    let all = all_keep w.0.phrases w.0.ending (begun_with w.0.beginning) w.0.said runs begins in
+    record {
+      nested = w.1;
+      numbered = subst (AreNumbered 0) (sym w.0.items) all.numbered;
+      encodable = subst AreEncodable (sym w.0.items) all.bytes;
+    }
+
+-- its items are those of a whole nest, with the numbers 0, 1, 2, .. of its definitions
+pub parsed_nested : (text : List ℕ) (src : Source) → parsed text ≡ Ok src → IsNested src.items × AreNumbered 0 src.items
+parsed_nested text src h = let s = parsed_sound text src h in (s.nested, s.numbered)

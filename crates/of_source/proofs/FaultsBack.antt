@@ -37,7 +37,7 @@ use Rattle.of_source.specs.Parsing.{Beyond, Word, Nothing, Bad, is_word, beyond,
 use Rattle.of_source.specs.Parsing.{begun, misplaced, parsed}
 use Rattle.of_source.specs.Order.{behind_word, behind_words, outcome_at, IsDecided}
 use Rattle.of_source.specs.Phrases.{Phrase, Spelled, Beginning, Known, written, each_written, version_word, taken}
-use Rattle.of_source.specs.Phrases.{items_of, moved, behind, all_behind, place_behind, begun_with, recursion}
+use Rattle.of_source.specs.Phrases.{items_of, moved, named, behind, all_behind, place_behind, begun_with, recursion}
 use Rattle.of_source.specs.Phrases as phrase
 use Rattle.of_source.specs.Written.{AreBlanks, own_of, keyword_of, IsKeyword, IsSaid, AreRemarks}
 use Rattle.of_source.specs.Written.{IsBegun}
@@ -46,7 +46,7 @@ use Rattle.of_source.specs.Faults.{string_behind, IsWrong, no_opener, left_open,
 use Rattle.of_source.specs.Faults.{bad_digits, long_name, long_string, no_end, no_code, not_outside, not_inside}
 use Rattle.of_source.specs.Faults.{not_straight, out_of_range, no_meaning, IsAstray, open_comment, another, IsFailure}
 use Rattle.of_source.specs.Faults.{cut, wrong, late, AllSaid, begins_source, IsFault, no_source, no_beginning, failure}
-use Rattle.of_source.proofs.Kept.{Inv, Kept, kept, run-append, definition_opens, pushes, one_more, else_closed}
+use Rattle.of_source.proofs.Kept.{Inv, Kept, kept, run-append, definition_opens, defining_stands, pushes, one_more, else_closed}
 use Rattle.of_source.proofs.Kept.{then_closed, begin_at, part_at, repeat_at, leave_at, of_at}
 use Rattle.of_source.proofs.Deciding.{first_word_decides, decided-version1, decided-version2}
 use Rattle.of_source.proofs.ReadingBack.{ends_part, word_after, start_after, no_word_after}
@@ -59,6 +59,7 @@ use Rattle.of_source.proofs.WrittenLemmas.{headed, head_at, head_longer, version
 
 -- the same, by its keyword
 abbrev opened_by : Option Keyword → ℕ → Nesting → Option Nesting
+opened_by (Some (keyword.Defining t)) at n = opened_if (not (in_definition n.parts)) n
 opened_by (Some keyword.Colon) at n = opened_if (not (in_definition n.parts)) (with_part part.Definition at n)
 opened_by (Some keyword.Semicolon) at n = without_part part.Definition n
 opened_by (Some keyword.If) at n = Some (with_branch at n)
@@ -185,10 +186,13 @@ opened_runs (phrase.LineComment bytes) k n m h = shape_same n m h
 opened_runs (phrase.Naming t blanks name c) k n m h = shape_same n m h
 opened_runs (phrase.Headers x) k n m h = shape_same n m h
 opened_runs (phrase.Base x) k n m h = shape_same n m h
-opened_runs (phrase.Defining t blanks name) k n m h = shape_same n m h
+opened_runs (phrase.Defining t blanks name) k n m h =
+    let w = open_when (not (in_definition n.parts)) n m h in
+    defining_stands n (named name k) t (not_so (in_definition n.parts) w.0)
+    ∙ ap (λ (y : Nesting). Some (shape_of y)) w.1
 opened_runs (phrase.Colon blanks name) k n m h =
     let w = open_when (not (in_definition n.parts)) (with_part part.Definition k.at n) m h in
-    definition_opens k.at n (making k.maker name (own_code (length k.names))) (not_so (in_definition n.parts) w.0)
+    definition_opens k.at n (named name k) (not_so (in_definition n.parts) w.0)
     ∙ ap (λ (y : Nesting). Some (shape_of y)) w.1
 opened_runs phrase.Semicolon k n m h =
     ap (option_and_then (run [])) (part_at part.Definition n.branches n.parts m (λ b c. refl) h)

@@ -20,7 +20,7 @@ use Rattle.of_source.specs.Scan.{Rest, Found, rest_at, left_of, last_place, next
 use Rattle.of_source.specs.Numbers.{number_in}
 use Rattle.of_source.specs.Radix.{base_of}
 use Rattle.of_source.specs.Keywords.{keyword_named, ordinary_named}
-use Rattle.of_source.specs.Items.{Item, Source, call, string, naming, making, bare, own_code}
+use Rattle.of_source.specs.Items.{Item, Made, Source, call, string, naming, bare, own_code}
 use Rattle.of_source.specs.Items as item
 use Rattle.of_stream.specs.declared.stream.OffsetSize.{OffsetSize}
 use Rattle.of_stream.specs.declared.stream.OffsetSize.TheVariants as size
@@ -36,7 +36,7 @@ use Rattle.of_source.specs.Steps.{with_name, name_found, with_string, if_open, i
 use Rattle.of_source.specs.Steps.{number_word_step, number_items, number_token, comment_step, with_code, recurse_step}
 use Rattle.of_source.specs.Steps.{text_step, keyword_step, ordinary_step, listed_step, own_step, word_step, next_step}
 use Rattle.of_source.specs.Nesting.{then_without_branch, then_with_branch, opened_if}
-use Rattle.of_source.specs.Steps.{code_named}
+use Rattle.of_source.specs.Steps.{code_named, made}
 use Rattle.of_source.specs.Parsing.{Beyond, Word}
 use Rattle.of_source.specs.Steps.{beginning}
 use Rattle.of_source.specs.Parsing.{Nothing, Bad, trailed, beyond, stepped, words, begun, misplaced, parsed}
@@ -304,11 +304,17 @@ kept_finish : (b : Bool) (s : State) (f : SourceFault) → Inv s → (b ≡ true
 kept_finish true s f h k = h ∙ ap (λ (o : Shape). Some o) (k refl)
 kept_finish false s f h k = tt
 
-pub definition_opens : (l : ℕ) (m : Nesting) (t : Token) → in_definition m.parts ≡ false
-    → run (item.Plain t ∷ item.Colon ∷ []) (shape_of m) ≡ Some (shape_of (with_part part.Definition l m))
-definition_opens l m t e =
-    let d : (around_of (shapes m.parts)).defines ≡ false = defines-shapes m.parts ∙ e in
-    rw d refl
+pub definition_opens : (l : ℕ) (m : Nesting) (d : Made) → in_definition m.parts ≡ false
+    → run (item.Colon d ∷ []) (shape_of m) ≡ Some (shape_of (with_part part.Definition l m))
+definition_opens l m d e =
+    let o : (around_of (shapes m.parts)).defines ≡ false = defines-shapes m.parts ∙ e in
+    rw o refl
+
+pub defining_stands : (m : Nesting) (d : Made) (t : FCode) → in_definition m.parts ≡ false
+    → run (item.Defining d t ∷ []) (shape_of m) ≡ Some (shape_of m)
+defining_stands m d t e =
+    let o : (around_of (shapes m.parts)).defines ≡ false = defines-shapes m.parts ∙ e in
+    rw o refl
 
 kept_keyword : (last : ℕ) (k : Keyword) (s : State) → Inv s → Kept (keyword_step last k s)
 kept_keyword last keyword.Finish s h =
@@ -325,15 +331,15 @@ kept_keyword last keyword.Colon s h =
     let n = with_part part.Definition s.at s.nesting in
     kept_unless (in_definition s.nesting.parts) _ _
     (λ e. kept_name last (opening n s) (next_word s.rest) _
-    (λ name r. given _ (reading_on r s) n h
-    (definition_opens s.at s.nesting (making s.maker name (own_code (length s.known))) e)))
+    (λ name r. given _ (reading_on r s) n h (definition_opens s.at s.nesting (made name s) e)))
 kept_keyword last keyword.Semicolon s h =
     kept_ends (without_part part.Definition s.nesting) s h
     (λ n e. ap (option_and_then (run []))
     (part_at part.Definition s.nesting.branches s.nesting.parts n (λ b c. refl) e))
 kept_keyword last (keyword.Defining t) s h =
     kept_unless (in_definition s.nesting.parts) _ _
-    (λ e. kept_name last s (next_word s.rest) _ (λ name r. plain_two _ _ (reading_on r s) h))
+    (λ e. kept_name last s (next_word s.rest) _
+    (λ name r. given _ (reading_on r s) s.nesting h (defining_stands s.nesting (made name s) t e)))
 kept_keyword last keyword.Recurse s h = kept_recurse s s.open_one h
 kept_keyword last (keyword.Naming t) s h =
     kept_next _ (next_word s.rest) _ (λ name r. kept_code _ (code_named s.known name) t (reading_on r s) h)

@@ -2,14 +2,15 @@
 use Rattle.std.proofs.Common.{◌≡◌, List, [], ◌∷◌, refl, ap, ◌∙◌}
 use Rattle.of_source.specs.Items.{Item}
 use Rattle.of_source.specs.Items as item
-use Rattle.of_source.specs.Nest.{Nest, Stop, Plain, Definition, If, Else, Then, Begin, Do, Leave, Case, Of, items_of}
-use Rattle.of_source.specs.Nest.{Inside, after_word, after_closer, after_opener, opened_by, read_back, nest_of}
+use Rattle.of_source.specs.Nest.{Nest, Stop, Plain, Definition, Defining, If, Else, Then, Begin, Do, Leave, Case, Of}
+use Rattle.of_source.specs.Nest.{items_of, Inside, after_word, after_closer, after_opener, opened_by, read_back, nest_of}
 
 -- a nest, and then another
 abbrev pub joined : Nest → Nest → Nest
 joined Stop s = s
 joined (Plain t r) s = Plain t (joined r s)
-joined (Definition i r) s = Definition i (joined r s)
+joined (Definition m i r) s = Definition m i (joined r s)
+joined (Defining m t r) s = Defining m t (joined r s)
 joined (If l r) s = If l (joined r s)
 joined (Else l r) s = Else l (joined r s)
 joined (Then r) s = Then (joined r s)
@@ -22,7 +23,8 @@ joined (Of k i m r) s = Of k i m (joined r s)
 joined-Stop : (x : Nest) → joined x Stop ≡ x
 joined-Stop Stop = refl
 joined-Stop (Plain t r) = ap (Plain t) (joined-Stop r)
-joined-Stop (Definition i r) = ap (Definition i) (joined-Stop r)
+joined-Stop (Definition m i r) = ap (Definition m i) (joined-Stop r)
+joined-Stop (Defining m t r) = ap (Defining m t) (joined-Stop r)
 joined-Stop (If l r) = ap (If l) (joined-Stop r)
 joined-Stop (Else l r) = ap (Else l) (joined-Stop r)
 joined-Stop (Then r) = ap Then (joined-Stop r)
@@ -47,10 +49,11 @@ read_back-items_of (If l r) more = ap (after_word (If l)) (read_back-items_of r 
 read_back-items_of (Else l r) more = ap (after_word (Else l)) (read_back-items_of r more)
 read_back-items_of (Then r) more = ap (after_word Then) (read_back-items_of r more)
 read_back-items_of (Leave r) more = ap (after_word Leave) (read_back-items_of r more)
-read_back-items_of (Definition i r) more =
-    ap (after_opener item.Colon) (read_back-items_of i (item.Semicolon ∷ items_of r more))
-    ∙ closed item.Colon item.Semicolon i (read_back (items_of r more))
-    ∙ ap (λ (q : Inside). opened_by item.Colon i ((item.Semicolon, q.nest) ∷ q.around)) (read_back-items_of r more)
+read_back-items_of (Defining m t r) more = ap (after_word (Defining m t)) (read_back-items_of r more)
+read_back-items_of (Definition m i r) more =
+    ap (after_opener (item.Colon m)) (read_back-items_of i (item.Semicolon ∷ items_of r more))
+    ∙ closed (item.Colon m) item.Semicolon i (read_back (items_of r more))
+    ∙ ap (λ (q : Inside). opened_by (item.Colon m) i ((item.Semicolon, q.nest) ∷ q.around)) (read_back-items_of r more)
 read_back-items_of (Begin i z l r) more =
     ap (after_opener item.Begin) (read_back-items_of i (item.Back z l ∷ items_of r more))
     ∙ closed item.Begin (item.Back z l) i (read_back (items_of r more))

@@ -34,12 +34,12 @@ use Rattle.of_source.specs.Phrases.{Phrase, Spelled, Known, taken, written, item
 use Rattle.of_source.specs.Phrases.{next_own, named, string_items}
 use Rattle.of_source.specs.Phrases as phrase
 use Rattle.of_source.specs.Strings.{Piece, pieces_bytes, IsWithin, ArePieces}
-use Rattle.of_source.specs.Written.{IsWord, AreBlanks, EndsLine, IsName, LeaveOpen, IsOutside, IsStraight, own_of}
+use Rattle.of_source.specs.Written.{IsWord, AreBlanks, EndsLine, IsName, LeaveOpen, IsStraight, own_of}
 use Rattle.of_source.specs.Written.{IsKeyword, IsPlaced, IsFollowed}
 use Rattle.of_source.proofs.ReadingBack.{Parts, ends_part, word_behind, left_behind, line_left, plain_behind}
 use Rattle.of_source.proofs.ReadingBack.{quoted_behind}
 use Rattle.of_source.proofs.Opening.{MayStand, then_goes, else_goes, back_goes, repeat_goes, semicolon_goes, loop_goes}
-use Rattle.of_source.proofs.Opening.{end_of_goes, end_case_goes, leave_goes, of_goes, colon_goes, outside_goes}
+use Rattle.of_source.proofs.Opening.{end_of_goes, end_case_goes, leave_goes, of_goes, colon_goes, defining_goes}
 use Rattle.of_source.proofs.Opening.{straight_goes}
 
 -- the state of a word here, behind which this is left, where this is known and open
@@ -214,12 +214,12 @@ unless b x y h = rw h refl
 pub when_so : (b : Bool) (x y : Step) → b ≡ true → (if b then x else y) ≡ x
 when_so b x y h = rw h refl
 
-pub defining_goes : (last : ℕ) (t : FCode) (blanks name : List ℕ) (at from : ℕ) (k : Known) (n : Nesting)
+pub defining_step_goes : (last : ℕ) (t : FCode) (blanks name : List ℕ) (at from : ℕ) (k : Known) (n : Nesting)
     (more word : List ℕ)
     → AreBlanks blanks → IsName name → in_definition n.parts ≡ false → Parts more
     → GoesOn (keyword_step last (keyword.Defining t) (state_at at (rest_at from ((blanks ++ name) ++ more)) k n))
     (behind word (phrase.Defining t blanks name) k) (rest_at (from + length (blanks ++ name)) more)
-defining_goes last t blanks name at from k n more word b h e p = record {
+defining_step_goes last t blanks name at from k n more word b h e p = record {
   at = at;
   nesting = n;
   goes = unless (in_definition n.parts) _ _ e ∙ name_by last at from blanks name more k n _ b h p;
@@ -313,13 +313,6 @@ by_word last from word key p k n more h e g =
     (goes_by _ (keyword_step last key s) (behind word p k) (rest_at from more) (keyed last word s (Some key) h e) g)
 
 -- what is open here, by the items before
-outside_there : (k : Known) (n : Nesting) → run k.items nothing ≡ Some (shape_of n) → LeaveOpen k.items IsOutside
-    → in_definition n.parts ≡ false
-outside_there k n h l = outside_goes n (subst IsOutside (same (sym l.1 ∙ h)) l.2)
-  where
-    same : {o p : Shape} → Some o ≡ Some p → o ≡ p
-    same h = cc
-
 straight_there : (k : Known) (n : Nesting) → run k.items nothing ≡ Some (shape_of n) → LeaveOpen k.items IsStraight
     → is_straight n ≡ true
 straight_there k n h l = straight_goes n (subst IsStraight (same (sym l.1 ∙ h)) l.2)
@@ -399,11 +392,12 @@ phrase_goes last from word (phrase.Base base) k n more h e w r m f =
     (record { at = k.at; nesting = n; goes = no_items k.at (rest_at from more) (record k { radix = base }) n })
 phrase_goes last from word (phrase.Defining t blanks name) k n more h e w r m f =
     by_keyword last from word _ (phrase.Defining t blanks name) k n more h e
-    (defining_goes last t blanks name k.at from k n more word w.0 w.1 (outside_there k n r w.2) (ends_part more f))
+    (defining_step_goes last t blanks name k.at from k n more word w.0 w.1 (defining_goes n (named name k) t m)
+    (ends_part more f))
 phrase_goes last from word (phrase.Colon blanks name) k n more h e w r m f =
-    let t = making k.maker name (own_code (length k.names)) in
     by_keyword last from word _ (phrase.Colon blanks name) k n more h e
-    (colon_step_goes last blanks name k.at from k n more word w.0 w.1 (colon_goes n t m) (ends_part more f))
+    (colon_step_goes last blanks name k.at from k n more word w.0 w.1 (colon_goes n (named name k) m)
+    (ends_part more f))
 phrase_goes last from word phrase.Semicolon k n more h e w r m f =
     by_word last from word _ phrase.Semicolon k n more h e
     (semicolon_step_goes (without_part part.Definition n) k.at (rest_at from more) k n word (semicolon_goes n m))

@@ -1,7 +1,7 @@
 -- The tokens of an accepted source that stand by themselves are plain.
 use Rattle.std.proofs.Common.{◌≡◌, ℕ, zero, suc, ◌+◌, ◌≤◌, Bool, true, false, ◌&&◌, ◌||◌, not}
-use Rattle.std.proofs.Common.{List, [], ◌∷◌, ◌++◌, length}
-use Rattle.std.proofs.Common.{Option, Some, None, Ok, nat_eq, nat_le, if◌then◌else◌, refl, sym, ap, subst, ◌∙◌, arith}
+use Rattle.std.proofs.Common.{List, [], ◌∷◌, ◌++◌}
+use Rattle.std.proofs.Common.{Option, Some, None, nat_eq, nat_le, if◌then◌else◌, refl, sym, ap, subst, ◌∙◌, arith}
 use Rattle.std.proofs.Common.{append_assoc, inl, inr}
 use Rattle.std.specs.List.{list_all}
 use Rattle.std.specs.Str.{str_eq_ignore_ascii_case}
@@ -16,10 +16,7 @@ use Rattle.of_fcodes.specs.Rows.{seventh_rows}
 use Rattle.of_stream.specs.Decoding.{Token}
 use Rattle.of_source.specs.declared.keyword.Keyword.{Keyword}
 use Rattle.of_source.specs.declared.keyword.Keyword.TheVariants as keyword
-use Rattle.of_source.specs.declared.keyword.Maker.{Maker}
-use Rattle.of_source.specs.declared.keyword.Maker.TheVariants.{Named, External, Unnamed}
-use Rattle.of_source.specs.Accepted.{IsWritten}
-use Rattle.of_source.specs.Items.{Item, Source, bare, call, literal, making, naming, own_code, string}
+use Rattle.of_source.specs.Items.{Item, Source, bare, call, literal, naming, own_code, string}
 use Rattle.of_source.specs.Items as item
 use Rattle.of_source.specs.Keywords.{control_rows, fcode, if_ordinary, is_ordinary, keyword_in, keyword_named, or_in}
 use Rattle.of_source.specs.Keywords.{ordinary_named, text_rows}
@@ -44,7 +41,10 @@ onto : (front xs ys : List Item) → ArePlain front xs → ArePlain (front ++ xs
 onto front [] ys f g = subst (λ is. ArePlain is ys) (append-nil front) g
 onto front (item.Plain t ∷ xs) ys f g =
     (f.0, f.1, onto (front ++ item.Plain t ∷ []) xs ys f.2 (behind_one front (item.Plain t) xs ys g))
-onto front (item.Colon ∷ xs) ys f g = onto (front ++ item.Colon ∷ []) xs ys f (behind_one front item.Colon xs ys g)
+onto front (item.Colon m ∷ xs) ys f g =
+    onto (front ++ item.Colon m ∷ []) xs ys f (behind_one front (item.Colon m) xs ys g)
+onto front (item.Defining m t ∷ xs) ys f g =
+    (f.0, onto (front ++ item.Defining m t ∷ []) xs ys f.1 (behind_one front (item.Defining m t) xs ys g))
 onto front (item.Semicolon ∷ xs) ys f g =
     onto (front ++ item.Semicolon ∷ []) xs ys f (behind_one front item.Semicolon xs ys g)
 onto front (item.If l ∷ xs) ys f g = onto (front ++ item.If l ∷ []) xs ys f (behind_one front (item.If l) xs ys g)
@@ -100,21 +100,12 @@ or_first a b h = rw h refl
 
 ordinary_plain : (n : ℕ) → is_ordinary (word_numbered n) ≡ true → is_plain_code n ≡ true
 ordinary_plain n h =
-    or_second (nat_le 0x800 n) _ (or_first (is_ordinary (word_numbered n)) (is_kind n || nat_eq n 0x0cc) h)
+    or_second (nat_le 0x800 n) _ (or_first (is_ordinary (word_numbered n)) (nat_eq n 0x0cc) h)
 
 word_is : (c : FCode) → is_word c ≡ true → IsWord (call c)
 word_is c h =
     let w = both (is_ordinary (word_numbered c.0)) (not (nat_eq c.0 0x0cc)) h in
     (ordinary_plain c.0 w.0, not_false (nat_eq c.0 0x0cc) w.1)
-
-kind_is : (c : FCode) → is_kind c.0 ≡ true → IsWord (call c)
-kind_is c h =
-    let w = both (nat_le 0x0b8 c.0) (nat_le c.0 0x0be) h in
-    let other : nat_eq c.0 0x0cc ≡ false = grind (arith, nat_tests, w.1) in
-    let ordinary = is_ordinary (word_numbered c.0) in (
-      or_second (nat_le 0x800 c.0) _ (or_second ordinary _ (or_first (is_kind c.0) (nat_eq c.0 0x0cc) h)),
-      other,
-    )
 
 own_is : (k : ℕ) → IsWord (call (own_code k))
 own_is k =
@@ -197,10 +188,10 @@ naming_is t c h = pick (nat_eq t.0 0x011) (nat_eq t.0 0x0c3) refl refl h
         (inl same, grind (arith, nat_tests, same))
     pick false true e f g =
         let same : t.0 ≡ 0x0c3 = grind (arith, nat_tests, f) in
-        (inr (inl same), grind (arith, nat_tests, same))
+        (inr same, grind (arith, nat_tests, same))
     pick false false e f g = absurd (false≢true g)
 
--- ---- numbers, strings and makers
+-- ---- numbers and strings
 
 number_is : (x : Cell) → IsWord (number_token x)
 unfolding row_numbered rows first_rows second_rows third_rows fourth_rows fifth_rows
@@ -222,11 +213,6 @@ number_is x = pick (nat_eq x.0 0xffffffff) (nat_le x.0 3) refl
 type_is : IsWord (bare 0x090)
 unfolding row_numbered rows first_rows second_rows third_rows fourth_rows fifth_rows
 type_is = (refl, refl)
-
-making_is : (m : Maker) (name : List ℕ) (c : FCode) → IsWord (making m name c)
-making_is Unnamed name c = (inr (inr refl), refl)
-making_is Named name c = (inl refl, refl)
-making_is External name c = (inr refl, refl)
 
 -- ---- phrases
 
@@ -260,13 +246,8 @@ phrase_plain (phrase.Naming t blanks name c) k word m h =
     one k.items (naming t c) (naming_is t c (fine word (keyword.Naming t) m))
 phrase_plain (phrase.Headers r) k word m h = tt
 phrase_plain (phrase.Base base) k word m h = tt
-phrase_plain (phrase.Defining t blanks name) k word m h =
-    let code = own_code (length k.names) in
-    two k.items (making k.maker name code) (call t) (making_is k.maker name code)
-    (kind_is t (fine word (keyword.Defining t) m))
-phrase_plain (phrase.Colon blanks name) k word m h =
-    let code = own_code (length k.names) in
-    one k.items (making k.maker name code) (making_is k.maker name code)
+phrase_plain (phrase.Defining t blanks name) k word m h = (fine word (keyword.Defining t) m, tt)
+phrase_plain (phrase.Colon blanks name) k word m h = tt
 phrase_plain phrase.Semicolon k word m h = tt
 phrase_plain phrase.Recurse k word m h = recursions k.open_one k.items
 phrase_plain phrase.Offset16 k word m h = (refl, λ e. h, tt)

@@ -7,8 +7,8 @@ use Rattle.of_source.specs.declared.nesting.Part.{Part}
 use Rattle.of_source.specs.declared.nesting.Part.TheVariants as part
 use Rattle.of_source.specs.Items.{Item}
 use Rattle.of_source.specs.Items as item
-use Rattle.of_source.specs.Nest.{Nest, Stop, Plain, Definition, If, Else, Then, Begin, Do, Leave, Case, Of, items_of}
-use Rattle.of_source.specs.Nest.{open_behind, Fits, IsNested}
+use Rattle.of_source.specs.Nest.{Nest, Stop, Plain, Definition, Defining, If, Else, Then, Begin, Do, Leave, Case, Of}
+use Rattle.of_source.specs.Nest.{items_of, open_behind, Fits, IsNested}
 use Rattle.of_source.proofs.Kept.{run-append}
 use Rattle.of_source.specs.Shapes.{Shape, nothing, floor_of, around_of, closing, run}
 
@@ -35,7 +35,8 @@ ran : (x : Nest) (more : List Item) (d : ℕ) (ps : List (Part × ℕ)) → Fits
     → run (items_of x more) (shape d ps) ≡ run more (shape (open_behind x d) ps)
 ran Stop more d ps h = refl
 ran (Plain t r) more d ps h = ran r more d ps h
-ran (Definition i r) more d ps h =
+ran (Defining m t r) more d ps h = rw h.0 (ran r more d ps h.1)
+ran (Definition m i r) more d ps h =
     let rest = items_of r more in
     rw h.0 (ran i (item.Semicolon ∷ rest) d ((part.Definition, d) ∷ ps) h.1
     ∙ ap (option_and_then (run rest)) (closed_part part.Definition (open_behind i d) d ps h.2)

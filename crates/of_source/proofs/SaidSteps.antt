@@ -47,7 +47,7 @@ use Rattle.of_source.specs.Faults.{opened, IsCloser, HasWord, MakesName, IsWrong
 use Rattle.of_source.specs.Faults.{no_name}
 use Rattle.of_source.specs.Faults.{no_digits, bad_digits, long_name, long_string, no_end, no_code, not_outside}
 use Rattle.of_source.specs.Faults.{not_inside, not_straight, out_of_range, no_meaning, IsFailure, cut, wrong}
-use Rattle.of_source.proofs.Kept.{Inv, shapes, defines-shapes}
+use Rattle.of_source.proofs.Kept.{Inv, shapes}
 use Rattle.of_source.proofs.ShapeLemmas.{both_true}
 use Rattle.of_source.proofs.FoundText.{FoundPlain, FoundQuoted, FoundWord, plain_found, quoted_found, line_found}
 use Rattle.of_source.proofs.FoundText.{next_found, left_place}
@@ -465,10 +465,10 @@ said_keyword last (keyword.Defining t) u word n m i =
       place = operand_place u name r h;
       own = n;
       means = m;
-      placed = (h.2, (h.3, l), (shape_of u.nesting, i, defines-shapes u.nesting.parts ∙ e));
+      placed = (h.2, (h.3, l));
       followed = h.4;
       knows = λ at. refl;
-      opens = refl;
+      opens = ap (λ (b : Bool). opened_if (not b) u.nesting) e;
     }))
 said_keyword last keyword.Recurse u word n m i = said_recurse last u word u.open_one n m refl
 said_keyword last (keyword.Naming t) u word n m i =

@@ -5,7 +5,7 @@ use Rattle.std.specs.Prelude.{option_and_then}
 use Rattle.std.proofs.lemmas.Bool.Decides.{nat_tests}
 use Rattle.of_source.specs.declared.nesting.Part.{Part}
 use Rattle.of_source.specs.declared.nesting.Part.TheVariants as part
-use Rattle.of_source.specs.Items.{Item}
+use Rattle.of_source.specs.Items.{Item, Made}
 use Rattle.of_source.specs.Items as item
 use Rattle.of_source.specs.Nesting.{is_same}
 use Rattle.of_source.specs.Nest.{Nest, items_of, open_behind, Fits, IsNested, Inside, after_closer, opened_by}
@@ -58,15 +58,16 @@ begin_read (item.Back z l) x r cs is d ps h =
     record { items = ap (λ js. item.Begin ∷ js) h.items; fits = (h.fits, h.rest.2); rest = h.rest.3 }
 begin_read _ x r cs is d ps h = absurd h.rest.0
 
-definition_read : (c : Item) (x r : Nest) (cs : List (Item × Nest)) (is : List Item) (d : ℕ) (ps : List (Part × ℕ))
+definition_read : (m : Made) (c : Item) (x r : Nest) (cs : List (Item × Nest)) (is : List Item) (d : ℕ)
+    (ps : List (Part × ℕ))
     → (around_of ps).defines ≡ false
     → Reads is (record { nest = x; around = (c, r) ∷ cs }) d ((part.Definition, d) ∷ ps)
-    → Reads (item.Colon ∷ is) (opened_by item.Colon x ((c, r) ∷ cs)) d ps
-definition_read item.Semicolon x r cs is d ps n h =
+    → Reads (item.Colon m ∷ is) (opened_by (item.Colon m) x ((c, r) ∷ cs)) d ps
+definition_read m item.Semicolon x r cs is d ps n h =
     let P : ℕ → Type 0 = λ e. FitsAt r e ps × FitsAround (open_behind r e) cs ps in
     let k : FitsAt r d ps × FitsAround (open_behind r d) cs ps = subst P h.rest.1 (h.rest.2, h.rest.3) in
-    record { items = ap (λ js. item.Colon ∷ js) h.items; fits = (n, h.fits, h.rest.1, k.0); rest = k.1 }
-definition_read _ x r cs is d ps n h = absurd h.rest.0
+    record { items = ap (λ js. item.Colon m ∷ js) h.items; fits = (n, h.fits, h.rest.1, k.0); rest = k.1 }
+definition_read m _ x r cs is d ps n h = absurd h.rest.0
 
 do_read : (q : Bool) (l : ℕ) (c : Item) (x r : Nest) (cs : List (Item × Nest)) (is : List Item) (d : ℕ)
     (ps : List (Part × ℕ))
@@ -105,12 +106,12 @@ begin_any : (x : Nest) (cs : List (Item × Nest)) (is : List Item) (d : ℕ) (ps
 begin_any x [] is d ps h = absurd h.rest
 begin_any x (c ∷ cs) is d ps h = begin_read c.0 x c.1 cs is d ps h
 
-definition_any : (x : Nest) (cs : List (Item × Nest)) (is : List Item) (d : ℕ) (ps : List (Part × ℕ))
+definition_any : (m : Made) (x : Nest) (cs : List (Item × Nest)) (is : List Item) (d : ℕ) (ps : List (Part × ℕ))
     → (around_of ps).defines ≡ false
     → Reads is (record { nest = x; around = cs }) d ((part.Definition, d) ∷ ps)
-    → Reads (item.Colon ∷ is) (opened_by item.Colon x cs) d ps
-definition_any x [] is d ps n h = absurd h.rest
-definition_any x (c ∷ cs) is d ps n h = definition_read c.0 x c.1 cs is d ps n h
+    → Reads (item.Colon m ∷ is) (opened_by (item.Colon m) x cs) d ps
+definition_any m x [] is d ps n h = absurd h.rest
+definition_any m x (c ∷ cs) is d ps n h = definition_read m c.0 x c.1 cs is d ps n h
 
 do_any : (q : Bool) (l : ℕ) (x : Nest) (cs : List (Item × Nest)) (is : List Item) (d : ℕ) (ps : List (Part × ℕ))
     → Reads is (record { nest = x; around = cs }) d ((part.Do, d) ∷ ps)
@@ -150,7 +151,7 @@ less f d h = grind (arith, nat_tests)
 same_number : (a b : ℕ) → nat_eq a b ≡ true → a ≡ b
 same_number a b h = grind (arith, nat_tests)
 
-same_kind : (a k : Part) → is_same a k ≡ true → a ≡ k
+pub same_kind : (a k : Part) → is_same a k ≡ true → a ≡ k
 same_kind part.Definition part.Definition h = refl
 same_kind part.Begin part.Begin h = refl
 same_kind part.Do part.Do h = refl
@@ -222,9 +223,14 @@ read (item.Do q l ∷ is) o h =
     do_any q l (read_back is).nest (read_back is).around is o.count o.parts (read is (pushed part.Do o) h)
 read (item.Case ∷ is) o h =
     case_any (read_back is).nest (read_back is).around is o.count o.parts (read is (pushed part.Case o) h)
-read (item.Colon ∷ is) o h =
+read (item.Defining m t ∷ is) o h =
+    let w = when_some (not (around_of o.parts).defines) o (run is) nothing h in
+    let r = read is o w.1 in
+    let outside = not_true (around_of o.parts).defines w.0 in
+    record { items = ap (λ js. item.Defining m t ∷ js) r.items; fits = (outside, r.fits); rest = r.rest }
+read (item.Colon m ∷ is) o h =
     let w = when_some (not (around_of o.parts).defines) (pushed part.Definition o) (run is) nothing h in
-    definition_any (read_back is).nest (read_back is).around is o.count o.parts
+    definition_any m (read_back is).nest (read_back is).around is o.count o.parts
     (not_true (around_of o.parts).defines w.0) (read is (pushed part.Definition o) w.1)
 read (item.Of l ∷ is) o h =
     let w = when_some ((around_of o.parts).cases && nat_eq (floor_of o.parts) o.count) (pushed part.Of o)

@@ -18,7 +18,7 @@ use Rattle.of_source.specs.declared.keyword.Keyword.{Keyword}
 use Rattle.of_source.specs.declared.keyword.Keyword.TheVariants as keyword
 use Rattle.of_source.specs.declared.keyword.Maker.{Maker}
 use Rattle.of_source.specs.declared.keyword.Maker.TheVariants.{Named, External, Unnamed}
-use Rattle.of_source.specs.Encodable.{HasBytes}
+use Rattle.of_source.specs.Encodable.{HasBytes, HasTokenBytes}
 use Rattle.of_source.specs.Items.{Item, bare, call, literal, making, naming, own_code, string}
 use Rattle.of_source.specs.Items as item
 use Rattle.of_source.specs.Keywords.{control_rows, fcode, if_ordinary, is_ordinary, keyword_in, keyword_named, or_in}
@@ -93,7 +93,7 @@ own_bare k l = (
 
 -- the token that gives a definition its number
 pub making_bytes : (m : Maker) (name : List ℕ) (k : ℕ) → length name < 256 → k < 2048
-    → HasBytes (item.Plain (making m name (own_code k)))
+    → HasTokenBytes (making m name (own_code k))
 unfolding row_numbered rows first_rows second_rows third_rows fourth_rows fifth_rows
 making_bytes Unnamed name k s l = let h = own_code_is k l in ((refl, refl, h), (refl, refl, h))
 making_bytes Named name k s l =

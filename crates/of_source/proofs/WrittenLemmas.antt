@@ -194,7 +194,7 @@ end_longer e =
 -- ---- all phrases
 
 -- where all items fit, those of the phrases before fit
-before_runs : (ps : List Spelled) (k : Known) (o : Shape) → run (all_behind ps k).items nothing ≡ Some o
+pub before_runs : (ps : List Spelled) (k : Known) (o : Shape) → run (all_behind ps k).items nothing ≡ Some o
     → (p : Shape) × (run k.items nothing ≡ Some p)
 before_runs [] k o h = (o, h)
 before_runs (p ∷ ps) k o h =

@@ -34,6 +34,7 @@ use Rattle.of_source.specs.Written.{IsWord, AreBlanks, EndsWord, keyword_of, IsS
 -- what is open behind a phrase at this place; none where a closer, `of` or `leave` has nothing to close or stand in,
 -- and where a definition would begin in another
 abbrev pub opened : Phrase → ℕ → Nesting → Option Nesting
+opened (phrase.Defining t blanks name) at n = opened_if (not (in_definition n.parts)) n
 opened (phrase.Colon blanks name) at n = opened_if (not (in_definition n.parts)) (with_part part.Definition at n)
 opened phrase.Semicolon at n = without_part part.Definition n
 opened phrase.If at n = Some (with_branch at n)

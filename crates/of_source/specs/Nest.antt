@@ -1,15 +1,18 @@
--- A source as a nest of words: each word stands with what follows it, and a part with its inside.
+-- A source as a nest of words: each word stands with what follows it, and a part with its inside. The token that gives
+-- a definition its number stands directly before `b(:)` or the token of its defining word, and belongs to it.
 -- `if`, `else` and `then` have no inside: a branch may end in the part around the one that it begins in.
 use Rattle.std.specs.Prelude.{◌≡◌, ℕ, ◌+◌, ◌-◌, ◌<◌, Bool, true, false, List, [], ◌∷◌}
+use Rattle.of_fcodes.specs.declared.codes.FCode.{FCode}
 use Rattle.of_stream.specs.Decoding.{Token}
-use Rattle.of_source.specs.Items.{Item}
+use Rattle.of_source.specs.Items.{Item, Made}
 use Rattle.of_source.specs.Items as item
 
 -- a word with what follows it, or a part with its inside and what follows it; at the end nothing
 pub data Nest : Type 0 where
   Stop : Nest
   Plain : Token → Nest → Nest
-  Definition : Nest → Nest → Nest  -- `:`, the inside, `;`
+  Definition : Made → Nest → Nest → Nest  -- `:`, the inside, `;`
+  Defining : Made → FCode → Nest → Nest  -- another defining word, by its token
   If : ℕ → Nest → Nest
   Else : ℕ → Nest → Nest
   Then : Nest → Nest
@@ -23,7 +26,8 @@ pub data Nest : Type 0 where
 abbrev pub items_of : Nest → List Item → List Item
 items_of Stop more = more
 items_of (Plain t r) more = item.Plain t ∷ items_of r more
-items_of (Definition i r) more = item.Colon ∷ items_of i (item.Semicolon ∷ items_of r more)
+items_of (Definition m i r) more = item.Colon m ∷ items_of i (item.Semicolon ∷ items_of r more)
+items_of (Defining m t r) more = item.Defining m t ∷ items_of r more
 items_of (If l r) more = item.If l ∷ items_of r more
 items_of (Else l r) more = item.Else l ∷ items_of r more
 items_of (Then r) more = item.Then ∷ items_of r more
@@ -37,7 +41,8 @@ items_of (Of k i m r) more = item.Of k ∷ items_of i (item.EndOf m ∷ items_of
 abbrev pub open_behind : Nest → ℕ → ℕ
 open_behind Stop d = d
 open_behind (Plain t r) d = open_behind r d
-open_behind (Definition i r) d = open_behind r d
+open_behind (Definition m i r) d = open_behind r d
+open_behind (Defining m t r) d = open_behind r d
 open_behind (If l r) d = open_behind r (d + 1)
 open_behind (Else l r) d = open_behind r d
 open_behind (Then r) d = open_behind r (d - 1)
@@ -66,9 +71,10 @@ in_part a = record { defines = a.defines; loops = a.loops; cases = false }
 abbrev pub Fits : Nest → Around → ℕ → ℕ → Type 0
 Fits Stop a floor d = Unit {0}
 Fits (Plain t r) a floor d = Fits r a floor d
-Fits (Definition i r) a floor d =
+Fits (Definition m i r) a floor d =
     (a.defines ≡ false) × Fits i (record { defines = true; loops = false; cases = false }) d d × (open_behind i d ≡ d)
     × Fits r a floor d
+Fits (Defining m t r) a floor d = (a.defines ≡ false) × Fits r a floor d
 Fits (If l r) a floor d = Fits r a floor (d + 1)
 Fits (Else l r) a floor d = (floor < d) × Fits r a floor d
 Fits (Then r) a floor d = (floor < d) × Fits r a floor (d - 1)
@@ -98,7 +104,7 @@ pub record Inside : Type 0 where
 
 -- an opener with its inside, its closer and what follows that
 abbrev pub part_of : Item → Nest → Item → Nest → Nest
-part_of item.Colon i item.Semicolon r = Definition i r
+part_of (item.Colon m) i item.Semicolon r = Definition m i r
 part_of item.Begin i (item.Back z l) r = Begin i z l r
 part_of (item.Do q k) i (item.Loop l m) r = Do q k i l m r
 part_of item.Case i item.EndCase r = Case i r
@@ -126,11 +132,12 @@ after_opener o x = opened_by o x.nest x.around
 abbrev pub read_back : List Item → Inside
 read_back [] = record { nest = Stop; around = [] }
 read_back (item.Plain t ∷ is) = after_word (Plain t) (read_back is)
+read_back (item.Defining m t ∷ is) = after_word (Defining m t) (read_back is)
 read_back (item.If l ∷ is) = after_word (If l) (read_back is)
 read_back (item.Else l ∷ is) = after_word (Else l) (read_back is)
 read_back (item.Then ∷ is) = after_word Then (read_back is)
 read_back (item.Leave ∷ is) = after_word Leave (read_back is)
-read_back (item.Colon ∷ is) = after_opener item.Colon (read_back is)
+read_back (item.Colon m ∷ is) = after_opener (item.Colon m) (read_back is)
 read_back (item.Begin ∷ is) = after_opener item.Begin (read_back is)
 read_back (item.Do q k ∷ is) = after_opener (item.Do q k) (read_back is)
 read_back (item.Case ∷ is) = after_opener item.Case (read_back is)

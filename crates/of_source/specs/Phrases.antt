@@ -9,7 +9,7 @@ use Rattle.of_source.specs.declared.keyword.Maker.TheVariants.{Named}
 use Rattle.of_source.specs.declared.keyword.Radix.{Radix}
 use Rattle.of_source.specs.declared.keyword.Radix.TheVariants.{Hexadecimal}
 use Rattle.of_source.specs.Names.{Own}
-use Rattle.of_source.specs.Items.{Item, own_code, call, string, naming, making, bare}
+use Rattle.of_source.specs.Items.{Item, Made, own_code, call, string, naming, bare}
 use Rattle.of_source.specs.Items as item
 use Rattle.of_source.specs.Steps.{number_items, known_with}
 use Rattle.of_source.specs.Strings.{Piece, pieces_written, pieces_bytes}
@@ -134,9 +134,9 @@ abbrev pub recursion : Option Own → List Item
 recursion None = []
 recursion (Some d) = item.Plain (call (own_code d.number)) ∷ []
 
--- a name for the definition that begins
-abbrev pub named : List ℕ → Known → Item
-named name k = item.Plain (making k.maker name (own_code (length k.names)))
+-- the definition of this name that begins, with the next number
+abbrev pub named : List ℕ → Known → Made
+named name k = record { maker = k.maker; name = name; number = length k.names }
 
 -- the items of a phrase
 abbrev pub items_of : Phrase → Known → List Item
@@ -154,8 +154,8 @@ items_of (LineComment bytes) k = []
 items_of (Naming t blanks name c) k = item.Plain (naming t c) ∷ []
 items_of (Headers m) k = []
 items_of (Base base) k = []
-items_of (Defining t blanks name) k = named name k ∷ item.Plain (call t) ∷ []
-items_of (Colon blanks name) k = named name k ∷ item.Colon ∷ []
+items_of (Defining t blanks name) k = item.Defining (named name k) t ∷ []
+items_of (Colon blanks name) k = item.Colon (named name k) ∷ []
 items_of Semicolon k = item.Semicolon ∷ []
 items_of Recurse k = recursion k.open_one
 items_of Offset16 k = item.Plain (bare 0x0cc) ∷ []

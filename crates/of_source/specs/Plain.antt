@@ -3,8 +3,8 @@
 use Rattle.std.specs.Prelude.{◌≡◌, ℕ, ◌||◌, ◌&&◌, ◌⊎◌, Bool, true, List, [], ◌∷◌, ◌++◌, nat_eq, nat_le, Ok}
 use Rattle.of_fcodes.specs.Lookup.{word_numbered}
 use Rattle.of_stream.specs.Decoding.{Argument, Token, Nothing, Literal, String, Code, Named, Offset}
-use Rattle.of_source.specs.Items.{Item, Source, Plain, Colon, Semicolon, If, Else, Then, Begin, Back, Do, Loop, Leave}
-use Rattle.of_source.specs.Items.{Case, Of, EndOf, EndCase}
+use Rattle.of_source.specs.Items.{Item, Source, Plain, Colon, Defining, Semicolon, If, Else, Then, Begin, Back, Do}
+use Rattle.of_source.specs.Items.{Loop, Leave, Case, Of, EndOf, EndCase}
 use Rattle.of_source.specs.Keywords.{is_ordinary}
 use Rattle.of_source.specs.Parsing.{parsed}
 use Rattle.of_source.specs.Written.{IsStraight, LeaveOpen}
@@ -13,31 +13,33 @@ use Rattle.of_source.specs.Written.{IsStraight, LeaveOpen}
 abbrev pub is_kind : ℕ → Bool
 is_kind code = nat_le 0x0b8 code && nat_le code 0x0be
 
--- the FCode of an own definition, of an ordinary word or of a kind of definition, or `offset16`
+-- the FCode of an own definition or of an ordinary word, or `offset16`
 abbrev pub is_plain_code : ℕ → Bool
-is_plain_code code = nat_le 0x800 code || (is_ordinary (word_numbered code) || (is_kind code || nat_eq code 0x0cc))
+is_plain_code code = nat_le 0x800 code || (is_ordinary (word_numbered code) || nat_eq code 0x0cc)
 
--- Such an FCode alone; `b(lit)` with a number; `b(")` with a string; `b(')`, `b(to)` or `new-token` with an FCode;
--- `named-token` or `external-token` with a name and an FCode. So it has no offset, and is none of `b(:)`, `b(;)`,
--- `b(leave)`, `b(case)`, `b(endcase)`, `b(<mark)`, `b(>resolve)`, `end0` and `end1`.
+-- Such an FCode alone; `b(lit)` with a number; `b(")` with a string; `b(')` or `b(to)` with an FCode. So it has no
+-- offset, gives no definition its number, says of none what it is, and is none of `b(:)`, `b(;)`, `b(leave)`,
+-- `b(case)`, `b(endcase)`, `b(<mark)`, `b(>resolve)`, `end0` and `end1`.
 abbrev pub IsPlainWith : Argument → ℕ → Type 0
 IsPlainWith Nothing code = is_plain_code code ≡ true
 IsPlainWith (Literal x) code = code ≡ 0x010
 IsPlainWith (String s) code = code ≡ 0x012
-IsPlainWith (Code c) code = (code ≡ 0x011) ⊎ (code ≡ 0x0c3) ⊎ (code ≡ 0x0b5)
-IsPlainWith (Named s c) code = (code ≡ 0x0b6) ⊎ (code ≡ 0x0ca)
+IsPlainWith (Code c) code = (code ≡ 0x011) ⊎ (code ≡ 0x0c3)
+IsPlainWith (Named s c) code = ⊥
 IsPlainWith (Offset by) code = ⊥
 
 abbrev pub IsPlain : Token → Type 0
 IsPlain t = IsPlainWith t.argument t.code.0
 
--- Behind some items, each token is plain, and `offset16` stands where what is before it leaves no control structure
--- open: so the size of offsets is the same whichever way control goes.
+-- Behind some items, each token that stands by itself is plain, another defining word than `:` says what its definition
+-- is, and `offset16` stands where what is before it leaves no control structure open: so the size of offsets is the same
+-- whichever way control goes.
 abbrev pub ArePlain : List Item → List Item → Type 0
 ArePlain front [] = Unit {0}
 ArePlain front (Plain t ∷ is) =
     IsPlain t × (t.code.0 ≡ 0x0cc → LeaveOpen front IsStraight) × ArePlain (front ++ Plain t ∷ []) is
-ArePlain front (Colon ∷ is) = ArePlain (front ++ Colon ∷ []) is
+ArePlain front (Colon m ∷ is) = ArePlain (front ++ Colon m ∷ []) is
+ArePlain front (Defining m t ∷ is) = (is_kind t.0 ≡ true) × ArePlain (front ++ Defining m t ∷ []) is
 ArePlain front (Semicolon ∷ is) = ArePlain (front ++ Semicolon ∷ []) is
 ArePlain front (If l ∷ is) = ArePlain (front ++ If l ∷ []) is
 ArePlain front (Else l ∷ is) = ArePlain (front ++ Else l ∷ []) is

@@ -61,7 +61,8 @@ closing k n (p ∷ ps) = when (is_same p.0 k && is_even k p.1 n) (record { count
 -- what is open behind an item; none where it doesn't fit
 abbrev pub opens : Item → Shape → Option Shape
 opens (item.Plain t) o = Some o
-opens item.Colon o = when (not (around_of o.parts).defines) (pushed part.Definition o)
+opens (item.Colon m) o = when (not (around_of o.parts).defines) (pushed part.Definition o)
+opens (item.Defining m t) o = when (not (around_of o.parts).defines) o
 opens item.Semicolon o = closing part.Definition o.count o.parts
 opens (item.If l) o = Some (record { count = o.count + 1; parts = o.parts })
 opens (item.Else l) o = when (nat_lt (floor_of o.parts) o.count) o

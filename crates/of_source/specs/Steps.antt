@@ -22,7 +22,7 @@ use Rattle.of_source.specs.declared.number.Number.{Number}
 use Rattle.of_source.specs.declared.number.Number.TheVariants.{Value, OutOfRange, NoNumber}
 use Rattle.of_source.specs.Numbers.{number_in}
 use Rattle.of_source.specs.Keywords.{keyword_named, ordinary_named}
-use Rattle.of_source.specs.Items.{Item, Source, own_code, call, literal, string, naming, making, bare}
+use Rattle.of_source.specs.Items.{Item, Made, Source, own_code, call, literal, string, naming, bare}
 use Rattle.of_source.specs.Items as item
 use Rattle.of_source.specs.Nesting.{Nesting, nothing_open, with_branch, with_part, without_branch, without_begin}
 use Rattle.of_source.specs.Nesting.{without_part, then_without_branch, then_with_branch, opened_if, in_definition}
@@ -203,9 +203,9 @@ comment_step s (Some r) = Goes (reading_on (left_of s.rest r.1) s)
 
 -- ---- definitions
 
--- the items that begin a definition
-abbrev pub making_items : List ℕ → State → Item → List Item
-making_items name s i = item.Plain (making s.maker name (own_code (length s.known))) ∷ i ∷ []
+-- the definition of this name that begins, with the next number
+abbrev pub made : List ℕ → State → Made
+made name s = record { maker = s.maker; name = name; number = length s.known }
 
 -- outside all definitions
 abbrev pub if_outside : State → Step → Step
@@ -215,13 +215,13 @@ if_outside s go = if in_definition s.nesting.parts then Fails (Unknown s.at) els
 abbrev pub defining_step : ℕ → FCode → State → Step
 defining_step last t s =
     if_outside s (with_name (name_read last s)
-    (λ name r. Goes (knowing name (giving (making_items name s (item.Plain (call t))) r))))
+    (λ name r. Goes (knowing name (giving (item.Defining (made name s) t ∷ []) r))))
 
 -- the definition is open before its name is read
 abbrev pub colon_step : ℕ → State → Step
 colon_step last s =
     if_outside s (with_name (name_read last (opening (with_part part.Definition s.at s.nesting) s))
-    (λ name r. Goes (defining name (giving (making_items name s item.Colon) r))))
+    (λ name r. Goes (defining name (giving (item.Colon (made name s) ∷ []) r))))
 
 -- `recurse`: the number of the open definition
 abbrev pub recurse_step : State → Option Own → Step

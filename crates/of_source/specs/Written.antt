@@ -16,7 +16,7 @@ use Rattle.of_source.specs.Radix.{base_of}
 use Rattle.of_source.specs.Items.{Item}
 use Rattle.of_source.specs.Nest.{IsNested}
 use Rattle.of_source.specs.Nesting.{is_same}
-use Rattle.of_source.specs.Shapes.{Shape, nothing, around_of, run}
+use Rattle.of_source.specs.Shapes.{Shape, nothing, run}
 use Rattle.of_source.specs.Steps.{code_named}
 use Rattle.of_source.specs.Parsing.{is_word, parsed}
 use Rattle.of_source.specs.Scan.{group}
@@ -45,10 +45,6 @@ IsName name = IsWord name × (length name ≤ 31)
 -- what is open behind these items is such
 abbrev pub LeaveOpen : List Item → (Shape → Type 0) → Type 0
 LeaveOpen items P = (o : Shape) × (run items nothing ≡ Some o) × P o
-
--- outside all definitions
-abbrev pub IsOutside : Shape → Type 0
-IsOutside o = (around_of o.parts).defines ≡ false
 
 -- no control structure is open
 abbrev pub IsStraight : Shape → Type 0
@@ -113,7 +109,7 @@ IsPlaced k word (phrase.Quoted blank pieces bytes) =
 IsPlaced k word (phrase.Comment blank bytes) = (blank ≢ 10) × IsWithin 41 bytes
 IsPlaced k word (phrase.LineComment bytes) = All (λ b. b ≢ 10) bytes
 IsPlaced k word (phrase.Naming t blanks name c) = AreBlanks blanks × IsWord name × (code_named k.names name ≡ Some c)
-IsPlaced k word (phrase.Defining t blanks name) = AreBlanks blanks × IsName name × LeaveOpen k.items IsOutside
+IsPlaced k word (phrase.Defining t blanks name) = AreBlanks blanks × IsName name
 IsPlaced k word (phrase.Colon blanks name) = AreBlanks blanks × IsName name
 IsPlaced k word phrase.Recurse = (d : Own) × (k.open_one ≡ Some d)
 IsPlaced k word phrase.Offset16 = LeaveOpen k.items IsStraight

@@ -1,12 +1,12 @@
 ghost use Rattle.std.specs.Prelude.{◌≡◌, ◌∷◌, [], Bool, Err, OnOk, true, false, map, option_map, length, IfOk};
-ghost use Rattle.of_source.specs.Items.{item_shown, code_of, call};
+ghost use Rattle.of_source.specs.Items.{item_shown, plain_shown, code_of, call};
 ghost use Rattle.of_source.specs.Items as item;
 ghost use Rattle.of_source.specs.Steps.{number_token};
 ghost use Rattle.of_source.specs.declared.fault.SourceFault.TheVariants.{Unclosed, Unknown};
 ghost use Rattle.of_source.specs.declared.keyword.Keyword.TheVariants as keyword;
 
 use crate::fault::SourceFault;
-use crate::item::{Item, Name};
+use crate::item::{Item, Name, Plain};
 use crate::keyword::{Keyword, Maker, Quote, Radix};
 use crate::names::{Names, Own};
 use crate::nesting::Nesting;
@@ -129,14 +129,14 @@ impl<'a> Parser<'a> {
     fn number(&mut self, x: Cell) -> Result<(), AllocError>
         ensures { OnOk result (self.new ≡ giving (number_items x) self.old) }
     {
-        self.give(number_item(x))
+        self.give(Item::Plain(number_item(x)))
     }
 
     /// A word.
     fn call(&mut self, name: Name) -> Result<(), AllocError>
         ensures { OnOk result (self.new ≡ giving (item.Plain (call (code_of name)) ∷ []) self.old) }
     {
-        self.give(Item::Call(name))
+        self.give(Item::Plain(Plain::Call(name)))
     }
 
     /// What an unknown word gives.
@@ -295,12 +295,12 @@ impl<'a> Parser<'a> {
 }
 
 /// The item of a number: the cells -1 to 3 have FCodes of their own.
-fn number_item(x: Cell) -> Item
-    ensures { item_shown result ≡ item.Plain (number_token x) }
+fn number_item(x: Cell) -> Plain
+    ensures { plain_shown result ≡ number_token x }
 {
     match x.0 {
-        0xffff_ffff => Item::Call(Name::Listed(FCode(0x0a4))),
-        small @ 0..=3 => Item::Call(Name::Listed(FCode(0x0a5 + small as u16))),
-        _ => Item::Literal(x),
+        0xffff_ffff => Plain::Call(Name::Listed(FCode(0x0a4))),
+        small @ 0..=3 => Plain::Call(Name::Listed(FCode(0x0a5 + small as u16))),
+        _ => Plain::Literal(x),
     }
 }

@@ -1,5 +1,5 @@
 use of_fcodes::{FCode, Word, name_of, word_of};
-use of_source::{Item, Maker, Name, Place, SourceFault, parse, place_in};
+use of_source::{Item, Made, Maker, Name, Place, Plain, SourceFault, parse, place_in};
 use of_stream::OffsetSize;
 use std::alloc::{AllocError, Global};
 use std::process::Abort;
@@ -23,14 +23,10 @@ fn string_text(alloc: Global, bytes: &[u8]) -> Result<String, AllocError> {
 }
 
 /// What gives a definition its number: the token maker, the name and the number.
-fn making_text(
-    alloc: Global,
-    maker: Maker,
-    name: &[u8],
-    number: usize,
-) -> Result<String, AllocError> {
-    let name = string_text(alloc, name)?;
-    match maker {
+fn making_text(alloc: Global, made: &Made) -> Result<String, AllocError> {
+    let name = string_text(alloc, &made.name)?;
+    let number = made.number;
+    match made.maker {
         Maker::Named => format!(in alloc; "named:{name}#{number}"),
         Maker::External => format!(in alloc; "external:{name}#{number}"),
         Maker::Unnamed => format!(in alloc; "new:{name}#{number}"),
@@ -77,18 +73,31 @@ fn control_text(alloc: Global, text: &[u8], item: &Item) -> Result<String, Alloc
     }
 }
 
-/// An item in a few characters.
-fn item_text(alloc: Global, text: &[u8], item: &Item) -> Result<String, AllocError> {
-    match item {
-        Item::Call(name) => name_text(alloc, *name),
-        Item::Literal(x) => format!(in alloc; "={:x}", x.0),
-        Item::String(bytes) => string_text(alloc, bytes),
-        Item::Naming(token, name) => {
+/// A token by itself.
+fn plain_text(alloc: Global, plain: &Plain) -> Result<String, AllocError> {
+    match plain {
+        Plain::Call(name) => name_text(alloc, *name),
+        Plain::Literal(x) => format!(in alloc; "={:x}", x.0),
+        Plain::String(bytes) => string_text(alloc, bytes),
+        Plain::Naming(token, name) => {
             let name = name_text(alloc, *name)?;
             format!(in alloc; "{:x}>{name}", token.0)
         }
-        Item::Define(maker, name, number) => making_text(alloc, *maker, name, *number),
-        Item::Colon => String::from_str(alloc, ":"),
+    }
+}
+
+/// An item in a few characters.
+fn item_text(alloc: Global, text: &[u8], item: &Item) -> Result<String, AllocError> {
+    match item {
+        Item::Plain(plain) => plain_text(alloc, plain),
+        Item::Colon(made) => {
+            let making = making_text(alloc, made)?;
+            format!(in alloc; "{making} :")
+        }
+        Item::Defining(made, token) => {
+            let making = making_text(alloc, made)?;
+            format!(in alloc; "{making} {:x}", token.0)
+        }
         Item::Semicolon => String::from_str(alloc, ";"),
         _ => control_text(alloc, text, item),
     }
@@ -372,7 +381,7 @@ fn limits(rt: HostRuntime) -> Result<(), Fail> {
     let string = repeated(alloc, "fcode-version2\n\" ", "x", 256, "\" fcode-end")?;
     assert_eq!(rt; item_count(alloc, &string), Err(SourceFault::TooLong(15)));
     let definitions = repeated(alloc, "fcode-version2 ", ": a ;\n", 2049, "fcode-end")?;
-    assert_eq!(rt; item_count(alloc, &definitions), Ok(6147));
+    assert_eq!(rt; item_count(alloc, &definitions), Ok(4098));
     let branches = repeated(alloc, "fcode-version2 : t ", "if ", 32, "else ; fcode-end")?;
     assert_eq!(rt;
         item_count(alloc, &branches),
@@ -388,7 +397,7 @@ fn many_branches(rt: HostRuntime) -> Result<(), Fail> {
     let closed = repeated(alloc, "", "then ", 32, "; fcode-end")?;
     let mut text = opened;
     text.extend_from_slice(&closed)?;
-    assert_eq!(rt; item_count(alloc, &text), Ok(68));
+    assert_eq!(rt; item_count(alloc, &text), Ok(67));
     Ok(())
 }
 
@@ -396,7 +405,7 @@ fn many_branches(rt: HostRuntime) -> Result<(), Fail> {
 fn long_text(rt: HostRuntime) -> Result<(), Fail> {
     let alloc = rt.alloc();
     let text = repeated(alloc, "fcode-version2 ", ": a ;\n", 12_000, "fcode-end")?;
-    assert_eq!(rt; item_count(alloc, &text), Ok(36_000));
+    assert_eq!(rt; item_count(alloc, &text), Ok(24_000));
     Ok(())
 }
 

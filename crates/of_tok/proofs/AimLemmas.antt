@@ -4,8 +4,9 @@ use Rattle.std.proofs.Common.{sym, ◌∙◌, arith}
 use Rattle.std.proofs.lemmas.Bool.{false≢true}
 use Rattle.of_stream.specs.declared.stream.OffsetSize.{OffsetSize}
 use Rattle.of_stream.specs.Image.{header_length}
+use Rattle.of_source.specs.Items.{call, maker_token}
 use Rattle.of_source.specs.Nest.{Around, Fits, IsWhole, open_behind, outside}
-use Rattle.of_source.specs.Nest.{Nest, Stop, Plain, Definition, If, Else, Then, Begin, Do, Leave, Case, Of}
+use Rattle.of_source.specs.Nest.{Nest, Stop, Plain, Definition, Defining, If, Else, Then, Begin, Do, Leave, Case, Of}
 use Rattle.of_tok.specs.declared.place.Place.{Place}
 use Rattle.of_tok.specs.Places.{behind, first_place, past, past_offset}
 use Rattle.of_tok.specs.Tokens.{Written, Straight, Aimed, aims_of, end_of, first, others, straight, tokens_of, written}
@@ -33,8 +34,9 @@ AllInRange end (t ∷ ts) = InRange end t × AllInRange end ts
 grows : (x : Nest) (p : Place) → p.position ≤ (end_of x p).position
 grows Stop p = omega arith
 grows (Plain t r) p = omega (arith, grows r (behind t p))
-grows (Definition i r) p =
-    let e = end_of i (past 1 p) in omega (arith, grows i (past 1 p), grows r (past 1 e))
+grows (Definition m i r) p =
+    let b = past 1 (behind (maker_token m) p) in omega (arith, grows i b, grows r (past 1 (end_of i b)))
+grows (Defining m t r) p = omega (arith, grows r (behind (call t) (behind (maker_token m) p)))
 grows (If l r) p = omega (arith, grows r (past_offset p))
 grows (Else l r) p = omega (arith, grows r (past 1 (past_offset p)))
 grows (Then r) p = omega (arith, grows r (past 1 p))
@@ -62,10 +64,12 @@ many : (x : Nest) (a : Around) (floor d : ℕ) (p : Place) (to : List ℕ) → F
     → length to ≡ open_behind x d → length (aims_of x p to) ≡ d
 many Stop a floor d p to f e = e
 many (Plain t r) a floor d p to f e = many r a floor d (behind t p) to f e
-many (Definition i r) a floor d p to f e =
-    let q = past 1 (end_of i (past 1 p)) in
+many (Definition m i r) a floor d p to f e =
+    let b = past 1 (behind (maker_token m) p) in
+    let q = past 1 (end_of i b) in
     let rest = many r a floor d q to f.3 e in
-    many i _ d d (past 1 p) (aims_of r q to) f.1 (rest ∙ sym f.2)
+    many i _ d d b (aims_of r q to) f.1 (rest ∙ sym f.2)
+many (Defining m t r) a floor d p to f e = many r a floor d (behind (call t) (behind (maker_token m) p)) to f.1 e
 many (If l r) a floor d p to f e =
     fewer d (aims_of r (past_offset p) to) (many r a floor (d + 1) (past_offset p) to f e)
 many (Else l r) a floor d p to f e =
@@ -107,13 +111,16 @@ aims_in : (end : ℕ) (x : Nest) (p : Place) (to : List ℕ) → Within end x p 
     → AllInRange end (aims_of x p to)
 aims_in end Stop p to w h = h
 aims_in end (Plain t r) p to w h = aims_in end r (behind t p) to (omega (arith, w.0), w.1) h
-aims_in end (Definition i r) p to w h =
-    let e = end_of i (past 1 p) in
+aims_in end (Definition m i r) p to w h =
+    let b = past 1 (behind (maker_token m) p) in
+    let e = end_of i b in
     let q = past 1 e in
-    let up = grows i (past 1 p) in
+    let up = grows i b in
     let on = grows r q in
-    aims_in end i (past 1 p) (aims_of r q to) (omega (arith, w.0), omega (arith, w.1, on))
+    aims_in end i b (aims_of r q to) (omega (arith, w.0), omega (arith, w.1, on))
     (aims_in end r q to (omega (arith, w.0, up), w.1) h)
+aims_in end (Defining m t r) p to w h =
+    aims_in end r (behind (call t) (behind (maker_token m) p)) to (omega (arith, w.0), w.1) h
 aims_in end (If l r) p to w h =
     others_in end (aims_of r (past_offset p) to) (aims_in end r (past_offset p) to (omega (arith, w.0), w.1) h)
 aims_in end (Else l r) p to w h =
@@ -159,17 +166,24 @@ written_in : (end : ℕ) (x : Nest) (a : Around) (floor d : ℕ) (p : Place) (to
 written_in end Stop a floor d p to out ws f e w h o g = g
 written_in end (Plain t r) a floor d p to out ws f e w h o g =
     (tt, written_in end r a floor d (behind t p) to out ws f e (omega (arith, w.0), w.1) h o g)
-written_in end (Definition i r) a floor d p to out ws f e w h o g =
-    let q = past 1 (end_of i (past 1 p)) in
-    let up = grows i (past 1 p) in
+written_in end (Definition m i r) a floor d p to out ws f e w h o g =
+    let b = past 1 (behind (maker_token m) p) in
+    let q = past 1 (end_of i b) in
+    let up = grows i b in
     let on = grows r q in
     let there : Within end r q = (omega (arith, w.0, up), w.1) in
     let rest = written_in end r a floor d q to out ws f.3 e there h o g in
     let n = many r a floor d q to f.3 e ∙ sym f.2 in (
       tt,
-      written_in end i _ d d (past 1 p) (aims_of r q to) out _ f.1 n (omega (arith, w.0), omega (arith, w.1, on))
-          (aims_in end r q to there h) (λ c. absurd (false≢true c)) (tt, rest),
+      (
+        tt,
+        written_in end i _ d d b (aims_of r q to) out _ f.1 n (omega (arith, w.0), omega (arith, w.1, on))
+            (aims_in end r q to there h) (λ c. absurd (false≢true c)) (tt, rest),
+      ),
     )
+written_in end (Defining m t r) a floor d p to out ws f e w h o g =
+    let q = behind (call t) (behind (maker_token m) p) in
+    (tt, (tt, written_in end r a floor d q to out ws f.1 e (omega (arith, w.0), w.1) h o g))
 written_in end (If l r) a floor d p to out ws f e w h o g =
     let q = past_offset p in
     let there : Within end r q = (omega (arith, w.0), w.1) in

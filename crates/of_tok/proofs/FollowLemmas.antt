@@ -1,6 +1,7 @@
 -- What follows the tokens of a nest.
 use Rattle.std.proofs.Common.{◌≡◌, ℕ, Bool, true, false, List, ◌∷◌, nat_eq, nat_lt, refl, subst}
-use Rattle.of_source.specs.Nest.{Nest, Stop, Plain, Definition, If, Else, Then, Begin, Do, Leave, Case, Of}
+use Rattle.of_source.specs.Items.{call, maker_token}
+use Rattle.of_source.specs.Nest.{Nest, Stop, Plain, Definition, Defining, If, Else, Then, Begin, Do, Leave, Case, Of}
 use Rattle.of_tok.specs.declared.place.Place.{Place}
 use Rattle.of_tok.specs.Laws.{HasTokens, NestsEndAtTheirPlaces}
 use Rattle.of_tok.specs.Places.{behind, past, past_offset}
@@ -43,13 +44,23 @@ passed P goes Stop p to out ws h = h
 passed P goes (Plain t r) p to out ws h =
     passed P goes r (behind t p) to out ws
     (goes p (Straight p.size t) (written r (behind t p) to out ws) h)
-passed P goes (Definition i r) p to out ws h =
-    let e = end_of i (past 1 p) in
+passed P goes (Definition m i r) p to out ws h =
+    let c = behind (maker_token m) p in
+    let b = past 1 c in
+    let e = end_of i b in
     let q = past 1 e in
     let rest = written r q to out ws in
-    let inside = one P goes 0x0b7 p (written i (past 1 p) (aims_of r q to) out (straight 0x0c2 e ∷ rest)) refl refl h in
-    let closer = passed P goes i (past 1 p) (aims_of r q to) out (straight 0x0c2 e ∷ rest) inside in
+    let inner = written i b (aims_of r q to) out (straight 0x0c2 e ∷ rest) in
+    let colon = goes p (Straight p.size (maker_token m)) (straight 0x0b7 c ∷ inner) h in
+    let inside = one P goes 0x0b7 c inner refl refl colon in
+    let closer = passed P goes i b (aims_of r q to) out (straight 0x0c2 e ∷ rest) inside in
     passed P goes r q to out ws (one P goes 0x0c2 e rest refl refl closer)
+passed P goes (Defining m t r) p to out ws h =
+    let c = behind (maker_token m) p in
+    let q = behind (call t) c in
+    let rest = written r q to out ws in
+    let kind = goes p (Straight p.size (maker_token m)) (Straight c.size (call t) ∷ rest) h in
+    passed P goes r q to out ws (goes c (Straight c.size (call t)) rest kind)
 passed P goes (If l r) p to out ws h =
     let q = past_offset p in
     passed P goes r q to out ws (offset P goes l 0x014 p (first (aims_of r q to)) (written r q to out ws) refl refl h)

@@ -9,9 +9,10 @@ use Rattle.of_fcodes.specs.Rows.{rows, first_rows, second_rows, third_rows, four
 use Rattle.of_stream.specs.declared.stream.OffsetSize.{OffsetSize}
 use Rattle.of_stream.specs.declared.stream.OffsetSize.TheVariants.{One, Two}
 use Rattle.of_stream.specs.Bytes.{IsEncodable}
-use Rattle.of_source.specs.Encodable.{HasBytes, IsSound, definitions, is_maker, most_definitions}
+use Rattle.of_stream.specs.Decoding.{Token}
+use Rattle.of_source.specs.Encodable.{HasBytes, HasTokenBytes, IsSound, definitions, most_definitions}
 use Rattle.of_source.specs.declared.item.Item.{Item as Held}
-use Rattle.of_source.specs.Items.{Item, Source, item_shown}
+use Rattle.of_source.specs.Items.{Item, Source, call, item_shown, maker_token}
 use Rattle.of_source.specs.Items as item
 use Rattle.of_source.specs.Nest.{IsNested, ItemsGiveNest, nest_of}
 use Rattle.of_stream.specs.Image.{header_length}
@@ -21,14 +22,11 @@ use Rattle.of_tok.specs.declared.place.Place.{Place}
 use Rattle.of_tok.specs.Image.{AreWritable, IsRefused, IsWritable, bytes_of, first_unfit, header, most_bytes}
 use Rattle.of_tok.specs.Image.{tokenized, unless_unfit, written_behind}
 use Rattle.of_tok.specs.Layout.{CannotPlace, Laid, Placed, after, end_place, item_laid, laid, laid_end, laid_over}
-use Rattle.of_tok.specs.Layout.{placed, starts_after}
-use Rattle.of_tok.specs.Places.{first_place}
+use Rattle.of_tok.specs.Layout.{placed, placed_at, starts_after}
+use Rattle.of_tok.specs.Places.{behind, first_place}
 use Rattle.of_tok.specs.Tokens.{tokens_of, Written, aimed, branch_code, do_code, loop_code, first}
 use Rattle.of_tok.proofs.Lengths.{all_length}
 use Rattle.of_tok.proofs.PassLemmas.{tokens_nested}
-
-pub own_is_none : (k : ℕ) → is_maker (0x800 + k) ≡ false
-own_is_none k = grind (arith, nat_tests)
 
 -- ---- the tokens can be written
 
@@ -47,15 +45,18 @@ unfolding row_numbered rows first_rows second_rows third_rows fourth_rows fifth_
 loop_writable true l p t = (refl, refl)
 loop_writable false l p t = (refl, refl)
 
-by_size : (size : OffsetSize) (i : Item) (t : _) → HasBytes (item.Plain t) → IsEncodable size t
-by_size One i t h = h.0
-by_size Two i t h = h.1
+by_size : (size : OffsetSize) (t : Token) → HasTokenBytes t → IsEncodable size t
+by_size One t h = h.0
+by_size Two t h = h.1
 
 item_writable : (i : Item) → HasBytes i → (p : Place) (start next : ℕ) (q : Laid) → AreWritable q.tokens
     → AreWritable (item_laid i p start next q).tokens
 unfolding row_numbered rows first_rows second_rows third_rows fourth_rows fifth_rows
-item_writable (item.Plain t) h p start next q w = (by_size p.size (item.Plain t) t h, w)
-item_writable item.Colon h p start next q w = ((refl, refl, refl), w)
+item_writable (item.Plain t) h p start next q w = (by_size p.size t h, w)
+item_writable (item.Colon m) h p start next q w =
+    (by_size p.size (maker_token m) h, ((refl, refl, refl), w))
+item_writable (item.Defining m t) h p start next q w =
+    (by_size p.size (maker_token m) h.0, (by_size (behind (maker_token m) p).size (call t) h.1, w))
 item_writable item.Semicolon h p start next q w = ((refl, refl, refl), w)
 item_writable (item.If l) h p start next q w = ((refl, refl), w)
 item_writable (item.Else l) h p start next q w = ((refl, refl), ((refl, refl, refl), w))
@@ -152,6 +153,15 @@ each_has_bytes s xs h e l = unmapped xs (subst (All HasBytes) (sym e) (h.encodab
     unmapped (y ∷ ys) a =
         All-cons (λ (z : Held). HasBytes (item_shown z)) y ys (All-head HasBytes (item_shown y) (map item_shown ys) a)
         (unmapped ys (All-tail HasBytes (item_shown y) (map item_shown ys) a))
+
+-- items that have bytes have them at their places
+pub placed_have_bytes : (is : List Item) (p : Place) (starts : List ℕ) → All HasBytes is
+    → All (λ (x : Placed). HasBytes x.item) (placed is p starts)
+placed_have_bytes [] p starts h = λ k d l. absurd (omega (arith, l))
+placed_have_bytes (i ∷ is) p starts h =
+    All-cons (λ (x : Placed). HasBytes x.item) (placed_at i p starts) (placed is (after i p) (starts_after i p starts))
+    (All-head HasBytes i is h)
+    (placed_have_bytes is (after i p) (starts_after i p starts) (All-tail HasBytes i is h))
 
 -- what is laid out from the items at their places
 pub laid_tokens : ItemsGiveNest → (s : Source) → IsNested s.items → (e : Place) (ps : List Placed) (ws : List Written)

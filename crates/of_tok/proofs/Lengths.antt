@@ -9,11 +9,12 @@ use Rattle.of_stream.specs.declared.stream.OffsetSize.TheVariants.{One, Two}
 use Rattle.of_stream.specs.Bytes.{IsEncodable, argument_bytes, code_bytes, fits, offset_bytes, token_bytes}
 use Rattle.of_stream.specs.Sizes.{width}
 use Rattle.of_source.specs.Keywords.{fcode}
-use Rattle.of_source.specs.Items.{Item}
+use Rattle.of_source.specs.Items.{Item, call, maker_token}
 use Rattle.of_source.specs.Items as item
 use Rattle.of_tok.specs.declared.place.Place.{Place}
 use Rattle.of_tok.specs.Image.{bytes_of, written_bytes}
 use Rattle.of_tok.specs.Layout.{Laid, after, end_place, laid, item_laid, starts_after}
+use Rattle.of_tok.specs.Places.{behind}
 use Rattle.of_tok.specs.Tokens.{aimed, offset_of, straight, branch_code, do_code, loop_code, first}
 use Rattle.of_stream.specs.Decoding.{Argument, Nothing, Literal, String, Code, Named, Offset, Token}
 
@@ -85,7 +86,16 @@ item_length : (i : Item) (p : Place) (start next : ℕ) (q : Laid)
     ≡ (after i p).position + length (bytes_of q.tokens)
 item_length (item.Plain t) p start next q =
     omega (arith, length-append (token_bytes p.size t) (bytes_of q.tokens))
-item_length item.Colon p start next q = one 0x0b7 refl p (bytes_of q.tokens)
+item_length (item.Colon m) p start next q =
+    let c = behind (maker_token m) p in
+    let rest = written_bytes (straight 0x0b7 c) ++ bytes_of q.tokens in
+    let a = length-append (token_bytes p.size (maker_token m)) rest in
+    omega (arith, a, one 0x0b7 refl c (bytes_of q.tokens))
+item_length (item.Defining m t) p start next q =
+    let c = behind (maker_token m) p in
+    let kind = token_bytes c.size (call t) in
+    let a = length-append (token_bytes p.size (maker_token m)) (kind ++ bytes_of q.tokens) in
+    omega (arith, a, length-append kind (bytes_of q.tokens))
 item_length item.Semicolon p start next q = one 0x0c2 refl p (bytes_of q.tokens)
 item_length (item.If l) p start next q = with_offset l 0x014 refl p (first q.aims) (bytes_of q.tokens)
 item_length (item.Else l) p start next q =

@@ -13,7 +13,7 @@ use Rattle.of_stream.specs.Decoding.{Token, decoded, token_from}
 use Rattle.of_stream.specs.Image.{header_length}
 use Rattle.of_stream.specs.Targets.{landing, position_at, target, within_tokens}
 use Rattle.of_source.specs.Encodable.{definitions, most_definitions}
-use Rattle.of_source.specs.Items.{Item, Source, bare}
+use Rattle.of_source.specs.Items.{Item, Source, bare, maker_token}
 use Rattle.of_source.specs.Items as item
 use Rattle.of_source.specs.Nest.{IsWhole, ItemsGiveNest, Nest, nest_of}
 use Rattle.of_tok.specs.declared.fault.TokFault.TheVariants.{TooManyWords, ImageTooLong}
@@ -65,7 +65,8 @@ loop_token false l p t ws o = with_offset l 0x015 p t ws refl refl o
 item_in_order : (i : Item) (p : Place) (start next : ℕ) (q : Laid) → AreInOrder (after i p) q.tokens
     → AreInOrder p (item_laid i p start next q).tokens
 item_in_order (item.Plain t) p start next q o = (refl, o)
-item_in_order item.Colon p start next q o = one 0x0b7 p q.tokens refl refl o
+item_in_order (item.Colon m) p start next q o = (refl, one 0x0b7 (behind (maker_token m) p) q.tokens refl refl o)
+item_in_order (item.Defining m t) p start next q o = (refl, (refl, o))
 item_in_order item.Semicolon p start next q o = one 0x0c2 p q.tokens refl refl o
 item_in_order (item.If l) p start next q o = with_offset l 0x014 p (first q.aims) q.tokens refl refl o
 item_in_order (item.Else l) p start next q o =

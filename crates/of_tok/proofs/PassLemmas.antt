@@ -1,9 +1,10 @@
 -- The tokens of the items of a nest, with other items behind it.
 use Rattle.std.proofs.Common.{◌≡◌, ℕ, List, [], ◌∷◌, refl, ap, sym, ◌∙◌}
+use Rattle.of_fcodes.specs.declared.codes.FCode.{FCode}
 use Rattle.of_stream.specs.declared.stream.OffsetSize.{OffsetSize}
-use Rattle.of_source.specs.Items.{Item}
+use Rattle.of_source.specs.Items.{Item, Made, call, maker_token}
 use Rattle.of_source.specs.Items as item
-use Rattle.of_source.specs.Nest.{Nest, Stop, Plain, Definition, If, Else, Then, Begin, Do, Leave, Case, Of}
+use Rattle.of_source.specs.Nest.{Nest, Stop, Plain, Definition, Defining, If, Else, Then, Begin, Do, Leave, Case, Of}
 use Rattle.of_source.specs.Nest.{IsNested, ItemsGiveNest, items_of, nest_of}
 use Rattle.of_tok.specs.declared.place.Place.{Place}
 use Rattle.of_tok.specs.Places.{behind, first_place, past, past_offset}
@@ -23,6 +24,13 @@ else_laid l p q =
     putting (aimed l 0x013 p (first q.aims))
     (putting (straight 0x0b2 p) (closing (past 1 (past_offset p)).position (without_aim q)))
 
+abbrev pub colon_laid : Made → Place → Laid → Laid
+colon_laid m p q = putting (Straight p.size (maker_token m)) (putting (straight 0x0b7 (behind (maker_token m) p)) q)
+
+abbrev pub defining_laid : Made → FCode → Place → Laid → Laid
+defining_laid m t p q =
+    putting (Straight p.size (maker_token m)) (putting (Straight (behind (maker_token m) p).size (call t)) q)
+
 abbrev pub do_laid : ℕ → ℕ → Place → Laid → Laid
 do_laid l code p q = putting (aimed l code p (first q.ends)) (without_end q)
 
@@ -35,11 +43,13 @@ laid-items_of (Else l r) more p starts = ap (else_laid l p) (laid-items_of r mor
 laid-items_of (Then r) more p starts =
     ap (λ q. putting (straight 0x0b2 p) (closing (past 1 p).position q)) (laid-items_of r more (past 1 p) starts)
 laid-items_of (Leave r) more p starts = ap (putting (straight 0x01b p)) (laid-items_of r more (past 1 p) starts)
-laid-items_of (Definition i r) more p starts =
-    let e = end_of i (past 1 p) in
-    ap (putting (straight 0x0b7 p)) (laid-items_of i (item.Semicolon ∷ items_of r more) (past 1 p) starts)
-    ∙ ap (λ q. putting (straight 0x0b7 p) (before i (past 1 p) (putting (straight 0x0c2 e) q)))
-    (laid-items_of r more (past 1 e) starts)
+laid-items_of (Definition m i r) more p starts =
+    let b = past 1 (behind (maker_token m) p) in
+    let e = end_of i b in
+    ap (colon_laid m p) (laid-items_of i (item.Semicolon ∷ items_of r more) b starts)
+    ∙ ap (λ q. colon_laid m p (before i b (putting (straight 0x0c2 e) q))) (laid-items_of r more (past 1 e) starts)
+laid-items_of (Defining m t r) more p starts =
+    ap (defining_laid m t p) (laid-items_of r more (behind (call t) (behind (maker_token m) p)) starts)
 laid-items_of (Begin i z l r) more p starts =
     let e = end_of i (past 1 p) in
     let here = (past 1 p).position in

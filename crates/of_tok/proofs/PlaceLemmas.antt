@@ -23,7 +23,8 @@ end_all (i ∷ is) f = end_all is (placing i f)
 -- an item takes at least a byte
 after_rises : (i : Item) (p : Place) → p.position ≤ (after i p).position
 after_rises (item.Plain t) p = omega arith
-after_rises item.Colon p = omega arith
+after_rises (item.Colon m) p = omega arith
+after_rises (item.Defining m t) p = omega arith
 after_rises item.Semicolon p = omega arith
 after_rises (item.If l) p = omega arith
 after_rises (item.Else l) p = omega arith

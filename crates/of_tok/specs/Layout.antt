@@ -2,7 +2,7 @@
 -- end, with where the open branches lead and where the open parts end.
 use Rattle.std.specs.Prelude.{◌≡◌, ◌≤◌, ℕ, List, [], ◌∷◌, ◌++◌}
 use Rattle.of_stream.specs.declared.stream.OffsetSize.{OffsetSize}
-use Rattle.of_source.specs.Items.{Item}
+use Rattle.of_source.specs.Items.{Item, call, maker_token}
 use Rattle.of_source.specs.Items as item
 use Rattle.of_source.specs.Nest.{Nest, items_of}
 use Rattle.of_tok.specs.declared.fault.TokFault.{TokFault}
@@ -18,6 +18,8 @@ use Rattle.of_tok.specs.Image.{most_bytes}
 -- behind an item
 abbrev pub after : Item → Place → Place
 after (item.Plain t) p = behind t p
+after (item.Colon m) p = past 1 (behind (maker_token m) p)
+after (item.Defining m t) p = behind (call t) (behind (maker_token m) p)
 after (item.If l) p = past_offset p
 after (item.Else l) p = past 1 (past_offset p)
 after (item.Back z l) p = past_offset p
@@ -109,7 +111,10 @@ without_end q = record q { ends = others q.ends }
 -- an item before what is laid out behind it, by its place, where a closer leads there, and the position behind it
 abbrev pub item_laid : Item → Place → ℕ → ℕ → Laid → Laid
 item_laid (item.Plain t) p start next q = putting (Straight p.size t) q
-item_laid item.Colon p start next q = putting (straight 0x0b7 p) q
+item_laid (item.Colon m) p start next q =
+    putting (Straight p.size (maker_token m)) (putting (straight 0x0b7 (behind (maker_token m) p)) q)
+item_laid (item.Defining m t) p start next q =
+    putting (Straight p.size (maker_token m)) (putting (Straight (behind (maker_token m) p).size (call t)) q)
 item_laid item.Semicolon p start next q = putting (straight 0x0c2 p) q
 item_laid (item.If l) p start next q = putting (aimed l 0x014 p (first q.aims)) (without_aim q)
 item_laid (item.Else l) p start next q =

@@ -2,6 +2,5 @@ pub mod Places
 pub mod Tokens
 pub mod Image
 pub mod Layout
-pub mod Pieces
 pub mod Shown
 pub mod Laws

@@ -4,8 +4,8 @@ use Rattle.std.specs.Prelude.{ℕ, ◌+◌, ℤ, pos, ◌-ℤ◌, Bool, true, fa
 use Rattle.of_stream.specs.declared.stream.OffsetSize.{OffsetSize}
 use Rattle.of_stream.specs.Decoding.{Offset, Token}
 use Rattle.of_source.specs.Keywords.{fcode}
-use Rattle.of_source.specs.Items.{bare}
-use Rattle.of_source.specs.Nest.{Nest, Stop, Plain, Definition, If, Else, Then, Begin, Do, Leave, Case, Of}
+use Rattle.of_source.specs.Items.{bare, call, maker_token}
+use Rattle.of_source.specs.Nest.{Nest, Stop, Plain, Definition, Defining, If, Else, Then, Begin, Do, Leave, Case, Of}
 use Rattle.of_tok.specs.declared.place.Place.{Place}
 use Rattle.of_tok.specs.declared.written.Aim.{Aim}
 use Rattle.of_tok.specs.Places.{behind, first_place, past, past_offset}
@@ -66,7 +66,8 @@ others (x ∷ xs) = xs
 abbrev pub end_of : Nest → Place → Place
 end_of Stop p = p
 end_of (Plain t r) p = end_of r (behind t p)
-end_of (Definition i r) p = end_of r (past 1 (end_of i (past 1 p)))
+end_of (Definition m i r) p = end_of r (past 1 (end_of i (past 1 (behind (maker_token m) p))))
+end_of (Defining m t r) p = end_of r (behind (call t) (behind (maker_token m) p))
 end_of (If l r) p = end_of r (past_offset p)
 end_of (Else l r) p = end_of r (past 1 (past_offset p))
 end_of (Then r) p = end_of r (past 1 p)
@@ -81,7 +82,10 @@ end_of (Of k i m r) p = end_of r (past_offset (end_of i (past_offset p)))
 abbrev pub aims_of : Nest → Place → List ℕ → List ℕ
 aims_of Stop p to = to
 aims_of (Plain t r) p to = aims_of r (behind t p) to
-aims_of (Definition i r) p to = aims_of i (past 1 p) (aims_of r (past 1 (end_of i (past 1 p))) to)
+aims_of (Definition m i r) p to =
+    let b = past 1 (behind (maker_token m) p) in
+    aims_of i b (aims_of r (past 1 (end_of i b)) to)
+aims_of (Defining m t r) p to = aims_of r (behind (call t) (behind (maker_token m) p)) to
 aims_of (If l r) p to = others (aims_of r (past_offset p) to)
 aims_of (Else l r) p to =
     (past 1 (past_offset p)).position ∷ others (aims_of r (past 1 (past_offset p)) to)
@@ -98,10 +102,16 @@ aims_of (Of k i m r) p to = aims_of i (past_offset p) (aims_of r (past_offset (e
 abbrev pub written : Nest → Place → List ℕ → ℕ → List Written → List Written
 written Stop p to out ws = ws
 written (Plain t r) p to out ws = Straight p.size t ∷ written r (behind t p) to out ws
-written (Definition i r) p to out ws =
-    let e = end_of i (past 1 p) in
+written (Definition m i r) p to out ws =
+    let c = behind (maker_token m) p in
+    let b = past 1 c in
+    let e = end_of i b in
     let q = past 1 e in
-    straight 0x0b7 p ∷ written i (past 1 p) (aims_of r q to) out (straight 0x0c2 e ∷ written r q to out ws)
+    Straight p.size (maker_token m) ∷ straight 0x0b7 c
+    ∷ written i b (aims_of r q to) out (straight 0x0c2 e ∷ written r q to out ws)
+written (Defining m t r) p to out ws =
+    let c = behind (maker_token m) p in
+    Straight p.size (maker_token m) ∷ Straight c.size (call t) ∷ written r (behind (call t) c) to out ws
 written (If l r) p to out ws =
     aimed l 0x014 p (first (aims_of r (past_offset p) to)) ∷ written r (past_offset p) to out ws
 written (Else l r) p to out ws =

@@ -1,15 +1,19 @@
 // From the end: the tokens, with where their offsets lead.
 
 ghost use Rattle.std.specs.Prelude.{◌≡◌, map, reverse, OnOk, IfOk};
-ghost use Rattle.of_tok.specs.Layout.{laid_end, laid_over};
+ghost use Rattle.std.specs.List.{All};
+ghost use Rattle.of_source.specs.Encodable.{HasBytes};
+ghost use Rattle.of_source.specs.Items.{item_shown};
+ghost use Rattle.of_tok.specs.Layout.{Placed as AtPlace, laid_end, laid_over};
 ghost use Rattle.of_tok.specs.Shown.{placed_shown, written_shown};
 ghost use Rattle.of_tok.specs.Tokens.{branch_code, do_code, first, loop_code, others};
 
-use crate::piece::Piece;
 use crate::place::Place;
 use crate::placing::{Placed, first};
+use crate::token::{call, maker_token, plain_token};
 use crate::written::{Written, aimed, straight};
 use of_fcodes::FCode;
+use of_source::{Item, Made};
 use std::alloc::{AllocError, Global};
 use std::marker::Model;
 
@@ -72,6 +76,8 @@ fn loop_code(adds: bool) -> FCode
 impl<'a> Laid<'a> {
     ghost use Rattle.of_tok.specs.Layout.{closing, ending, item_laid, laid_before, laid_end, putting, without_aim};
     ghost use Rattle.of_tok.specs.Layout.{without_end};
+    ghost use Rattle.of_source.specs.Encodable.{HasBytes, HasTokenBytes};
+    ghost use Rattle.of_source.specs.Items.{item_shown, made_shown, maker_token};
     ghost use Rattle.of_source.specs.Items as item;
     ghost use Rattle.of_tok.specs.Tokens.{aimed};
 
@@ -188,30 +194,56 @@ impl<'a> Laid<'a> {
         self.put(straight(FCode(0x0b2), place))
     }
 
+    /// `:` behind the token that gives its definition its number.
+    fn lay_colon(&mut self, made: &'a Made, place: Place) -> Result<(), AllocError>
+        requires { HasTokenBytes (maker_token (made_shown made.now)) }
+        ensures { OnOk result
+            (self.new ≡ item_laid (item.Colon (made_shown made.now)) place 0 0 self.old) }
+    {
+        let maker = maker_token(made);
+        let behind = maker.size_behind(place.size);
+        self.put(Written::Straight(behind, call(FCode(0x0b7))))?;
+        self.put(Written::Straight(place.size, maker))
+    }
+
+    /// Another defining word behind the token that gives its definition its number.
+    fn lay_defining(&mut self, made: &'a Made, code: FCode, place: Place) -> Result<(), AllocError>
+        requires { HasTokenBytes (maker_token (made_shown made.now)) }
+        ensures { OnOk result
+            (self.new ≡ item_laid (item.Defining (made_shown made.now) code) place 0 0 self.old) }
+    {
+        let maker = maker_token(made);
+        let behind = maker.size_behind(place.size);
+        self.put(Written::Straight(behind, call(code)))?;
+        self.put(Written::Straight(place.size, maker))
+    }
+
     /// Puts an item in front.
     fn lay(&mut self, x: Placed<'a>) -> Result<(), AllocError>
+        requires { HasBytes (item_shown x.item.now) }
         ensures { OnOk result (self.new ≡ laid_before (placed_shown x.entry) self.old) }
     {
-        match x.piece {
-            Piece::Plain(token) => self.put(Written::Straight(x.place.size, token)),
-            Piece::Colon => self.put(straight(FCode(0x0b7), x.place)),
-            Piece::Semicolon => self.put(straight(FCode(0x0c2), x.place)),
-            Piece::If(word) => self.lay_if(word, x.place),
-            Piece::Else(word) => self.lay_else(word, x.place, x.next),
-            Piece::Then => self.lay_then(x.place, x.next),
-            Piece::Begin => self.put(straight(FCode(0x0b1), x.place)),
-            Piece::Back(tests, word) => {
-                self.put(aimed(word, branch_code(tests), x.place, x.start))
+        match x.item {
+            Item::Plain(plain) => self.put(Written::Straight(x.place.size, plain_token(plain))),
+            Item::Colon(made) => self.lay_colon(made, x.place),
+            Item::Defining(made, code) => self.lay_defining(made, *code, x.place),
+            Item::Semicolon => self.put(straight(FCode(0x0c2), x.place)),
+            Item::If(word) => self.lay_if(*word, x.place),
+            Item::Else(word) => self.lay_else(*word, x.place, x.next),
+            Item::Then => self.lay_then(x.place, x.next),
+            Item::Begin => self.put(straight(FCode(0x0b1), x.place)),
+            Item::Back(tests, word) => {
+                self.put(aimed(*word, branch_code(*tests), x.place, x.start))
             }
-            Piece::Do(tests, word) => self.lay_opener(word, do_code(tests), x.place),
-            Piece::Loop(adds, word) => {
-                self.lay_closer(aimed(word, loop_code(adds), x.place, x.start), x.next)
+            Item::Do(tests, word) => self.lay_opener(*word, do_code(*tests), x.place),
+            Item::Loop(adds, word) => {
+                self.lay_closer(aimed(*word, loop_code(*adds), x.place, x.start), x.next)
             }
-            Piece::Leave => self.put(straight(FCode(0x01b), x.place)),
-            Piece::Case => self.lay_case(x.place),
-            Piece::Of(word) => self.lay_opener(word, FCode(0x01c), x.place),
-            Piece::EndOf(word) => self.lay_end_of(word, x.place, x.next),
-            Piece::EndCase => self.lay_closer(straight(FCode(0x0c5), x.place), x.next),
+            Item::Leave => self.put(straight(FCode(0x01b), x.place)),
+            Item::Case => self.lay_case(x.place),
+            Item::Of(word) => self.lay_opener(*word, FCode(0x01c), x.place),
+            Item::EndOf(word) => self.lay_end_of(*word, x.place, x.next),
+            Item::EndCase => self.lay_closer(straight(FCode(0x0c5), x.place), x.next),
         }
     }
 }
@@ -223,6 +255,7 @@ pub fn lay_out<'a>(
     mut placed: Vec<Placed<'a>>,
     end: Place,
 ) -> Result<Vec<Written<'a>>, AllocError>
+    requires { All (λ (x : AtPlace). HasBytes x.item) (map placed_shown placed.items) }
     ensures { IfOk result (λ ws. reverse (map written_shown ws.items)
         ≡ (laid_over (map placed_shown placed.entry.items) (laid_end end)).tokens) }
 {

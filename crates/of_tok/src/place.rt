@@ -49,7 +49,8 @@ impl Place {
     pub fn behind(self, token: &Token<'_>) -> Place
         requires near { self.position ≤ 2 ^ 62 }
         requires bytes { IsEncodable self.size (token_shown token.now) }
-        ensures { result ≡ behind (token_shown token.now) self }
+        ensures value { result ≡ behind (token_shown token.now) self }
+        ensures near { result.position ≤ self.position + 260 }
     {
         Place {
             position: self.position + token.length(self.size),

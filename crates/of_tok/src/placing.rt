@@ -6,14 +6,13 @@ ghost use Rattle.of_source.specs.Encodable.{HasBytes};
 ghost use Rattle.of_source.specs.Items.{item_shown};
 ghost use Rattle.of_tok.specs.Image.{most_bytes};
 ghost use Rattle.of_tok.specs.Layout.{after, end_place, placed, starts_after, CannotPlace};
-ghost use Rattle.of_tok.specs.Pieces.{piece_shown};
 ghost use Rattle.of_tok.specs.Places.{first_place};
 ghost use Rattle.of_tok.specs.Shown.{placed_shown};
 ghost use Rattle.of_tok.specs.Tokens.{first, others};
 
 use crate::fault::TokFault;
-use crate::piece::{Piece, piece_of};
 use crate::place::Place;
+use crate::token::{call, maker_token, plain_token};
 use of_source::Item;
 use std::alloc::{AllocError, Global};
 use std::marker::Model;
@@ -25,7 +24,7 @@ pub const MOST_BYTES: usize = 0x4_0000;
 #[derive(Clone, Copy)]
 pub struct Placed<'a> {
     /// The item.
-    pub piece: Piece<'a>,
+    pub item: &'a Item,
     /// The place of its first token.
     pub place: Place,
     /// The position behind the innermost open `begin` or `do`.
@@ -68,34 +67,36 @@ impl<'a> Model for Front<'a> {
 }
 
 /// Behind an item.
-fn after(piece: &Piece<'_>, place: Place) -> Place
+fn after(item: &Item, place: Place) -> Place
     requires near { place.position ≤ most_bytes }
-    requires bytes { HasBytes (piece_shown piece.now) }
-    ensures { result ≡ after (piece_shown piece.now) place }
+    requires bytes { HasBytes (item_shown item.now) }
+    ensures { result ≡ after (item_shown item.now) place }
 {
-    match piece {
-        Piece::Plain(token) => place.behind(token),
-        Piece::Else(_) => place.past_offset().past(1),
-        Piece::If(_)
-        | Piece::Back(_, _)
-        | Piece::Do(_, _)
-        | Piece::Loop(_, _)
-        | Piece::Of(_)
-        | Piece::EndOf(_) => place.past_offset(),
+    match item {
+        Item::Plain(plain) => place.behind(&plain_token(plain)),
+        Item::Colon(made) => place.behind(&maker_token(made)).past(1),
+        Item::Defining(made, code) => place.behind(&maker_token(made)).behind(&call(*code)),
+        Item::Else(_) => place.past_offset().past(1),
+        Item::If(_)
+        | Item::Back(_, _)
+        | Item::Do(_, _)
+        | Item::Loop(_, _)
+        | Item::Of(_)
+        | Item::EndOf(_) => place.past_offset(),
         _ => place.past(1),
     }
 }
 
 /// Goes past an item with the positions behind what is open.
-fn pass(starts: &mut Vec<usize>, piece: &Piece<'_>, place: Place) -> Result<(), AllocError>
+fn pass(starts: &mut Vec<usize>, item: &Item, place: Place) -> Result<(), AllocError>
     requires { place.position ≤ most_bytes }
     ensures { OnOk result
-        (reverse starts.new.items ≡ starts_after (piece_shown piece.now) place (reverse starts.old.items)) }
+        (reverse starts.new.items ≡ starts_after (item_shown item.now) place (reverse starts.old.items)) }
 {
-    match piece {
-        Piece::Begin => starts.push(place.past(1).position)?,
-        Piece::Do(_, _) => starts.push(place.past_offset().position)?,
-        Piece::Back(_, _) | Piece::Loop(_, _) => {
+    match item {
+        Item::Begin => starts.push(place.past(1).position)?,
+        Item::Do(_, _) => starts.push(place.past_offset().position)?,
+        Item::Back(_, _) | Item::Loop(_, _) => {
             let _ = starts.pop();
         }
         _ => {}
@@ -123,15 +124,14 @@ impl<'a> Front<'a> {
         requires bytes { HasBytes (item_shown item.now) }
         ensures { OnOk result (self.new ≡ placing (item_shown item.now) self.old) }
     {
-        let piece = piece_of(item);
-        let next = after(&piece, self.place);
+        let next = after(item, self.place);
         self.placed.push(Placed {
-            piece,
+            item,
             place: self.place,
             start: first(&self.starts),
             next: next.position,
         })?;
-        pass(&mut self.starts, &piece, self.place)?;
+        pass(&mut self.starts, item, self.place)?;
         self.place = next;
         Ok(())
     }

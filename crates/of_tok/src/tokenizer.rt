@@ -1,6 +1,6 @@
 ghost use Rattle.std.specs.Prelude.{◌≡◌, ◌≤◌, ◌+◌, length, map, reverse, IfOk, IfErr, Ok};
 ghost use Rattle.of_stream.specs.Image.{header_length};
-ghost use Rattle.of_source.specs.Encodable.{defines, definitions, is_maker, most_definitions};
+ghost use Rattle.of_source.specs.Encodable.{defines, definitions, most_definitions};
 ghost use Rattle.of_source.specs.Nest.{nest_of};
 ghost use Rattle.of_source.specs.Items.{item_shown};
 ghost use Rattle.of_tok.specs.Image.{AreWritable, IsRefused, bytes_of, most_bytes, tokenized};
@@ -14,30 +14,17 @@ use crate::place::Place;
 use crate::placing::place_items;
 use crate::writing::write_tokens;
 use crate::written::Written;
-use of_fcodes::FCode;
-use of_source::{Item, Name, Source, items_give_nest};
+use of_source::{Item, Source, items_give_nest};
 use std::alloc::Global;
 
 /// The most definitions that have FCodes, 0x800 to 0xFFF.
 const MOST_DEFINITIONS: usize = 2048;
 
-/// Whether an FCode gives a definition its number.
-fn is_maker(code: FCode) -> bool
-    ensures { result ≡ is_maker code.0 }
-{
-    matches!(code.0, 0x0b5 | 0x0b6 | 0x0ca)
-}
-
-/// Whether an item is the token that gives a definition its number.
-#[tactic(auto, using(crate::proofs::ImageLemmas::own_is_none))]
+/// Whether an item makes a definition.
 fn defines(item: &Item) -> bool
     ensures { result ≡ defines (item_shown item.now) }
 {
-    match item {
-        Item::Call(Name::Listed(code)) | Item::Naming(code, _) => is_maker(*code),
-        Item::Define(_, _, _) => true,
-        _ => false,
-    }
+    matches!(item, Item::Colon(_) | Item::Defining(_, _))
 }
 
 /// How many definitions there are.

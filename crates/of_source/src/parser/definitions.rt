@@ -5,15 +5,15 @@ ghost use Rattle.of_source.specs.declared.keyword.Keyword.TheVariants as keyword
 
 use super::Parser;
 use crate::fault::SourceFault;
-use crate::item::{Item, Name};
+use crate::item::{Item, Made, Name};
 use crate::names::Own;
 use crate::nesting::Part;
 use of_fcodes::FCode;
 use std::alloc::AllocError;
 
 impl<'a> Parser<'a> {
-    ghost use Rattle.of_source.specs.Items.{making, own_code};
-    ghost use Rattle.of_source.specs.Steps.{name_read, giving, defined, keyword_step, Steps, knowing, defining};
+    ghost use Rattle.of_source.specs.Items.{made_shown};
+    ghost use Rattle.of_source.specs.Steps.{name_read, defined, keyword_step, Steps, knowing, defining, made};
 
     /// The name of a definition, of at most 31 bytes.
     fn name(&mut self, last: usize) -> Result<&'a [u8], SourceFault>
@@ -30,14 +30,16 @@ impl<'a> Parser<'a> {
         Ok(word.bytes)
     }
 
-    /// The token that gives the next definition its number.
-    fn give_maker(&mut self, name: &[u8]) -> Result<(), AllocError>
-        ensures { OnOk result (self.new
-            ≡ giving (item.Plain (making self.old.maker name.now (own_code (length self.old.known))) ∷ []) self.old) }
+    /// The definition of this name that begins, with the next number.
+    fn made(&self, name: &[u8]) -> Result<Made, AllocError>
+        ensures { IfOk result (λ d. made_shown d ≡ made name.now self.now) }
     {
         let name = name.to_vec(self.alloc)?;
-        let item = Item::Define(self.maker, name, self.known.count());
-        self.give(item)
+        Ok(Made {
+            maker: self.maker,
+            name,
+            number: self.known.count(),
+        })
     }
 
     /// A defining word other than `:`.
@@ -49,8 +51,8 @@ impl<'a> Parser<'a> {
             return self.unknown();
         }
         let name = self.name(last)?;
-        self.give_maker(name)?;
-        self.call(Name::Listed(code))?;
+        let made = self.made(name)?;
+        self.give(Item::Defining(made, code))?;
         self.know(name)?;
         Ok(true)
     }
@@ -75,8 +77,8 @@ impl<'a> Parser<'a> {
         let at = self.at;
         self.nesting.open_part(Part::Definition, at)?;
         let name = self.name(last)?;
-        self.give_maker(name)?;
-        self.give(Item::Colon)?;
+        let made = self.made(name)?;
+        self.give(Item::Colon(made))?;
         self.open_definition(name);
         Ok(true)
     }

@@ -9,7 +9,7 @@ ghost use Rattle.of_source.specs.declared.keyword.Quote.TheVariants as quote;
 
 use super::Parser;
 use crate::fault::SourceFault;
-use crate::item::{Item, Name};
+use crate::item::{Item, Name, Plain};
 use crate::keyword::Radix;
 use crate::number::{Number, number_in};
 use crate::words::ordinary_named;
@@ -72,7 +72,7 @@ impl Parser<'_> {
         let Some(name) = self.named(word.bytes)? else {
             return Err(SourceFault::Unknown(word.at));
         };
-        self.give(Item::Naming(token, name))?;
+        self.give(Item::Plain(Plain::Naming(token, name)))?;
         Ok(true)
     }
 
@@ -99,7 +99,7 @@ impl Parser<'_> {
     fn give_string(&mut self, bytes: Vec<u8>) -> Result<(), AllocError>
         ensures { OnOk result (self.new ≡ giving (item.Plain (string bytes.items) ∷ []) self.old) }
     {
-        self.give(Item::String(bytes))
+        self.give(Item::Plain(Plain::String(bytes)))
     }
 
     /// `"`.

@@ -1,16 +1,25 @@
-use Rattle.std.proofs.Common.{ap, [], map, reverse, subst, ◌<◌, ◌∙◌}
+use Rattle.std.proofs.Common.{ap, [], map, reverse, subst, sym, ◌<◌, ◌∙◌}
+use Rattle.std.specs.List.{All}
+use Rattle.of_source.specs.Encodable.{HasBytes}
 use Rattle.of_tok.specs.declared.place.Place.{Place}
 use Rattle.of_tok.specs.Image.{most_bytes}
-use Rattle.of_tok.specs.Layout.{CannotPlace, end_place, placed}
+use Rattle.of_tok.specs.Layout.{CannotPlace, Placed, end_place, placed}
 use Rattle.of_tok.specs.Places.{first_place}
 use Rattle.of_tok.specs.Shown.{placed_shown, written_shown}
 use Rattle.of_source.specs.Items.{item_shown}
-use Rattle.of_tok.proofs.ImageLemmas.{cannot_place, each_has_bytes, has_room, laid_tokens, tokens_writable}
+use Rattle.of_tok.proofs.ImageLemmas.{cannot_place, each_has_bytes, has_room, laid_tokens, placed_have_bytes}
+use Rattle.of_tok.proofs.ImageLemmas.{tokens_writable}
 use Rattle.of_tok.proofs.tokenizer.tokens_of.Goals as goal
 
 pub place_items-requires-clause-bytes : goal.place_items-requires-clause-bytes
 place_items-requires-clause-bytes c =
     each_has_bytes c.args.source.now c.items.result.now c.items.ensures.sound c.items.ensures.items c.requires
+
+pub lay_out-requires : goal.lay_out-requires
+lay_out-requires c =
+    subst (All (λ (x : Placed). HasBytes x.item)) (sym c.in-Ok.ensures.items)
+    (placed_have_bytes (map item_shown c.items.result.now) c.first-start.result []
+    (subst (All HasBytes) (sym c.items.ensures.items) (c.items.ensures.sound.encodable c.requires)))
 
 pub returns-in-Err-clause-err : goal.returns-in-Err-clause-err
 returns-in-Err-clause-err c =
