@@ -23,7 +23,7 @@ abbrev pub shape : ℕ → List (Part × ℕ) → Shape
 shape d ps = record { count = d; parts = ps }
 
 -- a part closes that left no branch open
-closed_part : (k : Part) (n d : ℕ) (ps : List (Part × ℕ)) → n ≡ d → closing k n ((k, d) ∷ ps) ≡ Some (shape d ps)
+pub closed_part : (k : Part) (n d : ℕ) (ps : List (Part × ℕ)) → n ≡ d → closing k n ((k, d) ∷ ps) ≡ Some (shape d ps)
 closed_part part.Definition n d ps e = rw (same_number d n e) (ap (λ m. Some (shape m ps)) e)
 closed_part part.Begin n d ps e = ap (λ m. Some (shape m ps)) e
 closed_part part.Do n d ps e = rw (same_number d n e) (ap (λ m. Some (shape m ps)) e)
