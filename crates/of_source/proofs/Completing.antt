@@ -8,24 +8,27 @@ use Rattle.std.specs.Str.{str_eq_ignore_ascii_case}
 use Rattle.std.proofs.lemmas.Bool.Decides.{nat_tests}
 use Rattle.std.proofs.lemmas.List.{append-nil}
 use Rattle.std.proofs.lemmas.List.Elements.{All-nil, All-cons, All-head, All-tail}
+use Rattle.of_stream.specs.declared.stream.OffsetSize.{OffsetSize}
 use Rattle.of_source.specs.declared.nesting.Part.{Part}
 use Rattle.of_source.specs.declared.nesting.Part.TheVariants as part
-use Rattle.of_source.specs.Completion.{PrefixesGoOn, closing_word, closing_words, on_lines, thens}
-use Rattle.of_source.specs.Faults.{AllSaid}
+use Rattle.of_source.specs.Completion.{AreFree, PrefixesGoOn, begun_text, closing_word, closing_words, completion}
+use Rattle.of_source.specs.Completion.{on_lines, thens}
+use Rattle.of_source.specs.Faults.{AllSaid, all_opened, opened}
 use Rattle.of_source.specs.declared.fault.SourceFault.{SourceFault}
 use Rattle.of_source.specs.Items.{Item, Source}
 use Rattle.of_source.specs.Parsing.{parsed}
 use Rattle.of_source.specs.Items as item
 use Rattle.of_source.specs.Keywords.{control_rows, keyword_named, text_rows}
 use Rattle.of_source.specs.Names.{Own, own_in}
-use Rattle.of_source.specs.Nesting.{is_same}
+use Rattle.of_source.specs.Nesting.{Nesting, is_same, nothing_open}
 use Rattle.of_source.specs.Phrases.{Phrase, Spelled, Beginning, Ending, Known, all_behind, all_written, begun_with, behind}
 use Rattle.of_source.specs.Phrases.{each_written, end_written, items_in, items_of, moved, taken, text_of, written}
 use Rattle.of_source.specs.Phrases as phrase
-use Rattle.of_source.specs.Shapes.{Shape, nothing, floor_of, is_even, closing, opens, pushed, run, when}
+use Rattle.of_source.specs.Shapes.{Shape, nothing, floor_of, is_even, closing, opens, pushed, run, shape_of, when}
 use Rattle.of_source.specs.Steps.{known_with}
 use Rattle.of_source.specs.Written.{AreBlanks, AreSaid, EndsWord, IsBegun, IsFollowed, IsKeyword}
 use Rattle.of_source.specs.Written.{IsPlaced, IsSaid, IsWord, own_of}
+use Rattle.of_source.proofs.FaultsBack.{opened_first, opened_runs}
 use Rattle.of_source.proofs.FollowedLemmas.{said_on, begun_on}
 use Rattle.of_source.proofs.Kept.{run-append}
 use Rattle.of_source.proofs.RunLemmas.{closed_part, shape}
@@ -402,8 +405,12 @@ closing_line : (ps : List (Part × ℕ)) (count : ℕ) → BeginsLine (on_lines 
 closing_line [] count = thens_line count (codes "fcode-end") []
 closing_line (p ∷ ps) count = thens_line (count - p.1) (closing_word p.0) (closing_words p.1 ps)
 
-pub prefixes_go_on : PrefixesGoOn
-prefixes_go_on z b ps more o begun said r free =
+completed : (z : OffsetSize) (b : Beginning) (ps : List Spelled) (more : List ℕ) (o : Shape)
+    → IsBegun z b (each_written ps more) → AllSaid ps more (begun_with b) → run (items_in b ps) nothing ≡ Some o
+    → AreFree (completion o) (all_behind ps (begun_with b))
+    → (items : List Item)
+    × (parsed (begun_text b ps (on_lines (completion o))) ≡ Ok (record { size = z; items = items_in b ps ++ items }))
+completed z b ps more o begun said r free =
     let k = all_behind ps (begun_with b) in
     let f = all_finish o.parts o.count k (known_with k.open_one k.names) refl (run_stacked (items_in b ps) nothing o r tt)
     free r in
@@ -428,3 +435,21 @@ prefixes_go_on z b ps more o begun said r free =
           ∙ written_parsed z b all last_line begins says (nested (items_in b all) closes)
           ∙ ap source items,
     )
+
+opened_all : (ps : List Spelled) (k : Known) (n m : Nesting) → all_opened ps k n ≡ Some m
+    → run k.items nothing ≡ Some (shape_of n) → run (all_behind ps k).items nothing ≡ Some (shape_of m)
+opened_all [] k n m h r =
+    let e : n ≡ m = cc in r ∙ ap (λ (x : Nesting). Some (shape_of x)) e
+opened_all (p ∷ ps) k n m h r =
+    let here = moved p.blanks k in
+    let l = behind p.word p.phrase here in
+    let is = items_of p.phrase here in
+    let q = opened_first ps l (opened p.phrase here.at n) m h in
+    opened_all ps l q.first m q.rest
+    (run-append k.items is nothing ∙ ap (option_and_then (run is)) r ∙ opened_runs p.phrase here n q.first q.opens)
+
+pub prefixes_go_on : PrefixesGoOn
+prefixes_go_on = record {
+  completed = completed;
+  left_open = λ b ps n h. opened_all ps (begun_with b) nothing_open n h refl;
+}

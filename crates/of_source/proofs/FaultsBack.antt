@@ -169,7 +169,7 @@ not_so true h = absurd cc
 not_so false h = refl
 
 -- the items of a phrase leave open what it leaves open
-opened_runs : (p : Phrase) (k : Known) (n m : Nesting) → opened p k.at n ≡ Some m
+pub opened_runs : (p : Phrase) (k : Known) (n m : Nesting) → opened p k.at n ≡ Some m
     → run (items_of p k) (shape_of n) ≡ Some (shape_of m)
 opened_runs (phrase.OwnWord j) k n m h = shape_same n m h
 opened_runs (phrase.BoardWord c) k n m h = shape_same n m h
@@ -557,12 +557,12 @@ failing_now text z at k n more l (late f w o m c x) =
     }
 
 -- where phrases open so, each does
-record OpenedFirst (ps : List Spelled) (l : Known) (o : Option Nesting) (m : Nesting) : Type 0 where
-  first : Nesting
-  opens : o ≡ Some first
-  rest : all_opened ps l first ≡ Some m
+pub record OpenedFirst (ps : List Spelled) (l : Known) (o : Option Nesting) (m : Nesting) : Type 0 where
+  pub first : Nesting
+  pub opens : o ≡ Some first
+  pub rest : all_opened ps l first ≡ Some m
 
-opened_first : (ps : List Spelled) (l : Known) (o : Option Nesting) (m : Nesting)
+pub opened_first : (ps : List Spelled) (l : Known) (o : Option Nesting) (m : Nesting)
     → option_and_then (all_opened ps l) o ≡ Some m → OpenedFirst ps l o m
 opened_first ps l None m h = absurd cc
 opened_first ps l (Some x) m h = record { first = x; opens = refl; rest = h }

@@ -3,14 +3,12 @@ use Rattle.std.proofs.Common.{◌≡◌, ℕ, zero, suc, ◌+◌, ◌≤◌, Boo
 use Rattle.std.proofs.Common.{List, [], ◌∷◌, ◌++◌}
 use Rattle.std.proofs.Common.{Option, Some, None, nat_eq, nat_le, if◌then◌else◌, refl, sym, ap, subst, ◌∙◌, arith}
 use Rattle.std.proofs.Common.{append_assoc, inl, inr}
-use Rattle.std.specs.List.{list_all}
-use Rattle.std.specs.Str.{str_eq_ignore_ascii_case}
 use Rattle.std.proofs.lemmas.Bool.{false≢true}
 use Rattle.std.proofs.lemmas.Bool.Decides.{nat_tests}
 use Rattle.std.proofs.lemmas.List.{append-nil}
 use Rattle.of_cells.specs.declared.cells.Cell.{Cell}
 use Rattle.of_fcodes.specs.declared.codes.FCode.{FCode}
-use Rattle.of_fcodes.specs.Lookup.{number_named, row_numbered, word_numbered}
+use Rattle.of_fcodes.specs.Lookup.{row_numbered, word_numbered}
 use Rattle.of_fcodes.specs.Rows.{rows, first_rows, second_rows, third_rows, fourth_rows, fifth_rows, sixth_rows}
 use Rattle.of_fcodes.specs.Rows.{seventh_rows}
 use Rattle.of_stream.specs.Decoding.{Token}
@@ -18,9 +16,8 @@ use Rattle.of_source.specs.declared.keyword.Keyword.{Keyword}
 use Rattle.of_source.specs.declared.keyword.Keyword.TheVariants as keyword
 use Rattle.of_source.specs.Items.{Item, Source, bare, call, literal, naming, own_code, string}
 use Rattle.of_source.specs.Items as item
-use Rattle.of_source.specs.Keywords.{control_rows, fcode, if_ordinary, is_ordinary, keyword_in, keyword_named, or_in}
+use Rattle.of_source.specs.Keywords.{control_rows, fcode, is_ordinary, keyword_named}
 use Rattle.of_source.specs.Keywords.{ordinary_named, text_rows}
-use Rattle.of_source.specs.Keywords as keywords
 use Rattle.of_source.specs.Names.{Own}
 use Rattle.of_source.specs.Phrases.{Phrase, Spelled, Ending, Known, all_behind, behind, begun_with, items_of, moved}
 use Rattle.of_source.specs.Phrases as phrase
@@ -29,6 +26,7 @@ use Rattle.of_source.specs.Steps.{number_token}
 use Rattle.of_source.specs.Strings.{pieces_bytes}
 use Rattle.of_source.specs.Written.{AreSaid, IsKeyword, IsPlaced, IsStraight, LeaveOpen}
 use Rattle.of_source.proofs.AcceptedLemmas.{accepted_written}
+use Rattle.of_source.proofs.Tables.{all_pass, both, each_keyword, named_ordinary}
 
 -- ---- lists of items
 
@@ -79,10 +77,6 @@ two front t u h k = (h.0, never front t.code.0 h.1, one (front ++ item.Plain t �
 
 -- ---- FCodes
 
-both : (a b : Bool) → (a && b) ≡ true → (a ≡ true) × (b ≡ true)
-both true b h = (refl, h)
-both false b h = absurd cc
-
 not_false : (b : Bool) → not b ≡ true → b ≡ false
 not_false true h = absurd cc
 not_false false h = refl
@@ -128,17 +122,7 @@ ordinary_is n h = (ordinary_plain n h, other (nat_eq n 0x0cc) refl)
     other false e = refl
 
 named_is : (name : List ℕ) (c : FCode) → ordinary_named name ≡ Some c → IsWord (call c)
-unfolding ordinary_named
-named_is name c h = named (number_named name) h
-  where
-    pick : (n : ℕ) (b : Bool) → is_ordinary (word_numbered n) ≡ b → (if b then Some (fcode n) else None) ≡ Some c
-        → IsWord (call c)
-    pick n true t e = let q : fcode n ≡ c = cc in subst (λ (x : FCode). IsWord (call x)) q (ordinary_is n t)
-    pick n false t e = absurd cc
-
-    named : (o : Option ℕ) → if_ordinary o ≡ Some c → IsWord (call c)
-    named None e = absurd cc
-    named (Some n) e = pick n (is_ordinary (word_numbered n)) refl e
+named_is name c h = ordinary_is c.0 (named_ordinary name c h)
 
 -- ---- keywords
 
@@ -150,34 +134,16 @@ is_fine (keyword.One t) = is_word t
 is_fine (keyword.Two t u) = is_word t && is_word u
 is_fine _ = true
 
-text_fine : list_all (λ (r : keywords.Row). is_fine r.1) text_rows ≡ true
+text_fine : all_pass is_fine text_rows ≡ true
 unfolding text_rows row_numbered rows first_rows second_rows third_rows fourth_rows fifth_rows sixth_rows seventh_rows
 text_fine = refl
 
-control_fine : list_all (λ (r : keywords.Row). is_fine r.1) control_rows ≡ true
+control_fine : all_pass is_fine control_rows ≡ true
 unfolding control_rows row_numbered rows first_rows second_rows third_rows fourth_rows fifth_rows sixth_rows
 control_fine = refl
 
-fine_in : (rs : List keywords.Row) → list_all (λ (r : keywords.Row). is_fine r.1) rs ≡ true
-    → (name : List ℕ) (k : Keyword) → keyword_in rs name ≡ Some k → is_fine k ≡ true
-fine_in [] h name k e = absurd cc
-fine_in (r ∷ rs) h name k e =
-    let w = both (is_fine r.1) (list_all (λ (x : keywords.Row). is_fine x.1) rs) h in
-    pick w.0 (fine_in rs w.1 name k) (str_eq_ignore_ascii_case r.0 name) e
-  where
-    pick : is_fine r.1 ≡ true → (keyword_in rs name ≡ Some k → is_fine k ≡ true) → (b : Bool)
-        → (if b then Some r.1 else keyword_in rs name) ≡ Some k → is_fine k ≡ true
-    pick w f true e = let q : r.1 ≡ k = cc in subst (λ x. is_fine x ≡ true) q w
-    pick w f false e = f e
-
 fine : (name : List ℕ) (k : Keyword) → keyword_named name ≡ Some k → is_fine k ≡ true
-unfolding keyword_named
-fine name k h = either (keyword_in text_rows name) refl h
-  where
-    either : (o : Option Keyword) → keyword_in text_rows name ≡ o → or_in o (keyword_in control_rows name) ≡ Some k
-        → is_fine k ≡ true
-    either None e h = fine_in control_rows control_fine name k h
-    either (Some x) e h = let q : x ≡ k = cc in fine_in text_rows text_fine name k (e ∙ ap (λ y. Some y) q)
+fine = each_keyword is_fine text_fine control_fine
 
 naming_is : (t c : FCode) → (nat_eq t.0 0x011 || nat_eq t.0 0x0c3) ≡ true → IsWord (naming t c)
 naming_is t c h = pick (nat_eq t.0 0x011) (nat_eq t.0 0x0c3) refl refl h

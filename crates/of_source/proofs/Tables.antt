@@ -26,7 +26,7 @@ use Rattle.of_source.specs.Keywords.{ordinary_named, text_rows}
 use Rattle.of_source.specs.Keywords as keywords
 use Rattle.of_source.specs.Steps.{number_token}
 
-both : (a b : Bool) → (a && b) ≡ true → (a ≡ true) × (b ≡ true)
+pub both : (a b : Bool) → (a && b) ≡ true → (a ≡ true) × (b ≡ true)
 both true b h = (refl, h)
 both false b h = absurd cc
 
@@ -145,20 +145,52 @@ ordinary_at n h = at (row_in rows n) refl h
         ap (λ (b : Bool). if b then is_nothing x.operand else true) (sym h) ∙ w.1 in
         (subst (λ m. is_code m ≡ true) f.1 w.0, nothing_is x.operand g)
 
-pub ordinary_bare : (name : List ℕ) (c : FCode) → ordinary_named name ≡ Some c → IsBare c
+pub named_ordinary : (name : List ℕ) (c : FCode) → ordinary_named name ≡ Some c
+    → is_ordinary (word_numbered c.0) ≡ true
 unfolding ordinary_named
-ordinary_bare name c h = named (number_named name) h
+named_ordinary name c h = named (number_named name) h
   where
     pick : (n : ℕ) (b : Bool) → is_ordinary (word_numbered n) ≡ b → (if b then Some (fcode n) else None) ≡ Some c
-        → IsBare c
-    pick n true t e = let q : fcode n ≡ c = cc in subst IsBare q (ordinary_at n t)
+        → is_ordinary (word_numbered c.0) ≡ true
+    pick n true t e =
+        let q : fcode n ≡ c = cc in subst (λ (x : FCode). is_ordinary (word_numbered x.0) ≡ true) q t
     pick n false t e = absurd cc
 
-    named : (o : Option ℕ) → if_ordinary o ≡ Some c → IsBare c
+    named : (o : Option ℕ) → if_ordinary o ≡ Some c → is_ordinary (word_numbered c.0) ≡ true
     named None e = absurd cc
     named (Some n) e = pick n (is_ordinary (word_numbered n)) refl e
 
+pub ordinary_bare : (name : List ℕ) (c : FCode) → ordinary_named name ≡ Some c → IsBare c
+ordinary_bare name c h = ordinary_at c.0 (named_ordinary name c h)
+
 -- ---- keywords
+
+-- what each row passes
+abbrev pub all_pass : (Keyword → Bool) → List keywords.Row → Bool
+all_pass test rs = list_all (λ (r : keywords.Row). test r.1) rs
+
+found_passes : (test : Keyword → Bool) (rs : List keywords.Row) → all_pass test rs ≡ true → (name : List ℕ)
+    (k : Keyword) → keyword_in rs name ≡ Some k → test k ≡ true
+found_passes test [] h name k e = absurd cc
+found_passes test (r ∷ rs) h name k e =
+    let w = both (test r.1) (all_pass test rs) h in
+    pick w.0 (found_passes test rs w.1 name k) (str_eq_ignore_ascii_case r.0 name) e
+  where
+    pick : test r.1 ≡ true → (keyword_in rs name ≡ Some k → test k ≡ true) → (b : Bool)
+        → (if b then Some r.1 else keyword_in rs name) ≡ Some k → test k ≡ true
+    pick w f true e = let q : r.1 ≡ k = cc in subst (λ x. test x ≡ true) q w
+    pick w f false e = f e
+
+-- what each row passes, a keyword passes
+pub each_keyword : (test : Keyword → Bool) → all_pass test text_rows ≡ true → all_pass test control_rows ≡ true
+    → (name : List ℕ) (k : Keyword) → keyword_named name ≡ Some k → test k ≡ true
+unfolding keyword_named
+each_keyword test t c name k h = either (keyword_in text_rows name) refl h
+  where
+    either : (o : Option Keyword) → keyword_in text_rows name ≡ o → or_in o (keyword_in control_rows name) ≡ Some k
+        → test k ≡ true
+    either None e h = found_passes test control_rows c name k h
+    either (Some x) e h = let q : x ≡ k = cc in found_passes test text_rows t name k (e ∙ ap (λ y. Some y) q)
 
 abbrev pub is_bare : FCode → Bool
 is_bare c = is_code c.0 && is_nothing (operand_numbered c.0)
@@ -174,35 +206,16 @@ is_good (keyword.One t) = is_bare t
 is_good (keyword.Two t u) = is_bare t && is_bare u
 is_good _ = true
 
-text_good : list_all (λ (r : keywords.Row). is_good r.1) text_rows ≡ true
+text_good : all_pass is_good text_rows ≡ true
 unfolding text_rows row_numbered rows first_rows second_rows third_rows fourth_rows fifth_rows sixth_rows seventh_rows
 text_good = refl
 
-control_good : list_all (λ (r : keywords.Row). is_good r.1) control_rows ≡ true
+control_good : all_pass is_good control_rows ≡ true
 unfolding control_rows row_numbered rows first_rows second_rows third_rows fourth_rows fifth_rows sixth_rows
 control_good = refl
 
-good_in : (rs : List keywords.Row) → list_all (λ (r : keywords.Row). is_good r.1) rs ≡ true
-    → (name : List ℕ) (k : Keyword)
-    → keyword_in rs name ≡ Some k → is_good k ≡ true
-good_in [] h name k e = absurd cc
-good_in (r ∷ rs) h name k e =
-    let w = both (is_good r.1) (list_all (λ (x : keywords.Row). is_good x.1) rs) h in
-    pick w.0 (good_in rs w.1 name k) (str_eq_ignore_ascii_case r.0 name) e
-  where
-    pick : is_good r.1 ≡ true → (keyword_in rs name ≡ Some k → is_good k ≡ true) → (b : Bool)
-        → (if b then Some r.1 else keyword_in rs name) ≡ Some k → is_good k ≡ true
-    pick w f true e = let q : r.1 ≡ k = cc in subst (λ x. is_good x ≡ true) q w
-    pick w f false e = f e
-
 pub keyword_good : (name : List ℕ) (k : Keyword) → keyword_named name ≡ Some k → is_good k ≡ true
-unfolding keyword_named
-keyword_good name k h = either (keyword_in text_rows name) refl h
-  where
-    either : (o : Option Keyword) → keyword_in text_rows name ≡ o → or_in o (keyword_in control_rows name) ≡ Some k
-        → is_good k ≡ true
-    either None e h = good_in control_rows control_good name k h
-    either (Some x) e h = let q : x ≡ k = cc in good_in text_rows text_good name k (e ∙ ap (λ y. Some y) q)
+keyword_good = each_keyword is_good text_good control_good
 
 pub bare_good : (c : FCode) → is_bare c ≡ true → IsBare c
 bare_good c h =

@@ -8,11 +8,12 @@ use Rattle.of_source.specs.declared.nesting.Part.TheVariants as part
 use Rattle.of_source.specs.Items.{Item}
 use Rattle.of_source.specs.Names.{own_in}
 use Rattle.of_source.specs.Steps.{known_with}
-use Rattle.of_source.specs.Shapes.{Shape, nothing, run}
+use Rattle.of_source.specs.Nesting.{Nesting, nothing_open}
+use Rattle.of_source.specs.Shapes.{Shape, nothing, run, shape_of}
 use Rattle.of_source.specs.Parsing.{parsed}
 use Rattle.of_source.specs.Phrases.{Spelled, Beginning, Known, each_written, all_behind, begun_with, items_in}
 use Rattle.of_source.specs.Written.{IsBegun}
-use Rattle.of_source.specs.Faults.{AllSaid}
+use Rattle.of_source.specs.Faults.{AllSaid, all_opened}
 
 -- a word that closes a part
 abbrev pub closing_word : Part → List ℕ
@@ -50,11 +51,13 @@ abbrev pub begun_text : Beginning → List Spelled → List ℕ → List ℕ
 begun_text b ps more = each_written b.comments (b.blanks ++ (b.word ++ each_written ps more))
 
 -- Where a text begins with phrases that can stand where they do, and no name hides the words that complete it, these
--- words behind the phrases give a source that is accepted, and whose items begin with those of the phrases.
-abbrev pub PrefixesGoOn : Type 0
-PrefixesGoOn =
-    (z : OffsetSize) (b : Beginning) (ps : List Spelled) (more : List ℕ) (o : Shape)
-    → IsBegun z b (each_written ps more) → AllSaid ps more (begun_with b) → run (items_in b ps) nothing ≡ Some o
-    → AreFree (completion o) (all_behind ps (begun_with b))
-    → (items : List Item)
-    × (parsed (begun_text b ps (on_lines (completion o))) ≡ Ok (record { size = z; items = items_in b ps ++ items }))
+-- words behind the phrases give a source that is accepted, and whose items begin with those of the phrases. What the
+-- items of phrases leave open is what the phrases do.
+pub record PrefixesGoOn : Type 0 where
+  pub completed : (z : OffsetSize) (b : Beginning) (ps : List Spelled) (more : List ℕ) (o : Shape)
+      → IsBegun z b (each_written ps more) → AllSaid ps more (begun_with b) → run (items_in b ps) nothing ≡ Some o
+      → AreFree (completion o) (all_behind ps (begun_with b))
+      → (items : List Item)
+      × (parsed (begun_text b ps (on_lines (completion o))) ≡ Ok (record { size = z; items = items_in b ps ++ items }))
+  pub left_open : (b : Beginning) (ps : List Spelled) (n : Nesting) → all_opened ps (begun_with b) nothing_open ≡ Some n
+      → run (items_in b ps) nothing ≡ Some (shape_of n)
