@@ -10,7 +10,7 @@ use Rattle.of_stream.specs.declared.stream.OffsetSize.{OffsetSize}
 use Rattle.of_stream.specs.declared.stream.OffsetSize.TheVariants.{One, Two}
 use Rattle.of_stream.specs.Bytes.{IsEncodable}
 use Rattle.of_stream.specs.Decoding.{Token}
-use Rattle.of_source.specs.Encodable.{HasBytes, HasTokenBytes, IsSound, definitions, most_definitions}
+use Rattle.of_source.specs.Encodable.{AreEncodable, HasBytes, HasTokenBytes, definitions, most_definitions}
 use Rattle.of_source.specs.declared.item.Item.{Item as Held}
 use Rattle.of_source.specs.Items.{Item, Source, call, item_shown, maker_token}
 use Rattle.of_source.specs.Items as item
@@ -144,9 +144,9 @@ accepted s ws bytes h e l r =
 -- ---- what the passes give
 
 -- the items of a source in the code
-pub each_has_bytes : (s : Source) (xs : List Held) → IsSound s.items → map item_shown xs ≡ s.items
+pub each_has_bytes : (s : Source) (xs : List Held) → AreEncodable s.items → map item_shown xs ≡ s.items
     → definitions s.items ≤ most_definitions → All (λ x. HasBytes (item_shown x)) xs
-each_has_bytes s xs h e l = unmapped xs (subst (All HasBytes) (sym e) (h.encodable l))
+each_has_bytes s xs h e l = unmapped xs (subst (All HasBytes) (sym e) (h l))
   where
     unmapped : (ys : List Held) → All HasBytes (map item_shown ys) → All (λ y. HasBytes (item_shown y)) ys
     unmapped [] a = λ k d l. absurd (omega (arith, l))
@@ -179,11 +179,11 @@ tokens_length give s n =
     ap (λ ws. header_length + length (bytes_of ws)) (sym (tokens_nested give s.size s.items n))
     ∙ all_length s.items (first_place s.size) []
 
-pub tokens_writable : (s : Source) (ws : List Written) → ItemsGiveNest → IsSound s.items
+pub tokens_writable : (s : Source) (ws : List Written) → ItemsGiveNest → IsNested s.items → AreEncodable s.items
     → definitions s.items ≤ most_definitions → ws ≡ tokens s → AreWritable ws
-tokens_writable s ws give h l e =
-    subst AreWritable (tokens_nested give s.size s.items h.nested ∙ sym e)
-    (all_writable s.items (h.encodable l) (first_place s.size) [])
+tokens_writable s ws give n h l e =
+    subst AreWritable (tokens_nested give s.size s.items n ∙ sym e)
+    (all_writable s.items (h l) (first_place s.size) [])
 
 pub cannot_place : ItemsGiveNest → (s : Source) → IsNested s.items → definitions s.items ≤ most_definitions
     → (f : TokFault) → CannotPlace s.items (first_place s.size) f → IsRefused (tokenized s) f

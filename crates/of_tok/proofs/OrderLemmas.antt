@@ -203,16 +203,16 @@ whole_length size x o =
 
 pub image_has_tokens : ItemsGiveNest → TokensReadBack → ImageHasTokens
 unfolding tokenized
-image_has_tokens give back s image h e =
+image_has_tokens give back s image n b e =
     let a = accepted_is s.size (definitions s.items) (tokens s) image e in
     let p = first_place s.size in
-    let o = subst (AreInOrder p) (tokens_nested give s.size s.items h.nested) (all_in_order s.items p []) in
-    let w = tokens_writable s (tokens s) give h a.0 refl in
+    let o = subst (AreInOrder p) (tokens_nested give s.size s.items n) (all_in_order s.items p []) in
+    let w = tokens_writable s (tokens s) give n b a.0 refl in
     let before = header s.size (bytes_of (tokens s)) in
     let long : length image ≡ header_length + length (bytes_of (tokens s)) =
     ap length a.2 ∙ length-append before (bytes_of (tokens s)) in
     let end : (end_of (nest_of s.items) p).position + 1 ≡ length image =
     whole_length s.size (nest_of s.items) o ∙ sym long in
-    let whole : IsWhole (nest_of s.items) = subst IsWhole (sym (ap nest_of h.nested.1 ∙ give h.nested.0)) h.nested.2 in
-    let r = subst (λ n. AreInRange n (tokens s)) end (tokens_in_range s.size (nest_of s.items) whole) in
+    let whole : IsWhole (nest_of s.items) = subst IsWhole (sym (ap nest_of n.1 ∙ give n.0)) n.2 in
+    let r = subst (λ k. AreInRange k (tokens s)) end (tokens_in_range s.size (nest_of s.items) whole) in
     has_tokens back image before p (tokens s) a.2 refl o w a.1 r

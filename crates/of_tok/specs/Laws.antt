@@ -6,9 +6,9 @@ use Rattle.of_stream.specs.declared.stream.OffsetSize.{OffsetSize}
 use Rattle.of_stream.specs.Decoding.{token_from}
 use Rattle.of_stream.specs.Image.{first_size, header_fault}
 use Rattle.of_stream.specs.Targets.{landing}
-use Rattle.of_source.specs.Encodable.{IsSound}
+use Rattle.of_source.specs.Encodable.{AreEncodable}
 use Rattle.of_source.specs.Items.{Source}
-use Rattle.of_source.specs.Nest.{Nest, nest_of}
+use Rattle.of_source.specs.Nest.{IsNested, Nest, nest_of}
 use Rattle.of_tok.specs.Image.{tokenized}
 use Rattle.of_tok.specs.Places.{behind, first_place}
 use Rattle.of_tok.specs.declared.place.Place.{Place}
@@ -35,7 +35,7 @@ HasTokens image p (w ∷ ws) =
 -- the image of a source has the tokens of its nest behind the header, and no others
 abbrev pub ImageHasTokens : Type 0
 ImageHasTokens =
-    (s : Source) (image : List ℕ) → IsSound s.items → tokenized s ≡ Ok image
+    (s : Source) (image : List ℕ) → IsNested s.items → AreEncodable s.items → tokenized s ≡ Ok image
     → HasTokens image (first_place s.size) (tokens_of s.size (nest_of s.items))
 
 -- Where the tokens of a nest stand in an image, with others behind them, those stand at the end of the nest: so the

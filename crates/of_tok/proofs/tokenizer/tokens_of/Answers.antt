@@ -13,7 +13,7 @@ use Rattle.of_tok.proofs.tokenizer.tokens_of.Goals as goal
 
 pub place_items-requires-clause-bytes : goal.place_items-requires-clause-bytes
 place_items-requires-clause-bytes c =
-    each_has_bytes c.args.source.now c.items.result.now c.items.ensures.sound c.items.ensures.items c.requires
+    each_has_bytes c.args.source.now c.items.result.now c.items.ensures.sound.encodable c.items.ensures.items c.requires
 
 pub lay_out-requires : goal.lay_out-requires
 lay_out-requires c =
@@ -43,7 +43,7 @@ returns-clause-tokens c =
 pub returns-clause-writable : goal.returns-clause-writable
 returns-clause-writable c =
     tokens_writable c.args.source.now (reverse (map written_shown c.in_ok-lay_out.field-0.items))
-    c.items_give_nest.ensures c.items.ensures.sound c.requires
+    c.items_give_nest.ensures c.items.ensures.sound.nested c.items.ensures.sound.encodable c.requires
     (laid_tokens c.items_give_nest.ensures c.args.source.now c.items.ensures.sound.nested c.in-Ok.found.1
     (map placed_shown c.in-Ok.found.0.items) (reverse (map written_shown c.in_ok-lay_out.field-0.items))
     (c.in-Ok.ensures.items
