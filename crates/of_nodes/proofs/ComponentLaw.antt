@@ -1,7 +1,7 @@
 -- The law `components_are_meant`.
-use Rattle.std.proofs.Common.{◌≡◌, ◌≢◌, ◌↔◌, ℕ, zero, suc, ◌*◌, ◌^◌, ◌<◌, ◌≤◌, ◌==◌, ◌&&◌, ◌||◌, nat_le, nat_lt, not}
+use Rattle.std.proofs.Common.{◌≡◌, ◌≢◌, ◌↔◌, ℕ, zero, suc, ◌*◌, ◌^◌, ◌<◌, ◌≤◌, ◌==◌, ◌&&◌, nat_le, nat_lt, not}
 use Rattle.std.proofs.Common.{Bool, true, false, ◌⊎◌, inl, inr, List, [], ◌∷◌, ◌++◌, length, Option, Some, None}
-use Rattle.std.proofs.Common.{append_assoc, if◌then◌else◌, codes, refl, ap, sym, ◌∙◌, arith}
+use Rattle.std.proofs.Common.{append_assoc, if◌then◌else◌, refl, ap, sym, ◌∙◌, arith}
 use Rattle.std.specs.List.{AllByRecursion, list_all}
 use Rattle.std.proofs.lemmas.Bool.{and_parts}
 use Rattle.std.proofs.lemmas.Bool.Decides.{nat_tests}
@@ -11,15 +11,15 @@ use Rattle.byteorder.specs.Numbers.{big_number-reads_back}
 use Rattle.of_format.specs.Digits.{unsigned_text}
 use Rattle.of_memory.specs.DataSpace.{DataSpace}
 use Rattle.of_nodes.specs.declared.tree.Node.{Node}
-use Rattle.of_nodes.specs.Components.{address_text, count_in, node_name, unit_in, value_of}
+use Rattle.of_nodes.specs.Asked.{asked, asked_by, fits, is_own}
+use Rattle.of_nodes.specs.Components.{address_text, count_in, node_name, unit_in, unit_of}
 use Rattle.of_nodes.specs.ComponentLaw.{AreArguments, ComponentsAreMeant, IsName, IsNameByte, Lacks, cells_bytes}
 use Rattle.of_nodes.specs.ComponentLaw.{cells_text}
-use Rattle.of_nodes.specs.Lookup.{fits, fits_plain, is_meant, is_unit}
 use Rattle.of_nodes.specs.Methods.{is_method_name}
 use Rattle.of_nodes.specs.Names.{is_name, is_name_byte}
 use Rattle.of_nodes.specs.Properties.{same_name}
 use Rattle.of_nodes.specs.Texts.{before, behind}
-use Rattle.of_nodes.proofs.Fitting.{same_self}
+use Rattle.of_nodes.proofs.Fitting.{and_true, same_self}
 use Rattle.of_nodes.proofs.MethodLaw.{same_is}
 
 -- ---- names
@@ -193,71 +193,66 @@ cut xs arguments h a =
 same_true : (a b : List ℕ) → a ≡ b → same_name a b ≡ true
 same_true a b e = rw e (same_self b)
 
-plain_name : (m : DataSpace) (count : ℕ) (n : Node) (name : List ℕ) → Lacks 64 name
-    → fits_plain m count n name ≡ same_name name (node_name m n)
-plain_name m count n name h =
-    let unit = unit_in count (value_of m n (codes "reg")) in
-    ap (λ (t : List ℕ). is_meant t (behind 64 name) (node_name m n) unit) (before_end 64 name h)
-    ∙ ap (λ (u : Option (List ℕ)). is_meant name u (node_name m n) unit) (behind_end 64 name h)
-
-by_name : (m : DataSpace) (count : ℕ) (n : Node) (name arguments : List ℕ) → Lacks 58 name → Lacks 64 name
-    → AreArguments arguments → (fits m count n (name ++ arguments) ≡ true) ↔ (name ≡ node_name m n)
-by_name m count n name arguments h k a =
-    let is : fits m count n (name ++ arguments) ≡ same_name name (node_name m n) =
-    ap (fits_plain m count n) (cut name arguments h a) ∙ plain_name m count n name k in
-    (λ e. same_is name (node_name m n) (sym is ∙ e), λ e. is ∙ same_true name (node_name m n) e)
+-- what components ask for
+asked_name : (name arguments : List ℕ) → Lacks 58 name → Lacks 64 name → AreArguments arguments
+    → asked (name ++ arguments) ≡ asked_by name None
+asked_name name arguments h k a = rw (cut name arguments h a, before_end 64 name k, behind_end 64 name k) refl
 
 both_lack : (xs ys : List ℕ) → Lacks 58 xs → Lacks 58 ys → Lacks 58 (xs ++ 64 ∷ ys)
 both_lack [] ys h k = (λ e. absurd (omega (arith, e)), k)
 both_lack (x ∷ xs) ys h k = (h.0, both_lack xs ys h.1 k)
 
-plain_unit : (m : DataSpace) (count : ℕ) (n : Node) (name unit : List ℕ) → Lacks 64 name
-    → fits_plain m count n (name ++ 64 ∷ unit)
-    ≡ ((length name == 0 || same_name name (node_name m n))
-    && is_unit unit (unit_in count (value_of m n (codes "reg"))))
-plain_unit m count n name unit h =
-    let own = unit_in count (value_of m n (codes "reg")) in
-    ap (λ (t : List ℕ). is_meant t (behind 64 (name ++ 64 ∷ unit)) (node_name m n) own) (before_it 64 name unit h)
-    ∙ ap (λ (u : Option (List ℕ)). is_meant name u (node_name m n) own) (behind_it 64 name unit h)
+asked_unit : (name unit arguments : List ℕ) → Lacks 58 name → Lacks 64 name → Lacks 58 unit → AreArguments arguments
+    → asked ((name ++ 64 ∷ unit) ++ arguments) ≡ asked_by name (Some unit)
+asked_unit name unit arguments h k l a =
+    rw (cut (name ++ 64 ∷ unit) arguments (both_lack name unit h l) a, before_it 64 name unit k, behind_it 64 name unit k)
+    refl
 
-unit_from : (o : Option (List ℕ)) (unit : List ℕ) → is_unit unit o ≡ true → o ≡ Some unit
+by_name : (m : DataSpace) (count : ℕ) (n : Node) (name arguments : List ℕ) → Lacks 58 name → Lacks 64 name
+    → AreArguments arguments → (fits m count n (asked (name ++ arguments)) ≡ true) ↔ (name ≡ node_name m n)
+by_name m count n name arguments h k a =
+    let is : fits m count n (asked (name ++ arguments)) ≡ same_name name (node_name m n) =
+    ap (fits m count n) (asked_name name arguments h k a) ∙ and_true (same_name name (node_name m n)) in
+    (λ e. same_is name (node_name m n) (sym is ∙ e), λ e. is ∙ same_true name (node_name m n) e)
+
+unit_from : (o : Option (List ℕ)) (unit : List ℕ) → is_own (Some unit) o ≡ true → o ≡ Some unit
 unit_from None unit e = absurd cc
 unit_from (Some own) unit e = ap Some (sym (same_is unit own e))
 
-unit_to : (o : Option (List ℕ)) (unit : List ℕ) → o ≡ Some unit → is_unit unit o ≡ true
-unit_to o unit e = ap (is_unit unit) e ∙ same_self unit
+unit_to : (o : Option (List ℕ)) (unit : List ℕ) → o ≡ Some unit → is_own (Some unit) o ≡ true
+unit_to o unit e = ap (is_own (Some unit)) e ∙ same_self unit
 
-name_from : (name own : List ℕ) → (length name == 0 || same_name name own) ≡ true → (name ≡ []) ⊎ (name ≡ own)
+name_from : (name own : List ℕ) → is_own (asked_by name (Some [])).name (Some own) ≡ true
+    → (name ≡ []) ⊎ (name ≡ own)
 name_from [] own e = inl refl
 name_from (x ∷ xs) own e =
     let some : (length (x ∷ xs) == 0) ≡ false = differs (length (x ∷ xs)) 0 (λ z. absurd (omega (arith, z))) in
     let same : same_name (x ∷ xs) own ≡ true = sym (rw some refl) ∙ e in
     inr (same_is (x ∷ xs) own same)
 
-or_true : (a : Bool) → (a || true) ≡ true
-or_true true = refl
-or_true false = refl
+own_if : (t : Bool) (name own : List ℕ) → name ≡ own → is_own (if t then None else Some name) (Some own) ≡ true
+own_if true name own e = refl
+own_if false name own e = same_true name own e
 
-name_to : (name own : List ℕ) → (name ≡ []) ⊎ (name ≡ own) → (length name == 0 || same_name name own) ≡ true
+name_to : (name own : List ℕ) → (name ≡ []) ⊎ (name ≡ own) → is_own (asked_by name (Some [])).name (Some own) ≡ true
 name_to name own h =
     elim h [
       | inl none ↦ rw none refl
-      | inr same ↦ rw (same_true name own same) (or_true (length name == 0))
+      | inr same ↦ own_if (length name == 0) name own same
     ]
 
 by_unit : (m : DataSpace) (count : ℕ) (n : Node) (name unit arguments : List ℕ) → Lacks 58 name → Lacks 64 name
     → Lacks 58 unit → AreArguments arguments
-    → (fits m count n ((name ++ 64 ∷ unit) ++ arguments) ≡ true)
-    ↔ (((name ≡ []) ⊎ (name ≡ node_name m n)) × (unit_in count (value_of m n (codes "reg")) ≡ Some unit))
+    → (fits m count n (asked ((name ++ 64 ∷ unit) ++ arguments)) ≡ true)
+    ↔ (((name ≡ []) ⊎ (name ≡ node_name m n)) × (unit_of m count n ≡ Some unit))
 by_unit m count n name unit arguments h k l a =
-    let own = unit_in count (value_of m n (codes "reg")) in
-    let named = length name == 0 || same_name name (node_name m n) in
-    let is : fits m count n ((name ++ 64 ∷ unit) ++ arguments) ≡ (named && is_unit unit own) =
-    ap (fits_plain m count n) (cut (name ++ 64 ∷ unit) arguments (both_lack name unit h l) a)
-    ∙ plain_unit m count n name unit k in (
-      λ e. let p = and_parts named (is_unit unit own) (sym is ∙ e) in
-          (name_from name (node_name m n) p.0, unit_from own unit p.1),
-      λ e. is ∙ both_true named (is_unit unit own) (name_to name (node_name m n) e.0) (unit_to own unit e.1),
+    let named = is_own (asked_by name (Some unit)).name (Some (node_name m n)) in
+    let placed = is_own (Some unit) (unit_of m count n) in
+    let is : fits m count n (asked ((name ++ 64 ∷ unit) ++ arguments)) ≡ (named && placed) =
+    ap (fits m count n) (asked_unit name unit arguments h k l a) in (
+      λ e. let p = and_parts named placed (sym is ∙ e) in
+          (name_from name (node_name m n) p.0, unit_from (unit_of m count n) unit p.1),
+      λ e. is ∙ both_true named placed (name_to name (node_name m n) e.0) (unit_to (unit_of m count n) unit e.1),
     )
 
 pub components_are_meant : ComponentsAreMeant

@@ -14,9 +14,11 @@ use Rattle.of_nodes.specs.declared.properties.Property.{Property}
 use Rattle.of_nodes.specs.declared.fault.NodeFault.{NodeFault}
 use Rattle.of_nodes.specs.Components.{address_cells, node_name, readable, without_end}
 use Rattle.of_nodes.specs.FirstPaths.{FirstPathsFind}
-use Rattle.of_nodes.specs.Lookup.{fits, found, node_of}
+use Rattle.of_nodes.specs.Asked.{asked, fits}
+use Rattle.of_nodes.specs.Lookup.{found, node_of}
 use Rattle.of_nodes.specs.Nodes.{first_tree, named_child, phandle_in, phandle_of, then_child, with_node}
 use Rattle.of_nodes.specs.Properties.{new_property, same_name, set_to, span}
+use Rattle.of_nodes.proofs.Fitting.{and_true}
 use Rattle.of_nodes.proofs.Put.{IsPut, IsStored, IsWide, is_put, stays_stored, stored_after, stored_reads, wide_after}
 
 -- a node below the root that has a name alone
@@ -139,22 +141,24 @@ are_first m after ns w e =
 
 -- a component that has no unit address fits by the name alone
 slot_fits : (m : DataSpace) (count : ℕ) (n : Node) (name : List ℕ) → node_name m n ≡ name
-    → fits m count n (codes "slot") ≡ same_name (codes "slot") name
-slot_fits m count n name e = ap (same_name (codes "slot")) e
+    → fits m count n (asked (codes "slot")) ≡ same_name (codes "slot") name
+slot_fits m count n name e =
+    and_true (same_name (codes "slot") (node_name m n)) ∙ ap (same_name (codes "slot")) e
 
 packages_fits : (m : DataSpace) (count : ℕ) (n : Node) (name : List ℕ) → node_name m n ≡ name
-    → fits m count n (codes "packages") ≡ same_name (codes "packages") name
-packages_fits m count n name e = ap (same_name (codes "packages")) e
+    → fits m count n (asked (codes "packages")) ≡ same_name (codes "packages") name
+packages_fits m count n name e =
+    and_true (same_name (codes "packages") (node_name m n)) ∙ ap (same_name (codes "packages")) e
 
 second_found :
     (m : DataSpace) (p q r : Property)
-    → fits m (address_cells m (named_node p)) (named_node q) (codes "packages") ≡ true
+    → fits m (address_cells m (named_node p)) (named_node q) (asked (codes "packages")) ≡ true
     → node_of m (named_node p ∷ named_node q ∷ named_node r ∷ []) (codes "/packages") ≡ Some 1
 second_found m p q r e = rw e refl
 
 third_found :
-    (m : DataSpace) (p q r : Property) → fits m (address_cells m (named_node p)) (named_node q) (codes "slot") ≡ false
-    → fits m (address_cells m (named_node p)) (named_node r) (codes "slot") ≡ true
+    (m : DataSpace) (p q r : Property) → fits m (address_cells m (named_node p)) (named_node q) (asked (codes "slot")) ≡ false
+    → fits m (address_cells m (named_node p)) (named_node r) (asked (codes "slot")) ≡ true
     → node_of m (named_node p ∷ named_node q ∷ named_node r ∷ []) (codes "/slot") ≡ Some 2
 third_found m p q r e g = rw (e, g) refl
 

@@ -1,6 +1,6 @@
 -- Components of paths: what they are made of, and that each fits its own node.
 use Rattle.std.proofs.Common.{◌≡◌, ℕ, zero, suc, ◌*◌, ◌/◌, ◌%◌, ◌<◌, ◌==◌, nat_lt, nat_le, Bool, true}
-use Rattle.std.proofs.Common.{false, ◌&&◌, ◌||◌, not, List, [], ◌∷◌, ◌++◌, length, drop, Option, Some, None, refl, ap}
+use Rattle.std.proofs.Common.{false, ◌&&◌, not, List, [], ◌∷◌, ◌++◌, length, drop, Option, Some, None, refl, ap}
 use Rattle.std.proofs.Common.{◌∙◌, arith, if◌then◌else◌, codes}
 use Rattle.std.specs.List.{list_all}
 use Rattle.std.specs.Char.{digit_char}
@@ -10,9 +10,9 @@ use Rattle.byteorder.specs.Endian.{big_number}
 use Rattle.of_format.specs.Digits.{digits, unsigned_text}
 use Rattle.of_memory.specs.DataSpace.{DataSpace}
 use Rattle.of_nodes.specs.declared.tree.Node.{Node}
+use Rattle.of_nodes.specs.Asked.{asked, asked_by, fits, is_own}
 use Rattle.of_nodes.specs.Components.{address_cells, address_text, comma, component, name_at, node_name}
-use Rattle.of_nodes.specs.Components.{unit_in, value_of}
-use Rattle.of_nodes.specs.Lookup.{fits, is_meant}
+use Rattle.of_nodes.specs.Components.{unit_in, unit_of, value_of}
 use Rattle.of_nodes.specs.Names.{is_name_byte}
 use Rattle.of_nodes.specs.Properties.{same_name}
 use Rattle.of_nodes.specs.Texts.{before, behind}
@@ -160,27 +160,39 @@ pub same_self : (xs : List ℕ) → same_name xs xs ≡ true
 same_self [] = refl
 same_self (x ∷ xs) = rw (itself x, same_self xs) refl
 
-or_true : (a : Bool) → (a || true) ≡ true
-or_true true = refl
-or_true false = refl
+pub and_true : (a : Bool) → (a && true) ≡ a
+and_true true = refl
+and_true false = refl
+
+-- what a component asks for
+pub asked_own :
+    (name : List ℕ) (unit : Option (List ℕ)) → IsClear name → IsClearUnit unit
+    → asked (name_at name unit) ≡ asked_by name unit
+asked_own name None h u =
+    let plain : IsWhole 58 name = whole 58 name h.colon in
+    let w : IsWhole 64 name = whole 64 name h.at in
+    rw (plain.all, w.all, w.none) refl
+asked_own name (Some unit) h u =
+    let c = clear_component name (Some unit) h u in
+    let plain : IsWhole 58 (name ++ 64 ∷ unit) = whole 58 (name ++ 64 ∷ unit) c.1 in
+    let w : IsWhole 64 name = whole 64 name h.at in
+    rw (plain.all, w.part unit, w.rest unit) refl
 
 -- a component fits its own node
-meant :
-    (name : List ℕ) (unit : Option (List ℕ)) → IsClear name
-    → is_meant (before 64 (name_at name unit)) (behind 64 (name_at name unit)) name unit ≡ true
-meant name None h =
-    let w : IsWhole 64 name = whole 64 name h.at in
-    rw (w.all, w.none) (same_self name)
-meant name (Some unit) h =
-    let w : IsWhole 64 name = whole 64 name h.at in
-    rw (w.part unit, w.rest unit, same_self name, same_self unit, or_true (length name == 0)) refl
+own_name : (t : Bool) (name : List ℕ) → is_own (if t then None else Some name) (Some name) ≡ true
+own_name true name = refl
+own_name false name = same_self name
+
+own_parts :
+    (name : List ℕ) (unit : Option (List ℕ))
+    → (is_own (asked_by name unit).name (Some name) && is_own (asked_by name unit).unit unit) ≡ true
+own_parts name None = rw (same_self name) refl
+own_parts name (Some unit) = rw (own_name (length name == 0) name, same_self unit) refl
 
 pub fits_own :
     (m : DataSpace) (above n : Node) → IsClear (node_name m n)
-    → fits m (address_cells m above) n (component m above n) ≡ true
+    → fits m (address_cells m above) n (asked (component m above n)) ≡ true
 fits_own m above n h =
-    let name = node_name m n in
-    let unit = unit_in (address_cells m above) (value_of m n (codes "reg")) in
-    let c = clear_component name unit h (clear_unit (address_cells m above) (value_of m n (codes "reg"))) in
-    let w : IsWhole 58 (name_at name unit) = whole 58 (name_at name unit) c.1 in
-    rw (w.all) (meant name unit h)
+    let count = address_cells m above in
+    ap (fits m count n) (asked_own (node_name m n) (unit_of m count n) h (clear_unit count (value_of m n (codes "reg"))))
+    ∙ own_parts (node_name m n) (unit_of m count n)

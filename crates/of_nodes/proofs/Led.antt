@@ -6,8 +6,9 @@ use Rattle.of_memory.specs.DataSpace.{DataSpace}
 use Rattle.of_nodes.specs.declared.tree.Node.{Node}
 use Rattle.of_nodes.specs.declared.lookup.Age.{Age}
 use Rattle.of_nodes.specs.declared.lookup.Age.TheVariants.{Newest, Oldest}
+use Rattle.of_nodes.specs.Asked.{Asked, asked, fits}
 use Rattle.of_nodes.specs.Components.{address_cells}
-use Rattle.of_nodes.specs.Lookup.{child_for, first, fits, fitting, fitting_children, found, from, last_or, node_of}
+use Rattle.of_nodes.specs.Lookup.{child_for, first, fitting, fitting_children, found, from, last_or, node_of}
 use Rattle.of_nodes.specs.Lookup.{package_found, walk}
 use Rattle.of_nodes.specs.Nodes.{AreNodes, AreRooted, phandle_in}
 use Rattle.of_nodes.specs.Paths.{node_in}
@@ -21,7 +22,7 @@ differs : (a b : ℕ) → a < b → (a == b) ≡ false
 differs a b l = grind (arith, nat_tests)
 
 skip :
-    (m : DataSpace) (count p : ℕ) (c : List ℕ) (d j : ℕ) (ns : List Node) → 1 ≤ j → AreRooted j ns → j + d ≤ suc p
+    (m : DataSpace) (count p : ℕ) (c : Asked) (d j : ℕ) (ns : List Node) → 1 ≤ j → AreRooted j ns → j + d ≤ suc p
     → fitting m count c p j ns ≡ fitting m count c p (j + d) (drop d ns)
 skip m count p c zero j ns one h l = let same : j + 0 ≡ j = omega arith in rw same refl
 skip m count p c (suc d) j [] one h l = refl
@@ -31,7 +32,7 @@ skip m count p c (suc d) j (n ∷ ns) one h l =
     rw (differs n.parent p less, next) (skip m count p c d (suc j) ns (omega (arith, one)) h.1 (omega (arith, l)))
 
 younger :
-    (m : DataSpace) (count p : ℕ) (c : List ℕ) (full : List Node) → AreRooted 0 full
+    (m : DataSpace) (count p : ℕ) (c : Asked) (full : List Node) → AreRooted 0 full
     → fitting m count c p 1 (drop 1 full) ≡ fitting m count c p (suc p) (drop (suc p) full)
 younger m count p c [] h = refl
 younger m count p c (n ∷ ns) h =
@@ -48,12 +49,12 @@ node_is (m ∷ full) (suc k) n ns h = node_is full k n ns h
 -- the children of a node that fit are among those after it
 children :
     (m : DataSpace) (full : List Node) (k : ℕ) (c : List ℕ) (n : Node) (ns : List Node) → AreNodes full
-    → drop k full ≡ n ∷ ns → fitting_children m full k c ≡ fitting m (address_cells m n) c k (suc k) ns
+    → drop k full ≡ n ∷ ns → fitting_children m full k c ≡ fitting m (address_cells m n) (asked c) k (suc k) ns
 children m full k c n ns h d =
     let at : IsAt full k n ns = is_at full k n ns d in
-    younger m (address_cells m (node_in full k)) k c full h.rooted
-    ∙ (ap (λ (x : Node). fitting m (address_cells m x) c k (suc k) (drop (suc k) full)) (node_is full k n ns d)
-    ∙ ap (λ (l : List Node). fitting m (address_cells m n) c k (suc k) l) at.rest)
+    younger m (address_cells m (node_in full k)) k (asked c) full h.rooted
+    ∙ (ap (λ (x : Node). fitting m (address_cells m x) (asked c) k (suc k) (drop (suc k) full)) (node_is full k n ns d)
+    ∙ ap (λ (l : List Node). fitting m (address_cells m n) (asked c) k (suc k) l) at.rest)
 
 -- of some numbers that which is taken
 abbrev taken : Age → List ℕ → Option ℕ
@@ -70,7 +71,7 @@ nobody : (m : DataSpace) (age : Age) (cs : List (List ℕ)) → oldest (led m ag
 nobody m age [] = refl
 nobody m age (c ∷ cs) = refl
 
-module _ (m : DataSpace) (full : List Node) (count p : ℕ) (c : List ℕ) (cs : List (List ℕ)) where
+module _ (m : DataSpace) (full : List Node) (count p : ℕ) (c : Asked) (cs : List (List ℕ)) where
   oldest_step :
       (t u : Bool) (k : ℕ) (n : Node) (ns : List Node) → Follows m full Oldest cs → drop k full ≡ n ∷ ns
       → (n.parent == p) ≡ t → fits m count n c ≡ u
@@ -134,9 +135,9 @@ follows : (m : DataSpace) (full : List Node) (age : Age) (cs : List (List ℕ)) 
 follows m full age [] h k n ns others d = refl
 follows m full age (c ∷ cs) h k n ns others d =
     let at : IsAt full k n ns = is_at full k n ns d in
-    let same : child_for m full age k c ≡ taken age (fitting m (address_cells m n) c k (suc k) ns) =
+    let same : child_for m full age k c ≡ taken age (fitting m (address_cells m n) (asked c) k (suc k) ns) =
     child_is m full age k c ∙ ap (taken age) (children m full k c n ns h d) in
-    among m full (address_cells m n) k c cs age (suc k) ns (follows m full age cs h) at.rest
+    among m full (address_cells m n) k (asked c) cs age (suc k) ns (follows m full age cs h) at.rest
     ∙ ap (λ (r : Option ℕ). from r (λ j. walk m full age j cs)) (sym same)
 
 -- so from the root

@@ -8,8 +8,9 @@ use Rattle.of_memory.specs.DataSpace.{DataSpace}
 use Rattle.of_nodes.specs.declared.tree.Node.{Node}
 use Rattle.of_nodes.specs.declared.lookup.Age.{Age}
 use Rattle.of_nodes.specs.declared.lookup.Age.TheVariants.{Oldest}
-use Rattle.of_nodes.specs.Components.{address_cells, name_at, node_name, unit_in, value_of}
-use Rattle.of_nodes.specs.Lookup.{child_for, first, fits, fitting, from, node_of, walk}
+use Rattle.of_nodes.specs.Asked.{Asked, asked, fits}
+use Rattle.of_nodes.specs.Components.{address_cells, name_at, node_name, unit_of, value_of}
+use Rattle.of_nodes.specs.Lookup.{child_for, first, fitting, from, node_of, walk}
 use Rattle.of_nodes.specs.Names.{is_name, is_name_byte}
 use Rattle.of_nodes.specs.Nodes.{AreNodes, parent_in}
 use Rattle.of_nodes.specs.Paths.{component_in, components_to, node_in, path_in}
@@ -77,7 +78,7 @@ equals : (a b : ℕ) → a ≡ b → (a == b) ≡ true
 equals a b h = grind (arith, nat_tests)
 
 first_fit :
-    (m : DataSpace) (ns : List Node) (count p i : ℕ) (c : List ℕ) (d k : ℕ) → k + d ≡ i → 1 ≤ k → i < length ns
+    (m : DataSpace) (ns : List Node) (count p i : ℕ) (c : Asked) (d k : ℕ) → k + d ≡ i → 1 ≤ k → i < length ns
     → parent_in ns i ≡ p → fits m count (node_in ns i) c ≡ true
     → ((j : ℕ) → 1 ≤ j → j < i → parent_in ns j ≡ p → fits m count (node_in ns j) c ≡ false)
     → first (fitting m count c p k (drop k ns)) ≡ Some i
@@ -215,7 +216,7 @@ child_found m ns i h f up =
     let n = node_in ns i in
     let above = node_in ns p in
     let c = component_in m ns i in
-    let unit = unit_in (address_cells m above) (value_of m n (codes "reg")) in
+    let unit = unit_of m (address_cells m above) n in
     let good : list_all is_name_byte (node_name m n) ≡ true =
     (both (nat_le 1 (length (node_name m n)) && nat_le (length (node_name m n)) 31)
     (list_all is_name_byte (node_name m n)) f.name).1 in
@@ -225,7 +226,7 @@ child_found m ns i h f up =
     let some : 1 ≤ length c = longer (node_name m n) unit (some_byte (node_name m n) f.name) in
     let place : 1 + (i - 1) ≡ i = omega (arith, f.below) in
     let found : child_for m ns Oldest p c ≡ Some i =
-    first_fit m ns (address_cells m above) p i c (i - 1) 1 place (omega arith) f.within refl (fits_own m above n name)
+    first_fit m ns (address_cells m above) p i (asked c) (i - 1) 1 place (omega arith) f.within refl (fits_own m above n name)
     f.no_older in
     let on : walk m ns Oldest p (split c) ≡ Some i =
     ap (walk m ns Oldest p) (split_whole c slash)

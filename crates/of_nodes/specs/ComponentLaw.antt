@@ -1,14 +1,14 @@
 -- What names, unit addresses and components are, in the words of the standard (IEEE 1275-1994, 3.2.1.1, 3.2.1.2,
 -- 3.2.2.1.1 and 4.3.1, annex A, `reg` and `#address-cells`).
 use Rattle.std.specs.Prelude.{ℕ, ◌*◌, ◌^◌, ◌<◌, ◌≤◌, ◌≡◌, ◌≢◌, ◌⊎◌, ◌↔◌, true, List, [], ◌∷◌, ◌++◌, length}
-use Rattle.std.specs.Prelude.{Some, None, codes}
+use Rattle.std.specs.Prelude.{Some, None}
 use Rattle.std.specs.List.{AllByRecursion}
 use Rattle.byteorder.specs.Endian.{big_bytes, big_number}
 use Rattle.of_format.specs.Digits.{unsigned_text}
 use Rattle.of_memory.specs.DataSpace.{DataSpace}
 use Rattle.of_nodes.specs.declared.tree.Node.{Node}
-use Rattle.of_nodes.specs.Components.{count_in, node_name, unit_in, value_of}
-use Rattle.of_nodes.specs.Lookup.{fits}
+use Rattle.of_nodes.specs.Asked.{asked, fits}
+use Rattle.of_nodes.specs.Components.{count_in, node_name, unit_in, unit_of}
 use Rattle.of_nodes.specs.Methods.{is_method_name}
 use Rattle.of_nodes.specs.Names.{is_name}
 
@@ -60,9 +60,9 @@ pub record ComponentsAreMeant : Type 0 where
   pub no_reg : (count : ℕ) → unit_in count None ≡ None
   -- a component of a name fits the nodes of that name
   pub by_name : (m : DataSpace) (count : ℕ) (n : Node) (name arguments : List ℕ) → Lacks 58 name → Lacks 64 name
-      → AreArguments arguments → (fits m count n (name ++ arguments) ≡ true) ↔ (name ≡ node_name m n)
+      → AreArguments arguments → (fits m count n (asked (name ++ arguments)) ≡ true) ↔ (name ≡ node_name m n)
   -- and one of a unit address those of that address, and of that name where it has one
   pub by_unit : (m : DataSpace) (count : ℕ) (n : Node) (name unit arguments : List ℕ) → Lacks 58 name → Lacks 64 name
       → Lacks 58 unit → AreArguments arguments
-      → (fits m count n ((name ++ 64 ∷ unit) ++ arguments) ≡ true)
-      ↔ (((name ≡ []) ⊎ (name ≡ node_name m n)) × (unit_in count (value_of m n (codes "reg")) ≡ Some unit))
+      → (fits m count n (asked ((name ++ 64 ∷ unit) ++ arguments)) ≡ true)
+      ↔ (((name ≡ []) ⊎ (name ≡ node_name m n)) × (unit_of m count n ≡ Some unit))

@@ -61,9 +61,13 @@ abbrev pub unit_in : ℕ → Option (List ℕ) → Option (List ℕ)
 unit_in count None = None
 unit_in count (Some xs) = if nat_lt (length xs) (4 * count) then None else Some (address_text xs count)
 
+-- the unit address of a node, where addresses have so many cells
+abbrev pub unit_of : DataSpace → ℕ → Node → Option (List ℕ)
+unit_of m count n = unit_in count (value_of m n (codes "reg"))
+
 -- the unit address of a node below one
 abbrev pub unit_address : DataSpace → Node → Node → Option (List ℕ)
-unit_address m above n = unit_in (address_cells m above) (value_of m n (codes "reg"))
+unit_address m above n = unit_of m (address_cells m above) n
 
 -- `name` or `name@unit`
 abbrev pub name_at : List ℕ → Option (List ℕ) → List ℕ

@@ -6,6 +6,7 @@ pub mod Components
 pub mod Nodes
 pub mod Paths
 pub mod Texts
+pub mod Asked
 pub mod Lookup
 pub mod Tree
 pub mod TreePaths

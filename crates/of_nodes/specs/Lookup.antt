@@ -1,47 +1,30 @@
 -- Finding a node by its path (IEEE 1275-1994, 4.3.1).
-use Rattle.std.specs.Prelude.{ℕ, suc, ◌&&◌, ◌||◌, ◌==◌, Bool, false, List, [], ◌∷◌, length, drop, codes}
+use Rattle.std.specs.Prelude.{ℕ, suc, ◌&&◌, ◌==◌, List, [], ◌∷◌, length, drop, codes}
 use Rattle.std.specs.Prelude.{Option, Some, None, Result, Ok, Err, if◌then◌else◌}
 use Rattle.of_memory.specs.DataSpace.{DataSpace}
 use Rattle.of_nodes.specs.declared.tree.Node.{Node}
 use Rattle.of_nodes.specs.declared.phandles.Phandle.{Phandle}
 use Rattle.of_nodes.specs.declared.lookup.Age.{Age}
 use Rattle.of_nodes.specs.declared.lookup.Age.TheVariants.{Newest, Oldest}
-use Rattle.of_nodes.specs.Components.{address_cells, node_name, unit_in, value_of}
+use Rattle.of_nodes.specs.Asked.{Asked, asked, fits}
+use Rattle.of_nodes.specs.Components.{address_cells}
 use Rattle.of_nodes.specs.declared.fault.NodeFault.{NodeFault}
 use Rattle.of_nodes.specs.declared.fault.NodeFault.TheVariants.{NoNode}
 use Rattle.of_nodes.specs.Nodes.{number_of, parent_in, phandle_in}
 use Rattle.of_nodes.specs.Paths.{node_in}
 use Rattle.of_nodes.specs.Properties.{same_name}
-use Rattle.of_nodes.specs.Texts.{before, behind, components}
-
--- a unit address is there, and is written so
-abbrev pub is_unit : List ℕ → Option (List ℕ) → Bool
-is_unit text None = false
-is_unit text (Some unit) = same_name text unit
-
--- A name that is asked for, and perhaps a unit address, are those of a node. With a unit address no name fits any.
-abbrev pub is_meant : List ℕ → Option (List ℕ) → List ℕ → Option (List ℕ) → Bool
-is_meant asked None name unit = same_name asked name
-is_meant asked (Some text) name unit = (length asked == 0 || same_name asked name) && is_unit text unit
-
--- a component without `:` and what follows fits a node, where unit addresses have so many cells
-abbrev pub fits_plain : DataSpace → ℕ → Node → List ℕ → Bool
-fits_plain m count n text =
-    is_meant (before 64 text) (behind 64 text) (node_name m n) (unit_in count (value_of m n (codes "reg")))
-
-abbrev pub fits : DataSpace → ℕ → Node → List ℕ → Bool
-fits m count n text = fits_plain m count n (before 58 text)
+use Rattle.of_nodes.specs.Texts.{components}
 
 -- the numbers of those of some nodes, numbered from i on, that have the parent p and that a component fits
-abbrev pub fitting : DataSpace → ℕ → List ℕ → ℕ → ℕ → List Node → List ℕ
-fitting m count text p i [] = []
-fitting m count text p i (n ∷ ns) =
-    if n.parent == p && fits m count n text then i ∷ fitting m count text p (suc i) ns
-    else fitting m count text p (suc i) ns
+abbrev pub fitting : DataSpace → ℕ → Asked → ℕ → ℕ → List Node → List ℕ
+fitting m count wanted p i [] = []
+fitting m count wanted p i (n ∷ ns) =
+    if n.parent == p && fits m count n wanted then i ∷ fitting m count wanted p (suc i) ns
+    else fitting m count wanted p (suc i) ns
 
 -- the children of node p that a component fits, the oldest first
 abbrev pub fitting_children : DataSpace → List Node → ℕ → List ℕ → List ℕ
-fitting_children m ns p text = fitting m (address_cells m (node_in ns p)) text p 1 (drop 1 ns)
+fitting_children m ns p text = fitting m (address_cells m (node_in ns p)) (asked text) p 1 (drop 1 ns)
 
 -- the first of a list
 abbrev pub first : List ℕ → Option ℕ

@@ -7,8 +7,9 @@ use Rattle.of_nodes.specs.declared.properties.Property.{Property}
 use Rattle.of_nodes.specs.declared.fault.NodeFault.TheVariants.{NoNode}
 use Rattle.of_nodes.specs.declared.lookup.Age.{Age}
 use Rattle.of_nodes.specs.declared.lookup.Age.TheVariants.{Newest, Oldest}
+use Rattle.of_nodes.specs.Asked.{Asked, asked, fits}
 use Rattle.of_nodes.specs.Components.{address_cells, component}
-use Rattle.of_nodes.specs.Lookup.{fits, found, package_found}
+use Rattle.of_nodes.specs.Lookup.{found, package_found}
 use Rattle.of_nodes.specs.Nodes.{AreNodes, new_node, phandle_in, phandle_of}
 use Rattle.of_nodes.specs.Paths.{path_found}
 use Rattle.of_nodes.specs.Texts.{components}
@@ -39,24 +40,24 @@ path_to m i (Sibling j properties methods children younger) =
     if i == j then Some (47 ∷ []) else path_below m i [] properties children
 
 -- some siblings from the oldest on that a component fits, where unit addresses have so many cells
-abbrev pub from_oldest : DataSpace → ℕ → List ℕ → Siblings → Siblings
-from_oldest m count text Nobody = Nobody
-from_oldest m count text (Sibling i properties methods children younger) =
-    if fits m count (node_with properties) text then Sibling i properties methods children younger
-    else from_oldest m count text younger
+abbrev pub from_oldest : DataSpace → ℕ → Asked → Siblings → Siblings
+from_oldest m count wanted Nobody = Nobody
+from_oldest m count wanted (Sibling i properties methods children younger) =
+    if fits m count (node_with properties) wanted then Sibling i properties methods children younger
+    else from_oldest m count wanted younger
 
 -- the same from the newest on, or those that there are without it
-abbrev pub from_newest : DataSpace → ℕ → List ℕ → Siblings → Siblings → Siblings
-from_newest m count text others Nobody = others
-from_newest m count text others (Sibling i properties methods children younger) =
-    if fits m count (node_with properties) text
-    then from_newest m count text (Sibling i properties methods children younger) younger
-    else from_newest m count text others younger
+abbrev pub from_newest : DataSpace → ℕ → Asked → Siblings → Siblings → Siblings
+from_newest m count wanted others Nobody = others
+from_newest m count wanted others (Sibling i properties methods children younger) =
+    if fits m count (node_with properties) wanted
+    then from_newest m count wanted (Sibling i properties methods children younger) younger
+    else from_newest m count wanted others younger
 
 -- some siblings from that on which is taken for a component
-abbrev pub from_taken : DataSpace → Age → ℕ → List ℕ → Siblings → Siblings
-from_taken m Oldest count text siblings = from_oldest m count text siblings
-from_taken m Newest count text siblings = from_newest m count text Nobody siblings
+abbrev pub from_taken : DataSpace → Age → ℕ → Asked → Siblings → Siblings
+from_taken m Oldest count wanted siblings = from_oldest m count wanted siblings
+from_taken m Newest count wanted siblings = from_newest m count wanted Nobody siblings
 
 -- Where components lead to from the first of some siblings on: each takes one of its children, and the rest lead on
 -- from there.
@@ -64,7 +65,7 @@ abbrev pub led : DataSpace → Age → Siblings → List (List ℕ) → Siblings
 led m age siblings [] = siblings
 led m age Nobody (c ∷ cs) = Nobody
 led m age (Sibling i properties methods children younger) (c ∷ cs) =
-    led m age (from_taken m age (address_cells m (node_with properties)) c children) cs
+    led m age (from_taken m age (address_cells m (node_with properties)) (asked c) children) cs
 
 -- the number of the node of a path in the tree
 abbrev pub node_for : DataSpace → Siblings → List ℕ → Option ℕ

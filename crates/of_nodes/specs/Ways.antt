@@ -2,8 +2,9 @@
 use Rattle.std.specs.Prelude.{ℕ, ◌≡◌, ◌≤◌, ◌<◌, true, false, List, length, Some}
 use Rattle.of_memory.specs.DataSpace.{DataSpace}
 use Rattle.of_nodes.specs.declared.tree.Node.{Node}
+use Rattle.of_nodes.specs.Asked.{asked, fits}
 use Rattle.of_nodes.specs.Components.{address_cells, node_name}
-use Rattle.of_nodes.specs.Lookup.{fits, node_of}
+use Rattle.of_nodes.specs.Lookup.{node_of}
 use Rattle.of_nodes.specs.Names.{is_name}
 use Rattle.of_nodes.specs.Nodes.{AreNodes, parent_in}
 use Rattle.of_nodes.specs.Paths.{component_in, node_in, path_in}
@@ -14,7 +15,7 @@ pub record IsFirst (m : DataSpace) (ns : List Node) (i : ℕ) : Type 0 where
   pub within : i < length ns
   pub name : is_name (node_name m (node_in ns i)) ≡ true
   pub no_older : (j : ℕ) → 1 ≤ j → j < i → parent_in ns j ≡ parent_in ns i
-      → fits m (address_cells m (node_in ns (parent_in ns i))) (node_in ns j) (component_in m ns i) ≡ false
+      → fits m (address_cells m (node_in ns (parent_in ns i))) (node_in ns j) (asked (component_in m ns i)) ≡ false
 
 -- The root is found by its path. So is a node with a good name whose parent is, unless its component fits an older
 -- sibling.

@@ -1,7 +1,8 @@
-ghost use Rattle.std.specs.Prelude.{◌≡◌, ◌≤◌, ◌+◌, ◌*◌, ◌++◌, codes, length, option_map};
+ghost use Rattle.std.specs.Prelude.{◌≡◌, ◌≤◌, ◌+◌, ◌*◌, ◌++◌, length, option_map};
 ghost use Rattle.arrayvec.specs.ArrayVec.{array_vec_len};
 ghost use Rattle.of_format.specs.Digits.{unsigned_text};
-ghost use Rattle.of_nodes.specs.Components.{address_cells, address_text, cells_by, comma, node_name, unit_in, value_of};
+ghost use Rattle.of_nodes.specs.Components.{address_cells, address_text, cells_by, comma, node_name, unit_of};
+ghost use Rattle.of_nodes.specs.Components.{value_of};
 
 use crate::tree::Node;
 use arrayvec::ArrayVec;
@@ -99,7 +100,7 @@ fn address_text(bytes: &[u8], count: usize) -> UnitText
 /// The unit address of a node, whose parent's addresses have so many cells.
 pub(crate) fn unit_address(memory: &Memory, node: &Node, count: usize) -> Option<UnitText>
     requires { count ≤ 4 }
-    ensures { option_map (λ t. t.items) result ≡ unit_in count (value_of memory.now node.now (codes "reg")) }
+    ensures { option_map (λ t. t.items) result ≡ unit_of memory.now count node.now }
 {
     let bytes = value_of(memory, node, b"reg")?;
     if bytes.len() < 4 * count {

@@ -1,6 +1,7 @@
 //! The device tree: nodes with properties and methods.
 #![tactic(auto)]
 
+mod asked;
 mod components;
 mod fault;
 mod laws;
@@ -10,6 +11,7 @@ mod names;
 mod paths;
 mod phandles;
 mod properties;
+mod texts;
 mod tree;
 
 pub use fault::NodeFault;

@@ -1,13 +1,14 @@
-ghost use Rattle.std.specs.Prelude.{◌≡◌, ◌<◌, ◌≤◌, ◌==◌, ◌&&◌, codes, length, option_map, IfSome};
-ghost use Rattle.std.specs.List.{position};
-ghost use Rattle.of_nodes.specs.Components.{unit_in, value_of};
-ghost use Rattle.of_nodes.specs.Lookup.{child_for, fits, fits_plain, is_unit, step_for, walk, way};
+ghost use Rattle.std.specs.Prelude.{◌≡◌, ◌<◌, ◌≤◌, ◌==◌, ◌&&◌, length, IfSome};
+ghost use Rattle.of_nodes.specs.Asked.{fits};
+ghost use Rattle.of_nodes.specs.Lookup.{child_for, step_for, walk, way};
 ghost use Rattle.of_nodes.specs.Nodes.{AreNodes};
 ghost use Rattle.of_nodes.specs.declared.lookup.Age.TheVariants.{Newest, Oldest};
-ghost use Rattle.of_nodes.specs.Texts.{before, behind, components, split};
+ghost use Rattle.of_nodes.specs.Texts.{components, split};
 
-use crate::components::{address_cells, node_name, unit_address};
+use crate::asked::{Component, asked, fits};
+use crate::components::address_cells;
 use crate::paths::node_at;
+use crate::texts::{before, behind};
 use crate::tree::{Node, parent_number};
 use of_memory::Memory;
 
@@ -20,66 +21,18 @@ pub(crate) enum Age {
     Newest,
 }
 
-/// Where a byte stands first.
-fn place_of(text: &[u8], byte: u8) -> Option<usize>
-    ensures place { result ≡ position (λ b. b == byte) text.now }
-    ensures within { IfSome result (λ i. i < length text.now) }
-{
-    text.iter().position(|b| *b == byte)
-}
-
-/// What stands before the first of a byte, or all.
-#[tactic(auto, using(crate::proofs::Split::befores))]
-fn before(text: &[u8], byte: u8) -> &[u8]
-    ensures { result.now ≡ before byte text.now }
-{
-    match place_of(text, byte) {
-        Some(place) => &text[..place],
-        None => text,
-    }
-}
-
-/// What stands behind the first of a byte, if there is one.
-#[tactic(auto, using(crate::proofs::Split::behinds))]
-fn behind(text: &[u8], byte: u8) -> Option<&[u8]>
-    ensures value { option_map (λ s. s.now) result ≡ behind byte text.now }
-    ensures shorter { IfSome result (λ s. length s.now < length text.now) }
-{
-    match place_of(text, byte) {
-        Some(place) => Some(&text[place + 1..]),
-        None => None,
-    }
-}
-
-/// Whether a node, whose unit address has so many cells, has one that is written so.
-fn has_unit(memory: &Memory, node: &Node, count: usize, text: &[u8]) -> bool
-    requires { count ≤ 4 }
-    ensures { result ≡ is_unit text.now (unit_in count (value_of memory.now node.now (codes "reg"))) }
-{
-    match unit_address(memory, node, count) {
-        Some(unit) => text == unit.as_slice(),
-        None => false,
-    }
-}
-
-/// Whether a component without `:` and what follows fits a node.
-fn fits_plain(memory: &Memory, node: &Node, count: usize, text: &[u8]) -> bool
-    requires { count ≤ 4 }
-    ensures { result ≡ fits_plain memory.now count node.now text.now }
-{
-    let asked = before(text, b'@');
-    let Some(unit) = behind(text, b'@') else {
-        return asked == node_name(memory, node);
-    };
-    (asked.len() == 0 || asked == node_name(memory, node)) && has_unit(memory, node, count, unit)
-}
-
 /// Whether a component fits a child of a node.
-fn fits_child(memory: &Memory, node: &Node, parent: usize, count: usize, text: &[u8]) -> bool
+fn fits_child(
+    memory: &Memory,
+    node: &Node,
+    parent: usize,
+    count: usize,
+    component: &Component,
+) -> bool
     requires { count ≤ 4 }
-    ensures { result ≡ node.now.parent == parent && fits memory.now count node.now text.now }
+    ensures { result ≡ node.now.parent == parent && fits memory.now count node.now component.now }
 {
-    node.parent == parent && fits_plain(memory, node, count, before(text, b':'))
+    node.parent == parent && fits(memory, node, count, component)
 }
 
 /// The oldest child of a node that a component fits.
@@ -89,8 +42,9 @@ fn oldest_child(memory: &Memory, nodes: &[Node], parent: usize, text: &[u8]) -> 
     ensures within { IfSome result (λ i. i < length nodes.now) }
 {
     let count = address_cells(memory, node_at(nodes, parent));
+    let component = asked(text);
     for i in 1..nodes.len() {
-        if fits_child(memory, &nodes[i], parent, count, text) {
+        if fits_child(memory, &nodes[i], parent, count, &component) {
             return Some(i);
         }
     }
@@ -104,9 +58,10 @@ fn newest_child(memory: &Memory, nodes: &[Node], parent: usize, text: &[u8]) -> 
     ensures within { IfSome result (λ i. i < length nodes.now) }
 {
     let count = address_cells(memory, node_at(nodes, parent));
+    let component = asked(text);
     let mut found = None;
     for i in 1..nodes.len() {
-        if fits_child(memory, &nodes[i], parent, count, text) {
+        if fits_child(memory, &nodes[i], parent, count, &component) {
             found = Some(i);
         }
     }
