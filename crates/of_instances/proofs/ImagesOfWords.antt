@@ -22,7 +22,7 @@ use Rattle.of_nodes.specs.declared.phandles.Phandle.{Phandle}
 use Rattle.of_nodes.specs.declared.properties.Property.{Property}
 use Rattle.of_nodes.specs.declared.tree.Node.{Node}
 use Rattle.of_nodes.specs.Names.{may_hold}
-use Rattle.of_nodes.specs.Nodes.{number_of, properties_in, set_at, set_in, tree_property_set}
+use Rattle.of_nodes.specs.Nodes.{number_of, numbered, properties_in, set_at, set_in, tree_property_set}
 use Rattle.of_nodes.specs.Properties.{new_property, property_set, set_to, stored, value_in, with_value}
 use Rattle.of_props.specs.declared.arrays.Array.{Array}
 use Rattle.of_props.specs.declared.fault.PropFault.{PropFault}
@@ -283,7 +283,7 @@ set_if true m ns i name value ready =
 set_if false m ns i name value ready = tt
 
 at_stands : (m : DataSpace) (ns : List Node) (name value : List ℕ) (i : Option ℕ) → IsReady m
-    → SetStands m (set_at m ns name value i)
+    → SetStands m (numbered i (set_at m ns name value))
 at_stands m ns name value None ready = tt
 at_stands m ns name value (Some i) ready = set_if (may_hold name value) m ns i name value ready
 

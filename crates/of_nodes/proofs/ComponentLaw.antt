@@ -205,8 +205,8 @@ both_lack (x ∷ xs) ys h k = (h.0, both_lack xs ys h.1 k)
 asked_unit : (name unit arguments : List ℕ) → Lacks 58 name → Lacks 64 name → Lacks 58 unit → AreArguments arguments
     → asked ((name ++ 64 ∷ unit) ++ arguments) ≡ asked_by name (Some unit)
 asked_unit name unit arguments h k l a =
-    rw (cut (name ++ 64 ∷ unit) arguments (both_lack name unit h l) a, before_it 64 name unit k, behind_it 64 name unit k)
-    refl
+    let plain = cut (name ++ 64 ∷ unit) arguments (both_lack name unit h l) a in
+    rw (plain, before_it 64 name unit k, behind_it 64 name unit k) refl
 
 by_name : (m : DataSpace) (count : ℕ) (n : Node) (name arguments : List ℕ) → Lacks 58 name → Lacks 64 name
     → AreArguments arguments → (fits m count n (asked (name ++ arguments)) ≡ true) ↔ (name ≡ node_name m n)

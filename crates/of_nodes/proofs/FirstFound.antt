@@ -157,7 +157,8 @@ second_found :
 second_found m p q r e = rw e refl
 
 third_found :
-    (m : DataSpace) (p q r : Property) → fits m (address_cells m (named_node p)) (named_node q) (asked (codes "slot")) ≡ false
+    (m : DataSpace) (p q r : Property)
+    → fits m (address_cells m (named_node p)) (named_node q) (asked (codes "slot")) ≡ false
     → fits m (address_cells m (named_node p)) (named_node r) (asked (codes "slot")) ≡ true
     → node_of m (named_node p ∷ named_node q ∷ named_node r ∷ []) (codes "/slot") ≡ Some 2
 third_found m p q r e g = rw (e, g) refl

@@ -194,5 +194,6 @@ pub fits_own :
     → fits m (address_cells m above) n (asked (component m above n)) ≡ true
 fits_own m above n h =
     let count = address_cells m above in
-    ap (fits m count n) (asked_own (node_name m n) (unit_of m count n) h (clear_unit count (value_of m n (codes "reg"))))
+    let clear_own = clear_unit count (value_of m n (codes "reg")) in
+    ap (fits m count n) (asked_own (node_name m n) (unit_of m count n) h clear_own)
     ∙ own_parts (node_name m n) (unit_of m count n)

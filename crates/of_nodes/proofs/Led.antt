@@ -10,8 +10,7 @@ use Rattle.of_nodes.specs.Asked.{Asked, asked, fits}
 use Rattle.of_nodes.specs.Components.{address_cells}
 use Rattle.of_nodes.specs.Lookup.{child_for, first, fitting, fitting_children, found, from, last_or, node_of}
 use Rattle.of_nodes.specs.Lookup.{package_found, walk}
-use Rattle.of_nodes.specs.Nodes.{AreNodes, AreRooted, phandle_in}
-use Rattle.of_nodes.specs.Paths.{node_in}
+use Rattle.of_nodes.specs.Nodes.{AreNodes, AreRooted, node_at, phandle_in}
 use Rattle.of_nodes.specs.Texts.{components}
 use Rattle.of_nodes.specs.Tree.{Nobody, Sibling, Siblings, below, oldest, tree_of}
 use Rattle.of_nodes.specs.TreePaths.{from_newest, from_oldest, from_taken, led, node_for, package_for}
@@ -40,20 +39,14 @@ younger m count p c (n ∷ ns) h =
     skip m count p c p 1 ns (omega arith) h.1 (omega arith)
     ∙ ap (λ (k : ℕ). fitting m count c p k (drop p ns)) next
 
-pub node_is : (full : List Node) (k : ℕ) (n : Node) (ns : List Node) → drop k full ≡ n ∷ ns → node_in full k ≡ n
-node_is [] zero n ns h = cc
-node_is [] (suc k) n ns h = cc
-node_is (m ∷ full) zero n ns h = cc
-node_is (m ∷ full) (suc k) n ns h = node_is full k n ns h
-
 -- the children of a node that fit are among those after it
 children :
     (m : DataSpace) (full : List Node) (k : ℕ) (c : List ℕ) (n : Node) (ns : List Node) → AreNodes full
     → drop k full ≡ n ∷ ns → fitting_children m full k c ≡ fitting m (address_cells m n) (asked c) k (suc k) ns
 children m full k c n ns h d =
     let at : IsAt full k n ns = is_at full k n ns d in
-    younger m (address_cells m (node_in full k)) k (asked c) full h.rooted
-    ∙ (ap (λ (x : Node). fitting m (address_cells m x) (asked c) k (suc k) (drop (suc k) full)) (node_is full k n ns d)
+    younger m (address_cells m (node_at full k)) k (asked c) full h.rooted
+    ∙ (ap (λ (x : Node). fitting m (address_cells m x) (asked c) k (suc k) (drop (suc k) full)) at.node
     ∙ ap (λ (l : List Node). fitting m (address_cells m n) (asked c) k (suc k) l) at.rest)
 
 -- of some numbers that which is taken

@@ -1,21 +1,21 @@
 -- The law `methods_are_found`.
-use Rattle.std.proofs.Common.{◌≡◌, ◌≢◌, ℕ, zero, suc, Bool, true, false, List, [], ◌∷◌, length, Option, Some, None}
-use Rattle.std.proofs.Common.{Result, Ok, Err, ◌<◌, ◌-◌, ◌%◌, ◌/◌, ◌&&◌, nat_eq, nat_lt, if◌then◌else◌, refl, ap, sym}
+use Rattle.std.proofs.Common.{◌≡◌, ◌≢◌, ℕ, Bool, true, false, List, [], ◌∷◌, length, Option, Some, None}
+use Rattle.std.proofs.Common.{Ok, Err, ◌<◌, ◌-◌, ◌%◌, ◌/◌, ◌&&◌, nat_eq, nat_lt, if◌then◌else◌, refl, ap, sym}
 use Rattle.std.proofs.Common.{◌∙◌, arith}
 use Rattle.std.specs.Prelude.{◌==◌}
+use Rattle.std.proofs.lemmas.List.{get_or-set_same, length-set}
 use Rattle.std.proofs.lemmas.Bool.{and_parts, eqb-true, false_from_ne_true, ltb-true}
 use Rattle.of_cells.specs.declared.cells.Cell.{Cell}
 use Rattle.of_nodes.specs.declared.tree.Node.{Node}
 use Rattle.of_nodes.specs.declared.phandles.Phandle.{Phandle}
-use Rattle.of_nodes.specs.declared.fault.NodeFault.{NodeFault}
-use Rattle.of_nodes.specs.declared.fault.NodeFault.TheVariants.{BadName, NoNode}
+use Rattle.of_nodes.specs.declared.fault.NodeFault.TheVariants.{BadName}
 use Rattle.of_nodes.specs.Methods.{is_method_name, lower, method_in, with_method}
 use Rattle.of_nodes.specs.MethodLaw.{MethodsAreFound}
-use Rattle.of_nodes.specs.Nodes.{added_at, first_phandle, method_at, method_found, methods_in}
-use Rattle.of_nodes.specs.Nodes.{number_at, number_of, with_methods}
+use Rattle.of_nodes.specs.Nodes.{added_at, first_phandle, method_added, method_found, methods_in, new_node}
+use Rattle.of_nodes.specs.Nodes.{node_at, number_at, number_of, with_methods}
 use Rattle.of_nodes.specs.Properties.{same_name, value_in, with_entry}
 use Rattle.of_nodes.proofs.Fitting.{same_self}
-use Rattle.of_nodes.proofs.Rooted.{length-with_methods}
+use Rattle.of_nodes.proofs.Changed.{by_number, never, numbered_is}
 use Rattle.of_nodes.proofs.TakenBack.{undone}
 
 pub same_is : (a b : List ℕ) → same_name a b ≡ true → a ≡ b
@@ -56,22 +56,10 @@ module _ {V : Type 0} where
       other_step (same_name name e.0) (same_name other e.0) e es name other x refl refl apart
       (others_found es name other x apart)
 
-method_kept : (ns : List Node) (i : ℕ) (name other : List ℕ) (xt : Cell) → lower other ≢ lower name
-    → method_in (methods_in (with_methods ns i (with_method (methods_in ns i) name xt)) i) other
-    ≡ method_in (methods_in ns i) other
-method_kept [] i name other xt apart = refl
-method_kept (n ∷ ns) zero name other xt apart =
-    ap (λ (v : Option Cell). if is_method_name other then v else None)
-    (others_found n.methods (lower name) (lower other) xt apart)
-method_kept (n ∷ ns) (suc i) name other xt apart = method_kept ns i name other xt apart
-
-method_there : (ns : List Node) (i : ℕ) (name : List ℕ) (xt : Cell) → i < length ns → is_method_name name ≡ true
-    → method_in (methods_in (with_methods ns i (with_method (methods_in ns i) name xt)) i) name ≡ Some xt
-method_there [] i name xt l good = absurd (omega arith)
-method_there (n ∷ ns) zero name xt l good =
-    ap (λ b. if b then value_in (with_method n.methods name xt) (lower name) else None) good
-    ∙ entry_found n.methods (lower name) xt
-method_there (n ∷ ns) (suc i) name xt l good = method_there ns i name xt (omega arith) good
+methods_there : (ns : List Node) (i : ℕ) (ms : List (List ℕ × Cell)) → i < length ns
+    → methods_in (with_methods ns i ms) i ≡ ms
+methods_there ns i ms l =
+    ap (λ (n : Node). n.methods) (get_or-set_same ns i (record (node_at ns i) { methods = ms }) (new_node 0) l)
 
 -- ---- the node of a phandle
 
@@ -94,50 +82,49 @@ number_within count ph i e = number_if (nat_lt ph.0.0 first_phandle) count (ph.0
 
 -- ---- what was added
 
-never_bad : (ns : List Node) → ◌≡◌ {A = Result (List Node) NodeFault} (Err BadName) (Ok ns) → ⊥
-never_bad ns e = cc
-
-never_none : (ns : List Node) → ◌≡◌ {A = Result (List Node) NodeFault} (Err NoNode) (Ok ns) → ⊥
-never_none ns e = cc
-
 added_if : (b : Bool) (ns after : List Node) → (if b then Ok ns else Err BadName) ≡ Ok after → (b ≡ true) × (ns ≡ after)
 added_if true ns after e = (refl, cc)
-added_if false ns after e = absurd (never_bad after e)
+added_if false ns after e = absurd (never BadName after e)
 
 -- the nodes with the method, by the number of its node
 abbrev with_it : List Node → ℕ → List ℕ → Cell → List Node
 with_it ns i name xt = with_methods ns i (with_method (methods_in ns i) name xt)
 
-same_count : (ns after : List Node) (i : ℕ) (name : List ℕ) (xt : Cell) → with_it ns i name xt ≡ after
-    → length after ≡ length ns
-same_count ns after i name xt e =
-    ap length (sym e) ∙ length-with_methods ns i (with_method (methods_in ns i) name xt)
+-- what is found then, by what the node has
+found_then : (ns after : List Node) (ph : Phandle) (i : ℕ) (name other : List ℕ) (xt : Cell)
+    → number_of (length ns) ph ≡ Some i → with_it ns i name xt ≡ after
+    → method_found after ph other ≡ Ok (method_in (with_method (methods_in ns i) name xt) other)
+found_then ns after ph i name other xt at is =
+    let many : length after ≡ length ns = ap length (sym is) ∙ length-set ns i _ in
+    by_number after ph i _ (ap (λ k. number_of k ph) many ∙ at)
+    ∙ (ap (λ l. Ok (method_in (methods_in l i) other)) (sym is)
+    ∙ ap (λ (ms : List (List ℕ × Cell)). Ok (method_in ms other))
+    (methods_there ns i (with_method (methods_in ns i) name xt) (number_within (length ns) ph i at)))
 
-found_at : (o : Option ℕ) (ns after : List Node) (ph : Phandle) (name : List ℕ) (xt : Cell)
-    → number_of (length ns) ph ≡ o → added_at ns name xt o ≡ Ok after → method_found after ph name ≡ Ok (Some xt)
-found_at None ns after ph name xt at e = absurd (never_none after e)
-found_at (Some i) ns after ph name xt at e =
-    let is = added_if (is_method_name name) (with_it ns i name xt) after e in
-    let number = ap (λ k. number_of k ph) (same_count ns after i name xt is.1) ∙ at in
-    ap (method_at after name) number
-    ∙ (ap (λ l. Ok (method_in (methods_in l i) name)) (sym is.1)
-    ∙ ap Ok (method_there ns i name xt (number_within (length ns) ph i at) is.0))
+if_named : (b : Bool) (v w : Option Cell) → b ≡ true → v ≡ w → (if b then v else None) ≡ w
+if_named true v w h e = e
+if_named false v w h e = cc
 
-kept_at : (o : Option ℕ) (ns after : List Node) (ph : Phandle) (name other : List ℕ) (xt : Cell)
-    → number_of (length ns) ph ≡ o → added_at ns name xt o ≡ Ok after → lower other ≢ lower name
+added_found : (ns after : List Node) (ph : Phandle) (name : List ℕ) (xt : Cell)
+    → method_added ns ph name xt ≡ Ok after → method_found after ph name ≡ Ok (Some xt)
+added_found ns after ph name xt e =
+    let there = numbered_is (number_of (length ns) ph) (added_at ns name xt) after e in
+    let i = there.0 in
+    let is = added_if (is_method_name name) (with_it ns i name xt) after there.2 in
+    found_then ns after ph i name name xt there.1 is.1
+    ∙ ap Ok (if_named (is_method_name name) _ (Some xt) is.0 (entry_found (methods_in ns i) (lower name) xt))
+
+others_kept : (ns after : List Node) (ph : Phandle) (name other : List ℕ) (xt : Cell)
+    → method_added ns ph name xt ≡ Ok after → lower other ≢ lower name
     → method_found after ph other ≡ method_found ns ph other
-kept_at None ns after ph name other xt at e apart = absurd (never_none after e)
-kept_at (Some i) ns after ph name other xt at e apart =
-    let is = added_if (is_method_name name) (with_it ns i name xt) after e in
-    let number = ap (λ k. number_of k ph) (same_count ns after i name xt is.1) ∙ at in
-    ap (method_at after other) number
-    ∙ (ap (λ l. Ok (method_in (methods_in l i) other)) (sym is.1)
-    ∙ (ap Ok (method_kept ns i name other xt apart) ∙ sym (ap (method_at ns other) at)))
+others_kept ns after ph name other xt e apart =
+    let there = numbered_is (number_of (length ns) ph) (added_at ns name xt) after e in
+    let i = there.0 in
+    let is = added_if (is_method_name name) (with_it ns i name xt) after there.2 in
+    found_then ns after ph i name other xt there.1 is.1
+    ∙ (ap (λ (v : Option Cell). Ok (if is_method_name other then v else None))
+    (others_found (methods_in ns i) (lower name) (lower other) xt apart)
+    ∙ sym (by_number ns ph i _ there.1))
 
 pub methods_are_found : MethodsAreFound
-methods_are_found = record {
-  added = λ ns after ph name xt e. found_at (number_of (length ns) ph) ns after ph name xt refl e;
-  others = λ ns after ph name other xt e apart.
-      kept_at (number_of (length ns) ph) ns after ph name other xt refl e apart;
-  taken_back = λ ns after ph name xt before found e. undone ns after ph name xt before found e;
-}
+methods_are_found = record { added = added_found; others = others_kept; taken_back = undone }

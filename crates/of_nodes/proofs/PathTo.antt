@@ -1,5 +1,5 @@
 -- The path of a node is that in the tree.
-use Rattle.std.proofs.Common.{◌≡◌, ℕ, zero, suc, ◌+◌, ◌-◌, ◌*◌, ◌/◌, ◌%◌, ◌<◌, ◌≤◌, ◌==◌, ◌⊎◌, inl, inr, nat_lt}
+use Rattle.std.proofs.Common.{◌≡◌, ℕ, zero, suc, ◌+◌, ◌-◌, ◌*◌, ◌/◌, ◌%◌, ◌<◌, ◌≤◌, ◌==◌, ◌⊎◌, inl, inr, nat_lt, Ok}
 use Rattle.std.proofs.Common.{Bool, true, false, List, [], ◌∷◌, ◌++◌, length, drop, Option, Some, None, refl, ap, sym}
 use Rattle.std.proofs.Common.{◌∙◌, arith, if◌then◌else◌}
 use Rattle.std.specs.Option.{ok_or, option_or}
@@ -10,12 +10,13 @@ use Rattle.of_nodes.specs.declared.tree.Node.{Node}
 use Rattle.of_nodes.specs.declared.properties.Property.{Property}
 use Rattle.of_nodes.specs.declared.fault.NodeFault.TheVariants.{NoNode}
 use Rattle.of_nodes.specs.Components.{component}
-use Rattle.of_nodes.specs.Nodes.{AreNodes, first_phandle, number_of, parent_in, phandle_of}
-use Rattle.of_nodes.specs.Paths.{components_to, node_in, path_at, path_found, path_in}
+use Rattle.of_nodes.specs.Nodes.{AreNodes, first_phandle, node_at, number_of, numbered, parent_in, phandle_of}
+use Rattle.of_nodes.specs.Paths.{components_to, path_found, path_in}
 use Rattle.of_nodes.specs.Tree.{Nobody, Sibling, Siblings, Stands, below, tree_of}
 use Rattle.of_nodes.specs.TreePaths.{TreeFinds, path_below, path_on, path_to}
-use Rattle.of_nodes.proofs.Led.{find, find_package, node_is}
+use Rattle.of_nodes.proofs.Led.{find, find_package}
 use Rattle.of_nodes.proofs.Placed.{nonzero}
+use Rattle.of_nodes.proofs.Changed.{by_number}
 use Rattle.of_nodes.proofs.Shown.{IsAt, equal, is_at, number_is}
 use Rattle.of_nodes.proofs.Standing.{below_root, tree_is_shown}
 use Rattle.of_nodes.proofs.Ways.{path_step}
@@ -63,7 +64,7 @@ has_path m i path above (Sibling j properties methods children younger) h =
 record IsRound (m : DataSpace) (full : List Node) (p : ℕ) (path : List ℕ) (above : List (List ℕ × Property))
     : Type 0 where
   pub same_path : path ≡ components_to m full p p
-  pub same_above : above ≡ (node_in full p).properties
+  pub same_above : above ≡ (node_at full p).properties
 
 -- what a path in the tree is
 record IsPath (m : DataSpace) (full : List Node) (i : ℕ) (xs : List ℕ) : Type 0 where
@@ -77,12 +78,12 @@ here_is :
     → path_on m path above n.properties ≡ components_to m full k k
 here_is m full p k path above n ns h d one e r =
     let at : IsAt full k n ns = is_at full k n ns d in
-    let up : p ≡ parent_in full k = sym (at.parent ∙ e) in
-    let node : n ≡ node_in full k = sym (node_is full k n ns d) in
+    let up : p ≡ parent_in full k = sym (ap (λ (x : Node). x.parent) at.node ∙ e) in
+    let node : n ≡ node_at full k = sym at.node in
     ap (λ (xs : List ℕ). path_on m xs above n.properties) r.same_path
     ∙ (ap (λ (ps : List (List ℕ × Property)). path_on m (components_to m full p p) ps n.properties) r.same_above
-    ∙ (ap (λ (x : Node). components_to m full p p ++ 47 ∷ component m (node_in full p) x) node
-    ∙ (ap (λ (q : ℕ). components_to m full q q ++ 47 ∷ component m (node_in full q) (node_in full k)) up
+    ∙ (ap (λ (x : Node). components_to m full p p ++ 47 ∷ component m (node_at full p) x) node
+    ∙ (ap (λ (q : ℕ). components_to m full q q ++ 47 ∷ component m (node_at full q) (node_at full k)) up
     ∙ sym (path_step m full k h at.within one))))
 
 split_or :
@@ -115,7 +116,7 @@ sound_step true m full i p k path above n ns xs h d one r e down on =
     let own : here ≡ components_to m full k k =
     here_is m full p k path above n ns h d one (equal n.parent p e) r in
     let round : IsRound m full k here n.properties =
-    record { same_path = own; same_above = ap (λ (x : Node). x.properties) (sym (node_is full k n ns d)) } in
+    record { same_path = own; same_above = ap (λ (x : Node). x.properties) (sym at.node) } in
     elim (split_if (i == k) here xs (option_or inner outer) g) [
       | inl z ↦
           let same : k ≡ i = sym (equal i k z.0) in
@@ -172,7 +173,8 @@ past_path m n ns i h l =
     let none : path_below m i [] n.properties (below 0 1 ns) ≡ None =
     no_path (path_below m i [] n.properties (below 0 1 ns)) m (n ∷ ns) i l
     (λ xs g. sound m (n ∷ ns) i 0 1 [] n.properties ns xs h refl (omega arith) (root_round m n ns) g) in
-    ap (path_at m (n ∷ ns)) (no_number i (length (n ∷ ns)) l) ∙ rw (nonzero i some, none) refl
+    ap (λ (o : Option ℕ). numbered o (λ k. Ok (path_in m (n ∷ ns) k))) (no_number i (length (n ∷ ns)) l)
+    ∙ rw (nonzero i some, none) refl
 
 below_path :
     (m : DataSpace) (n : Node) (ns : List Node) (i : ℕ) → AreNodes (n ∷ ns) → suc i < length (n ∷ ns)
@@ -208,7 +210,7 @@ path_of m [] i h = let t = h.three in absurd (omega (arith, t))
 path_of m (n ∷ ns) i h =
     elim (cases_lt i (length (n ∷ ns))) [
       | inl l ↦
-          ap (path_at m (n ∷ ns)) (number_is i (length (n ∷ ns)) l)
+          by_number (n ∷ ns) (phandle_of i) i _ (number_is i (length (n ∷ ns)) l)
           ∙ ap (λ (r : Option (List ℕ)). ok_or r NoNode) (sym (path_same m n ns i h l))
       | inr l ↦ past_path m n ns i h l
     ]

@@ -1,16 +1,11 @@
 -- Nodes by number.
-use Rattle.std.proofs.Common.{◌≡◌, ℕ, ◌<◌, ◌-◌, suc, zero, List, [], ◌∷◌, ◌++◌, length, get_or, arith, refl, ◌∙◌}
+use Rattle.std.proofs.Common.{◌≡◌, ℕ, ◌<◌, ◌-◌, suc, zero, List, [], ◌∷◌, ◌++◌, arith, refl, ◌∙◌}
 use Rattle.std.proofs.Common.{append_assoc, ◌==◌, false}
 use Rattle.std.proofs.lemmas.Bool.Decides.{nat_tests}
 use Rattle.of_memory.specs.DataSpace.{DataSpace}
 use Rattle.of_nodes.specs.declared.tree.Node.{Node}
 use Rattle.of_nodes.specs.Nodes.{parent_in}
-use Rattle.of_nodes.specs.Paths.{component_in, components_to, node_in}
-
-pub node_read : (ns : List Node) (i : ℕ) (n : Node) → i < length ns → n ≡ get_or ns i n → n ≡ node_in ns i
-node_read [] i n l e = absurd (omega arith)
-node_read (m ∷ ns) zero n l e = e
-node_read (m ∷ ns) (suc i) n l e = node_read ns i n (omega arith) e
+use Rattle.of_nodes.specs.Paths.{component_in, components_to}
 
 pub nonzero : (i : ℕ) → 0 < i → (i == 0) ≡ false
 nonzero i h = grind (arith, nat_tests)

@@ -1,16 +1,16 @@
 -- The law `after_runs`.
 use Rattle.std.proofs.Common.{◌≡◌, ℕ, zero, suc, ◌+◌, ◌<◌, ◌≤◌, ◌==◌, Bool, true, false, List, [], ◌∷◌, ◌++◌}
-use Rattle.std.proofs.Common.{length, drop, Option, Some, None, Result, Ok, Err, if◌then◌else◌, refl, ap, sym}
+use Rattle.std.proofs.Common.{length, drop, Option, Some, None, Result, Ok, if◌then◌else◌, refl, ap, sym}
 use Rattle.std.proofs.Common.{◌∙◌, arith}
 use Rattle.std.specs.Option.{option_or}
 use Rattle.of_nodes.specs.declared.tree.Node.{Node}
 use Rattle.of_nodes.specs.declared.phandles.Phandle.{Phandle}
 use Rattle.of_nodes.specs.declared.fault.NodeFault.{NodeFault}
-use Rattle.of_nodes.specs.declared.fault.NodeFault.TheVariants.{NoNode}
-use Rattle.of_nodes.specs.Nodes.{AreNodes, after_at, after_found, behind_in, child_at, child_from}
-use Rattle.of_nodes.specs.Nodes.{number_of, parent_at, parent_in, peer_at, phandle_in, phandle_of}
+use Rattle.of_nodes.specs.Nodes.{AreNodes, after_found, behind_in, by_phandle, child_from}
+use Rattle.of_nodes.specs.Nodes.{number_of, parent_in, phandle_in, phandle_of}
 use Rattle.of_nodes.specs.Preorder.{AfterRuns, numbers_of}
 use Rattle.of_nodes.specs.Tree.{AreShown, IsShown, Nobody, Sibling, Siblings, below, oldest, tree_of}
+use Rattle.of_nodes.proofs.Changed.{by_number, numbered_is, ok_is}
 use Rattle.of_nodes.proofs.MethodLaw.{number_within}
 use Rattle.of_nodes.proofs.Placed.{nonzero}
 use Rattle.of_nodes.proofs.PropertyLaw.{exact}
@@ -95,19 +95,13 @@ same_phandle (Some i) (Some j) e =
     let is : i ≡ j = omega (arith, numbers) in
     ap Some is
 
-ok_is : (x y : Option Phandle) → ◌≡◌ {A = Result (Option Phandle) NodeFault} (Ok x) (Ok y) → x ≡ y
-ok_is x y e = cc
-
-never : (x : Option Phandle) → ◌≡◌ {A = Result (Option Phandle) NodeFault} (Err NoNode) (Ok x) → ⊥
-never x e = cc
-
-number_at : (o : Option ℕ) (ns : List Node) (i : ℕ) (x : Option Phandle) → number_of (length ns) (phandle_of i) ≡ o
-    → child_at ns o ≡ Ok x → number_of (length ns) (phandle_of i) ≡ Some i
-number_at None ns i x at e = absurd (never x e)
-number_at (Some k) ns i x at e =
-    let far = exact (length ns) (phandle_of i) k at in
-    let is : k ≡ i = omega (arith, far) in
-    at ∙ ap Some is
+number_is : (ns : List Node) (i : ℕ) (f : ℕ → Result (Option Phandle) NodeFault) (x : Option Phandle)
+    → by_phandle ns (phandle_of i) f ≡ Ok x → number_of (length ns) (phandle_of i) ≡ Some i
+number_is ns i f x e =
+    let there = numbered_is (number_of (length ns) (phandle_of i)) f x e in
+    let far = exact (length ns) (phandle_of i) there.0 there.1 in
+    let is : there.0 ≡ i = omega (arith, far) in
+    there.1 ∙ ap Some is
 
 parent_if : (b : Bool) (i q p : ℕ) → (i == 0) ≡ b
     → (if b then None else Some (phandle_of q)) ≡ Some (phandle_of p) → ((i == 0) ≡ false) × (q ≡ p)
@@ -135,11 +129,11 @@ record Stands (ns : List Node) (p i : ℕ) (children younger : Siblings) : Type 
 stands : (ns : List Node) (p i : ℕ) (properties methods : _) (children younger : Siblings)
     → IsShown ns (Some p) i properties methods children younger → Stands ns p i children younger
 stands ns p i properties methods children younger s =
-    let number = number_at (number_of (length ns) (phandle_of i)) ns i (phandle_in (oldest children)) refl s.child in
-    let above = ok_is _ _ (sym (ap (parent_at ns) number) ∙ s.parent) in
+    let number = number_is ns i _ (phandle_in (oldest children)) s.child in
+    let above = ok_is _ _ (sym (by_number ns (phandle_of i) i _ number) ∙ s.parent) in
     let parent = parent_if (i == 0) i (parent_in ns i) p refl above in
-    let child = ok_is _ _ (sym (ap (child_at ns) number) ∙ s.child) in
-    let peer = ok_is _ _ (sym (ap (peer_at ns) number) ∙ s.peer) in
+    let child = ok_is _ _ (sym (by_number ns (phandle_of i) i _ number) ∙ s.child) in
+    let peer = ok_is _ _ (sym (by_number ns (phandle_of i) i _ number) ∙ s.peer) in
     record {
       number = number;
       some = positive i parent.0;
@@ -164,7 +158,7 @@ after_is ns i children younger b number child behind =
     ap (λ (c : Option ℕ). option_or c (behind_in ns i i)) child ∙ ap (option_or (oldest children)) behind in
     let list : option_or (oldest children) o ≡ first_or (numbers_of children ++ numbers_of younger) b =
     sym (first_oldest children o) ∙ sym (first_both (numbers_of children) (numbers_of younger) b) in
-    ap (after_at ns) number ∙ ap (λ (x : Option ℕ). Ok (phandle_in x)) (both ∙ list)
+    by_number ns (phandle_of i) i _ number ∙ ap (λ (x : Option ℕ). Ok (phandle_in x)) (both ∙ list)
 
 follows : (s : Siblings) (ns : List Node) (p : ℕ) (b : Option ℕ) → AreNodes ns → AreShown ns (Some p) s
     → behind_in ns p p ≡ b → Follows ns (numbers_of s) b
@@ -189,9 +183,9 @@ root_follows n ns h shows =
     let children = below 0 1 ns in
     let all = n ∷ ns in
     let child = shows.0.child in
-    let number = number_at (number_of (length all) (phandle_of 0)) all 0 (phandle_in (oldest children)) refl child in
+    let number = number_is all 0 _ (phandle_in (oldest children)) child in
     let is = same_phandle (child_from 1 (drop 1 all) 0) (oldest children)
-    (ok_is _ _ (sym (ap (child_at all) number) ∙ child)) in (
+    (ok_is _ _ (sym (by_number all (phandle_of 0) 0 _ number) ∙ child)) in (
       after_is all 0 children Nobody None number is refl,
       follows_both (numbers_of children) all [] None (follows children all 0 None h shows.1 refl) tt,
     )

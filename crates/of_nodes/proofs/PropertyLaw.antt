@@ -1,10 +1,11 @@
 -- The law `properties_are_found`.
-use Rattle.std.proofs.Common.{◌≡◌, ◌≢◌, ℕ, zero, suc, ◌+◌, ◌*◌, ◌-◌, ◌/◌, ◌%◌, ◌<◌, ◌≤◌, ◌&&◌, nat_lt, Bool, true}
+use Rattle.std.proofs.Common.{◌≡◌, ◌≢◌, ℕ, ◌+◌, ◌*◌, ◌-◌, ◌/◌, ◌%◌, ◌<◌, ◌≤◌, ◌&&◌, nat_lt, Bool, true}
 use Rattle.std.proofs.Common.{false, List, [], ◌∷◌, ◌++◌, length, Option, Some, None, Result, Ok, Err}
 use Rattle.std.proofs.Common.{if◌then◌else◌, refl, ap, sym, ◌∙◌, arith}
 use Rattle.std.specs.Prelude.{◌==◌}
 use Rattle.std.specs.List.{IsDistinct}
 use Rattle.std.proofs.lemmas.Bool.{and_parts, eqb-true}
+use Rattle.std.proofs.lemmas.List.{get_or-set_other, get_or-set_same, length-set}
 use Rattle.std.proofs.lemmas.Bool.Decides.{nat_tests}
 use Rattle.of_memory.specs.Access.{read_bytes}
 use Rattle.of_memory.specs.DataSpace.{DataSpace, IsSound}
@@ -15,20 +16,20 @@ use Rattle.of_nodes.specs.declared.tree.Node.{Node}
 use Rattle.of_nodes.specs.declared.phandles.Phandle.{Phandle}
 use Rattle.of_nodes.specs.declared.properties.Property.{Property}
 use Rattle.of_nodes.specs.declared.fault.NodeFault.{NodeFault}
-use Rattle.of_nodes.specs.declared.fault.NodeFault.TheVariants.{BadName, NoNode}
+use Rattle.of_nodes.specs.declared.fault.NodeFault.TheVariants.{BadName}
 use Rattle.of_nodes.specs.Names.{may_hold}
-use Rattle.of_nodes.specs.Nodes.{deleted_at, first_phandle, next_at, number_at, number_of, properties_in}
-use Rattle.of_nodes.specs.Nodes.{property_at, property_found, set_at, set_in, with_properties}
+use Rattle.of_nodes.specs.Nodes.{first_phandle, new_node, node_at, number_at, number_of, numbered, properties_in}
+use Rattle.of_nodes.specs.Nodes.{property_deleted, property_found, set_at, set_in, tree_property_set, with_properties}
 use Rattle.of_nodes.specs.Properties.{new_property, same_name, set_to, span, stored, value_in, with_entry, with_value}
 use Rattle.of_nodes.specs.Properties.{without}
-use Rattle.of_nodes.specs.PropertyLaw.{AreInOrder, IsSetTo, IsWithout, PropertiesAreFound, names_at, names_found}
+use Rattle.of_nodes.specs.PropertyLaw.{AreInOrder, IsSetTo, IsWithout, PropertiesAreFound, names_found}
+use Rattle.of_nodes.proofs.Changed.{by_number, never, numbered_is, ok_is}
 use Rattle.of_nodes.proofs.FirstFound.{ArePut, first_put, wide}
 use Rattle.of_nodes.proofs.MethodLaw.{entry_found, number_within, others_found, some_if}
 use Rattle.of_nodes.proofs.PropertyNames.{first_is, gone, last_name, names, names_kept, names_last, next_name}
 use Rattle.of_nodes.proofs.PropertyNames.{order_left, others_left}
 use Rattle.of_nodes.proofs.Put.{IsPut, IsStored, IsWide, is_put, read_stays, stays_stored, stored_after, stored_reads}
 use Rattle.of_nodes.proofs.Put.{wide_after}
-use Rattle.of_nodes.proofs.Rooted.{length-with_properties}
 
 -- ---- the node of a phandle
 
@@ -69,17 +70,14 @@ other_node count at ph i j p q apart = λ same.
 
 properties_there : (ns : List Node) (i : ℕ) (qs : List (List ℕ × Property)) → i < length ns
     → properties_in (with_properties ns i qs) i ≡ qs
-properties_there [] i qs l = absurd (omega arith)
-properties_there (n ∷ ns) zero qs l = refl
-properties_there (n ∷ ns) (suc i) qs l = properties_there ns i qs (omega arith)
+properties_there ns i qs l =
+    ap (λ (n : Node). n.properties) (get_or-set_same ns i (record (node_at ns i) { properties = qs }) (new_node 0) l)
 
 properties_elsewhere : (ns : List Node) (i j : ℕ) (qs : List (List ℕ × Property)) → j ≢ i
     → properties_in (with_properties ns i qs) j ≡ properties_in ns j
-properties_elsewhere [] i j qs apart = refl
-properties_elsewhere (n ∷ ns) zero zero qs apart = absurd (apart refl)
-properties_elsewhere (n ∷ ns) zero (suc j) qs apart = refl
-properties_elsewhere (n ∷ ns) (suc i) zero qs apart = refl
-properties_elsewhere (n ∷ ns) (suc i) (suc j) qs apart = properties_elsewhere ns i j qs (λ e. apart (ap suc e))
+properties_elsewhere ns i j qs apart =
+    ap (λ (n : Node). n.properties)
+    (get_or-set_other ns i j (record (node_at ns i) { properties = qs }) (new_node 0) apart)
 
 record Changes (ns nodes : List Node) (ph : Phandle) (ps qs : List (List ℕ × Property)) : Type 0 where
   found : (name : List ℕ) → property_found ns ph name ≡ Ok (value_in ps name)
@@ -88,34 +86,29 @@ record Changes (ns nodes : List Node) (ph : Phandle) (ps qs : List (List ℕ × 
   names_then : names_found nodes ph ≡ Ok (names qs)
   elsewhere : (at : Phandle) (other : List ℕ) → at ≢ ph → property_found nodes at other ≡ property_found ns at other
 
-elsewhere_at : (o : Option ℕ) (ns : List Node) (ph at : Phandle) (i : ℕ) (qs : List (List ℕ × Property))
-    (other : List ℕ) → number_of (length ns) ph ≡ Some i → number_of (length ns) at ≡ o → at ≢ ph
-    → property_found (with_properties ns i qs) at other ≡ property_found ns at other
-elsewhere_at None ns ph at i qs other p q apart =
-    let nodes = with_properties ns i qs in
-    let number = ap (λ (k : ℕ). number_of k at) (length-with_properties ns i qs) ∙ q in
-    ap (property_at nodes other) number ∙ sym (ap (property_at ns other) q)
-elsewhere_at (Some j) ns ph at i qs other p q apart =
-    let nodes = with_properties ns i qs in
-    let number = ap (λ (k : ℕ). number_of k at) (length-with_properties ns i qs) ∙ q in
-    let same = properties_elsewhere ns i j qs (other_node (length ns) at ph i j p q apart) in
-    ap (property_at nodes other) number
-    ∙ (ap (λ (l : List (List ℕ × Property)). Ok (value_in l other)) same ∙ sym (ap (property_at ns other) q))
+numbered_same : {A : Type 0} (o : Option ℕ) (f g : ℕ → Result A NodeFault) → ((i : ℕ) → o ≡ Some i → f i ≡ g i)
+    → numbered o f ≡ numbered o g
+numbered_same None f g h = refl
+numbered_same (Some i) f g h = h i refl
 
 changes : (ns : List Node) (ph : Phandle) (i : ℕ) (qs : List (List ℕ × Property))
     → number_of (length ns) ph ≡ Some i → Changes ns (with_properties ns i qs) ph (properties_in ns i) qs
 changes ns ph i qs at =
     let nodes = with_properties ns i qs in
-    let number : number_of (length nodes) ph ≡ Some i =
-    ap (λ (k : ℕ). number_of k ph) (length-with_properties ns i qs) ∙ at in
+    let many : length nodes ≡ length ns = length-set ns i _ in
+    let number : number_of (length nodes) ph ≡ Some i = ap (λ (k : ℕ). number_of k ph) many ∙ at in
     let there = properties_there ns i qs (number_within (length ns) ph i at) in
     record {
-      found = λ name. ap (property_at ns name) at;
+      found = λ name. by_number ns ph i _ at;
       found_then = λ name.
-          ap (property_at nodes name) number ∙ ap (λ (l : List (List ℕ × Property)). Ok (value_in l name)) there;
-      names_are = ap (names_at ns) at;
-      names_then = ap (names_at nodes) number ∙ ap (λ (l : List (List ℕ × Property)). Ok (names l)) there;
-      elsewhere = λ b other apart. elsewhere_at (number_of (length ns) b) ns ph b i qs other at refl apart;
+          by_number nodes ph i _ number ∙ ap (λ (l : List (List ℕ × Property)). Ok (value_in l name)) there;
+      names_are = by_number ns ph i _ at;
+      names_then = by_number nodes ph i _ number ∙ ap (λ (l : List (List ℕ × Property)). Ok (names l)) there;
+      elsewhere = λ b other apart.
+          ap (λ (k : ℕ). numbered (number_of k b) (λ j. Ok (value_in (properties_in nodes j) other))) many
+          ∙ numbered_same (number_of (length ns) b) _ _
+          (λ j is. ap (λ (l : List (List ℕ × Property)). Ok (value_in l other))
+          (properties_elsewhere ns i j qs (other_node (length ns) b ph i j at is apart)));
     }
 
 -- ---- what setting a property puts
@@ -126,13 +119,6 @@ pub record IsSetting (m after : DataSpace) (ns nodes : List Node) (ph : Phandle)
   pub property : Property
   pub put : stored m (value_in (properties_in ns i) name) name value ≡ Ok (property, after)
   pub are : with_properties ns i (with_entry (properties_in ns i) name property) ≡ nodes
-
-never : (f : NodeFault) (x : List Node × DataSpace)
-    → ◌≡◌ {A = Result (List Node × DataSpace) NodeFault} (Err f) (Ok x) → ⊥
-never f x e = cc
-
-ok_is : (x y : List Node × DataSpace) → ◌≡◌ {A = Result (List Node × DataSpace) NodeFault} (Ok x) (Ok y) → x ≡ y
-ok_is x y e = cc
 
 setting_of : (r : Result (Property × DataSpace) NodeFault) (m after : DataSpace) (ns nodes : List Node) (ph : Phandle)
     (name value : List ℕ) (i : ℕ) → number_of (length ns) ph ≡ Some i
@@ -161,12 +147,11 @@ setting_if true m after ns nodes ph name value i at e =
     setting_of (stored m (value_in (properties_in ns i) name) name value) m after ns nodes ph name value i at refl e
 setting_if false m after ns nodes ph name value i at e = absurd (never BadName (nodes, after) e)
 
-pub setting : (o : Option ℕ) (m after : DataSpace) (ns nodes : List Node) (ph : Phandle) (name value : List ℕ)
-    → number_of (length ns) ph ≡ o → set_at m ns name value o ≡ Ok (nodes, after)
-    → IsSetting m after ns nodes ph name value
-setting None m after ns nodes ph name value at e = absurd (never NoNode (nodes, after) e)
-setting (Some i) m after ns nodes ph name value at e =
-    setting_if (may_hold name value) m after ns nodes ph name value i at e
+pub setting : (m after : DataSpace) (ns nodes : List Node) (ph : Phandle) (name value : List ℕ)
+    → tree_property_set m ns ph name value ≡ Ok (nodes, after) → IsSetting m after ns nodes ph name value
+setting m after ns nodes ph name value e =
+    let there = numbered_is (number_of (length ns) ph) (set_at m ns name value) (nodes, after) e in
+    setting_if (may_hold name value) m after ns nodes ph name value there.0 there.1 there.2
 
 -- what a property is that was put where there was another one or none
 pub record IsKept (m after : DataSpace) (before : Option Property) (name value : List ℕ) (p : Property) : Type 0 where
@@ -186,13 +171,6 @@ none_property q e = cc
 
 pub some_property : (p q : Property) → ◌≡◌ {A = Option Property} (Some p) (Some q) → p ≡ q
 some_property p q e = cc
-
-put_is : (x y : Property × DataSpace) → ◌≡◌ {A = Result (Property × DataSpace) NodeFault} (Ok x) (Ok y) → x ≡ y
-put_is x y e = cc
-
-never_put : (f : NodeFault) (x : Property × DataSpace)
-    → ◌≡◌ {A = Result (Property × DataSpace) NodeFault} (Err f) (Ok x) → ⊥
-never_put f x e = cc
 
 abbrev placed : List ℕ → List ℕ → ℕ × ℕ × DataSpace → Property
 placed name value x = record { name = span x.0 (length name); value = span x.1 (length value) }
@@ -226,12 +204,12 @@ kept_new : (r : Result (ℕ × ℕ × DataSpace) MemFault) (m after : DataSpace)
     → IsWide m → named_put m name value ≡ r → new_property (length name) (length value) r ≡ Ok (p, after)
     → IsKept m after None name value p
 kept_new (Ok x) m after name value p w g e =
-    let pair = put_is (placed name value x, x.2) (p, after) e in
+    let pair = ok_is (placed name value x, x.2) (p, after) e in
     let b = first_put m name value (property_put m name) x refl g in
     let property : placed name value x ≡ p = ap (λ (y : Property × DataSpace). y.0) pair in
     let space : x.2 ≡ after = ap (λ (y : Property × DataSpace). y.1) pair in
     rw (← property) (rw (← space) (kept_both m b.0 name value x w b.1))
-kept_new (Err f) m after name value p w g e = absurd (never_put _ (p, after) e)
+kept_new (Err f) m after name value p w g e = absurd (never _ (p, after) e)
 
 kept_value : (m : DataSpace) (q : Property) (name value : List ℕ) (x : ℕ × DataSpace) → IsWide m
     → IsPut m x.1 value x.0
@@ -253,11 +231,11 @@ kept_old : (r : Result (ℕ × DataSpace) MemFault) (m after : DataSpace) (q : P
     (p : Property) → IsWide m → property_put m value ≡ r → with_value q (length value) r ≡ Ok (p, after)
     → IsKept m after (Some q) name value p
 kept_old (Ok x) m after q name value p w g e =
-    let pair = put_is (record q { value = span x.0 (length value) }, x.1) (p, after) e in
+    let pair = ok_is (record q { value = span x.0 (length value) }, x.1) (p, after) e in
     let property : record q { value = span x.0 (length value) } ≡ p = ap (λ (y : Property × DataSpace). y.0) pair in
     let space : x.1 ≡ after = ap (λ (y : Property × DataSpace). y.1) pair in
     rw (← property) (rw (← space) (kept_value m q name value x w (is_put m value x g)))
-kept_old (Err f) m after q name value p w g e = absurd (never_put _ (p, after) e)
+kept_old (Err f) m after q name value p w g e = absurd (never _ (p, after) e)
 
 pub kept : (before : Option Property) (m after : DataSpace) (name value : List ℕ) (p : Property) → IsWide m
     → stored m before name value ≡ Ok (p, after) → IsKept m after before name value p
@@ -304,21 +282,11 @@ set_to_is m after ns nodes ph name value sound s =
           ∙ ap (λ (l : List (List ℕ)). Ok (l ++ name ∷ [])) same);
     }
 
-pub never_left : (f : NodeFault) (x : Unit {0} × List Node)
-    → ◌≡◌ {A = Result (Unit {0} × List Node) NodeFault} (Err f) (Ok x) → ⊥
-never_left f x e = cc
-
-pub left_is : (x y : Unit {0} × List Node) → ◌≡◌ {A = Result (Unit {0} × List Node) NodeFault} (Ok x) (Ok y) → x ≡ y
-left_is x y e = cc
-
-without_is : (o : Option ℕ) (ns nodes : List Node) (ph : Phandle) (name : List ℕ) (all : List (List ℕ))
-    → number_of (length ns) ph ≡ o → names_found ns ph ≡ Ok all → IsDistinct same_name all
-    → deleted_at ns name o ≡ Ok (tt, nodes) → IsWithout ns nodes ph name all
-without_is None ns nodes ph name all at are apart e = absurd (never_left NoNode (tt, nodes) e)
-without_is (Some i) ns nodes ph name all at are apart e =
+without_at : (ns nodes : List Node) (ph : Phandle) (name : List ℕ) (all : List (List ℕ)) (i : ℕ)
+    → number_of (length ns) ph ≡ Some i → names_found ns ph ≡ Ok all → IsDistinct same_name all
+    → with_properties ns i (without (properties_in ns i) name) ≡ nodes → IsWithout ns nodes ph name all
+without_at ns nodes ph name all i at are apart is =
     let ps = properties_in ns i in
-    let pair = left_is (tt, with_properties ns i (without ps name)) (tt, nodes) e in
-    let is : with_properties ns i (without ps name) ≡ nodes = ap (λ (y : Unit {0} × List Node). y.1) pair in
     let c : Changes ns nodes ph ps (without ps name) = rw (← is) (changes ns ph i (without ps name) at) in
     let same : names ps ≡ all = same_names (names ps) all (names_found ns ph) c.names_are are in
     let distinct : IsDistinct same_name (names ps) = rw same apart in
@@ -329,41 +297,42 @@ without_is (Some i) ns nodes ph name all at are apart e =
       order = rw (← same) (c.names_then ∙ ap Ok (order_left ps name distinct));
     }
 
-no_names : (f : NodeFault) (x : List (List ℕ)) → ◌≡◌ {A = Result (List (List ℕ)) NodeFault} (Err f) (Ok x) → ⊥
-no_names f x e = cc
+without_is : (ns nodes : List Node) (ph : Phandle) (name : List ℕ) (all : List (List ℕ))
+    → names_found ns ph ≡ Ok all → IsDistinct same_name all → property_deleted ns ph name ≡ Ok (tt, nodes)
+    → IsWithout ns nodes ph name all
+without_is ns nodes ph name all are apart e =
+    let there = numbered_is (number_of (length ns) ph) _ (tt, nodes) e in
+    let i = there.0 in
+    let left = with_properties ns i (without (properties_in ns i) name) in
+    without_at ns nodes ph name all i there.1 are apart
+    (ap (λ (y : Unit {0} × List Node). y.1) (ok_is (tt, left) (tt, nodes) there.2))
 
-names_is : (x y : List (List ℕ)) → ◌≡◌ {A = Result (List (List ℕ)) NodeFault} (Ok x) (Ok y) → x ≡ y
-names_is x y e = cc
+order_is : (ns : List Node) (ph : Phandle) (all : List (List ℕ)) → names_found ns ph ≡ Ok all
+    → (i : ℕ) × (number_of (length ns) ph ≡ Some i) × (names (properties_in ns i) ≡ all)
+order_is ns ph all e =
+    let there = numbered_is (number_of (length ns) ph) _ all e in
+    (there.0, there.1, ok_is (names (properties_in ns there.0)) all there.2)
 
--- the node, where there is one, by its names
-in_order_at : (o : Option ℕ) (ns : List Node) (ph : Phandle) → number_of (length ns) ph ≡ o → AreInOrder ns ph
-in_order_at None ns ph at = record {
-  first = λ name all are. absurd (no_names NoNode (name ∷ all) (sym (ap (names_at ns) at) ∙ are));
-  next = λ xs ys name other are apart some. absurd (no_names NoNode _ (sym (ap (names_at ns) at) ∙ are));
-  last = λ xs name are apart some. absurd (no_names NoNode _ (sym (ap (names_at ns) at) ∙ are));
+in_order : (ns : List Node) (ph : Phandle) → AreInOrder ns ph
+in_order ns ph = record {
+  first = λ name all are.
+      let o = order_is ns ph (name ∷ all) are in
+      by_number ns ph o.0 _ o.1
+      ∙ (ap Ok (first_is (properties_in ns o.0) name all o.2) ∙ sym (by_number ns ph o.0 _ o.1));
+  next = λ xs ys name other are apart some.
+      let o = order_is ns ph (xs ++ name ∷ other ∷ ys) are in
+      by_number ns ph o.0 _ o.1
+      ∙ (ap Ok (next_name xs (properties_in ns o.0) name other ys o.2 apart some)
+      ∙ sym (by_number ns ph o.0 _ o.1));
+  last = λ xs name are apart some.
+      let o = order_is ns ph (xs ++ name ∷ []) are in
+      by_number ns ph o.0 _ o.1 ∙ ap Ok (last_name xs (properties_in ns o.0) name o.2 apart some);
 }
-in_order_at (Some i) ns ph at =
-    let ps = properties_in ns i in
-    let is = λ (l : List (List ℕ)) (are : names_found ns ph ≡ Ok l).
-    names_is (names ps) l (sym (ap (names_at ns) at) ∙ are) in
-    record {
-      first = λ name all are.
-          ap (next_at ns []) at
-          ∙ (ap Ok (first_is ps name all (is (name ∷ all) are)) ∙ sym (ap (property_at ns name) at));
-      next = λ xs ys name other are apart some.
-          ap (next_at ns name) at
-          ∙ (ap Ok (next_name xs ps name other ys (is (xs ++ name ∷ other ∷ ys) are) apart some)
-          ∙ sym (ap (property_at ns other) at));
-      last = λ xs name are apart some.
-          ap (next_at ns name) at ∙ ap Ok (last_name xs ps name (is (xs ++ name ∷ []) are) apart some);
-    }
 
 pub properties_are_found : PropertiesAreFound
 properties_are_found = record {
   set = λ m after ns nodes ph name value sound e.
-      set_to_is m after ns nodes ph name value sound
-      (setting (number_of (length ns) ph) m after ns nodes ph name value refl e);
-  deleted = λ ns nodes ph name all are apart e.
-      without_is (number_of (length ns) ph) ns nodes ph name all refl are apart e;
-  in_order = λ ns ph. in_order_at (number_of (length ns) ph) ns ph refl;
+      set_to_is m after ns nodes ph name value sound (setting m after ns nodes ph name value e);
+  deleted = without_is;
+  in_order = in_order;
 }

@@ -4,10 +4,10 @@ use Rattle.std.proofs.Common.{false, List, [], ◌∷◌, length}
 use Rattle.std.proofs.Common.{drop, Option, Some, None, Ok, refl, ap, sym, ◌∙◌, arith}
 use Rattle.std.proofs.lemmas.Bool.Decides.{nat_tests}
 use Rattle.of_nodes.specs.declared.tree.Node.{Node}
-use Rattle.of_nodes.specs.Nodes.{AreNodes, AreRooted, child_at, child_from, first_phandle, methods_in}
-use Rattle.of_nodes.specs.Nodes.{number_of, parent_at, parent_in, peer_at, phandle_in, phandle_of}
-use Rattle.of_nodes.specs.Nodes.{properties_in}
+use Rattle.of_nodes.specs.Nodes.{AreNodes, AreRooted, child_from, first_phandle, node_at, number_of, parent_in}
+use Rattle.of_nodes.specs.Nodes.{phandle_in, phandle_of}
 use Rattle.of_nodes.specs.Tree.{AreShown, IsShown, Nobody, below, oldest, tree_of}
+use Rattle.of_nodes.proofs.Changed.{by_number}
 
 -- the oldest of the nodes with a parent is the first that the calls find
 oldest_step :
@@ -37,34 +37,17 @@ number_is k count l =
 
 -- node k, with those after it
 pub record IsAt (full : List Node) (k : ℕ) (n : Node) (ns : List Node) : Type 0 where
-  pub parent : parent_in full k ≡ n.parent
-  pub properties : n.properties ≡ properties_in full k
-  pub methods : n.methods ≡ methods_in full k
+  pub node : node_at full k ≡ n
   pub rest : drop (suc k) full ≡ ns
   pub within : k < length full
 
 pub is_at : (full : List Node) (k : ℕ) (n : Node) (ns : List Node) → drop k full ≡ n ∷ ns → IsAt full k n ns
 is_at [] zero n ns h = cc
 is_at [] (suc k) n ns h = cc
-is_at (m ∷ full) zero n ns h =
-    let same : m ≡ n = cc in
-    let rest : full ≡ ns = cc in
-    record {
-      parent = ap (λ (x : Node). x.parent) same;
-      properties = ap (λ (x : Node). x.properties) (sym same);
-      methods = ap (λ (x : Node). x.methods) (sym same);
-      rest = rest;
-      within = omega arith;
-    }
+is_at (m ∷ full) zero n ns h = record { node = cc; rest = cc; within = omega arith }
 is_at (m ∷ full) (suc k) n ns h =
     let at : IsAt full k n ns = is_at full k n ns h in
-    record {
-      parent = at.parent;
-      properties = at.properties;
-      methods = at.methods;
-      rest = at.rest;
-      within = omega (arith, at.within);
-    }
+    record { node = at.node; rest = at.rest; within = omega (arith, at.within) }
 
 differs : (a b : ℕ) → a < b → (a == b) ≡ false
 differs a b l = grind (arith, nat_tests)
@@ -99,7 +82,7 @@ shown_node :
     → IsShown full (Some p) k n.properties n.methods (below k (suc k) ns) (below p (suc k) ns)
 shown_node full p k n ns h at one e =
     let number : number_of (length full) (phandle_of k) ≡ Some k = number_is k (length full) at.within in
-    let above : parent_in full k ≡ p = at.parent ∙ e in
+    let above : parent_in full k ≡ p = ap (λ (x : Node). x.parent) at.node ∙ e in
     let next : k + 1 ≡ suc k = omega arith in
     let kids : child_from 1 (drop 1 full) k ≡ oldest (below k (suc k) ns) =
     younger full k h.rooted
@@ -107,11 +90,11 @@ shown_node full p k n ns h at one e =
     let peers : child_from (k + 1) (drop (k + 1) full) (parent_in full k) ≡ oldest (below p (suc k) ns) =
     rw (next, at.rest, above) (sym (oldest_is p (suc k) ns)) in
     record {
-      parent = ap (parent_at full) number ∙ rw (nonzero k one, above) refl;
-      child = ap (child_at full) number ∙ rw kids refl;
-      peer = ap (peer_at full) number ∙ rw (nonzero k one, peers) refl;
-      same_properties = at.properties;
-      same_methods = at.methods;
+      parent = by_number full (phandle_of k) k _ number ∙ rw (nonzero k one, above) refl;
+      child = by_number full (phandle_of k) k _ number ∙ rw kids refl;
+      peer = by_number full (phandle_of k) k _ number ∙ rw (nonzero k one, peers) refl;
+      same_properties = ap (λ (x : Node). x.properties) (sym at.node);
+      same_methods = ap (λ (x : Node). x.methods) (sym at.node);
     }
 
 below_step :
@@ -137,9 +120,10 @@ shown (n ∷ ns) h =
     let number : number_of (length (n ∷ ns)) (phandle_of 0) ≡ Some 0 = number_is 0 (length (n ∷ ns)) (omega arith) in
     let root : IsShown (n ∷ ns) None 0 n.properties n.methods (below 0 1 ns) Nobody =
     record {
-      parent = ap (parent_at (n ∷ ns)) number;
-      child = ap (child_at (n ∷ ns)) number ∙ ap (λ (i : Option ℕ). Ok (phandle_in i)) (sym (oldest_is 0 1 ns));
-      peer = ap (peer_at (n ∷ ns)) number;
+      parent = by_number (n ∷ ns) (phandle_of 0) 0 _ number;
+      child = by_number (n ∷ ns) (phandle_of 0) 0 _ number
+          ∙ ap (λ (i : Option ℕ). Ok (phandle_in i)) (sym (oldest_is 0 1 ns));
+      peer = by_number (n ∷ ns) (phandle_of 0) 0 _ number;
       same_properties = refl;
       same_methods = refl;
     } in

@@ -31,7 +31,7 @@ stands_own full d p k i [] h e l above = absurd (past full k i h (omega (arith, 
 stands_own full zero p k i (n ∷ ns) h e l above =
     let at : IsAt full k n ns = is_at full k n ns h in
     let here : i ≡ k = omega (arith, e) in
-    let same : n.parent ≡ p = sym at.parent ∙ (ap (parent_in full) (sym here) ∙ above) in
+    let same : n.parent ≡ p = ap (λ (x : Node). x.parent) (sym at.node) ∙ (ap (parent_in full) (sym here) ∙ above) in
     rw (equals n.parent p same) (inl here)
 stands_own full (suc d) p k i (n ∷ ns) h e l above =
     let at : IsAt full k n ns = is_at full k n ns h in

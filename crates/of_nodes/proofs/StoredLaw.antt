@@ -1,7 +1,7 @@
 -- The law `stored_stays`.
 use Rattle.std.proofs.Common.{◌≡◌, ◌≢◌, ℕ, zero, suc, ◌+◌, ◌≤◌, nat_le, Bool, true, false, List, [], ◌∷◌, ◌++◌}
 use Rattle.std.proofs.Common.{◌⊎◌, inl, inr, length, Option, Some, None, Result, Ok, Err, if◌then◌else◌, codes, refl}
-use Rattle.std.proofs.Common.{ap, sym, ◌∙◌, arith}
+use Rattle.std.proofs.Common.{ap, sym, ◌∙◌, arith, set}
 use Rattle.std.specs.List.{IsDistinct}
 use Rattle.of_cells.specs.declared.cells.Cell.{Cell}
 use Rattle.of_memory.specs.Access.{read_bytes}
@@ -13,18 +13,20 @@ use Rattle.of_nodes.specs.declared.phandles.Phandle.{Phandle}
 use Rattle.of_nodes.specs.declared.properties.Property.{Property}
 use Rattle.of_nodes.specs.declared.properties.Span.{Span}
 use Rattle.of_nodes.specs.declared.fault.NodeFault.{NodeFault}
-use Rattle.of_nodes.specs.declared.fault.NodeFault.TheVariants.{BadName, NoNode, TooManyNodes}
+use Rattle.of_nodes.specs.declared.fault.NodeFault.TheVariants.{BadName, TooManyNodes}
 use Rattle.of_nodes.specs.Methods.{is_method_name, with_former, with_method}
-use Rattle.of_nodes.specs.Nodes.{added_at, added_to, deleted_at, first_tree, former_at, methods_in}
-use Rattle.of_nodes.specs.Nodes.{most_nodes, named_child, new_node, number_of, phandle_of, properties_in, property_at}
-use Rattle.of_nodes.specs.Nodes.{then_child, with_methods, with_node, with_properties}
+use Rattle.of_nodes.specs.Nodes.{added_at, first_tree, former_at, method_added, methods_in, most_nodes, named_child}
+use Rattle.of_nodes.specs.Nodes.{node_at}
+use Rattle.of_nodes.specs.Nodes.{new_node, node_added, number_of, phandle_of, properties_in, property_deleted}
+use Rattle.of_nodes.specs.Nodes.{property_found, then_child, with_methods, with_node, with_properties}
 use Rattle.of_nodes.specs.Properties.{same_name, set_to, stored, value_in, with_entry, without}
 use Rattle.of_nodes.specs.PropertyLaw.{Holds}
 use Rattle.of_nodes.specs.Stored.{AreHeld, AreStored, IsHeld, LiesIn, StoredStays}
+use Rattle.of_nodes.proofs.Changed.{never, numbered_is, ok_is}
 use Rattle.of_nodes.proofs.First.{board, packages, slot}
 use Rattle.of_nodes.proofs.FirstFound.{before_it, wide}
 use Rattle.of_nodes.proofs.MethodLaw.{entry_found, others_found, same_is}
-use Rattle.of_nodes.proofs.PropertyLaw.{IsKept, IsSetting, kept, left_is, never_left, setting, some_property}
+use Rattle.of_nodes.proofs.PropertyLaw.{IsKept, IsSetting, kept, setting, some_property}
 use Rattle.of_nodes.proofs.PropertyNames.{differ, distinct_more, distinct_without, gone, names, names_kept}
 use Rattle.of_nodes.proofs.PropertyNames.{names_last, none_named, others_left}
 use Rattle.of_nodes.proofs.Put.{IsWide, stored_reads}
@@ -135,30 +137,19 @@ none_held m = record { held = λ name p e. absurd (none_property p e); distinct 
 
 -- ---- one node of all
 
-one_changed : (ns : List Node) (i : ℕ) (qs : List (List ℕ × Property)) (j : ℕ)
-    → (properties_in (with_properties ns i qs) j ≡ properties_in ns j)
-    ⊎ (properties_in (with_properties ns i qs) j ≡ qs)
-one_changed [] i qs j = inl refl
-one_changed (n ∷ ns) zero qs zero = inr refl
-one_changed (n ∷ ns) zero qs (suc j) = inl refl
-one_changed (n ∷ ns) (suc i) qs zero = inl refl
-one_changed (n ∷ ns) (suc i) qs (suc j) = one_changed ns i qs j
+one_set : (ns : List Node) (i : ℕ) (n : Node) (j : ℕ)
+    → (node_at (set ns i n) j ≡ node_at ns j) ⊎ (node_at (set ns i n) j ≡ n)
+one_set [] i n j = inl refl
+one_set (k ∷ ns) zero n zero = inr refl
+one_set (k ∷ ns) zero n (suc j) = inl refl
+one_set (k ∷ ns) (suc i) n zero = inl refl
+one_set (k ∷ ns) (suc i) n (suc j) = one_set ns i n j
 
-with_one : (m : DataSpace) (ns : List Node) (i : ℕ) (qs : List (List ℕ × Property)) → AreStored m ns → AreHeld m qs
-    → AreStored m (with_properties ns i qs)
-with_one m ns i qs a h = λ j. elim (one_changed ns i qs j) [ inl z ↦ rw z (a j) | inr z ↦ rw z h ]
-
-same_properties : (ns : List Node) (i : ℕ) (ms : List (List ℕ × Cell)) (j : ℕ)
-    → properties_in (with_methods ns i ms) j ≡ properties_in ns j
-same_properties [] i ms j = refl
-same_properties (n ∷ ns) zero ms zero = refl
-same_properties (n ∷ ns) zero ms (suc j) = refl
-same_properties (n ∷ ns) (suc i) ms zero = refl
-same_properties (n ∷ ns) (suc i) ms (suc j) = same_properties ns i ms j
-
-with_its : (m : DataSpace) (ns : List Node) (i : ℕ) (ms : List (List ℕ × Cell)) → AreStored m ns
-    → AreStored m (with_methods ns i ms)
-with_its m ns i ms a = λ j. rw (same_properties ns i ms j) (a j)
+with_one : (m : DataSpace) (ns : List Node) (i : ℕ) (n : Node) → AreStored m ns → AreHeld m n.properties
+    → AreStored m (set ns i n)
+with_one m ns i n a h = λ j.
+    let properties : Node → List (List ℕ × Property) = λ x. x.properties in
+    elim (one_set ns i n j) [ inl z ↦ rw (ap properties z) (a j) | inr z ↦ rw (ap properties z) h ]
 
 one_more : (ns : List Node) (n : Node) (j : ℕ)
     → (properties_in (ns ++ n ∷ []) j ≡ properties_in ns j) ⊎ (properties_in (ns ++ n ∷ []) j ≡ n.properties)
@@ -173,27 +164,20 @@ with_last m ns n a h = λ j. elim (one_more ns n j) [ inl z ↦ rw z (a j) | inr
 
 -- ---- each call
 
-never_node : (f : NodeFault) (x : Phandle × List Node)
-    → ◌≡◌ {A = Result (Phandle × List Node) NodeFault} (Err f) (Ok x) → ⊥
-never_node f x e = cc
-
-node_is : (x y : Phandle × List Node) → ◌≡◌ {A = Result (Phandle × List Node) NodeFault} (Ok x) (Ok y) → x.1 ≡ y.1
-node_is x y e =
-    let pair : ◌≡◌ {A = Phandle × List Node} x y = cc in ap (λ (z : Phandle × List Node). z.1) pair
-
 node_if : (b : Bool) (m : DataSpace) (ns nodes : List Node) (parent : ℕ) (ph : Phandle) → AreStored m ns
     → ◌≡◌ {A = Result (Phandle × List Node) NodeFault}
     (if b then Err TooManyNodes else Ok (phandle_of (length ns), ns ++ new_node parent ∷ [])) (Ok (ph, nodes))
     → AreStored m nodes
-node_if true m ns nodes parent ph a e = absurd (never_node TooManyNodes (ph, nodes) e)
+node_if true m ns nodes parent ph a e = absurd (never TooManyNodes (ph, nodes) e)
 node_if false m ns nodes parent ph a e =
-    rw (← node_is (phandle_of (length ns), ns ++ new_node parent ∷ []) (ph, nodes) e)
+    rw (← ap (λ (y : Phandle × List Node). y.1) (ok_is (phandle_of (length ns), ns ++ new_node parent ∷ []) (ph, nodes) e))
     (with_last m ns (new_node parent) a (none_held m))
 
-by_node : (o : Option ℕ) (m : DataSpace) (ns nodes : List Node) (ph : Phandle) → AreStored m ns
-    → added_to ns o ≡ Ok (ph, nodes) → AreStored m nodes
-by_node None m ns nodes ph a e = absurd (never_node NoNode (ph, nodes) e)
-by_node (Some parent) m ns nodes ph a e = node_if (nat_le most_nodes (length ns)) m ns nodes parent ph a e
+by_node : (m : DataSpace) (ns nodes : List Node) (above ph : Phandle) → AreStored m ns
+    → node_added ns above ≡ Ok (ph, nodes) → AreStored m nodes
+by_node m ns nodes above ph a e =
+    let there = numbered_is (number_of (length ns) above) _ (ph, nodes) e in
+    node_if (nat_le most_nodes (length ns)) m ns nodes there.0 ph a there.2
 
 grows : (m after : DataSpace) (before : Option Property) (name value : List ℕ) (p : Property)
     → IsKept m after before name value p → Grows m after
@@ -208,38 +192,33 @@ by_set m after ns nodes ph name value sound a s =
     let g = grows m after before name value s.property k in
     let held = put_held before m after name value s.property k g (λ q e. (a s.i).held name q e) in
     rw (← s.are)
-    (with_one after ns s.i (with_entry ps name s.property) (λ j. all_on m after (properties_in ns j) g (a j))
+    (with_one after ns s.i (record (node_at ns s.i) { properties = with_entry ps name s.property }) (λ j. all_on m after (properties_in ns j) g (a j))
     (with_held m after ps name s.property held g (a s.i)))
 
-by_delete : (o : Option ℕ) (m : DataSpace) (ns nodes : List Node) (name : List ℕ) → AreStored m ns
-    → deleted_at ns name o ≡ Ok (tt, nodes) → AreStored m nodes
-by_delete None m ns nodes name a e = absurd (never_left NoNode (tt, nodes) e)
-by_delete (Some i) m ns nodes name a e =
+by_delete : (m : DataSpace) (ns nodes : List Node) (ph : Phandle) (name : List ℕ) → AreStored m ns
+    → property_deleted ns ph name ≡ Ok (tt, nodes) → AreStored m nodes
+by_delete m ns nodes ph name a e =
+    let there = numbered_is (number_of (length ns) ph) _ (tt, nodes) e in
+    let i = there.0 in
     let left = with_properties ns i (without (properties_in ns i) name) in
-    let pair = left_is (tt, left) (tt, nodes) e in
-    let is : left ≡ nodes = ap (λ (y : Unit {0} × List Node). y.1) pair in
-    rw (← is) (with_one m ns i (without (properties_in ns i) name) a (without_held m (properties_in ns i) name (a i)))
-
-never_nodes : (f : NodeFault) (x : List Node) → ◌≡◌ {A = Result (List Node) NodeFault} (Err f) (Ok x) → ⊥
-never_nodes f x e = cc
-
-nodes_is : (x y : List Node) → ◌≡◌ {A = Result (List Node) NodeFault} (Ok x) (Ok y) → x ≡ y
-nodes_is x y e = cc
+    let is : left ≡ nodes = ap (λ (y : Unit {0} × List Node). y.1) (ok_is (tt, left) (tt, nodes) there.2) in
+    rw (← is) (with_one m ns i _ a (without_held m (properties_in ns i) name (a i)))
 
 method_if : (b : Bool) (m : DataSpace) (ns nodes : List Node) (i : ℕ) (ms : List (List ℕ × Cell)) → AreStored m ns
     → (if b then Ok (with_methods ns i ms) else Err BadName) ≡ Ok nodes → AreStored m nodes
-method_if true m ns nodes i ms a e = rw (← nodes_is (with_methods ns i ms) nodes e) (with_its m ns i ms a)
-method_if false m ns nodes i ms a e = absurd (never_nodes BadName nodes e)
+method_if true m ns nodes i ms a e = rw (← ok_is (with_methods ns i ms) nodes e) (with_one m ns i _ a (a i))
+method_if false m ns nodes i ms a e = absurd (never BadName nodes e)
 
-by_method : (o : Option ℕ) (m : DataSpace) (ns nodes : List Node) (name : List ℕ) (xt : Cell) → AreStored m ns
-    → added_at ns name xt o ≡ Ok nodes → AreStored m nodes
-by_method None m ns nodes name xt a e = absurd (never_nodes NoNode nodes e)
-by_method (Some i) m ns nodes name xt a e =
-    method_if (is_method_name name) m ns nodes i (with_method (methods_in ns i) name xt) a e
+by_method : (m : DataSpace) (ns nodes : List Node) (ph : Phandle) (name : List ℕ) (xt : Cell) → AreStored m ns
+    → method_added ns ph name xt ≡ Ok nodes → AreStored m nodes
+by_method m ns nodes ph name xt a e =
+    let there = numbered_is (number_of (length ns) ph) (added_at ns name xt) nodes e in
+    let i = there.0 in
+    method_if (is_method_name name) m ns nodes i (with_method (methods_in ns i) name xt) a there.2
 
 back_if : (b : Bool) (m : DataSpace) (ns : List Node) (i : ℕ) (ms : List (List ℕ × Cell)) → AreStored m ns
     → AreStored m (if b then with_methods ns i ms else ns)
-back_if true m ns i ms a = with_its m ns i ms a
+back_if true m ns i ms a = with_one m ns i _ a (a i)
 back_if false m ns i ms a = a
 
 by_back : (o : Option ℕ) (m : DataSpace) (ns : List Node) (name : List ℕ) (before : Option Cell) → AreStored m ns
@@ -257,33 +236,17 @@ by_others m after ns sound k a =
     } in
     λ j. all_on m after (properties_in ns j) g (a j)
 
-never_found : (f : NodeFault) (x : Option Property) → ◌≡◌ {A = Result (Option Property) NodeFault} (Err f) (Ok x) → ⊥
-never_found f x e = cc
-
-found_is : (x y : Option Property) → ◌≡◌ {A = Result (Option Property) NodeFault} (Ok x) (Ok y) → x ≡ y
-found_is x y e = cc
-
-found_held : (o : Option ℕ) (m : DataSpace) (ns : List Node) (name : List ℕ) (p : Property) → AreStored m ns
-    → property_at ns name o ≡ Ok (Some p) → IsHeld m name p
-found_held None m ns name p a e = absurd (never_found NoNode (Some p) e)
-found_held (Some i) m ns name p a e = (a i).held name p (found_is (value_in (properties_in ns i) name) (Some p) e)
+found_held : (m : DataSpace) (ns : List Node) (ph : Phandle) (name : List ℕ) (p : Property) → AreStored m ns
+    → property_found ns ph name ≡ Ok (Some p) → IsHeld m name p
+found_held m ns ph name p a e =
+    let there = numbered_is (number_of (length ns) ph) _ (Some p) e in
+    (a there.0).held name p (ok_is (value_in (properties_in ns there.0) name) (Some p) there.2)
 
 -- ---- the first tree
 
 record IsSafe (m : DataSpace) (ns : List Node) : Type 0 where
   wide_too : IsWide m
   all : AreStored m ns
-
-never_made : (f : NodeFault) (x : List Node × DataSpace)
-    → ◌≡◌ {A = Result (List Node × DataSpace) NodeFault} (Err f) (Ok x) → ⊥
-never_made f x e = cc
-
-made_is : (x y : List Node × DataSpace) → ◌≡◌ {A = Result (List Node × DataSpace) NodeFault} (Ok x) (Ok y) → x ≡ y
-made_is x y e = cc
-
-never_put : (f : NodeFault) (p : Property) (m : DataSpace)
-    → ◌≡◌ {A = Result (Property × DataSpace) NodeFault} (Err f) (Ok (p, m)) → ⊥
-never_put f p m e = cc
 
 named_of : (r : Result (Property × DataSpace) NodeFault) (m : DataSpace) (ns : List Node) (value : List ℕ)
     (y : List Node × DataSpace) → IsSafe m ns → stored m None (codes "name") value ≡ r
@@ -298,8 +261,8 @@ named_of (Ok x) m ns value y s g e =
     with_last x.1 ns n (λ j. all_on m x.1 (properties_in ns j) grow (s.all j))
     (with_held m x.1 [] (codes "name") x.0 held grow (none_held m)) in
     let safe : IsSafe x.1 (ns ++ n ∷ []) = record { wide_too = k.wide; all = all } in
-    rw (← made_is (ns ++ n ∷ [], x.1) y e) safe
-named_of (Err f) m ns value y s g e = absurd (never_made f y e)
+    rw (← ok_is (ns ++ n ∷ [], x.1) y e) safe
+named_of (Err f) m ns value y s g e = absurd (never f y e)
 
 named_safe : (m : DataSpace) (ns : List Node) (value : List ℕ) (y : List Node × DataSpace) → IsSafe m ns
     → named_child ns m 0 value ≡ Ok y → IsSafe y.1 y.0
@@ -317,13 +280,12 @@ first m after ns sound e =
 pub stored_stays : StoredStays
 stored_stays = record {
   first = first;
-  by_node = λ m ns nodes parent ph a e. by_node (number_of (length ns) parent) m ns nodes ph a e;
+  by_node = by_node;
   by_set = λ m after ns nodes ph name value sound a e.
-      by_set m after ns nodes ph name value sound a
-      (setting (number_of (length ns) ph) m after ns nodes ph name value refl e);
-  by_delete = λ m ns nodes ph name a e. by_delete (number_of (length ns) ph) m ns nodes name a e;
-  by_method = λ m ns nodes ph name xt a e. by_method (number_of (length ns) ph) m ns nodes name xt a e;
+      by_set m after ns nodes ph name value sound a (setting m after ns nodes ph name value e);
+  by_delete = by_delete;
+  by_method = by_method;
   by_taking_back = λ m ns ph name before a. by_back (number_of (length ns) ph) m ns name before a;
   by_others = by_others;
-  found = λ m ns ph name p a e. found_held (number_of (length ns) ph) m ns name p a e;
+  found = found_held;
 }

@@ -1,6 +1,7 @@
 -- A method that is taken back: the nodes are those before it was added.
 use Rattle.std.proofs.Common.{◌≡◌, ℕ, zero, suc, Bool, true, false, List, [], ◌∷◌, length, Option, Some, None, Result}
 use Rattle.std.proofs.Common.{Ok, Err, refl, ap, sym, ◌∙◌}
+use Rattle.std.proofs.lemmas.List.{length-set}
 use Rattle.of_cells.specs.declared.cells.Cell.{Cell}
 use Rattle.of_nodes.specs.declared.tree.Node.{Node}
 use Rattle.of_nodes.specs.declared.phandles.Phandle.{Phandle}
@@ -8,10 +9,10 @@ use Rattle.of_nodes.specs.declared.fault.NodeFault.{NodeFault}
 use Rattle.of_nodes.specs.declared.fault.NodeFault.TheVariants.{BadName}
 use Rattle.of_nodes.specs.Methods.{is_method_name, lower, method_in, with_former, with_method}
 use Rattle.of_nodes.specs.Properties.{replaced, same_name, value_in, with_entry, without}
-use Rattle.of_nodes.specs.Nodes.{added_at, former_at, method_added, method_at, method_found, method_taken_back}
+use Rattle.of_nodes.specs.Nodes.{added_at, former_at, method_added, method_found, method_taken_back}
 use Rattle.of_nodes.specs.Nodes.{methods_in, number_of, with_methods}
 use Rattle.of_nodes.proofs.Fitting.{same_self}
-use Rattle.of_nodes.proofs.Rooted.{length-with_methods}
+use Rattle.of_nodes.proofs.Changed.{by_number, numbered_is, ok_is}
 
 module _ {V : Type 0} where
   is_none : (v : V) → ◌≡◌ {A = Option V} (Some v) None → ⊥
@@ -82,32 +83,30 @@ record Undone (t ns : List Node) (o : Option ℕ) (name : List ℕ) (before : Op
   many : length ns ≡ length t
 
 undone_named : (b : Bool) (t ns : List Node) (i : ℕ) (name : List ℕ) (xt : Cell) (before : Option Cell)
-    → is_method_name name ≡ b → method_at t name (Some i) ≡ Ok before → added_at t name xt (Some i) ≡ Ok ns
+    → is_method_name name ≡ b → method_in (methods_in t i) name ≡ before → added_at t name xt i ≡ Ok ns
     → Undone t ns (Some i) name before
 undone_named true t ns i name xt before good found added =
     let value : value_in (methods_in t i) (lower name) ≡ before =
     let k : method_in (methods_in t i) name ≡ value_in (methods_in t i) (lower name) = rw good refl in cc in
     let after = with_methods t i (with_method (methods_in t i) name xt) in
     let is : after ≡ ns =
-    let k : added_at t name xt (Some i) ≡ Ok after = rw good refl in cc in
+    let k : added_at t name xt i ≡ Ok after = rw good refl in cc in
     record {
       nodes = rw good (ap (λ (l : List Node). formerly_in l i name before) (sym is)
           ∙ formerly_at t i name xt before value);
-      many = ap length (sym is) ∙ length-with_methods t i (with_method (methods_in t i) name xt);
+      many = ap length (sym is) ∙ length-set t i _;
     }
 undone_named false t ns i name xt before good found added =
     let k : ◌≡◌ {A = Result (List Node) NodeFault} (Err BadName) (Ok ns) = sym (rw good refl) ∙ added in
     let n : ⊥ = cc in absurd n
 
-undone_at : (o : Option ℕ) (t ns : List Node) (name : List ℕ) (xt : Cell) (before : Option Cell)
-    → method_at t name o ≡ Ok before → added_at t name xt o ≡ Ok ns → Undone t ns o name before
-undone_at None t ns name xt before found added = let n : ⊥ = cc in absurd n
-undone_at (Some i) t ns name xt before found added =
-    undone_named (is_method_name name) t ns i name xt before refl found added
-
 pub undone : (t ns : List Node) (ph : Phandle) (name : List ℕ) (xt : Cell) (before : Option Cell)
     → method_found t ph name ≡ Ok before → method_added t ph name xt ≡ Ok ns
     → method_taken_back ns ph name before ≡ t
 undone t ns ph name xt before found added =
-    let u = undone_at (number_of (length t) ph) t ns name xt before found added in
-    ap (λ (k : ℕ). former_at ns name before (number_of k ph)) u.many ∙ u.nodes
+    let there = numbered_is (number_of (length t) ph) (added_at t name xt) ns added in
+    let i = there.0 in
+    let was = ok_is (method_in (methods_in t i) name) before (sym (by_number t ph i _ there.1) ∙ found) in
+    let u = undone_named (is_method_name name) t ns i name xt before refl was there.2 in
+    ap (λ (k : ℕ). former_at ns name before (number_of k ph)) u.many
+    ∙ (ap (former_at ns name before) there.1 ∙ u.nodes)

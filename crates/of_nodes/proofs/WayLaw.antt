@@ -1,25 +1,24 @@
 -- The law `ways_lead`.
 use Rattle.std.proofs.Common.{◌≡◌, ℕ, ◌<◌, ◌==◌, Bool, true, false, List, [], ◌∷◌, ◌++◌, length, Option, Some}
-use Rattle.std.proofs.Common.{None, Result, Ok, Err, if◌then◌else◌, codes, refl, ap, sym, ◌∙◌, arith}
+use Rattle.std.proofs.Common.{None, Ok, if◌then◌else◌, codes, refl, ap, sym, ◌∙◌, arith}
 use Rattle.std.specs.List.{AllByRecursion}
 use Rattle.of_memory.specs.DataSpace.{DataSpace}
 use Rattle.of_nodes.specs.declared.tree.Node.{Node}
 use Rattle.of_nodes.specs.declared.lookup.Age.TheVariants.{Oldest}
 use Rattle.of_nodes.specs.declared.phandles.Phandle.{Phandle}
-use Rattle.of_nodes.specs.declared.fault.NodeFault.{NodeFault}
-use Rattle.of_nodes.specs.declared.fault.NodeFault.TheVariants.{NoNode}
-use Rattle.of_nodes.specs.Lookup.{child_for, found, from, step_for, walk, way, way_at, way_found}
-use Rattle.of_nodes.specs.Nodes.{AreNodes, number_of, parent_at, parent_in, phandle_in}
+use Rattle.of_nodes.specs.Lookup.{child_for, found, from, step_for, walk, way, way_found}
+use Rattle.of_nodes.specs.Nodes.{AreNodes, number_of, numbered, parent_in, phandle_in}
 use Rattle.of_nodes.specs.Nodes.{phandle_of}
 use Rattle.of_nodes.specs.Properties.{same_name}
 use Rattle.of_nodes.specs.Texts.{components, split}
 use Rattle.of_nodes.specs.WayLaw.{WaysLead}
+use Rattle.of_nodes.proofs.Changed.{by_number, numbered_is, ok_is}
 use Rattle.of_nodes.proofs.Shown.{number_is}
 use Rattle.of_nodes.proofs.Ways.{split_join}
 
 here : (m : DataSpace) (ns : List Node) (i : ℕ) → AreNodes ns → i < length ns
     → way_found m ns (phandle_of i) [] ≡ Ok (Some (phandle_of i))
-here m ns i h l = ap (way_at m ns []) (number_is i (length ns) l)
+here m ns i h l = by_number ns (phandle_of i) i _ (number_is i (length ns) l)
 
 -- ---- up
 
@@ -28,7 +27,9 @@ up_if : (b : Bool) (i : ℕ)
 up_if true i = refl
 up_if false i = refl
 
-up_at : (o : Option ℕ) (m : DataSpace) (ns : List Node) → way_at m ns (codes "..") o ≡ parent_at ns o
+up_at : (o : Option ℕ) (m : DataSpace) (ns : List Node)
+    → numbered o (λ i. Ok (phandle_in (way m ns i (components (codes "..")))))
+    ≡ numbered o (λ i. Ok (if i == 0 then None else Some (phandle_of (parent_in ns i))))
 up_at None m ns = refl
 up_at (Some i) m ns = ap Ok (up_if (i == 0) (parent_in ns i))
 
@@ -58,29 +59,19 @@ number_in (Some j) i e =
     let is : j ≡ i = omega (arith, same) in
     ap Some is
 
-ok_is : (x y : Option Phandle) → ◌≡◌ {A = Result (Option Phandle) NodeFault} (Ok x) (Ok y) → x ≡ y
-ok_is x y e = cc
-
-never : (x : Option Phandle) → ◌≡◌ {A = Result (Option Phandle) NodeFault} (Err NoNode) (Ok x) → ⊥
-never x e = cc
-
-on_at : (o : Option ℕ) (m : DataSpace) (ns : List Node) (i b c : ℕ) (xs ys : List ℕ)
-    → way_at m ns (b ∷ xs) o ≡ Ok (Some (phandle_of i))
-    → way_at m ns ((b ∷ xs) ++ 47 ∷ c ∷ ys) o ≡ Ok (phandle_in (way m ns i (components (c ∷ ys))))
-on_at None m ns i b c xs ys e = absurd (never (Some (phandle_of i)) e)
-on_at (Some k) m ns i b c xs ys e =
-    let at : way m ns k (split (b ∷ xs)) ≡ Some i =
-    number_in (way m ns k (split (b ∷ xs))) i (ok_is _ (Some (phandle_of i)) e) in
-    ap (λ (cs : List (List ℕ)). Ok (phandle_in (way m ns k cs))) (split_join (b ∷ xs) (c ∷ ys))
-    ∙ (ap (λ (r : Option ℕ). Ok (phandle_in r)) (parts (split (b ∷ xs)) (split (c ∷ ys)) m ns k)
-    ∙ ap (λ (r : Option ℕ). Ok (phandle_in (from r (λ j. way m ns j (split (c ∷ ys)))))) at)
-
 on : (m : DataSpace) (ns : List Node) (ph : Phandle) (i b c : ℕ) (xs ys : List ℕ) → AreNodes ns → i < length ns
     → way_found m ns ph (b ∷ xs) ≡ Ok (Some (phandle_of i))
     → way_found m ns ph ((b ∷ xs) ++ 47 ∷ c ∷ ys) ≡ way_found m ns (phandle_of i) (c ∷ ys)
 on m ns ph i b c xs ys h l e =
-    on_at (number_of (length ns) ph) m ns i b c xs ys e
-    ∙ sym (ap (way_at m ns (c ∷ ys)) (number_is i (length ns) l))
+    let there = numbered_is (number_of (length ns) ph) _ (Some (phandle_of i)) e in
+    let k = there.0 in
+    let at : way m ns k (split (b ∷ xs)) ≡ Some i =
+    number_in (way m ns k (split (b ∷ xs))) i (ok_is _ (Some (phandle_of i)) there.2) in
+    by_number ns ph k _ there.1
+    ∙ (ap (λ (cs : List (List ℕ)). Ok (phandle_in (way m ns k cs))) (split_join (b ∷ xs) (c ∷ ys))
+    ∙ (ap (λ (r : Option ℕ). Ok (phandle_in r)) (parts (split (b ∷ xs)) (split (c ∷ ys)) m ns k)
+    ∙ (ap (λ (r : Option ℕ). Ok (phandle_in (from r (λ j. way m ns j (split (c ∷ ys)))))) at
+    ∙ sym (by_number ns (phandle_of i) i _ (number_is i (length ns) l)))))
 
 -- ---- down
 
@@ -106,7 +97,7 @@ down : (m : DataSpace) (ns : List Node) (text : List ℕ) → AreNodes ns
     → way_found m ns (phandle_of 0) text ≡ Ok (found m ns (47 ∷ text))
 down m ns text h names =
     let some : 0 < length ns = omega (arith, h.three) in
-    ap (way_at m ns text) (number_is 0 (length ns) some)
+    by_number ns (phandle_of 0) 0 _ (number_is 0 (length ns) some)
     ∙ ap (λ (r : Option ℕ). Ok (phandle_in r)) (all_down (components text) m ns 0 names)
 
 pub ways_lead : WaysLead

@@ -1,7 +1,7 @@
 -- A node is found by its path.
 use Rattle.std.proofs.Common.{◌≡◌, ℕ, zero, suc, ◌+◌, ◌-◌, ◌<◌, ◌≤◌, ◌==◌, nat_le, Bool, true, false, ◌&&◌, List, []}
 use Rattle.std.proofs.Common.{◌∷◌, ◌++◌, length, drop, Option, Some, None, refl, ap, sym, ◌∙◌, arith, append_assoc}
-use Rattle.std.proofs.Common.{if◌then◌else◌, codes}
+use Rattle.std.proofs.Common.{if◌then◌else◌, codes, drop-cons}
 use Rattle.std.specs.List.{list_all}
 use Rattle.std.proofs.lemmas.Bool.Decides.{nat_tests}
 use Rattle.of_memory.specs.DataSpace.{DataSpace}
@@ -12,8 +12,8 @@ use Rattle.of_nodes.specs.Asked.{Asked, asked, fits}
 use Rattle.of_nodes.specs.Components.{address_cells, name_at, node_name, unit_of, value_of}
 use Rattle.of_nodes.specs.Lookup.{child_for, first, fitting, from, node_of, walk}
 use Rattle.of_nodes.specs.Names.{is_name, is_name_byte}
-use Rattle.of_nodes.specs.Nodes.{AreNodes, parent_in}
-use Rattle.of_nodes.specs.Paths.{component_in, components_to, node_in, path_in}
+use Rattle.of_nodes.specs.Nodes.{AreNodes, new_node, node_at, parent_in}
+use Rattle.of_nodes.specs.Paths.{component_in, components_to, path_in}
 use Rattle.of_nodes.specs.Texts.{components, split, with_byte}
 use Rattle.of_nodes.specs.Ways.{IsFirst, PathsFind}
 use Rattle.of_nodes.proofs.Fitting.{IsClear, IsWhole, both, clear, clear_component, clear_unit, fits_own, lacks, whole}
@@ -57,16 +57,6 @@ module _ (m : DataSpace) (ns : List Node) (age : Age) where
   walk_join i (c ∷ cs) ds = on_step (child_for m ns age i c) cs ds (λ j. walk_join j cs ds)
 
 -- the child that is found is the first that fits
-at_place : (ns : List Node) (k : ℕ) → k < length ns → drop k ns ≡ node_in ns k ∷ drop (suc k) ns
-at_place [] k l = absurd (omega (arith, l))
-at_place (n ∷ ns) zero l = refl
-at_place (n ∷ ns) (suc k) l = at_place ns k (omega (arith, l))
-
-parent_is : (ns : List Node) (k : ℕ) → k < length ns → (node_in ns k).parent ≡ parent_in ns k
-parent_is [] k l = absurd (omega (arith, l))
-parent_is (n ∷ ns) zero l = refl
-parent_is (n ∷ ns) (suc k) l = parent_is ns k (omega (arith, l))
-
 not_both : (a b : Bool) → (a ≡ true → b ≡ false) → (a && b) ≡ false
 not_both true b h = h refl
 not_both false b h = refl
@@ -79,20 +69,20 @@ equals a b h = grind (arith, nat_tests)
 
 first_fit :
     (m : DataSpace) (ns : List Node) (count p i : ℕ) (c : Asked) (d k : ℕ) → k + d ≡ i → 1 ≤ k → i < length ns
-    → parent_in ns i ≡ p → fits m count (node_in ns i) c ≡ true
-    → ((j : ℕ) → 1 ≤ j → j < i → parent_in ns j ≡ p → fits m count (node_in ns j) c ≡ false)
+    → parent_in ns i ≡ p → fits m count (node_at ns i) c ≡ true
+    → ((j : ℕ) → 1 ≤ j → j < i → parent_in ns j ≡ p → fits m count (node_at ns j) c ≡ false)
     → first (fitting m count c p k (drop k ns)) ≡ Some i
 first_fit m ns count p i c zero k e one l above good older =
     let here : k ≡ i = omega (arith, e) in
-    let same : ((node_in ns i).parent == p) ≡ true = equals (node_in ns i).parent p (parent_is ns i l ∙ above) in
-    rw (here, at_place ns i l, same, good) refl
+    let same : ((node_at ns i).parent == p) ≡ true = equals (node_at ns i).parent p above in
+    rw (here, drop-cons ns i (new_node 0) l, same, good) refl
 first_fit m ns count p i c (suc d) k e one l above good older =
     let within : k < length ns = omega (arith, e, l) in
     let before_i : k < i = omega (arith, e) in
-    let no : ((node_in ns k).parent == p && fits m count (node_in ns k) c) ≡ false =
-    not_both ((node_in ns k).parent == p) (fits m count (node_in ns k) c)
-    (λ t. older k one before_i (sym (parent_is ns k within) ∙ equal (node_in ns k).parent p t)) in
-    rw (at_place ns k within, no)
+    let no : ((node_at ns k).parent == p && fits m count (node_at ns k) c) ≡ false =
+    not_both ((node_at ns k).parent == p) (fits m count (node_at ns k) c)
+    (λ t. older k one before_i (equal (node_at ns k).parent p t)) in
+    rw (drop-cons ns k (new_node 0) within, no)
     (first_fit m ns count p i c d (suc k) (omega (arith, e)) (omega (arith, one)) l above good older)
 
 -- more levels than there are change nothing
@@ -213,8 +203,8 @@ child_found :
     → node_of m ns (path_in m ns i) ≡ Some i
 child_found m ns i h f up =
     let p = parent_in ns i in
-    let n = node_in ns i in
-    let above = node_in ns p in
+    let n = node_at ns i in
+    let above = node_at ns p in
     let c = component_in m ns i in
     let unit = unit_of m (address_cells m above) n in
     let good : list_all is_name_byte (node_name m n) ≡ true =
@@ -226,8 +216,8 @@ child_found m ns i h f up =
     let some : 1 ≤ length c = longer (node_name m n) unit (some_byte (node_name m n) f.name) in
     let place : 1 + (i - 1) ≡ i = omega (arith, f.below) in
     let found : child_for m ns Oldest p c ≡ Some i =
-    first_fit m ns (address_cells m above) p i (asked c) (i - 1) 1 place (omega arith) f.within refl (fits_own m above n name)
-    f.no_older in
+    first_fit m ns (address_cells m above) p i (asked c) (i - 1) 1 place (omega arith) f.within refl
+    (fits_own m above n name) f.no_older in
     let on : walk m ns Oldest p (split c) ≡ Some i =
     ap (walk m ns Oldest p) (split_whole c slash)
     ∙ ap (λ (r : Option ℕ). from r (λ j. walk m ns Oldest j [])) found in

@@ -1,6 +1,6 @@
 -- Finding a node by its path (IEEE 1275-1994, 4.3.1).
-use Rattle.std.specs.Prelude.{ℕ, suc, ◌&&◌, ◌==◌, List, [], ◌∷◌, length, drop, codes}
-use Rattle.std.specs.Prelude.{Option, Some, None, Result, Ok, Err, if◌then◌else◌}
+use Rattle.std.specs.Prelude.{ℕ, suc, ◌&&◌, ◌==◌, List, [], ◌∷◌, drop, codes}
+use Rattle.std.specs.Prelude.{Option, Some, None, Result, Ok, if◌then◌else◌}
 use Rattle.of_memory.specs.DataSpace.{DataSpace}
 use Rattle.of_nodes.specs.declared.tree.Node.{Node}
 use Rattle.of_nodes.specs.declared.phandles.Phandle.{Phandle}
@@ -9,9 +9,7 @@ use Rattle.of_nodes.specs.declared.lookup.Age.TheVariants.{Newest, Oldest}
 use Rattle.of_nodes.specs.Asked.{Asked, asked, fits}
 use Rattle.of_nodes.specs.Components.{address_cells}
 use Rattle.of_nodes.specs.declared.fault.NodeFault.{NodeFault}
-use Rattle.of_nodes.specs.declared.fault.NodeFault.TheVariants.{NoNode}
-use Rattle.of_nodes.specs.Nodes.{number_of, parent_in, phandle_in}
-use Rattle.of_nodes.specs.Paths.{node_in}
+use Rattle.of_nodes.specs.Nodes.{by_phandle, node_at, parent_in, phandle_in}
 use Rattle.of_nodes.specs.Properties.{same_name}
 use Rattle.of_nodes.specs.Texts.{components}
 
@@ -24,7 +22,7 @@ fitting m count wanted p i (n ∷ ns) =
 
 -- the children of node p that a component fits, the oldest first
 abbrev pub fitting_children : DataSpace → List Node → ℕ → List ℕ → List ℕ
-fitting_children m ns p text = fitting m (address_cells m (node_in ns p)) (asked text) p 1 (drop 1 ns)
+fitting_children m ns p text = fitting m (address_cells m (node_at ns p)) (asked text) p 1 (drop 1 ns)
 
 -- the first of a list
 abbrev pub first : List ℕ → Option ℕ
@@ -70,12 +68,8 @@ way m ns i [] = Some i
 way m ns i (c ∷ cs) = from (step_for m ns i c) (λ j. way m ns j cs)
 
 -- the node of a path from the node with a phandle on
-abbrev pub way_at : DataSpace → List Node → List ℕ → Option ℕ → Result (Option Phandle) NodeFault
-way_at m ns text None = Err NoNode
-way_at m ns text (Some i) = Ok (phandle_in (way m ns i (components text)))
-
 abbrev pub way_found : DataSpace → List Node → Phandle → List ℕ → Result (Option Phandle) NodeFault
-way_found m ns ph text = way_at m ns text (number_of (length ns) ph)
+way_found m ns ph text = by_phandle ns ph (λ i. Ok (phandle_in (way m ns i (components text))))
 
 -- the node of a path below `/packages`; each component takes the newest child that it fits
 abbrev pub package_found : DataSpace → List Node → List ℕ → Option Phandle

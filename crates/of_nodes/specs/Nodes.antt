@@ -1,7 +1,7 @@
 -- Nodes by number, the root first (IEEE 1275-1994, 3.2.1).
 use Rattle.std.specs.Prelude.{ℕ, ◌<◌, ◌≤◌, ◌+◌, ◌*◌, ◌-◌, ◌/◌, ◌%◌, ◌&&◌, ◌==◌, nat_le, nat_lt, zero, suc, max}
 use Rattle.std.specs.Prelude.{List, [], ◌∷◌, ◌++◌, length, drop, Option, Some, None, Result, Ok, Err, if◌then◌else◌}
-use Rattle.std.specs.Prelude.{codes, slice_get}
+use Rattle.std.specs.Prelude.{codes, get_or, set, slice_get}
 use Rattle.std.specs.Option.{option_or}
 use Rattle.of_memory.specs.DataSpace.{DataSpace}
 use Rattle.of_cells.specs.declared.cells.Cell.{Cell}
@@ -49,51 +49,56 @@ pub record AreNodes (ns : List Node) : Type 0 where
 abbrev pub new_node : ℕ → Node
 new_node parent = record { parent = parent; properties = []; methods = [] }
 
--- the phandle of a node made as the last child of one with a number, and the nodes then
-abbrev pub added_to : List Node → Option ℕ → Result (Phandle × List Node) NodeFault
-added_to ns None = Err NoNode
-added_to ns (Some parent) =
-    if nat_le most_nodes (length ns) then Err TooManyNodes
-    else Ok (phandle_of (length ns), ns ++ new_node parent ∷ [])
+-- node i; such a node stands where there is none
+abbrev pub node_at : List Node → ℕ → Node
+node_at ns i = get_or ns i (new_node 0)
 
-abbrev pub node_added : List Node → Phandle → Result (Phandle × List Node) NodeFault
-node_added ns parent = added_to ns (number_of (length ns) parent)
+-- the number of the node above it, its properties and its methods
+abbrev pub parent_in : List Node → ℕ → ℕ
+parent_in ns i = (node_at ns i).parent
 
--- the properties of node i
 abbrev pub properties_in : List Node → ℕ → List (List ℕ × Property)
-properties_in [] i = []
-properties_in (n ∷ ns) zero = n.properties
-properties_in (n ∷ ns) (suc i) = properties_in ns i
+properties_in ns i = (node_at ns i).properties
 
--- the nodes with other properties of node i
+abbrev pub methods_in : List Node → ℕ → List (List ℕ × Cell)
+methods_in ns i = (node_at ns i).methods
+
+-- the nodes with a change of node i
+abbrev pub with_node_at : List Node → ℕ → (Node → Node) → List Node
+with_node_at ns i change = set ns i (change (node_at ns i))
+
 abbrev pub with_properties : List Node → ℕ → List (List ℕ × Property) → List Node
-with_properties [] i ps = []
-with_properties (n ∷ ns) zero ps = record n { properties = ps } ∷ ns
-with_properties (n ∷ ns) (suc i) ps = n ∷ with_properties ns i ps
+with_properties ns i ps = with_node_at ns i (λ n. record n { properties = ps })
+
+abbrev pub with_methods : List Node → ℕ → List (List ℕ × Cell) → List Node
+with_methods ns i ms = with_node_at ns i (λ n. record n { methods = ms })
+
+-- what there is for a number, or NoNode
+abbrev pub numbered : {A : Type 0} → Option ℕ → (ℕ → Result A NodeFault) → Result A NodeFault
+numbered None f = Err NoNode
+numbered (Some i) f = f i
+
+-- what there is for the number of the node with a phandle, or NoNode
+abbrev pub by_phandle : {A : Type 0} → List Node → Phandle → (ℕ → Result A NodeFault) → Result A NodeFault
+by_phandle ns ph f = numbered (number_of (length ns) ph) f
+
+-- the phandle of a node made as the last child of that with a phandle, and the nodes then
+abbrev pub node_added : List Node → Phandle → Result (Phandle × List Node) NodeFault
+node_added ns above =
+    by_phandle ns above (λ i. if nat_le most_nodes (length ns) then Err TooManyNodes
+    else Ok (phandle_of (length ns), ns ++ new_node i ∷ []))
 
 -- the property of the name of the node with a phandle
-abbrev pub property_at : List Node → List ℕ → Option ℕ → Result (Option Property) NodeFault
-property_at ns name None = Err NoNode
-property_at ns name (Some i) = Ok (value_in (properties_in ns i) name)
-
 abbrev pub property_found : List Node → Phandle → List ℕ → Result (Option Property) NodeFault
-property_found ns ph name = property_at ns name (number_of (length ns) ph)
+property_found ns ph name = by_phandle ns ph (λ i. Ok (value_in (properties_in ns i) name))
 
--- the property behind that of the name, or the first where the name is empty, of the node with a phandle
-abbrev pub next_at : List Node → List ℕ → Option ℕ → Result (Option Property) NodeFault
-next_at ns name None = Err NoNode
-next_at ns name (Some i) = Ok (value_next (properties_in ns i) name)
-
+-- the property behind that of the name, or the first where the name is empty
 abbrev pub next_found : List Node → Phandle → List ℕ → Result (Option Property) NodeFault
-next_found ns ph name = next_at ns name (number_of (length ns) ph)
+next_found ns ph name = by_phandle ns ph (λ i. Ok (value_next (properties_in ns i) name))
 
--- the property at a place in the order, of the node with a phandle
-abbrev pub property_in_place : List Node → ℕ → Option ℕ → Result (Option Property) NodeFault
-property_in_place ns place None = Err NoNode
-property_in_place ns place (Some i) = Ok (value_at (properties_in ns i) place)
-
+-- the property at a place in the order
 abbrev pub property_placed : List Node → Phandle → ℕ → Result (Option Property) NodeFault
-property_placed ns ph place = property_in_place ns place (number_of (length ns) ph)
+property_placed ns ph place = by_phandle ns ph (λ i. Ok (value_at (properties_in ns i) place))
 
 -- the nodes with what was set at node i
 abbrev pub set_in :
@@ -101,62 +106,39 @@ abbrev pub set_in :
 set_in ns i (Ok x) = Ok (with_properties ns i x.0, x.1)
 set_in ns i (Err fault) = Err fault
 
--- what setting a property of the node with a phandle leaves
-abbrev pub set_at : DataSpace → List Node → List ℕ → List ℕ → Option ℕ → Result (List Node × DataSpace) NodeFault
-set_at m ns name value None = Err NoNode
-set_at m ns name value (Some i) =
+-- what setting a property of node i leaves
+abbrev pub set_at : DataSpace → List Node → List ℕ → List ℕ → ℕ → Result (List Node × DataSpace) NodeFault
+set_at m ns name value i =
     if may_hold name value then set_in ns i (property_set m (properties_in ns i) name value) else Err BadName
 
+-- what setting a property of the node with a phandle leaves
 abbrev pub tree_property_set :
     DataSpace → List Node → Phandle → List ℕ → List ℕ → Result (List Node × DataSpace) NodeFault
-tree_property_set m ns ph name value = set_at m ns name value (number_of (length ns) ph)
+tree_property_set m ns ph name value = by_phandle ns ph (set_at m ns name value)
 
--- what deleting a property of the node with a phandle leaves
-abbrev pub deleted_at : List Node → List ℕ → Option ℕ → Result (Unit {0} × List Node) NodeFault
-deleted_at ns name None = Err NoNode
-deleted_at ns name (Some i) = Ok (tt, with_properties ns i (without (properties_in ns i) name))
-
+-- what deleting one leaves
 abbrev pub property_deleted : List Node → Phandle → List ℕ → Result (Unit {0} × List Node) NodeFault
-property_deleted ns ph name = deleted_at ns name (number_of (length ns) ph)
-
--- the methods of node i
-abbrev pub methods_in : List Node → ℕ → List (List ℕ × Cell)
-methods_in [] i = []
-methods_in (n ∷ ns) zero = n.methods
-methods_in (n ∷ ns) (suc i) = methods_in ns i
-
--- the nodes with other methods of node i
-abbrev pub with_methods : List Node → ℕ → List (List ℕ × Cell) → List Node
-with_methods [] i ms = []
-with_methods (n ∷ ns) zero ms = record n { methods = ms } ∷ ns
-with_methods (n ∷ ns) (suc i) ms = n ∷ with_methods ns i ms
+property_deleted ns ph name =
+    by_phandle ns ph (λ i. Ok (tt, with_properties ns i (without (properties_in ns i) name)))
 
 -- the method of the name of the node with a phandle
-abbrev pub method_at : List Node → List ℕ → Option ℕ → Result (Option Cell) NodeFault
-method_at ns name None = Err NoNode
-method_at ns name (Some i) = Ok (method_in (methods_in ns i) name)
-
 abbrev pub method_found : List Node → Phandle → List ℕ → Result (Option Cell) NodeFault
-method_found ns ph name = method_at ns name (number_of (length ns) ph)
+method_found ns ph name = by_phandle ns ph (λ i. Ok (method_in (methods_in ns i) name))
 
--- the name and the word of the method at a place in the order, of the node with a phandle
-abbrev pub method_in_place : List Node → ℕ → Option ℕ → Result (Option (List ℕ × Cell)) NodeFault
-method_in_place ns place None = Err NoNode
-method_in_place ns place (Some i) = Ok (slice_get (methods_in ns i) place)
-
+-- the name and the word of the method at a place in the order
 abbrev pub method_placed : List Node → Phandle → ℕ → Result (Option (List ℕ × Cell)) NodeFault
-method_placed ns ph place = method_in_place ns place (number_of (length ns) ph)
+method_placed ns ph place = by_phandle ns ph (λ i. Ok (slice_get (methods_in ns i) place))
 
--- what making a word a method of the node with a phandle leaves
-abbrev pub added_at : List Node → List ℕ → Cell → Option ℕ → Result (List Node) NodeFault
-added_at ns name xt None = Err NoNode
-added_at ns name xt (Some i) =
+-- what making a word a method of node i leaves
+abbrev pub added_at : List Node → List ℕ → Cell → ℕ → Result (List Node) NodeFault
+added_at ns name xt i =
     if is_method_name name then Ok (with_methods ns i (with_method (methods_in ns i) name xt)) else Err BadName
 
+-- what making a word a method of the node with a phandle leaves
 abbrev pub method_added : List Node → Phandle → List ℕ → Cell → Result (List Node) NodeFault
-method_added ns ph name xt = added_at ns name xt (number_of (length ns) ph)
+method_added ns ph name xt = by_phandle ns ph (added_at ns name xt)
 
--- the nodes with what the node with a phandle had as the method of a name before that was added
+-- the nodes with what the node of a number had as the method of a name before that was added
 abbrev pub former_at : List Node → List ℕ → Option Cell → Option ℕ → List Node
 former_at ns name before None = ns
 former_at ns name before (Some i) =
@@ -186,12 +168,6 @@ first_tree m =
     then_child (then_child (named_child [] m 0 (codes "board" ++ 0 ∷ [])) (codes "packages" ++ 0 ∷ []))
     (codes "slot" ++ 0 ∷ [])
 
--- the number of the node above node i
-abbrev pub parent_in : List Node → ℕ → ℕ
-parent_in [] i = 0
-parent_in (n ∷ ns) zero = n.parent
-parent_in (n ∷ ns) (suc i) = parent_in ns i
-
 -- the number of the first of these nodes, numbered from i on, that has the parent p
 abbrev pub child_from : ℕ → List Node → ℕ → Option ℕ
 child_from i [] p = None
@@ -203,29 +179,18 @@ phandle_in None = None
 phandle_in (Some i) = Some (phandle_of i)
 
 -- the node above that with a phandle; the root has none
-abbrev pub parent_at : List Node → Option ℕ → Result (Option Phandle) NodeFault
-parent_at ns None = Err NoNode
-parent_at ns (Some i) = Ok (if i == 0 then None else Some (phandle_of (parent_in ns i)))
-
 abbrev pub parent_found : List Node → Phandle → Result (Option Phandle) NodeFault
-parent_found ns ph = parent_at ns (number_of (length ns) ph)
+parent_found ns ph = by_phandle ns ph (λ i. Ok (if i == 0 then None else Some (phandle_of (parent_in ns i))))
 
 -- its first child
-abbrev pub child_at : List Node → Option ℕ → Result (Option Phandle) NodeFault
-child_at ns None = Err NoNode
-child_at ns (Some i) = Ok (phandle_in (child_from 1 (drop 1 ns) i))
-
 abbrev pub child_found : List Node → Phandle → Result (Option Phandle) NodeFault
-child_found ns ph = child_at ns (number_of (length ns) ph)
+child_found ns ph = by_phandle ns ph (λ i. Ok (phandle_in (child_from 1 (drop 1 ns) i)))
 
 -- the next child of its parent
-abbrev pub peer_at : List Node → Option ℕ → Result (Option Phandle) NodeFault
-peer_at ns None = Err NoNode
-peer_at ns (Some i) =
-    Ok (if i == 0 then None else phandle_in (child_from (i + 1) (drop (i + 1) ns) (parent_in ns i)))
-
 abbrev pub peer_found : List Node → Phandle → Result (Option Phandle) NodeFault
-peer_found ns ph = peer_at ns (number_of (length ns) ph)
+peer_found ns ph =
+    by_phandle ns ph (λ i. Ok (if i == 0 then None
+    else phandle_in (child_from (i + 1) (drop (i + 1) ns) (parent_in ns i))))
 
 -- The node behind all that is below node i, which is at most k levels below the root: its peer, or else the one
 -- behind all that is below the node above it.
@@ -236,9 +201,6 @@ behind_in ns (suc k) i =
     else option_or (child_from (i + 1) (drop (i + 1) ns) (parent_in ns i)) (behind_in ns k (parent_in ns i))
 
 -- the next node in preorder: the first child, or else the node behind all that is below it
-abbrev pub after_at : List Node → Option ℕ → Result (Option Phandle) NodeFault
-after_at ns None = Err NoNode
-after_at ns (Some i) = Ok (phandle_in (option_or (child_from 1 (drop 1 ns) i) (behind_in ns i i)))
-
 abbrev pub after_found : List Node → Phandle → Result (Option Phandle) NodeFault
-after_found ns ph = after_at ns (number_of (length ns) ph)
+after_found ns ph =
+    by_phandle ns ph (λ i. Ok (phandle_in (option_or (child_from 1 (drop 1 ns) i) (behind_in ns i i))))

@@ -1,23 +1,16 @@
 -- The path of a node (IEEE 1275-1994, 3.2.1.1).
-use Rattle.std.specs.Prelude.{ℕ, zero, suc, ◌==◌, List, [], ◌∷◌, ◌++◌, length, Option, Some, None, Result, Ok, Err}
+use Rattle.std.specs.Prelude.{ℕ, zero, suc, ◌==◌, List, [], ◌∷◌, ◌++◌, Result, Ok}
 use Rattle.std.specs.Prelude.{if◌then◌else◌}
 use Rattle.of_memory.specs.DataSpace.{DataSpace}
 use Rattle.of_nodes.specs.declared.tree.Node.{Node}
 use Rattle.of_nodes.specs.declared.phandles.Phandle.{Phandle}
 use Rattle.of_nodes.specs.declared.fault.NodeFault.{NodeFault}
-use Rattle.of_nodes.specs.declared.fault.NodeFault.TheVariants.{NoNode}
 use Rattle.of_nodes.specs.Components.{address_cells, component}
-use Rattle.of_nodes.specs.Nodes.{new_node, number_of, parent_in}
-
--- node i
-abbrev pub node_in : List Node → ℕ → Node
-node_in [] i = new_node 0
-node_in (n ∷ ns) zero = n
-node_in (n ∷ ns) (suc i) = node_in ns i
+use Rattle.of_nodes.specs.Nodes.{by_phandle, node_at, parent_in}
 
 -- how node i stands in a path
 abbrev pub component_in : DataSpace → List Node → ℕ → List ℕ
-component_in m ns i = component m (node_in ns (parent_in ns i)) (node_in ns i)
+component_in m ns i = component m (node_at ns (parent_in ns i)) (node_at ns i)
 
 -- the components from the root down to node i, which is at most k levels below it, each behind a `/`
 abbrev pub components_to : DataSpace → List Node → ℕ → ℕ → List ℕ
@@ -30,25 +23,13 @@ abbrev pub path_in : DataSpace → List Node → ℕ → List ℕ
 path_in m ns i = if i == 0 then 47 ∷ [] else components_to m ns i i
 
 -- how the node with a phandle stands in a path; the root stands in none
-abbrev pub component_at : DataSpace → List Node → Option ℕ → Result (List ℕ) NodeFault
-component_at m ns None = Err NoNode
-component_at m ns (Some i) = Ok (if i == 0 then [] else component_in m ns i)
-
 abbrev pub component_found : DataSpace → List Node → Phandle → Result (List ℕ) NodeFault
-component_found m ns ph = component_at m ns (number_of (length ns) ph)
+component_found m ns ph = by_phandle ns ph (λ i. Ok (if i == 0 then [] else component_in m ns i))
 
 -- the path of the node with a phandle
-abbrev pub path_at : DataSpace → List Node → Option ℕ → Result (List ℕ) NodeFault
-path_at m ns None = Err NoNode
-path_at m ns (Some i) = Ok (path_in m ns i)
-
 abbrev pub path_found : DataSpace → List Node → Phandle → Result (List ℕ) NodeFault
-path_found m ns ph = path_at m ns (number_of (length ns) ph)
+path_found m ns ph = by_phandle ns ph (λ i. Ok (path_in m ns i))
 
 -- how many cells the addresses below the node with a phandle have
-abbrev pub cells_at : DataSpace → List Node → Option ℕ → Result ℕ NodeFault
-cells_at m ns None = Err NoNode
-cells_at m ns (Some i) = Ok (address_cells m (node_in ns i))
-
 abbrev pub cells_found : DataSpace → List Node → Phandle → Result ℕ NodeFault
-cells_found m ns ph = cells_at m ns (number_of (length ns) ph)
+cells_found m ns ph = by_phandle ns ph (λ i. Ok (address_cells m (node_at ns i)))

@@ -1,7 +1,7 @@
 -- What is found once a property was set, and once it was deleted (IEEE 1275-1994, annex A, `property`,
 -- `delete-property`, `get-package-property` and `next-property`).
-use Rattle.std.specs.Prelude.{ℕ, ◌+◌, ◌<◌, ◌≤◌, ◌≡◌, ◌≢◌, not, List, [], ◌∷◌, ◌++◌, length, map, filter, Option, Some}
-use Rattle.std.specs.Prelude.{None, Result, Ok, Err}
+use Rattle.std.specs.Prelude.{ℕ, ◌+◌, ◌<◌, ◌≤◌, ◌≡◌, ◌≢◌, not, List, [], ◌∷◌, ◌++◌, length, map, filter, Some}
+use Rattle.std.specs.Prelude.{None, Result, Ok}
 use Rattle.std.specs.List.{IsDistinct}
 use Rattle.of_memory.specs.Access.{read_bytes}
 use Rattle.of_memory.specs.DataSpace.{DataSpace, IsSound}
@@ -11,18 +11,13 @@ use Rattle.of_nodes.specs.declared.phandles.Phandle.{Phandle}
 use Rattle.of_nodes.specs.declared.properties.Property.{Property}
 use Rattle.of_nodes.specs.declared.properties.Span.{Span}
 use Rattle.of_nodes.specs.declared.fault.NodeFault.{NodeFault}
-use Rattle.of_nodes.specs.declared.fault.NodeFault.TheVariants.{NoNode}
-use Rattle.of_nodes.specs.Nodes.{next_found, number_of, properties_in, property_deleted, property_found}
+use Rattle.of_nodes.specs.Nodes.{by_phandle, next_found, properties_in, property_deleted, property_found}
 use Rattle.of_nodes.specs.Nodes.{tree_property_set}
 use Rattle.of_nodes.specs.Properties.{same_name}
 
 -- the names of the properties of the node with a phandle, in order
-abbrev pub names_at : List Node → Option ℕ → Result (List (List ℕ)) NodeFault
-names_at ns None = Err NoNode
-names_at ns (Some i) = Ok (map (λ e. e.0) (properties_in ns i))
-
 abbrev pub names_found : List Node → Phandle → Result (List (List ℕ)) NodeFault
-names_found ns ph = names_at ns (number_of (length ns) ph)
+names_found ns ph = by_phandle ns ph (λ i. Ok (map (λ e. e.0) (properties_in ns i)))
 
 -- the data space has these bytes at a span
 abbrev pub Holds : DataSpace → Span → List ℕ → Type 0

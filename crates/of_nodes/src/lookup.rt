@@ -7,9 +7,8 @@ ghost use Rattle.of_nodes.specs.Texts.{components, split};
 
 use crate::asked::{Component, asked, fits};
 use crate::components::address_cells;
-use crate::paths::node_at;
 use crate::texts::{before, behind};
-use crate::tree::{Node, parent_number};
+use crate::tree::{Node, node_at};
 use of_memory::Memory;
 
 /// Which of the children that fit a component is taken.
@@ -108,7 +107,7 @@ fn step_for(memory: &Memory, nodes: &[Node], number: usize, text: &[u8]) -> Opti
     if number == 0 {
         return None;
     }
-    Some(parent_number(nodes, number))
+    Some(node_at(nodes, number).parent)
 }
 
 /// The node that the components of a text lead to from a node on, up or down.

@@ -1,21 +1,12 @@
 ghost use Rattle.std.specs.Prelude.{◌≡◌, ◌<◌, ◌++◌, ◌∷◌, length, OnOk};
 ghost use Rattle.of_nodes.specs.Components.{component};
-ghost use Rattle.of_nodes.specs.Nodes.{AreNodes, parent_in};
-ghost use Rattle.of_nodes.specs.Paths.{component_in, components_to, node_in};
+ghost use Rattle.of_nodes.specs.Nodes.{AreNodes};
+ghost use Rattle.of_nodes.specs.Paths.{components_to};
 
 use crate::components::{address_cells, node_name, unit_address};
-use crate::tree::{Node, parent_number};
+use crate::tree::{Node, node_at};
 use of_memory::Memory;
 use std::alloc::AllocError;
-
-/// The node of a number.
-#[tactic(auto, using(crate::proofs::Placed::node_read))]
-pub(crate) fn node_at(nodes: &[Node], number: usize) -> &Node
-    requires { number < length nodes.now }
-    ensures { result.now ≡ node_in nodes.now number }
-{
-    &nodes[number]
-}
 
 /// Appends how a node below one stands in a path.
 pub(crate) fn push_component(
@@ -51,9 +42,9 @@ pub(crate) fn push_path(
     if most == 0 || number == 0 {
         return Ok(());
     }
-    let parent = parent_number(nodes, number);
-    push_path(memory, nodes, most - 1, parent, path)?;
+    let node = node_at(nodes, number);
+    push_path(memory, nodes, most - 1, node.parent, path)?;
     path.push(b'/')?;
-    push_component(memory, node_at(nodes, parent), node_at(nodes, number), path)?;
+    push_component(memory, node_at(nodes, node.parent), node, path)?;
     Ok(())
 }

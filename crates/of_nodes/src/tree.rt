@@ -5,7 +5,7 @@ ghost use Rattle.of_nodes.specs.Lookup.{found, package_found, way_found};
 ghost use Rattle.of_nodes.specs.Nodes.{AreNodes, AreRooted, after_found, behind_in, child_from, child_found};
 ghost use Rattle.of_nodes.specs.Nodes.{first_tree, method_added, method_found};
 ghost use Rattle.of_nodes.specs.Nodes.{method_placed, method_taken_back, most_nodes, named_child, next_found};
-ghost use Rattle.of_nodes.specs.Nodes.{node_added, parent_found, parent_in, peer_found, property_deleted};
+ghost use Rattle.of_nodes.specs.Nodes.{node_added, node_at, number_of, parent_found, peer_found, property_deleted};
 ghost use Rattle.of_nodes.specs.Nodes.{property_found, property_placed, tree_property_set};
 ghost use Rattle.of_nodes.specs.Outcomes.{Adds, Answers, Sets};
 ghost use Rattle.of_nodes.specs.Paths.{cells_found, component_found, path_found};
@@ -15,7 +15,7 @@ use crate::fault::NodeFault;
 use crate::lookup::{Age, found_below, found_by};
 use crate::methods::{Methods, is_method_name};
 use crate::names::may_hold;
-use crate::paths::{node_at, push_component, push_path};
+use crate::paths::{push_component, push_path};
 use crate::phandles::Phandle;
 use crate::properties::{Place, Properties, Property};
 use of_cells::Cell;
@@ -79,13 +79,13 @@ fn next_child(nodes: &[Node], from: usize, parent: usize) -> Option<usize>
     None
 }
 
-/// The number of the node above one.
-#[tactic(auto, using(crate::proofs::Rooted::parent_read))]
-pub(crate) fn parent_number(nodes: &[Node], number: usize) -> usize
+/// The node of a number.
+#[tactic(auto, using(crate::proofs::Rooted::node_read))]
+pub(crate) fn node_at(nodes: &[Node], number: usize) -> &Node
     requires { number < length nodes.now }
-    ensures { result ≡ parent_in nodes.now number }
+    ensures { result.now ≡ node_at nodes.now number }
 {
-    nodes[number].parent
+    &nodes[number]
 }
 
 /// The node behind all that is below one, which is at most so many levels below the root, if there is one.
@@ -99,7 +99,7 @@ fn behind_all(nodes: &[Node], most: usize, number: usize) -> Option<usize>
     if most == 0 || number == 0 {
         return None;
     }
-    let parent = parent_number(nodes, number);
+    let parent = node_at(nodes, number).parent;
     match next_child(nodes, number + 1, parent) {
         Some(peer) => Some(peer),
         None => behind_all(nodes, most - 1, parent),
@@ -181,6 +181,20 @@ impl Tree {
         Ok(Tree { nodes, alloc })
     }
 
+    /// The number of the node with a phandle.
+    ///
+    /// NoNode, if there is no such node.
+    fn number_of(&self, node: Phandle) -> Result<usize, NodeFault>
+        ensures found { IfOk result (λ i. number_of (length self.now) node ≡ Some i) }
+        ensures none { IfErr result (λ e. (e ≡ NodeFault.NoNode) × (number_of (length self.now) node ≡ None)) }
+        ensures within { IfOk result (λ i. i < length self.now) }
+    {
+        match node.number(self.nodes.len()) {
+            Some(number) => Ok(number),
+            None => Err(NodeFault::NoNode),
+        }
+    }
+
     /// The node above a node; the root has none.
     ///
     /// NoNode, if there is no such node.
@@ -188,13 +202,11 @@ impl Tree {
     pub fn parent(&self, node: Phandle) -> Result<Option<Phandle>, NodeFault>
         ensures { result ≡ parent_found self.now node }
     {
-        let Some(number) = node.number(self.nodes.len()) else {
-            return Err(NodeFault::NoNode);
-        };
+        let number = self.number_of(node)?;
         if number == 0 {
             return Ok(None);
         }
-        Ok(Some(Phandle::of(parent_number(&self.nodes, number))))
+        Ok(Some(Phandle::of(node_at(&self.nodes, number).parent)))
     }
 
     /// The oldest child of a node, if it has one (IEEE 1275-1994, annex A, `child`).
@@ -203,9 +215,7 @@ impl Tree {
     pub fn child(&self, node: Phandle) -> Result<Option<Phandle>, NodeFault>
         ensures { result ≡ child_found self.now node }
     {
-        let Some(number) = node.number(self.nodes.len()) else {
-            return Err(NodeFault::NoNode);
-        };
+        let number = self.number_of(node)?;
         match next_child(&self.nodes, 1, number) {
             Some(child) => Ok(Some(Phandle::of(child))),
             None => Ok(None),
@@ -219,13 +229,11 @@ impl Tree {
     pub fn peer(&self, node: Phandle) -> Result<Option<Phandle>, NodeFault>
         ensures { result ≡ peer_found self.now node }
     {
-        let Some(number) = node.number(self.nodes.len()) else {
-            return Err(NodeFault::NoNode);
-        };
+        let number = self.number_of(node)?;
         if number == 0 {
             return Ok(None);
         }
-        let parent = parent_number(&self.nodes, number);
+        let parent = node_at(&self.nodes, number).parent;
         match next_child(&self.nodes, number + 1, parent) {
             Some(peer) => Ok(Some(Phandle::of(peer))),
             None => Ok(None),
@@ -239,9 +247,7 @@ impl Tree {
     pub fn after(&self, node: Phandle) -> Result<Option<Phandle>, NodeFault>
         ensures { result ≡ after_found self.now node }
     {
-        let Some(number) = node.number(self.nodes.len()) else {
-            return Err(NodeFault::NoNode);
-        };
+        let number = self.number_of(node)?;
         match next_node(&self.nodes, number) {
             Some(next) => Ok(Some(Phandle::of(next))),
             None => Ok(None),
@@ -256,9 +262,7 @@ impl Tree {
         ensures { Adds result self.old self.new (node_added self.old parent) }
     {
         let count = self.nodes.len();
-        let Some(parent) = parent.number(count) else {
-            return Err(NodeFault::NoNode);
-        };
+        let parent = self.number_of(parent)?;
         if are_all(&self.nodes) {
             return Err(NodeFault::TooManyNodes);
         }
@@ -278,10 +282,8 @@ impl Tree {
     pub fn property(&self, node: Phandle, name: &[u8]) -> Result<Option<Property>, NodeFault>
         ensures { result ≡ property_found self.now node name.now }
     {
-        let Some(number) = node.number(self.nodes.len()) else {
-            return Err(NodeFault::NoNode);
-        };
-        Ok(self.nodes[number].properties.get(name))
+        let number = self.number_of(node)?;
+        Ok(node_at(&self.nodes, number).properties.get(name))
     }
 
     /// The property of a node behind that of the name, or its first where the name is empty, if there is
@@ -291,10 +293,8 @@ impl Tree {
     pub fn next_property(&self, node: Phandle, name: &[u8]) -> Result<Option<Property>, NodeFault>
         ensures { result ≡ next_found self.now node name.now }
     {
-        let Some(number) = node.number(self.nodes.len()) else {
-            return Err(NodeFault::NoNode);
-        };
-        Ok(self.nodes[number].properties.next(name))
+        let number = self.number_of(node)?;
+        Ok(node_at(&self.nodes, number).properties.next(name))
     }
 
     /// The property at a place in the order of a node, the first at 0, if it has so many.
@@ -303,10 +303,8 @@ impl Tree {
     pub fn property_at(&self, node: Phandle, place: usize) -> Result<Option<Property>, NodeFault>
         ensures { result ≡ property_placed self.now node place }
     {
-        let Some(number) = node.number(self.nodes.len()) else {
-            return Err(NodeFault::NoNode);
-        };
-        Ok(self.nodes[number].properties.at(place))
+        let number = self.number_of(node)?;
+        Ok(node_at(&self.nodes, number).properties.at(place))
     }
 
     /// Sets a property of a node to a value (IEEE 1275-1994, annex A, `property`), which is copied into
@@ -326,9 +324,7 @@ impl Tree {
         ensures { let after = tree_property_set memory.old self.old node name.now value.now in
             Sets result (self.old, memory.old) (self.new, memory.new) after }
     {
-        let Some(number) = node.number(self.nodes.len()) else {
-            return Err(NodeFault::NoNode);
-        };
+        let number = self.number_of(node)?;
         if !may_hold(name, value) {
             return Err(NodeFault::BadName);
         }
@@ -343,9 +339,7 @@ impl Tree {
     pub fn delete_property(&mut self, node: Phandle, name: &[u8]) -> Result<(), NodeFault>
         ensures { Answers result self.old self.new (property_deleted self.old node name.now) }
     {
-        let Some(number) = node.number(self.nodes.len()) else {
-            return Err(NodeFault::NoNode);
-        };
+        let number = self.number_of(node)?;
         let node = &mut self.nodes[number];
         node.properties.remove(name);
         Ok(())
@@ -358,10 +352,8 @@ impl Tree {
     pub fn method(&self, node: Phandle, name: &[u8]) -> Result<Option<Cell>, NodeFault>
         ensures { result ≡ method_found self.now node name.now }
     {
-        let Some(number) = node.number(self.nodes.len()) else {
-            return Err(NodeFault::NoNode);
-        };
-        Ok(self.nodes[number].methods.get(name))
+        let number = self.number_of(node)?;
+        Ok(node_at(&self.nodes, number).methods.get(name))
     }
 
     /// The name, in lower case, and the execution token of the method at a place in the order of a node, the
@@ -373,10 +365,8 @@ impl Tree {
             (λ found. method_placed self.now node place ≡ Ok (option_map (λ e. (e.0.now, e.1)) found))
             (λ fault. method_placed self.now node place ≡ Err fault) }
     {
-        let Some(number) = node.number(self.nodes.len()) else {
-            return Err(NodeFault::NoNode);
-        };
-        Ok(self.nodes[number].methods.at(place))
+        let number = self.number_of(node)?;
+        Ok(node_at(&self.nodes, number).methods.at(place))
     }
 
     /// Makes a word the method of a name of a node. A name that is there keeps its place.
@@ -386,9 +376,7 @@ impl Tree {
     pub fn add_method(&mut self, node: Phandle, name: &[u8], xt: Cell) -> Result<(), NodeFault>
         ensures { Sets result self.old self.new (method_added self.old node name.now xt) }
     {
-        let Some(number) = node.number(self.nodes.len()) else {
-            return Err(NodeFault::NoNode);
-        };
+        let number = self.number_of(node)?;
         if !is_method_name(name) {
             return Err(NodeFault::BadName);
         }
@@ -404,7 +392,7 @@ impl Tree {
         ensures undone { (t : List Node) (xt : Cell) → method_found t node name.now ≡ Ok before
             → method_added t node name.now xt ≡ Ok self.old → self.new ≡ t }
     {
-        let Some(number) = node.number(self.nodes.len()) else {
+        let Ok(number) = self.number_of(node) else {
             return;
         };
         if is_method_name(name) {
@@ -422,9 +410,7 @@ impl Tree {
         ensures refused { IfErr result (λ e. (e ≡ NodeFault.NoMemory)
             ⊎ (path_found memory.now self.now node ≡ Err e)) }
     {
-        let Some(number) = node.number(self.nodes.len()) else {
-            return Err(NodeFault::NoNode);
-        };
+        let number = self.number_of(node)?;
         let mut path = Vec::new(self.alloc);
         if number == 0 {
             path.push(b'/')?;
@@ -443,18 +429,12 @@ impl Tree {
         ensures refused { IfErr result (λ e. (e ≡ NodeFault.NoMemory)
             ⊎ (component_found memory.now self.now node ≡ Err e)) }
     {
-        let Some(number) = node.number(self.nodes.len()) else {
-            return Err(NodeFault::NoNode);
-        };
+        let number = self.number_of(node)?;
         let mut text = Vec::new(self.alloc);
         if number > 0 {
-            let above = parent_number(&self.nodes, number);
-            push_component(
-                memory,
-                node_at(&self.nodes, above),
-                node_at(&self.nodes, number),
-                &mut text,
-            )?;
+            let node = node_at(&self.nodes, number);
+            let above = node_at(&self.nodes, node.parent);
+            push_component(memory, above, node, &mut text)?;
         }
         Ok(text)
     }
@@ -487,9 +467,7 @@ impl Tree {
     ) -> Result<Option<Phandle>, NodeFault>
         ensures { result ≡ way_found memory.now self.now node path.now }
     {
-        let Some(number) = node.number(self.nodes.len()) else {
-            return Err(NodeFault::NoNode);
-        };
+        let number = self.number_of(node)?;
         match found_by(memory, &self.nodes, number, path) {
             Some(found) => Ok(Some(Phandle::of(found))),
             None => Ok(None),
@@ -516,9 +494,7 @@ impl Tree {
         ensures value { result ≡ cells_found memory.now self.now node }
         ensures few { IfOk result (λ count. count ≤ 4) }
     {
-        let Some(number) = node.number(self.nodes.len()) else {
-            return Err(NodeFault::NoNode);
-        };
+        let number = self.number_of(node)?;
         Ok(address_cells(memory, node_at(&self.nodes, number)))
     }
 }

@@ -1,8 +1,0 @@
-use Rattle.std.proofs.Common.{rules}
-use Rattle.of_nodes.proofs.tree.Tree.child.Goals as goal
-
-pub returns-in-Some-next_child : goal.returns-in-Some-next_child
-returns-in-Some-next_child c = search rules
-
-pub returns-in-None : goal.returns-in-None
-returns-in-None c = search rules
