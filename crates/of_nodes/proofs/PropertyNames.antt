@@ -5,8 +5,8 @@ use Rattle.std.specs.Prelude.{◌==◌, filter}
 use Rattle.std.proofs.lemmas.Bool.Decides.{nat_tests}
 use Rattle.std.specs.List.{AllByRecursion, IsDistinct}
 use Rattle.of_nodes.specs.Properties.{same_name, value_at, value_behind, value_in, value_next, with_entry, without}
-use Rattle.of_nodes.proofs.Fitting.{same_self}
-use Rattle.of_nodes.proofs.MethodLaw.{not_same, same_is}
+use Rattle.of_nodes.proofs.ComponentsFit.{same_self}
+use Rattle.of_nodes.proofs.MethodsAreFound.{not_same, same_is}
 
 -- a name is none of these
 abbrev pub IsNew : List ℕ → List (List ℕ) → Type 0

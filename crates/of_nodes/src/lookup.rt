@@ -80,7 +80,7 @@ fn child_for(memory: &Memory, nodes: &[Node], age: Age, parent: usize, text: &[u
 }
 
 /// The node that the components of a text lead to from a node on.
-#[tactic(auto, using(crate::proofs::Walked::walks))]
+#[tactic(auto, using(crate::proofs::TextWalks::walks))]
 fn walk(memory: &Memory, nodes: &[Node], age: Age, number: usize, text: &[u8]) -> Option<usize>
     requires { number < length nodes.now }
     ensures value { result ≡ walk memory.now nodes.now age number (split text.now) }
@@ -94,7 +94,7 @@ fn walk(memory: &Memory, nodes: &[Node], age: Age, number: usize, text: &[u8]) -
 }
 
 /// Where a component leads to from a node in a path that may go up.
-#[tactic(auto, using(crate::proofs::Rooted::parent_within))]
+#[tactic(auto, using(crate::proofs::NodeLists::parent_within))]
 fn step_for(memory: &Memory, nodes: &[Node], number: usize, text: &[u8]) -> Option<usize>
     requires nodes { AreNodes nodes.now }
     requires within { number < length nodes.now }
@@ -111,7 +111,7 @@ fn step_for(memory: &Memory, nodes: &[Node], number: usize, text: &[u8]) -> Opti
 }
 
 /// The node that the components of a text lead to from a node on, up or down.
-#[tactic(auto, using(crate::proofs::Walked::ways))]
+#[tactic(auto, using(crate::proofs::TextWalks::ways))]
 fn way(memory: &Memory, nodes: &[Node], number: usize, text: &[u8]) -> Option<usize>
     requires nodes { AreNodes nodes.now }
     requires within { number < length nodes.now }

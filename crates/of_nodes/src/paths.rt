@@ -27,7 +27,7 @@ pub(crate) fn push_component(
 }
 
 /// Appends the components from the root down to a node, at most so many levels below it.
-#[tactic(auto, using(crate::proofs::Rooted::parent_within, crate::proofs::Placed::paths))]
+#[tactic(auto, using(crate::proofs::NodeLists::parent_within, crate::proofs::PathPieces::paths))]
 pub(crate) fn push_path(
     memory: &Memory,
     nodes: &[Node],

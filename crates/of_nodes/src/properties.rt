@@ -48,7 +48,7 @@ impl Model for Properties {
 }
 
 /// Puts the name and the value of a new property into the property region.
-#[tactic(auto, using(crate::proofs::Stored::stores))]
+#[tactic(auto, using(crate::proofs::PropertySpans::stores))]
 fn store_named(memory: &mut Memory, name: &[u8], value: &[u8]) -> Result<Property, NodeFault>
     ensures { Answers result memory.old memory.new (stored memory.old None name.now value.now) }
 {
@@ -68,7 +68,7 @@ fn store_named(memory: &mut Memory, name: &[u8], value: &[u8]) -> Result<Propert
 }
 
 /// Puts another value of a property into the property region.
-#[tactic(auto, using(crate::proofs::Stored::stores))]
+#[tactic(auto, using(crate::proofs::PropertySpans::stores))]
 fn store_value(memory: &mut Memory, old: Property, value: &[u8]) -> Result<Property, NodeFault>
     ensures { Answers result memory.old memory.new
         (with_value old (length value.now) (property_put memory.old value.now)) }

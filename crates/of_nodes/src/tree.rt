@@ -80,7 +80,7 @@ fn next_child(nodes: &[Node], from: usize, parent: usize) -> Option<usize>
 }
 
 /// The node of a number.
-#[tactic(auto, using(crate::proofs::Rooted::node_read))]
+#[tactic(auto, using(crate::proofs::NodeLists::node_read))]
 pub(crate) fn node_at(nodes: &[Node], number: usize) -> &Node
     requires { number < length nodes.now }
     ensures { result.now ≡ node_at nodes.now number }
@@ -89,7 +89,7 @@ pub(crate) fn node_at(nodes: &[Node], number: usize) -> &Node
 }
 
 /// The node behind all that is below one, which is at most so many levels below the root, if there is one.
-#[tactic(auto, using(crate::proofs::Rooted::parent_within))]
+#[tactic(auto, using(crate::proofs::NodeLists::parent_within))]
 fn behind_all(nodes: &[Node], most: usize, number: usize) -> Option<usize>
     requires nodes { AreNodes nodes.now }
     requires within { number < length nodes.now }
@@ -127,7 +127,7 @@ fn are_all(nodes: &[Node]) -> bool
 }
 
 /// Makes a node with a name, for which there is room.
-#[tactic(auto, using(crate::proofs::Rooted::rooted_more, crate::proofs::First::named))]
+#[tactic(auto, using(crate::proofs::NodeLists::rooted_more, crate::proofs::FirstTree::named))]
 fn push_named(
     nodes: &mut Vec<Node>,
     alloc: Global,
@@ -161,7 +161,7 @@ impl Tree {
     ///
     /// PropertyFull, if the names don't fit into the property region; or NoMemory. Then nothing changes, in
     /// memory either.
-    #[tactic(auto, using(crate::proofs::First::firsts))]
+    #[tactic(auto, using(crate::proofs::FirstTree::firsts))]
     pub fn new(alloc: Global, memory: &mut Memory) -> Result<Tree, NodeFault>
         ensures made { IfOk result (λ t. first_tree memory.old ≡ Ok (t, memory.new)) }
         ensures refused { IfErr result (λ e. (e ≡ NodeFault.NoMemory) ⊎ (first_tree memory.old ≡ Err e)) }
@@ -198,7 +198,7 @@ impl Tree {
     /// The node above a node; the root has none.
     ///
     /// NoNode, if there is no such node.
-    #[tactic(auto, using(crate::proofs::Rooted::parent_small))]
+    #[tactic(auto, using(crate::proofs::NodeLists::parent_small))]
     pub fn parent(&self, node: Phandle) -> Result<Option<Phandle>, NodeFault>
         ensures { result ≡ parent_found self.now node }
     {
@@ -257,7 +257,7 @@ impl Tree {
     /// Makes a node without properties and methods, the last child of its parent.
     ///
     /// NoNode, if the parent is none; TooManyNodes, if there are 1,024; or NoMemory. Then nothing changes.
-    #[tactic(auto, using(crate::proofs::Rooted::added))]
+    #[tactic(auto, using(crate::proofs::NodeLists::added))]
     pub fn add_node(&mut self, parent: Phandle) -> Result<Phandle, NodeFault>
         ensures { Adds result self.old self.new (node_added self.old parent) }
     {
@@ -423,7 +423,7 @@ impl Tree {
     /// 3.2.1.1). The root stands in none, and has the empty text.
     ///
     /// NoNode, if there is no such node; or NoMemory.
-    #[tactic(auto, using(crate::proofs::Rooted::parent_within))]
+    #[tactic(auto, using(crate::proofs::NodeLists::parent_within))]
     pub fn component_of(&self, memory: &Memory, node: Phandle) -> Result<Vec<u8>, NodeFault>
         ensures found { IfOk result (λ text. component_found memory.now self.now node ≡ Ok text.items) }
         ensures refused { IfErr result (λ e. (e ≡ NodeFault.NoMemory)

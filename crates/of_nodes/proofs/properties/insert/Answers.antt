@@ -1,6 +1,6 @@
 use Rattle.std.proofs.Common.{map, ap, ◌∙◌}
 use Rattle.of_nodes.specs.Properties.{named}
-use Rattle.of_nodes.proofs.Named.{entries_named}
+use Rattle.of_nodes.proofs.EntryNames.{entries_named}
 use Rattle.of_nodes.proofs.properties.insert.Goals as goal
 
 pub returns : goal.returns

@@ -1,7 +1,7 @@
 use Rattle.std.proofs.Common.{List, ℕ, ap, ◌∙◌}
 use Rattle.of_cells.specs.declared.cells.Cell.{Cell}
 use Rattle.of_nodes.specs.Properties.{value_in}
-use Rattle.of_nodes.proofs.Named.{value_named}
+use Rattle.of_nodes.proofs.EntryNames.{value_named}
 use Rattle.of_nodes.proofs.methods.Methods.kept.Goals as goal
 
 pub returns : goal.returns

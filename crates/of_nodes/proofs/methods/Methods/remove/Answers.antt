@@ -1,7 +1,7 @@
 use Rattle.std.proofs.Common.{List, ℕ, map, ap, ◌∙◌}
 use Rattle.of_cells.specs.declared.cells.Cell.{Cell}
 use Rattle.of_nodes.specs.Properties.{named, without}
-use Rattle.of_nodes.proofs.Named.{without_named}
+use Rattle.of_nodes.proofs.EntryNames.{without_named}
 use Rattle.of_nodes.proofs.methods.Methods.remove.Goals as goal
 
 pub returns : goal.returns

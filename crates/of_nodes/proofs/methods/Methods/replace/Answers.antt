@@ -3,7 +3,7 @@ use Rattle.std.specs.Option.{option_copied_mut}
 use Rattle.of_cells.specs.declared.cells.Cell.{Cell}
 use Rattle.of_nodes.specs.contracts.methods.Methods.{the_view}
 use Rattle.of_nodes.specs.Properties.{named, replaced, value_in}
-use Rattle.of_nodes.proofs.Named.{replaced_absent, replaced_named, value_named}
+use Rattle.of_nodes.proofs.EntryNames.{replaced_absent, replaced_named, value_named}
 use Rattle.of_nodes.proofs.methods.Methods.replace.Goals.{in-Some, in-None}
 use Rattle.of_nodes.proofs.methods.Methods.replace.Goals as goal
 

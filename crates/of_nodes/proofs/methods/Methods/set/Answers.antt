@@ -2,7 +2,7 @@ use Rattle.std.proofs.Common.{List, ℕ, Ok, map, ap, sym, ◌∙◌}
 use Rattle.of_cells.specs.declared.cells.Cell.{Cell}
 use Rattle.of_nodes.specs.Methods.{lower}
 use Rattle.of_nodes.specs.Properties.{named, with_entry}
-use Rattle.of_nodes.proofs.Named.{entries_named}
+use Rattle.of_nodes.proofs.EntryNames.{entries_named}
 use Rattle.of_nodes.proofs.methods.Methods.set.Goals as goal
 
 pub returns : goal.returns

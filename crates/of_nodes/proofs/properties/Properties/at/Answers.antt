@@ -1,7 +1,7 @@
 use Rattle.std.proofs.Common.{List, ℕ, ap, sym, ◌∙◌}
 use Rattle.of_nodes.specs.declared.properties.Property.{Property}
 use Rattle.of_nodes.specs.Properties.{value_at}
-use Rattle.of_nodes.proofs.Order.{at_none, at_some}
+use Rattle.of_nodes.proofs.EntryOrder.{at_none, at_some}
 use Rattle.of_nodes.proofs.properties.Properties.at.Goals as goal
 
 pub returns-in-Some : goal.returns-in-Some

@@ -1,7 +1,7 @@
 use Rattle.std.proofs.Common.{List, ℕ, ap, ◌∙◌}
 use Rattle.of_nodes.specs.declared.properties.Property.{Property}
 use Rattle.of_nodes.specs.Properties.{value_in}
-use Rattle.of_nodes.proofs.Named.{value_named}
+use Rattle.of_nodes.proofs.EntryNames.{value_named}
 use Rattle.of_nodes.proofs.properties.Properties.get.Goals as goal
 
 pub returns : goal.returns

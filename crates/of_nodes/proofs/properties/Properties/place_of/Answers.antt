@@ -1,4 +1,4 @@
-use Rattle.of_nodes.proofs.Order.{behind_by}
+use Rattle.of_nodes.proofs.EntryOrder.{behind_by}
 use Rattle.of_nodes.proofs.properties.Properties.place_of.Goals as goal
 
 pub returns-clause-value : goal.returns-clause-value

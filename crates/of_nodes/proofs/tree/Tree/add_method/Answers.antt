@@ -1,5 +1,5 @@
 use Rattle.std.proofs.Common.{refl}
-use Rattle.of_nodes.proofs.Changed.{written_at}
+use Rattle.of_nodes.proofs.NodesByPhandle.{written_at}
 use Rattle.of_nodes.proofs.tree.Tree.add_method.Goals as goal
 
 pub invariant_of-self : goal.invariant_of-self

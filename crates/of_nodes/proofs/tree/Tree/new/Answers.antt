@@ -1,7 +1,7 @@
 use Rattle.std.proofs.Common.{◌≡◌, ◌≤◌, [], Ok, Err, arith, rules}
 use Rattle.of_memory.specs.Growth.{property_room}
 use Rattle.of_nodes.specs.Nodes.{named_child}
-use Rattle.of_nodes.proofs.First.{board, packages, second_never, slot, third_never}
+use Rattle.of_nodes.proofs.FirstTree.{board, packages, second_never, slot, third_never}
 use Rattle.of_nodes.proofs.tree.Tree.new.Goals as goal
 
 pub returns-in_err-push_named-2-clause-unchanged : goal.returns-in_err-push_named-2-clause-unchanged

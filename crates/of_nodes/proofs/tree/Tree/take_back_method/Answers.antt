@@ -1,7 +1,7 @@
 use Rattle.std.proofs.Common.{refl, ◌∙◌, arith}
 use Rattle.std.proofs.lemmas.Grind.{common_steps}
-use Rattle.of_nodes.proofs.Changed.{written_at}
-use Rattle.of_nodes.proofs.TakenBack.{undone}
+use Rattle.of_nodes.proofs.NodesByPhandle.{written_at}
+use Rattle.of_nodes.proofs.MethodsTakenBack.{undone}
 use Rattle.of_nodes.proofs.tree.Tree.take_back_method.Goals as goal
 
 pub invariant_of-self : goal.invariant_of-self

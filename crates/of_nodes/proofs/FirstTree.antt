@@ -13,7 +13,7 @@ use Rattle.of_nodes.specs.declared.fault.NodeFault.{NodeFault}
 use Rattle.of_nodes.specs.declared.fault.NodeFault.TheVariants.{PropertyFull}
 use Rattle.of_nodes.specs.Properties.{new_property, property_set, set_to}
 use Rattle.of_nodes.specs.Nodes.{first_tree, named_child, then_child, with_node}
-use Rattle.of_nodes.proofs.Put.{put_at}
+use Rattle.of_nodes.proofs.PropertyPuts.{put_at}
 
 pub named_made :
     (ns : List Node) (m after : DataSpace) (parent : ℕ) (value : List ℕ) (ps : List (List ℕ × Property))

@@ -10,12 +10,12 @@ use Rattle.of_nodes.specs.Nodes.{AreNodes, after_found, behind_in, by_phandle, c
 use Rattle.of_nodes.specs.Nodes.{number_of, parent_in, phandle_in, phandle_of}
 use Rattle.of_nodes.specs.Preorder.{AfterRuns, numbers_of}
 use Rattle.of_nodes.specs.Tree.{AreShown, IsShown, Nobody, Sibling, Siblings, below, oldest, tree_of}
-use Rattle.of_nodes.proofs.Changed.{by_number, numbered_is, ok_is}
-use Rattle.of_nodes.proofs.MethodLaw.{number_within}
-use Rattle.of_nodes.proofs.Placed.{nonzero}
-use Rattle.of_nodes.proofs.PropertyLaw.{exact}
-use Rattle.of_nodes.proofs.Rooted.{parent_older}
-use Rattle.of_nodes.proofs.Shown.{shown}
+use Rattle.of_nodes.proofs.NodesByPhandle.{by_number, numbered_is, ok_is}
+use Rattle.of_nodes.proofs.MethodsAreFound.{number_within}
+use Rattle.of_nodes.proofs.PathPieces.{nonzero}
+use Rattle.of_nodes.proofs.PropertiesAreFound.{exact}
+use Rattle.of_nodes.proofs.NodeLists.{parent_older}
+use Rattle.of_nodes.proofs.TreeIsShownCalls.{shown}
 
 -- ---- numbers one after the other
 

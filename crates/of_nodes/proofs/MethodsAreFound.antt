@@ -14,9 +14,9 @@ use Rattle.of_nodes.specs.MethodLaw.{MethodsAreFound}
 use Rattle.of_nodes.specs.Nodes.{added_at, first_phandle, method_added, method_found, methods_in, new_node}
 use Rattle.of_nodes.specs.Nodes.{node_at, number_at, number_of, with_methods}
 use Rattle.of_nodes.specs.Properties.{same_name, value_in, with_entry}
-use Rattle.of_nodes.proofs.Fitting.{same_self}
-use Rattle.of_nodes.proofs.Changed.{by_number, never, numbered_is}
-use Rattle.of_nodes.proofs.TakenBack.{undone}
+use Rattle.of_nodes.proofs.ComponentsFit.{same_self}
+use Rattle.of_nodes.proofs.NodesByPhandle.{by_number, never, numbered_is}
+use Rattle.of_nodes.proofs.MethodsTakenBack.{undone}
 
 pub same_is : (a b : List ℕ) → same_name a b ≡ true → a ≡ b
 same_is [] [] e = refl

@@ -5,7 +5,7 @@ use Rattle.of_nodes.specs.declared.phandles.Phandle.{Phandle}
 use Rattle.of_nodes.specs.declared.fault.NodeFault.{NodeFault}
 use Rattle.of_nodes.specs.declared.fault.NodeFault.TheVariants.{NoNode}
 use Rattle.of_nodes.specs.Nodes.{AreNodes, by_phandle, number_of, numbered}
-use Rattle.of_nodes.proofs.Rooted.{changed, node_read}
+use Rattle.of_nodes.proofs.NodeLists.{changed, node_read}
 
 -- what there is by the phandle of node i
 pub by_number : {A : Type 0} (ns : List Node) (ph : Phandle) (i : ℕ) (f : ℕ → Result A NodeFault)

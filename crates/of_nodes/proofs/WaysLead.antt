@@ -12,9 +12,9 @@ use Rattle.of_nodes.specs.Nodes.{phandle_of}
 use Rattle.of_nodes.specs.Properties.{same_name}
 use Rattle.of_nodes.specs.Texts.{components, split}
 use Rattle.of_nodes.specs.WayLaw.{WaysLead}
-use Rattle.of_nodes.proofs.Changed.{by_number, numbered_is, ok_is}
-use Rattle.of_nodes.proofs.Shown.{number_is}
-use Rattle.of_nodes.proofs.Ways.{split_join}
+use Rattle.of_nodes.proofs.NodesByPhandle.{by_number, numbered_is, ok_is}
+use Rattle.of_nodes.proofs.TreeIsShownCalls.{number_is}
+use Rattle.of_nodes.proofs.PathsFind.{split_join}
 
 here : (m : DataSpace) (ns : List Node) (i : ℕ) → AreNodes ns → i < length ns
     → way_found m ns (phandle_of i) [] ≡ Ok (Some (phandle_of i))

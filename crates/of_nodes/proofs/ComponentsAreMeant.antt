@@ -19,8 +19,8 @@ use Rattle.of_nodes.specs.Methods.{is_method_name}
 use Rattle.of_nodes.specs.Names.{is_name, is_name_byte}
 use Rattle.of_nodes.specs.Properties.{same_name}
 use Rattle.of_nodes.specs.Texts.{before, behind}
-use Rattle.of_nodes.proofs.Fitting.{and_true, same_self}
-use Rattle.of_nodes.proofs.MethodLaw.{same_is}
+use Rattle.of_nodes.proofs.ComponentsFit.{and_true, same_self}
+use Rattle.of_nodes.proofs.MethodsAreFound.{same_is}
 
 -- ---- names
 

@@ -11,8 +11,8 @@ use Rattle.of_nodes.specs.Methods.{is_method_name, lower, method_in, with_former
 use Rattle.of_nodes.specs.Properties.{replaced, same_name, value_in, with_entry, without}
 use Rattle.of_nodes.specs.Nodes.{added_at, former_at, method_added, method_found, method_taken_back}
 use Rattle.of_nodes.specs.Nodes.{methods_in, number_of, with_methods}
-use Rattle.of_nodes.proofs.Fitting.{same_self}
-use Rattle.of_nodes.proofs.Changed.{by_number, numbered_is, ok_is}
+use Rattle.of_nodes.proofs.ComponentsFit.{same_self}
+use Rattle.of_nodes.proofs.NodesByPhandle.{by_number, numbered_is, ok_is}
 
 module _ {V : Type 0} where
   is_none : (v : V) → ◌≡◌ {A = Option V} (Some v) None → ⊥

@@ -1,4 +1,4 @@
--- A node is found by its path.
+-- The law `paths_find`: a node is found by its path.
 use Rattle.std.proofs.Common.{◌≡◌, ℕ, zero, suc, ◌+◌, ◌-◌, ◌<◌, ◌≤◌, ◌==◌, nat_le, Bool, true, false, ◌&&◌, List, []}
 use Rattle.std.proofs.Common.{◌∷◌, ◌++◌, length, drop, Option, Some, None, refl, ap, sym, ◌∙◌, arith, append_assoc}
 use Rattle.std.proofs.Common.{if◌then◌else◌, codes, drop-cons}
@@ -16,10 +16,10 @@ use Rattle.of_nodes.specs.Nodes.{AreNodes, new_node, node_at, parent_in}
 use Rattle.of_nodes.specs.Paths.{component_in, components_to, path_in}
 use Rattle.of_nodes.specs.Texts.{components, split, with_byte}
 use Rattle.of_nodes.specs.Ways.{IsFirst, PathsFind}
-use Rattle.of_nodes.proofs.Fitting.{IsClear, IsWhole, both, clear, clear_component, clear_unit, fits_own, lacks, whole}
-use Rattle.of_nodes.proofs.Placed.{nonzero, path_here, path_on}
-use Rattle.of_nodes.proofs.Rooted.{parent_older}
-use Rattle.of_nodes.proofs.Walked.{split_is}
+use Rattle.of_nodes.proofs.ComponentsFit.{IsClear, IsWhole, both, clear, clear_component, clear_unit, fits_own, lacks, whole}
+use Rattle.of_nodes.proofs.PathPieces.{nonzero, path_here, path_on}
+use Rattle.of_nodes.proofs.NodeLists.{parent_older}
+use Rattle.of_nodes.proofs.TextWalks.{split_is}
 
 -- the parts of two texts with a slash between
 part_on : (x : ℕ) (xs : List ℕ) (zs : List (List ℕ)) → with_byte x (split xs ++ zs) ≡ with_byte x (split xs) ++ zs

@@ -23,13 +23,13 @@ use Rattle.of_nodes.specs.Nodes.{property_deleted, property_found, set_at, set_i
 use Rattle.of_nodes.specs.Properties.{new_property, same_name, set_to, span, stored, value_in, with_entry, with_value}
 use Rattle.of_nodes.specs.Properties.{without}
 use Rattle.of_nodes.specs.PropertyLaw.{AreInOrder, IsSetTo, IsWithout, PropertiesAreFound, names_found}
-use Rattle.of_nodes.proofs.Changed.{by_number, never, numbered_is, ok_is}
-use Rattle.of_nodes.proofs.FirstFound.{ArePut, first_put, wide}
-use Rattle.of_nodes.proofs.MethodLaw.{entry_found, number_within, others_found, some_if}
+use Rattle.of_nodes.proofs.NodesByPhandle.{by_number, never, numbered_is, ok_is}
+use Rattle.of_nodes.proofs.FirstPathsFind.{ArePut, first_put, wide}
+use Rattle.of_nodes.proofs.MethodsAreFound.{entry_found, number_within, others_found, some_if}
 use Rattle.of_nodes.proofs.PropertyNames.{first_is, gone, last_name, names, names_kept, names_last, next_name}
 use Rattle.of_nodes.proofs.PropertyNames.{order_left, others_left}
-use Rattle.of_nodes.proofs.Put.{IsPut, IsStored, IsWide, is_put, read_stays, stays_stored, stored_after, stored_reads}
-use Rattle.of_nodes.proofs.Put.{wide_after}
+use Rattle.of_nodes.proofs.PropertyPuts.{IsPut, IsStored, IsWide, is_put, read_stays, stays_stored, stored_after, stored_reads}
+use Rattle.of_nodes.proofs.PropertyPuts.{wide_after}
 
 -- ---- the node of a phandle
 

@@ -1,4 +1,4 @@
--- Nodes by number.
+-- The pieces of a node's path.
 use Rattle.std.proofs.Common.{◌≡◌, ℕ, ◌<◌, ◌-◌, suc, zero, List, [], ◌∷◌, ◌++◌, arith, refl, ◌∙◌}
 use Rattle.std.proofs.Common.{append_assoc, ◌==◌, false}
 use Rattle.std.proofs.lemmas.Bool.Decides.{nat_tests}

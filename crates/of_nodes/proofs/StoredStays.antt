@@ -22,14 +22,14 @@ use Rattle.of_nodes.specs.Nodes.{property_found, then_child, with_methods, with_
 use Rattle.of_nodes.specs.Properties.{same_name, set_to, stored, value_in, with_entry, without}
 use Rattle.of_nodes.specs.PropertyLaw.{Holds}
 use Rattle.of_nodes.specs.Stored.{AreHeld, AreStored, IsHeld, LiesIn, StoredStays}
-use Rattle.of_nodes.proofs.Changed.{never, numbered_is, ok_is}
-use Rattle.of_nodes.proofs.First.{board, packages, slot}
-use Rattle.of_nodes.proofs.FirstFound.{before_it, wide}
-use Rattle.of_nodes.proofs.MethodLaw.{entry_found, others_found, same_is}
-use Rattle.of_nodes.proofs.PropertyLaw.{IsKept, IsSetting, kept, setting, some_property}
+use Rattle.of_nodes.proofs.NodesByPhandle.{never, numbered_is, ok_is}
+use Rattle.of_nodes.proofs.FirstTree.{board, packages, slot}
+use Rattle.of_nodes.proofs.FirstPathsFind.{before_it, wide}
+use Rattle.of_nodes.proofs.MethodsAreFound.{entry_found, others_found, same_is}
+use Rattle.of_nodes.proofs.PropertiesAreFound.{IsKept, IsSetting, kept, setting, some_property}
 use Rattle.of_nodes.proofs.PropertyNames.{differ, distinct_more, distinct_without, gone, names, names_kept}
 use Rattle.of_nodes.proofs.PropertyNames.{names_last, none_named, others_left}
-use Rattle.of_nodes.proofs.Put.{IsWide, stored_reads}
+use Rattle.of_nodes.proofs.PropertyPuts.{IsWide, stored_reads}
 
 -- ---- what is held stays held
 

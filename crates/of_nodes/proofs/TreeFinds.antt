@@ -1,4 +1,4 @@
--- The path of a node is that in the tree.
+-- The law `tree_finds`, and in it that the path of a node is that in the tree.
 use Rattle.std.proofs.Common.{◌≡◌, ℕ, zero, suc, ◌+◌, ◌-◌, ◌*◌, ◌/◌, ◌%◌, ◌<◌, ◌≤◌, ◌==◌, ◌⊎◌, inl, inr, nat_lt, Ok}
 use Rattle.std.proofs.Common.{Bool, true, false, List, [], ◌∷◌, ◌++◌, length, drop, Option, Some, None, refl, ap, sym}
 use Rattle.std.proofs.Common.{◌∙◌, arith, if◌then◌else◌}
@@ -14,12 +14,12 @@ use Rattle.of_nodes.specs.Nodes.{AreNodes, first_phandle, node_at, number_of, nu
 use Rattle.of_nodes.specs.Paths.{components_to, path_found, path_in}
 use Rattle.of_nodes.specs.Tree.{Nobody, Sibling, Siblings, Stands, below, tree_of}
 use Rattle.of_nodes.specs.TreePaths.{TreeFinds, path_below, path_on, path_to}
-use Rattle.of_nodes.proofs.Led.{find, find_package}
-use Rattle.of_nodes.proofs.Placed.{nonzero}
-use Rattle.of_nodes.proofs.Changed.{by_number}
-use Rattle.of_nodes.proofs.Shown.{IsAt, equal, is_at, number_is}
-use Rattle.of_nodes.proofs.Standing.{below_root, tree_is_shown}
-use Rattle.of_nodes.proofs.Ways.{path_step}
+use Rattle.of_nodes.proofs.TreeFindsNodes.{find, find_package}
+use Rattle.of_nodes.proofs.PathPieces.{nonzero}
+use Rattle.of_nodes.proofs.NodesByPhandle.{by_number}
+use Rattle.of_nodes.proofs.TreeIsShownCalls.{IsAt, equal, is_at, number_is}
+use Rattle.of_nodes.proofs.TreeIsShown.{below_root, tree_is_shown}
+use Rattle.of_nodes.proofs.PathsFind.{path_step}
 
 equals : (a b : ℕ) → a ≡ b → (a == b) ≡ true
 equals a b h = grind (arith, nat_tests)

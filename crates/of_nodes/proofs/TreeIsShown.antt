@@ -1,12 +1,12 @@
--- Each node stands in the tree.
+-- The law `tree_is_shown`: each node stands in the tree.
 use Rattle.std.proofs.Common.{◌≡◌, ℕ, zero, suc, ◌+◌, ◌-◌, ◌<◌, ◌≤◌, ◌==◌, ◌⊎◌, inl, inr, Bool, true, false, List, []}
 use Rattle.std.proofs.Common.{◌∷◌, length, drop, refl, ap, sym, ◌∙◌, arith}
 use Rattle.std.proofs.lemmas.Bool.Decides.{nat_tests}
 use Rattle.of_nodes.specs.declared.tree.Node.{Node}
 use Rattle.of_nodes.specs.Nodes.{AreNodes, parent_in}
 use Rattle.of_nodes.specs.Tree.{Siblings, Stands, TreeIsShown, below, tree_of}
-use Rattle.of_nodes.proofs.Shown.{IsAt, is_at, shown}
-use Rattle.of_nodes.proofs.Rooted.{parent_older}
+use Rattle.of_nodes.proofs.TreeIsShownCalls.{IsAt, is_at, shown}
+use Rattle.of_nodes.proofs.NodeLists.{parent_older}
 
 -- a node is among those with its parent
 own_step :

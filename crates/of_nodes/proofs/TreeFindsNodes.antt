@@ -1,4 +1,4 @@
--- Components lead to the same node in the tree and over the list of nodes.
+-- Components lead to the same node in the tree and over the list of nodes, as `tree_finds` has it.
 use Rattle.std.proofs.Common.{◌≡◌, ℕ, zero, suc, ◌+◌, ◌<◌, ◌≤◌, ◌==◌, Bool, true, false, List, [], ◌∷◌, drop, Option}
 use Rattle.std.proofs.Common.{Some, None, refl, ap, sym, ◌∙◌, arith}
 use Rattle.std.proofs.lemmas.Bool.Decides.{nat_tests}
@@ -14,7 +14,7 @@ use Rattle.of_nodes.specs.Nodes.{AreNodes, AreRooted, node_at, phandle_in}
 use Rattle.of_nodes.specs.Texts.{components}
 use Rattle.of_nodes.specs.Tree.{Nobody, Sibling, Siblings, below, oldest, tree_of}
 use Rattle.of_nodes.specs.TreePaths.{from_newest, from_oldest, from_taken, led, node_for, package_for}
-use Rattle.of_nodes.proofs.Shown.{IsAt, is_at}
+use Rattle.of_nodes.proofs.TreeIsShownCalls.{IsAt, is_at}
 
 -- a node is younger than its parent
 differs : (a b : ℕ) → a < b → (a == b) ≡ false

@@ -1,4 +1,4 @@
--- The tree that the nodes make, and the calls over it.
+-- The tree that the nodes make, and the calls over it, as `tree_is_shown` has them.
 use Rattle.std.proofs.Common.{◌≡◌, ℕ, zero, suc, ◌+◌, ◌-◌, ◌*◌, ◌/◌, ◌%◌, ◌<◌, ◌≤◌, ◌==◌, nat_lt, Bool, true}
 use Rattle.std.proofs.Common.{false, List, [], ◌∷◌, length}
 use Rattle.std.proofs.Common.{drop, Option, Some, None, Ok, refl, ap, sym, ◌∙◌, arith}
@@ -7,7 +7,7 @@ use Rattle.of_nodes.specs.declared.tree.Node.{Node}
 use Rattle.of_nodes.specs.Nodes.{AreNodes, AreRooted, child_from, first_phandle, node_at, number_of, parent_in}
 use Rattle.of_nodes.specs.Nodes.{phandle_in, phandle_of}
 use Rattle.of_nodes.specs.Tree.{AreShown, IsShown, Nobody, below, oldest, tree_of}
-use Rattle.of_nodes.proofs.Changed.{by_number}
+use Rattle.of_nodes.proofs.NodesByPhandle.{by_number}
 
 -- the oldest of the nodes with a parent is the first that the calls find
 oldest_step :
