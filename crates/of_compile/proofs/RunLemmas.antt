@@ -2,16 +2,15 @@
 use Rattle.std.proofs.Common.{◌≡◌, ℕ, ◌+◌, ◌-◌, ◌<◌, ◌≤◌, zero, suc, List, [], ◌∷◌, length, take, Option, Some, None}
 use Rattle.std.proofs.Common.{refl, sym, ap, subst, ◌∙◌, arith}
 use Rattle.std.specs.Prelude.{map, nat_lt, if◌then◌else◌}
-use Rattle.std.proofs.lemmas.List.{length-map}
 use Rattle.of_code.specs.declared.item.Item.{Item}
 use Rattle.of_code.specs.declared.item.Item.TheVariants as item
 use Rattle.of_code.specs.declared.item.Place.{Place}
 use Rattle.of_code.specs.Items.{cells_of}
 use Rattle.of_control.specs.Items.{Item as BodyItem}
-use Rattle.of_control.specs.Body.{Body, body_size, items_of}
+use Rattle.of_control.specs.Body.{items_of}
 use Rattle.of_control.specs.Openers.{one_later}
-use Rattle.of_control.specs.Running.{Point, Step, number, step_at, step_from}
-use Rattle.of_control.specs.RunningLaw.{IsRun, RunsByPlaces, RunsByPoints}
+use Rattle.of_control.specs.Running.{Point, Step, number, step_from}
+use Rattle.of_control.specs.RunningLaw.{RunsByPlaces, RunsByPoints}
 use Rattle.of_compile.specs.declared.element.PlainItem.{PlainItem}
 use Rattle.of_compile.specs.Coding.{past}
 use Rattle.of_compile.specs.Layout.{code_item, item_cells, item_place, total}

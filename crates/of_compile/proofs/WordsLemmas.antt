@@ -10,7 +10,7 @@ use Rattle.of_fcodes.specs.Tokens.{Table, entry_in}
 use Rattle.of_dict.specs.declared.word.Word.{Word}
 use Rattle.of_dict.specs.Words.{capacity, name_in, newest, newest_below, word_at, xt_of}
 use Rattle.of_dict.specs.Calls.{changed, changed_in}
-use Rattle.of_compile.specs.Words.{named_at, named_next, own_number}
+use Rattle.of_compile.specs.Words.{own_number}
 
 set-push : {A : Type 0} (xs : List A) (y z : A) → slice_set (xs ++ y ∷ []) (length xs) z ≡ xs ++ z ∷ []
 set-push [] y z = refl

@@ -3,7 +3,7 @@
 -- 6.2.0825, 6.2.1173, 6.2.2405).
 use Rattle.std.specs.Prelude.{ℕ, ◌+◌, Bool, true, false, nat_le, nat_lt, List, [], ◌∷◌, ◌++◌, length, Option, Some}
 use Rattle.std.specs.Prelude.{None}
-use Rattle.std.specs.Prelude.{Result, is_none, is_some}
+use Rattle.std.specs.Prelude.{Result, is_none, is_some, ◌&&◌}
 use Rattle.of_cells.specs.declared.cells.Cell.{Cell}
 use Rattle.of_cells.specs.Arithmetic.{plus}
 use Rattle.of_stacks.specs.declared.throws.Throw.{Throw}
@@ -55,6 +55,11 @@ made_by word.Defer start here s = Some (one (kind.Defer (cell 0)) 0 s)
 made_by word.Buffer start here (n ∷ s) = Some (one (kind.Buffer (cell here)) n.0 s)
 made_by word.Field start here (size ∷ offset ∷ s) = Some (one (kind.Field offset) 0 (plus offset size ∷ s))
 made_by _ start here s = None
+
+-- whether a defining word makes a word, unless it finds too few cells or no room: no definition is open, and a number
+-- is pending
+abbrev pub may_define : WordsState → Bool
+may_define w = is_none w.defining && is_some w.pending
 
 -- the bytes have no room
 abbrev pub has_no_bytes : DataSpace → Option Made → Bool

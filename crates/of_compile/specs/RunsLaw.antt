@@ -1,5 +1,5 @@
--- A finished definition runs as its structure reads: what is fetched at the place of a point is what the body's structure
--- has there (IEEE 1275-1994, 5.3.3.1; Forth 2012, 3.2.3.2).
+-- A finished definition runs as its structure reads: what is fetched at the place of a point is what the structure of
+-- its body has there (IEEE 1275-1994, 5.3.3.1; Forth 2012, 3.2.3.2).
 use Rattle.std.specs.Prelude.{◌≡◌, ℕ, ◌∷◌, List, Some, if◌then◌else◌}
 use Rattle.of_control.specs.Running.{Point, number, step_from}
 use Rattle.of_control.specs.RunningLaw.{IsRun}

@@ -1,5 +1,5 @@
 //! A store of code, and what is open in its open definition.
-ghost use Rattle.std.specs.Prelude.{◌≡◌, ◌≤◌, ◌+◌, OnOk, [], Some};
+ghost use Rattle.std.specs.Prelude.{◌≡◌, ◌≤◌, ◌+◌, is_some, true, OnErr, OnOk, [], Some};
 ghost use Rattle.of_compile.specs.Elements.{CanBeStored, element_of, own_item};
 ghost use Rattle.of_compile.specs.Coding.{abandoning, coding_of, compiling, finishing};
 
@@ -62,12 +62,25 @@ impl<C: CodeStore> Coding<C> {
         self.code.reserve(calls)
     }
 
-    /// Compiles an element, whose operation is a written word and whose call another one.
+    /// Makes room for the item of an element, if it has one. A refused growth changes nothing else.
+    pub fn reserve_for(&mut self, element: Element) -> Result<(), AllocError>
+        ensures coding { self.new.coding ≡ self.old.coding }
+        ensures ready { OnOk result (is_some (own_item (element_of element)) ≡ true → 1 ≤ self.new.spare) }
+        ensures refused { OnErr result (is_some (own_item (element_of element)) ≡ true) }
+    {
+        if element.own_item().is_none() {
+            return Ok(());
+        }
+        self.code.reserve(1)
+    }
+
+    /// Compiles an element, whose operation is a written word and whose call another one. Only one that has an item
+    /// needs memory.
     ///
     /// Throws -8 exactly where the element's item would pass the last code cell, and then nothing is changed.
     pub fn compile(&mut self, element: Element) -> Result<(), Throw>
         requires storable { CanBeStored (own_item (element_of element)) }
-        requires memory { 1 ≤ self.old.spare }
+        requires memory { is_some (own_item (element_of element)) ≡ true → 1 ≤ self.old.spare }
         ensures outcome { compiling (element_of element) self.old.coding
             ≡ record { coding = self.new.coding; ended = result } }
         ensures spare { self.old.spare ≤ self.new.spare + 1 }

@@ -1,5 +1,5 @@
 //! Compiling the elements of an open definition, and ending it. Each call is a function on code and openers.
-ghost use Rattle.std.specs.Prelude.{◌≡◌, ◌≤◌, ◌+◌, length, true};
+ghost use Rattle.std.specs.Prelude.{◌≡◌, ◌≤◌, ◌+◌, is_some, length, true};
 ghost use Rattle.of_code.specs.Items.{IsStorable, capacity, cells_of};
 ghost use Rattle.of_control.specs.Openers.{after_taking, dest_index, orig_index, taken_place};
 ghost use Rattle.of_control.specs.Element.{Back, Branch, Case, Do, EndCase, EndOf, Leave, Loop, Mark, Misfit, Of};
@@ -251,7 +251,7 @@ fn compile_fitting<C: CodeStore>(element: Element, code: &mut C, control: &mut C
     requires storable { CanBeStored (own_item (element_of element)) }
     requires answered { IsAnsweredWithin (element_of element) (coding_of (C.code code.old) control.old) }
     requires room { fits (own_item (element_of element)) (C.code code.old) ≡ true }
-    requires memory { 1 ≤ C.spare code.old }
+    requires memory { is_some (own_item (element_of element)) ≡ true → 1 ≤ C.spare code.old }
     ensures coding { compiled (element_of element) (coding_of (C.code code.old) control.old)
         ≡ coding_of (C.code code.new) control.new }
     ensures spare { C.spare code.old ≤ C.spare code.new + 1 }
@@ -283,7 +283,7 @@ pub(crate) fn compile<C: CodeStore>(
 ) -> Result<(), Throw>
     requires storable { CanBeStored (own_item (element_of element)) }
     requires within { IsWithin (coding_of (C.code code.old) control.old) }
-    requires memory { 1 ≤ C.spare code.old }
+    requires memory { is_some (own_item (element_of element)) ≡ true → 1 ≤ C.spare code.old }
     ensures outcome { compiling (element_of element) (coding_of (C.code code.old) control.old)
         ≡ outcome_of (C.code code.new) control.new result }
     ensures within { IsWithin (coding_of (C.code code.new) control.new) }

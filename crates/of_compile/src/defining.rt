@@ -1,11 +1,15 @@
 //! The words that define, and the open definition's word.
-ghost use Rattle.std.specs.Prelude.{◌≡◌, ◌≤◌, ◌<◌, ◌⊎◌, length, is_ok, IfOk, IfErr, OnErr, OnOk, None, Some};
+ghost use Rattle.std.specs.Prelude.{◌≡◌, ◌≤◌, ◌<◌, ◌⊎◌, length, is_ok, false, true, IfOk, IfErr, OnErr, OnOk, None};
+ghost use Rattle.std.specs.Prelude.{Some, Err};
 ghost use Rattle.of_stacks.specs.Stacks.{Makes};
-ghost use Rattle.of_stacks.specs.Throws.{stack_underflow};
+ghost use Rattle.of_stacks.specs.Throws.{compiler_nesting, stack_underflow};
+ghost use Rattle.of_stacks.specs.declared.stop.Stop.TheVariants.{NoMemory, Thrown};
 ghost use Rattle.of_code.specs.Code.{end_of};
 ghost use Rattle.of_memory.specs.Growth.{aligned};
 ghost use Rattle.of_dict.specs.Words.{capacity};
-ghost use Rattle.of_compile.specs.Defining.{abandoned, closed, defining_entry, hidden_word, made_by, making, opens};
+ghost use Rattle.of_compile.specs.Defining.{abandoned, closed, defining_entry, hidden_word, made_by, making};
+ghost use Rattle.of_compile.specs.Defining.{may_define};
+ghost use Rattle.of_compile.specs.Defining.{opens};
 ghost use Rattle.of_compile.specs.Products.{made_of, with_pending};
 ghost use Rattle.of_compile.specs.Words.{name_pending, named_at, named_next};
 
@@ -130,6 +134,14 @@ impl DefiningWord {
 }
 
 impl Words {
+    /// Whether a defining word makes a word, unless it finds too few cells or no room: no definition is open, and a
+    /// number is pending.
+    pub fn may_define(&self) -> bool
+        ensures { result ≡ may_define self.now }
+    {
+        self.defining.is_none() && self.pending.is_some()
+    }
+
     /// Defines a word, which gets the pending number and name (IEEE 1275-1994, 5.3.3.1). A
     /// definition's code begins at the end of the code. `here` is moved up to a multiple of 4 first.
     ///
@@ -148,6 +160,8 @@ impl Words {
             Makes (is_ok entry) entry old (making self.new stack.new memory.new) result }
         ensures named { OnOk result (named_next self.old.dictionary (name_pending self.old.pending)
             ≡ named_at self.new.dictionary (length self.old.dictionary)) }
+        ensures nested { may_define self.old ≡ false → result ≡ Err (Thrown compiler_nesting) }
+        ensures may { IfErr result (λ s. s ≡ Thrown compiler_nesting → may_define self.old ≡ false) }
     {
         if self.defining.is_some() || self.pending.is_none() {
             return Err(Stop::Thrown(Throw::COMPILER_NESTING));

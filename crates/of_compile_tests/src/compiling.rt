@@ -364,7 +364,7 @@ fn is_compiled(
     element: Element,
     wanted: Result<(), Throw>,
 ) -> Result<bool, Fail> {
-    coding.reserve(1)?;
+    coding.reserve_for(element)?;
     Ok(element.is_storable() && coding.compile(element) == wanted)
 }
 

@@ -151,12 +151,14 @@ impl Bench {
         }
     }
 
-    /// What a line asks of the words: an execution token, or 0, or whether a word is immediate.
+    /// What a line asks of the words: an execution token, or 0, or whether a defining word makes a word, or whether a
+    /// word is immediate.
     fn asked(&self, kind: &str, text: &str) -> Cell {
         match kind {
             "open" => self.words.open_xt().unwrap_or(Cell::ZERO),
             "opened" => xt_of(self.words.named_open().map(|word| word.0)),
             "next" => xt_of(self.words.named_next().map(|word| word.0)),
+            "may" => Cell::flag(self.words.may_define()),
             "find" => xt_of(self.words.dictionary().find(text.as_bytes())),
             _ => self.flag_of(text),
         }
@@ -240,7 +242,7 @@ ffff get-token -> throw -256
 ; -> throw -29
 c0000080 compile, -> throw -14
 compile, -> throw -14
-external:80c:loop colon open: find:loop 80c get-token -> c0000558 0 c0000558 0
+external:80c:loop colon open: find:loop may: 80c get-token -> c0000558 0 0 c0000558 0
 new:80d -> throw -29
 1 constant -> throw -29
 5 compile, -> throw -263
@@ -250,7 +252,7 @@ immediate flag:loop 80c get-token -> ffffffff c0000558 0
 next: opened: hide:loop find:loop -> 0 0 0
 external:80d:gone colon c0000558 compile, give-up 80d get-token -> throw -256
 external:80e:next next: colon opened: next: ; kind:80e -> c0000560 c0000560 0 2 1
-new:80f next: -> 0
+may: new:80f next: may: -> 0 0 ffffffff
 find:gone new:80d 1 constant 80d get-token -> 0 c0000564 0
 c0000080 1 810 set-token 810 get-token -> c0000080 ffffffff
 c0000530 0 810 set-token 810 get-token -> c0000530 0

@@ -142,10 +142,11 @@ throw_text code =
     if is_minus 22 code then codes "control structure mismatch" else
     later_throw_text code
 
--- the numbers of the throws that words raise of themselves, each the negative of one here
+-- the numbers of the throws that words raise of themselves, each the negative of one here; -22 is none of them: it is
+-- thrown where a definition is ended, and nowhere else
 unfoldable pub listed_numbers : List ℕ
 listed_numbers =
-    1 ∷ 3 ∷ 4 ∷ 5 ∷ 6 ∷ 8 ∷ 9 ∷ 10 ∷ 13 ∷ 14 ∷ 16 ∷ 17 ∷ 19 ∷ 20 ∷ 22 ∷ 23 ∷ 24 ∷ 25 ∷ 26 ∷ 29 ∷ 31 ∷ 32
+    1 ∷ 3 ∷ 4 ∷ 5 ∷ 6 ∷ 8 ∷ 9 ∷ 10 ∷ 13 ∷ 14 ∷ 16 ∷ 17 ∷ 19 ∷ 20 ∷ 23 ∷ 24 ∷ 25 ∷ 26 ∷ 29 ∷ 31 ∷ 32
     ∷ 256 ∷ 257 ∷ 258 ∷ 259 ∷ 260 ∷ 261 ∷ 262 ∷ 263 ∷ []
 
 -- the throw is one of those
