@@ -4,6 +4,7 @@ pub mod Control
 pub mod State
 pub mod ByteLoading
 pub mod Executing
+pub mod Unrolled
 pub mod Settling
 pub mod Methods
 pub mod Tokens

@@ -1,5 +1,5 @@
--- A named word becomes a method of the active package, or a global word where none is active (IEEE 1275-1994, 3.2.2
--- and 5.3.3.1).
+-- A named word becomes a method of the package that is active at its defining token, or a global word where none is
+-- (IEEE 1275-1994, 3.2.2 and 5.3.3.1).
 use Rattle.std.specs.Prelude.{◌≡◌, ℕ, Bool, true, false, List, Option, Some, None, Result, Ok, Err}
 use Rattle.of_cells.specs.declared.cells.Cell.{Cell}
 use Rattle.of_stacks.specs.declared.throws.Throw.{Throw}
@@ -39,20 +39,19 @@ as_method None n s = s
 abbrev pub xt_cell : ℕ → Cell
 xt_cell n = record { 0 = xt_of n }
 
--- word n was made, and can be found by its name from now on
-abbrev pub known : {S : Type 0} → ℕ → State S → State S
-known n s =
-    as_method
-    (method_made s.parts.active.«package» (name_in (word_at s.words.dictionary n)) (xt_cell n) s.parts.tree) n s
+-- word n of a package was made, and can be found by its name from now on
+abbrev pub known : {S : Type 0} → Option Phandle → ℕ → State S → State S
+known home n s =
+    as_method (method_made home (name_in (word_at s.words.dictionary n)) (xt_cell n) s.parts.tree) n s
 
-abbrev pub known_if : {S : Type 0} → Result (Unit {0}) Throw → ℕ → State S → State S
-known_if (Ok x) n s = known n s
-known_if (Err t) n s = s
+abbrev pub known_if : {S : Type 0} → Result (Unit {0}) Throw → Option Phandle → ℕ → State S → State S
+known_if (Ok x) home n s = known home n s
+known_if (Err t) home n s = s
 
--- what making a word came to, which can be found by its name if nothing was thrown
-abbrev pub then_known : {S : Type 0} → Option ℕ → Outcome S → Outcome S
-then_known None o = o
-then_known (Some n) o = record { state = known_if o.ended n o.state; ended = o.ended }
+-- what making a word of a package came to, which can be found by its name if nothing was thrown
+abbrev pub then_known : {S : Type 0} → Option Phandle → Option ℕ → Outcome S → Outcome S
+then_known home None o = o
+then_known home (Some n) o = record { state = known_if o.ended home n o.state; ended = o.ended }
 
 -- the word that a name meant in the package before
 abbrev pub WasFormer : Option Phandle → List ℕ → Former → List Node → Type 0

@@ -1,13 +1,17 @@
 //! What tokens of the stream do: they define, compile, and go on elsewhere in the image.
-ghost use Rattle.std.specs.Prelude.{◌≡◌, true, length, List, is_some, IfSome, OnErr, OnOk};
+ghost use Rattle.std.specs.Prelude.{◌≡◌, true, false, length, List, is_some, Err, IfSome, OnErr, OnOk};
+ghost use Rattle.of_stacks.specs.declared.stop.Stop.TheVariants.{Thrown};
+ghost use Rattle.of_stacks.specs.Throws.{compiler_nesting};
 ghost use Rattle.of_stacks.specs.Loops.{loop_on_top};
 ghost use Rattle.of_compile.specs.Elements.{CanBeStored, element_of, own_item};
 ghost use Rattle.of_dict.specs.Words.{name_in, word_at};
+ghost use Rattle.of_compile.specs.Defining.{may_define};
 ghost use Rattle.of_compile.specs.Words.{name_pending, named_at, named_next};
 ghost use Rattle.of_nodes.specs.declared.tree.Node.{Node};
 ghost use Rattle.of_eval.specs.Methods.{hidden_if, with_tree};
 ghost use Rattle.of_eval.specs.State.{Ends, Leaves, flat_calls};
-ghost use Rattle.of_eval.specs.Tokens.{at_position, compiled, define_entry, definition_ended, leave_done};
+ghost use Rattle.of_eval.specs.Tokens.{at_position, compiled, define_entry, definition_ended, element_grows};
+ghost use Rattle.of_eval.specs.Tokens.{leave_done};
 ghost use Rattle.of_eval.specs.Tokens.{semicolon_entry, turn_at, word_defined};
 
 use crate::control::{ControlWord, run_control};
@@ -25,13 +29,13 @@ impl<C: CodeStore> Eval<C> {
     /// Makes a word, which is no method yet.
     fn make_word(&mut self, word: DefiningWord) -> Result<(), Stop>
         requires ready { self.old.parts.console.ready ≡ true }
-        ensures outcome { (t : List Node) → Ends true (word_defined flat_calls word (with_tree t self.old))
-            (with_tree t self.old) (with_tree t self.new) result }
+        ensures outcome { (t : List Node) → Ends (may_define self.old.words)
+            (word_defined flat_calls word (with_tree t self.old)) (with_tree t self.old) (with_tree t self.new) result }
         ensures named { OnOk result (named_next self.old.words.dictionary (name_pending self.old.words.pending)
             ≡ named_at self.new.words.dictionary (length self.old.words.dictionary)) }
         ensures stopped { OnErr result (self.new.words ≡ self.old.words) }
+        ensures nested { may_define self.old.words ≡ false → result ≡ Err (Thrown compiler_nesting) }
         ensures tree { self.new.parts.tree ≡ self.old.parts.tree }
-        ensures active { self.new.parts.active ≡ self.old.parts.active }
         ensures ready { self.new.parts.console.ready ≡ true }
     {
         self.words.define(
@@ -41,6 +45,7 @@ impl<C: CodeStore> Eval<C> {
             &mut self.parts.memory,
         )?;
         if word == DefiningWord::Colon {
+            self.flow.home = self.parts.active.package;
             self.set_compiling(true);
         }
         Ok(())
@@ -49,10 +54,14 @@ impl<C: CodeStore> Eval<C> {
     /// A defining word: `b(:)` to `b(field)`. Its word becomes a method, unless it opens a definition.
     pub(crate) fn define(&mut self, word: DefiningWord) -> Result<(), Stop>
         requires ready { self.old.parts.console.ready ≡ true }
-        ensures outcome { Ends true (define_entry flat_calls word self.old) self.old self.new result }
+        ensures outcome { Ends (may_define self.old.words) (define_entry flat_calls word self.old) self.old self.new
+            result }
         ensures ready { self.new.parts.console.ready ≡ true }
     {
         if word == DefiningWord::Colon {
+            return self.make_word(word);
+        }
+        if !self.words.may_define() {
             return self.make_word(word);
         }
         let Some((next, name)) = self.words.named_next() else {
@@ -95,7 +104,6 @@ impl<C: CodeStore> Eval<C> {
             ≡ name_in (word_at self.old.words.dictionary n)) }
         ensures stopped { OnErr result (self.new.words ≡ self.old.words) }
         ensures tree { self.new.parts.tree ≡ self.old.parts.tree }
-        ensures active { self.new.parts.active ≡ self.old.parts.active }
         ensures ready { self.new.parts.console.ready ≡ true }
     {
         self.coding.reserve(1)?;
@@ -108,17 +116,21 @@ impl<C: CodeStore> Eval<C> {
         }
     }
 
-    /// `b(;)` ( -- ) ends the open definition, whose word becomes a method.
+    /// `b(;)` ( -- ) ends the open definition, whose word becomes a method of the package that was active at its
+    /// `b(:)`.
     pub(crate) fn semicolon(&mut self) -> Result<(), Stop>
         requires ready { self.old.parts.console.ready ≡ true }
-        ensures outcome { Ends true (semicolon_entry flat_calls self.old.words.defining self.old) self.old self.new
-            result }
+        ensures outcome { Ends (is_some self.old.words.defining)
+            (semicolon_entry flat_calls self.old.words.defining self.old) self.old self.new result }
         ensures ready { self.new.parts.console.ready ≡ true }
     {
+        if self.words.defining().is_none() {
+            return Err(Stop::Thrown(Throw::COMPILER_NESTING));
+        }
         let Some((word, name)) = self.words.named_open() else {
             return self.end_open();
         };
-        let home = self.parts.active.package;
+        let home = self.flow.home;
         let former = make_method(&mut self.parts.tree, home, name, word.xt())?;
         match self.end_open() {
             Ok(()) => {
@@ -138,10 +150,11 @@ impl<C: CodeStore> Eval<C> {
     pub(crate) fn compile(&mut self, element: Element) -> Result<(), Stop>
         requires storable { CanBeStored (own_item (element_of element)) }
         requires ready { self.old.parts.console.ready ≡ true }
-        ensures outcome { Ends true (compiled flat_calls (element_of element) self.old) self.old self.new result }
+        ensures outcome { Ends (element_grows (element_of element)) (compiled flat_calls (element_of element) self.old)
+            self.old self.new result }
         ensures ready { self.new.parts.console.ready ≡ true }
     {
-        self.coding.reserve(1)?;
+        self.coding.reserve_for(element)?;
         self.coding.compile(element)?;
         Ok(())
     }

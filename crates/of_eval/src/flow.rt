@@ -1,4 +1,5 @@
 use of_cells::Cell;
+use of_nodes::Phandle;
 use of_stacks::{Continuation, Reading, ReturnStack};
 
 /// Where control is.
@@ -16,4 +17,6 @@ pub struct Flow {
     pub is_compiling: bool,
     /// The current instance, or 0.
     pub my_self: Cell,
+    /// The package that was active where the latest definition was opened, if one was: its word becomes a method there.
+    pub home: Option<Phandle>,
 }

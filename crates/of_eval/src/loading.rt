@@ -58,6 +58,7 @@ impl<C: CodeStore + Drop> Eval<C> {
                 next: Continuation::Source,
                 is_compiling: false,
                 my_self: Cell::ZERO,
+                home: None,
             },
             words,
             coding: Coding::new(code),

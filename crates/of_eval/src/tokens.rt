@@ -1,13 +1,15 @@
 //! The tokens of an image: what they do, or leave in the open definition.
-ghost use Rattle.std.specs.Prelude.{◌≡◌, ◌<◌, ◌≤◌, ◌+◌, ◌^◌, ◌||◌, true, IfSome, OnSome};
+ghost use Rattle.std.specs.Prelude.{◌≡◌, ◌<◌, ◌≤◌, ◌+◌, ◌^◌, true, IfSome, OnSome};
 ghost use Rattle.std.specs.Option.{option_map};
 ghost use Rattle.of_fcodes.specs.Lookup.{word_numbered};
 ghost use Rattle.of_fcodes.specs.Tokens.{entry_in};
 ghost use Rattle.of_stream.specs.Targets.{landing};
 ghost use Rattle.of_compile.specs.Elements.{CanBeStored, element_of, own_item};
 ghost use Rattle.of_eval.specs.State.{Ends, Leaves, flat_calls};
-ghost use Rattle.of_eval.specs.Tokens.{acting_grows, bare_done, bare_token, code_grows, code_token, compiled_now};
-ghost use Rattle.of_eval.specs.Tokens.{control_done, number_done, number_token, offset_done, offset_token};
+ghost use Rattle.of_eval.specs.Tokens.{acting_grows, appended_grows, bare_done, bare_grows, bare_token, code_grows};
+ghost use Rattle.of_eval.specs.Tokens.{code_token, compiled_now, number_grows, offset_grows};
+ghost use Rattle.of_eval.specs.Tokens.{control_done, names_nothing, number_done, number_token, offset_done};
+ghost use Rattle.of_eval.specs.Tokens.{offset_token};
 ghost use Rattle.of_eval.specs.Tokens.{stream_token, string_compiled, string_token, word_grows, word_token};
 
 use crate::control::ControlWord;
@@ -114,7 +116,8 @@ impl<C: CodeStore> Eval<C> {
     #[tactic(auto, unfolding(crate::specs::Tokens::bare_done))]
     fn run_bare(&mut self, word: StreamWord, here: Spot) -> Result<(), Stop>
         requires ready { self.old.parts.console.ready ≡ true }
-        ensures outcome { Ends (acting_grows word) (bare_done flat_calls word here self.old) self.old self.new result }
+        ensures outcome { Ends (acting_grows word self.old.words) (bare_done flat_calls word here self.old) self.old
+            self.new result }
         ensures ready { self.new.parts.console.ready ≡ true }
     {
         match word {
@@ -164,7 +167,7 @@ impl<C: CodeStore> Eval<C> {
     pub(crate) fn number_token(&mut self, word: StreamWord, x: Cell, here: Spot) -> Result<(), Stop>
         requires position { here.position < 2 ^ 63 }
         requires ready { self.old.parts.console.ready ≡ true }
-        ensures outcome { Ends self.old.flow.is_compiling (number_token flat_calls word x here self.old)
+        ensures outcome { Ends (number_grows word x here self.old) (number_token flat_calls word x here self.old)
             self.old self.new result }
         ensures ready { self.new.parts.console.ready ≡ true }
     {
@@ -179,7 +182,7 @@ impl<C: CodeStore> Eval<C> {
     pub(crate) fn offset_token(&mut self, word: StreamWord, by: i16, here: Spot) -> Result<(), Stop>
         requires position { here.position < 2 ^ 63 }
         requires ready { self.old.parts.console.ready ≡ true }
-        ensures outcome { Ends self.old.flow.is_compiling (offset_token flat_calls word by here self.old)
+        ensures outcome { Ends (offset_grows word by here self.old) (offset_token flat_calls word by here self.old)
             self.old self.new result }
         ensures ready { self.new.parts.console.ready ≡ true }
     {
@@ -194,8 +197,8 @@ impl<C: CodeStore> Eval<C> {
     fn stream_token(&mut self, word: StreamWord, here: Spot) -> Result<(), Stop>
         requires position { here.position < 2 ^ 63 }
         requires ready { self.old.parts.console.ready ≡ true }
-        ensures outcome { Ends (self.old.flow.is_compiling || acting_grows word)
-            (stream_token flat_calls word here self.old) self.old self.new result }
+        ensures outcome { Ends (appended_grows (compiled_now word CompiledOperand.Nothing here.position self.old)
+            (acting_grows word self.old.words)) (stream_token flat_calls word here self.old) self.old self.new result }
         ensures ready { self.new.parts.console.ready ≡ true }
     {
         match self.compiled_element(word, CompiledOperand::Nothing, here) {
@@ -204,8 +207,18 @@ impl<C: CodeStore> Eval<C> {
         }
     }
 
+    /// What `b(to)` throws whose FCode names nothing: where it isn't compiled it looks for its cell first.
+    fn names_nothing(&self) -> Throw
+        ensures { result ≡ names_nothing self.now.flow.is_compiling self.now.parts.stack }
+    {
+        if !self.flow.is_compiling && self.parts.stack.depth() == 0 {
+            return Throw::STACK_UNDERFLOW;
+        }
+        Throw::NOT_ASSIGNED
+    }
+
     /// A token of the stream with an FCode.
-    #[tactic(auto, unfolding(crate::specs::Tokens::code_token))]
+    #[tactic(auto, unfolding(crate::specs::Tokens::code_token, crate::specs::Tokens::code_grows))]
     pub(crate) fn code_token(
         &mut self,
         word: StreamWord,
@@ -214,7 +227,7 @@ impl<C: CodeStore> Eval<C> {
     ) -> Result<(), Stop>
         requires position { here.position < 2 ^ 63 }
         requires ready { self.old.parts.console.ready ≡ true }
-        ensures outcome { Ends self.old.flow.is_compiling (code_token flat_calls word code here self.old)
+        ensures outcome { Ends (code_grows word code here self.old) (code_token flat_calls word code here self.old)
             self.old self.new result }
         ensures ready { self.new.parts.console.ready ≡ true }
     {
@@ -225,9 +238,13 @@ impl<C: CodeStore> Eval<C> {
                         .announce(TokenMaker::New, code, &self.parts.memory)?,
                 )
             }
-            StreamWord::Tick | StreamWord::To => match self.words.table().get(code) {
+            StreamWord::Tick => match self.words.table().get(code) {
                 Some(entry) => self.number_token(word, Cell(entry.xt), here),
                 None => Err(Stop::Thrown(Throw::NOT_ASSIGNED)),
+            },
+            StreamWord::To => match self.words.table().get(code) {
+                Some(entry) => self.number_token(word, Cell(entry.xt), here),
+                None => Err(Stop::Thrown(self.names_nothing())),
             },
             _ => Err(Stop::Thrown(Throw::NOT_ASSIGNED)),
         }
@@ -237,8 +254,7 @@ impl<C: CodeStore> Eval<C> {
     #[inline(always)]
     fn word_token(&mut self, code: FCode) -> Result<(), Stop>
         requires ready { self.old.parts.console.ready ≡ true }
-        ensures outcome { Ends (word_grows (entry_in self.old.words.table code.0) self.old.flow.is_compiling
-            self.old.words self.old.parts.stack)
+        ensures outcome { Ends (word_grows (entry_in self.old.words.table code.0) self.old)
             (word_token flat_calls (entry_in self.old.words.table code.0) self.old) self.old self.new result }
         ensures ready { self.new.parts.console.ready ≡ true }
     {
@@ -261,8 +277,7 @@ impl<C: CodeStore> Eval<C> {
     pub(crate) fn bare_token(&mut self, code: FCode, here: Spot) -> Result<(), Stop>
         requires position { here.position < 2 ^ 63 }
         requires ready { self.old.parts.console.ready ≡ true }
-        ensures outcome { Ends (code_grows (word_numbered code.0) code.0 self.old.flow.is_compiling self.old.words
-            self.old.parts.stack)
+        ensures outcome { Ends (bare_grows (word_numbered code.0) code.0 here self.old)
             (bare_token flat_calls (word_numbered code.0) code.0 here self.old) self.old self.new result }
         ensures ready { self.new.parts.console.ready ≡ true }
     {

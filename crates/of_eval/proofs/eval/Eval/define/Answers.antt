@@ -1,12 +1,16 @@
 use Rattle.std.proofs.Common.{◌≡◌, None, Some, Err, OnOk, true, false, sym, ap, subst, ◌∙◌, length, rules}
+use Rattle.of_stacks.specs.Throws.{compiler_nesting}
+use Rattle.of_stacks.specs.declared.stop.Stop.TheVariants.{Thrown}
 use Rattle.of_compile.specs.Words.{name_pending, named_at, named_next}
 use Rattle.of_compile.specs.declared.defining.DefiningWord.TheVariants as defining
 use Rattle.of_dict.specs.Words.{name_in, word_at}
-use Rattle.of_compile.specs.Defining.{opens}
+use Rattle.of_compile.specs.Defining.{may_define, opens}
 use Rattle.of_eval.specs.Methods.{MayMake, then_known, with_tree, xt_cell}
 use Rattle.of_eval.specs.State.{Ends, done, flat_calls}
 use Rattle.of_eval.specs.Tokens.{define_entry, known_at_once, word_defined}
+use Rattle.of_eval.proofs.Endings.{ends_any, ends_when}
 use Rattle.of_eval.proofs.MethodLemmas.{its_name, known_other, method_ends, method_undone, nameless_known}
+use Rattle.of_eval.proofs.MethodLemmas.{thrown_known}
 use Rattle.of_eval.proofs.MethodLemmas.{nothing_or_next, opens_later, over_its_tree, same_names}
 use Rattle.of_eval.proofs.eval.Eval.define.Goals as goal
 
@@ -16,9 +20,27 @@ returns-then-eq-clause-outcome g c =
     let old = c.args.self.now in
     let new = c.make_word.new.self in
     let is : d ≡ defining.Colon = search rules in
-    subst (λ o. Ends {A = Unit {0}} true o old new c.make_word.result) (sym (opens_later d old is))
-    (over_its_tree (word_defined flat_calls d) old new c.make_word.result c.make_word.ensures.tree
+    let b = may_define old.words in
+    subst (λ o. Ends {A = Unit {0}} b o old new c.make_word.result) (sym (opens_later d old is))
+    (over_its_tree b (word_defined flat_calls d) old new c.make_word.result c.make_word.ensures.tree
     c.make_word.ensures.outcome)
+
+-- where no word can be made, what throws makes no method either
+pub returns-then-not-may_define-clause-outcome : goal.returns-then-not-may_define-clause-outcome
+returns-then-not-may_define-clause-outcome g c =
+    let d = c.args.word in
+    let old = c.args.self.now in
+    let new = c.make_word-then-not-may_define.new.self in
+    let r = c.make_word-then-not-may_define.result in
+    let b = may_define old.words in
+    let none : b ≡ false = search rules in
+    let thrown : r ≡ Err (Thrown compiler_nesting) = c.make_word-then-not-may_define.ensures.nested none in
+    let left = over_its_tree b (word_defined flat_calls d) old new r c.make_word-then-not-may_define.ensures.tree
+    c.make_word-then-not-may_define.ensures.outcome in
+    subst (λ x. Ends {A = Unit {0}} b (define_entry flat_calls d old) old new x) (sym thrown)
+    (thrown_known old.parts.active.«package» (known_at_once d old.words.dictionary) (word_defined flat_calls d old)
+    compiler_nesting new
+    (subst (λ x. Ends {A = Unit {0}} b (word_defined flat_calls d old) old new x) thrown left))
 
 pub returns-in_default-clause-outcome : goal.returns-in_default-clause-outcome
 returns-in_default-clause-outcome g c =
@@ -28,12 +50,16 @@ returns-in_default-clause-outcome g c =
     let r = c.make_word-in_default.result in
     let words = old.words.dictionary in
     let none : None ≡ named_next words (name_pending old.words.pending) = search rules in
-    nameless_known (known_at_once d words) (length words) (word_defined flat_calls d old) old new r
-    (nothing_or_next d words)
+    let b = may_define old.words in
+    let may : b ≡ true = search rules in
+    ends_when b _ old new r may
+    (nameless_known old.parts.active.«package» (known_at_once d words) (length words) (word_defined flat_calls d old)
+    old new r (nothing_or_next d words)
     (subst (λ x. OnOk r (x ≡ named_at new.words.dictionary (length words))) (sym none)
     c.make_word-in_default.ensures.named)
-    (over_its_tree (word_defined flat_calls d) old new r c.make_word-in_default.ensures.tree
-    c.make_word-in_default.ensures.outcome)
+    (ends_any b _ old new r
+    (over_its_tree b (word_defined flat_calls d) old new r c.make_word-in_default.ensures.tree
+    c.make_word-in_default.ensures.outcome)))
 
 pub returns-in-Ok-clause-outcome : goal.returns-in-Ok-clause-outcome
 returns-in-Ok-clause-outcome g c =
@@ -44,7 +70,6 @@ returns-in-Ok-clause-outcome g c =
     let former = c.in_ok-former.former in
     let new = c.make_word-2.new.self in
     let is : opens d ≡ false = search rules in
-    let active = c.in-Ok.ensures.active ∙ ap (λ s. s.parts.active) c.self.view_is in
     let tree = c.in-Ok.ensures.tree in
     let made =
     subst (λ s. MayMake s.parts.active.«package» name c.xt.result former s.parts.tree new.parts.tree) c.self.view_is
@@ -61,8 +86,8 @@ returns-in-Ok-clause-outcome g c =
     let method =
     subst (λ x. MayMake old.parts.active.«package» name x former old.parts.tree new.parts.tree) xt made in
     known_other d old is
-    ∙ (ap (λ k. then_known (Some k) (word_defined flat_calls d old)) (sym number)
-    ∙ (method_ends (word_defined flat_calls d) n old new former name method left active its_own
+    ∙ (ap (λ k. then_known old.parts.active.«package» (Some k) (word_defined flat_calls d old)) (sym number)
+    ∙ (method_ends (word_defined flat_calls d) old.parts.active.«package» n old new former name method left its_own
     ∙ ap done (sym c.hide_method.ensures.state)))
 
 pub returns-in-Some-named_next-clause-outcome : goal.returns-in-Some-named_next-clause-outcome
@@ -74,10 +99,15 @@ returns-in-Some-named_next-clause-outcome g c =
     let new = c.make_word-2.new.self in
     let stop = c.in-Err.stop in
     let is : opens d ≡ false = search rules in
-    let left = subst (λ s. Ends {A = Unit {0}} true (word_defined flat_calls d (with_tree old.parts.tree s))
+    let b = may_define old.words in
+    let may : b ≡ true = search rules in
+    let left = subst
+    (λ s. Ends {A = Unit {0}} (may_define s.words) (word_defined flat_calls d (with_tree old.parts.tree s))
     (with_tree old.parts.tree s) (with_tree old.parts.tree new) (Err stop)) c.self.view_is
     (c.in-Err.ensures.outcome old.parts.tree) in
-    let undone = method_undone (word_defined flat_calls d) (known_at_once d old.words.dictionary) old new stop left in
+    let left_any = ends_any b _ (with_tree old.parts.tree old) (with_tree old.parts.tree new) (Err stop) left in
+    let undone = method_undone (word_defined flat_calls d) old.parts.active.«package»
+    (known_at_once d old.words.dictionary) old new stop left_any in
     let words = ap (λ s. s.words) c.self-in-Err.view_is ∙ c.in-Err.ensures.stopped in
     let text = c.in-Some-named_next.name.now in
     let again = c.in-Some-named_next.ensures.next
@@ -90,4 +120,5 @@ returns-in-Some-named_next-clause-outcome g c =
     let back = c.take_back.ensures c.self.inside.parts.active.«package» c.xt.result c.self.inside.parts.tree made
     ∙ ap (λ s. s.parts.tree) c.self.view_is in
     let final = ap (λ s. with_tree c.take_back.new.tree s) c.self-in-Err.view_is ∙ ap (λ t. with_tree t new) back in
-    subst (λ s. Ends {A = Unit {0}} true (define_entry flat_calls d old) old s (Err stop)) (sym final) undone
+    ends_when b (define_entry flat_calls d old) old _ (Err stop) may
+    (subst (λ s. Ends {A = Unit {0}} true (define_entry flat_calls d old) old s (Err stop)) (sym final) undone)
