@@ -8,6 +8,7 @@
 -- ThrowsSettle: the law `throws_settle`.
 -- RunningBytes, RunningEnds, RunningSound, RunningWords, RunningTokens, ImagesRun: the law `images_run`, from bytes up
 -- to a step.
+-- GoingLemmas: the laws `items_go`, `definitions_run`, `catch_keeps`, `ends_go_back`, `loads_begin`.
 -- MethodLemmas: words that become methods leave what runs and the code.
 pub mod MethodLemmas
 pub mod ListedLemmas
@@ -23,6 +24,7 @@ pub mod PlacedParts
 pub mod PlacedWords
 pub mod PlacedTokens
 pub mod Mismatch
+pub mod GoingLemmas
 pub mod FramedTurns
 pub mod FramedWords
 pub mod FramedTokens

@@ -24,7 +24,7 @@ use Rattle.of_dict.specs.declared.word.Slot.TheVariants as slot
 use Rattle.of_dict.specs.Words.{capacity, longest_name}
 use Rattle.of_compile.specs.declared.defining.DefiningWord.{DefiningWord}
 use Rattle.of_compile.specs.Defining.{Made, Making, defining_entry, defining_faults, has_no_bytes, made_by}
-use Rattle.of_compile.specs.DictionaryWords.{behavior_entry, behavior_of, body_of, created_at}
+use Rattle.of_compile.specs.DictionaryWords.{behavior_entry, behavior_of, body_of, created_at, found_of}
 use Rattle.of_compile.specs.DictionaryWords.{from_body_entry, get_token_entry, kind_at, replaced, set_token_entry}
 use Rattle.of_compile.specs.DictionaryWords.{store_entry, stored_kind, to_body_entry, token_given, with_stored}
 use Rattle.of_compile.specs.DictionaryWords.{xt_found}
@@ -131,6 +131,12 @@ pub replaced_listed : (r : Result Cell Throw) (cells : List Cell) → ThrowsList
 replaced_listed (Ok x) cells h = tt
 replaced_listed (Err t) cells h = h
 
+found_listed : (known : Bool) (r : Result Cell Throw) → ThrowsListed r
+    → ThrowsListed (if known then r else Err bad_handle)
+unfolding is_listed listed_numbers
+found_listed true r h = h
+found_listed false r h = refl
+
 behaviors : (k : Option Kind) → ThrowsListed (behavior_of k)
 unfolding is_listed listed_numbers
 behaviors None = refl
@@ -150,7 +156,9 @@ behaviors (Some (kind.Field o)) = refl
 pub behavior_listed : (w : WordsState) (cells : List Cell) → ThrowsListed (behavior_entry w cells)
 unfolding is_listed listed_numbers
 behavior_listed w [] = refl
-behavior_listed w (xt ∷ cells) = replaced_listed (behavior_of (kind_at w xt.0)) cells (behaviors (kind_at w xt.0))
+behavior_listed w (xt ∷ cells) =
+    let b = behavior_of (kind_at w xt.0) in
+    replaced_listed (found_of w xt b) cells (found_listed (is_word w.dictionary xt.0) b (behaviors (kind_at w xt.0)))
 
 bodies : (k : Option Kind) → ThrowsListed (body_of k)
 unfolding is_listed listed_numbers
@@ -168,7 +176,9 @@ bodies (Some (kind.Field o)) = refl
 pub to_body_listed : (w : WordsState) (cells : List Cell) → ThrowsListed (to_body_entry w cells)
 unfolding is_listed listed_numbers
 to_body_listed w [] = refl
-to_body_listed w (xt ∷ cells) = replaced_listed (body_of (kind_at w xt.0)) cells (bodies (kind_at w xt.0))
+to_body_listed w (xt ∷ cells) =
+    let b = body_of (kind_at w xt.0) in
+    replaced_listed (found_of w xt b) cells (found_listed (is_word w.dictionary xt.0) b (bodies (kind_at w xt.0)))
 
 xts : (n : Option ℕ) → ThrowsListed (xt_found n)
 unfolding is_listed listed_numbers

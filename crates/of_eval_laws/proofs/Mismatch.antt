@@ -57,5 +57,5 @@ mismatch_is_no_body = record {
   finished = λ n s b e room.
       let o = definition_ended board_calls (Some n) s in
       let is = finished_is (body_in 32 s.code.elements) (record { 0 = xt_of n }) b s.code e room in
-      (is.0, ap (λ d. d.finished) (known_code o.ended n o.state) ∙ is.1);
+      (is.0, ap (λ d. d.finished) (known_code o.ended s.flow.home n o.state) ∙ is.1);
 }

@@ -1,6 +1,6 @@
 -- What a step throws has a listed number, or is the number of a cell that `throw` takes.
-use Rattle.std.proofs.Common.{◌≡◌, ℕ, ℤ, zero, suc, ◌<◌, Bool, true, false, List, [], ◌∷◌, length, Option, Some}
-use Rattle.std.proofs.Common.{None, Result, Ok, Err, inl, inr, refl, arith, if◌then◌else◌}
+use Rattle.std.proofs.Common.{◌≡◌, ℕ, ℤ, suc, Bool, true, false, List, [], ◌∷◌, length, Option, Some}
+use Rattle.std.proofs.Common.{None, Result, Ok, Err, inl, inr, refl, if◌then◌else◌, ◌⊎◌}
 use Rattle.std.specs.Prelude.{◌&&◌, not, is_none, is_some, nat_le, ◌==◌}
 use Rattle.of_cells.specs.declared.cells.Cell.{Cell}
 use Rattle.of_code.specs.Code.{finished, has_room}
@@ -12,7 +12,8 @@ use Rattle.of_stacks.specs.declared.return_item.Continuation.{Continuation}
 use Rattle.of_stacks.specs.declared.return_item.Continuation.TheVariants as continuation
 use Rattle.of_stacks.specs.declared.return_item.Input.{Input}
 use Rattle.of_stacks.specs.declared.return_item.Input.TheVariants as input
-use Rattle.of_stacks.specs.Throws.{ThrowsListed, control_mismatch, dictionary_overflow, is_listed, listed_numbers}
+use Rattle.of_stacks.specs.Throws.{ThrowsListed, bad_handle, control_mismatch, dictionary_overflow, is_listed}
+use Rattle.of_stacks.specs.Throws.{listed_numbers, return_stack_overflow, stack_underflow}
 use Rattle.of_stacks.specs.Order.{counting}
 use Rattle.of_stacks.specs.Loops.{loop_on_top}
 use Rattle.of_stacks.specs.Stacks.{within}
@@ -63,27 +64,31 @@ use Rattle.of_eval.specs.declared.control.ControlWord.{ControlWord}
 use Rattle.of_eval.specs.declared.control.ControlWord.TheVariants as control
 use Rattle.of_eval.specs.declared.executing.Runner.{Runner}
 use Rattle.of_eval.specs.declared.executing.Runner.TheVariants as runner
-use Rattle.of_eval.specs.declared.reading.Taken.{Taken}
-use Rattle.of_eval.specs.declared.reading.Taken.TheVariants as taken
 use Rattle.of_eval.specs.declared.tokens.Held.{Held}
 use Rattle.of_eval.specs.declared.tokens.Held.TheVariants as held
 use Rattle.of_eval.specs.declared.tokens.Spot.{Spot}
 use Rattle.of_eval.specs.Words.{word_entry}
 use Rattle.of_eval.specs.State.{Answered, Calls, Outcome, State, by_parts, by_stack, done, flat_calls, open_xt}
 use Rattle.of_eval.specs.State.{with_next, with_stack}
-use Rattle.of_eval.specs.Executing.{comma_entry, comma_faults, comma_unless, dictionary_entry, entry_at, entry_behind}
+use Rattle.of_eval.specs.Executing.{comma_entry, comma_faults, comma_unless, dictionary_entry}
 use Rattle.of_eval.specs.Executing.{executable, executed, guarded, plain_entry, pushed, returns_entry, runner_of}
-use Rattle.of_eval.specs.Executing.{throw_entry, throws_entry, written_entry}
+use Rattle.of_eval.specs.Executing.{throw_entry, throws_entry}
+use Rattle.of_eval.specs.Executing.{Catch, Execute, Own, Plan, Stops, Written, performed, plan, plan_at, plan_behind}
+use Rattle.of_eval.specs.Executing.{plan_in, planned}
 use Rattle.of_eval.specs.Settling.{ended, is_same}
 use Rattle.of_eval.specs.Steps.{control_item, due, item_done, item_due, nowhere}
 use Rattle.of_eval.specs.Tokens.{announced, appended_or, argument_token, bare_done, bare_token, by_making, code_token}
 use Rattle.of_eval.specs.Tokens.{compiled_now, control_done, define_entry, found_token, held_token, named_token}
+use Rattle.of_eval.specs.Tokens.{names_nothing}
 use Rattle.of_eval.specs.Tokens.{number_done, number_token, offset_done, read_on, semicolon_entry, spot_in}
 use Rattle.of_eval.specs.Tokens.{stream_of, string_address, string_compiled, string_element, string_kept, string_put}
 use Rattle.of_eval.specs.Tokens.{string_refused}
-use Rattle.of_eval.specs.Tokens.{string_token, taken_token, token_due, word_compiled, word_token}
+use Rattle.of_eval.specs.Tokens.{string_token, token_due, word_compiled, word_token}
 use Rattle.of_eval_laws.specs.Board.{board_calls}
-use Rattle.of_eval_laws.specs.Listed.{IsRaised, RaisesListed, StepsThrowListed, WordsThrowListed}
+use Rattle.of_eval_laws.specs.Listed.{Raises, StepsThrowListed, WordsThrowListed, cell_in, cell_next, cell_of}
+use Rattle.of_eval_laws.specs.Listed.{closes, closes_next, is_semicolon, plan_bare, plan_fetched, plan_named}
+use Rattle.of_eval_laws.specs.Listed.{plan_of_item}
+use Rattle.of_eval_laws.specs.Listed.{plan_read, plan_with, token_of, token_read}
 use Rattle.of_eval_laws.proofs.ListedFaults.{IsListedFault, behavior_listed, defining_listed, from_body_listed}
 use Rattle.of_eval_laws.proofs.ListedFaults.{get_token_listed, loop_listed, numbered_listed, set_token_listed}
 use Rattle.of_eval_laws.proofs.ListedFaults.{store_listed}
@@ -95,44 +100,44 @@ use Rattle.of_eval_laws.proofs.ListedParts.{parts_left}
 use Rattle.of_eval_laws.proofs.ListedParts.{place_left, stack_left, stacks_left, stacks_listed, turn_left, words_left}
 use Rattle.of_eval.specs.Methods.{then_known}
 use Rattle.of_eval.specs.Tokens.{known_at_once, word_defined}
+use Rattle.of_nodes.specs.declared.phandles.Phandle.{Phandle}
 
 -- ---- what a program throws
+
+-- what ending a definition throws is listed, or is -22
+abbrev EndsListed : Result (Unit {0}) Throw → Type 0
+EndsListed (Ok x) = Unit {0}
+EndsListed (Err t) = (is_listed t ≡ true) ⊎ (t ≡ control_mismatch)
 
 -- what calls on definitions throw is listed
 record CallsThrowListed (S : Type 0) (c : Calls S) : Type 0 where
   element : (e : Element PlainItem) (code : S) → ThrowsListed (c.element e code).ended
-  semicolon : (xt : Cell) (code : S) → ThrowsListed (c.semicolon xt code).ended
+  semicolon : (xt : Cell) (code : S) → EndsListed (c.semicolon xt code).ended
 
-abbrev Raises : {S : Type 0} → List Cell → Outcome S → Type 0
-Raises cells o = RaisesListed cells o.ended
+-- what is left by a token or an item, where `throw` takes this cell, and a definition is ended or isn't
+abbrev Raised : {S : Type 0} → Option Cell → Bool → Outcome S → Type 0
+Raised taken ends o = Raises taken ends o.ended
 
-weaker : (cells : List Cell) (r : Result (Unit {0}) Throw) → ThrowsListed r → RaisesListed cells r
-weaker cells (Ok x) h = tt
-weaker cells (Err t) h = inl h
+weaker : (taken : Option Cell) (ends : Bool) (r : Result (Unit {0}) Throw) → ThrowsListed r → Raises taken ends r
+weaker taken ends (Ok x) h = tt
+weaker taken ends (Err t) h = inl h
 
-behind : (x : Cell) (cells : List Cell) (t : Throw) → IsRaised cells t → IsRaised (x ∷ cells) t
-behind x cells t (inl h) = inl h
-behind x cells t (inr h) =
-    let there = h.1 in
-    let below : there.0 < length cells = there.1 in
-    inr (h.0, (suc there.0, omega (arith, below), there.2), h.2)
+ends_weaker : (taken : Option Cell) (r : Result (Unit {0}) Throw) → EndsListed r → Raises taken true r
+ends_weaker taken (Ok x) h = tt
+ends_weaker taken (Err t) (inl h) = inl h
+ends_weaker taken (Err t) (inr h) = inr (inl (refl, h))
 
-raised_behind : (x : Cell) (cells : List Cell) (r : Result (Unit {0}) Throw) → RaisesListed cells r
-    → RaisesListed (x ∷ cells) r
-raised_behind x cells (Ok u) h = tt
-raised_behind x cells (Err t) h = behind x cells t h
+raised_if : {S : Type 0} (taken : Option Cell) (ends b : Bool) (o p : Outcome S) → Raised taken ends o
+    → Raised taken ends p → Raised taken ends (if b then o else p)
+raised_if taken ends true o p ho hp = ho
+raised_if taken ends false o p ho hp = hp
 
-raised_if : {S : Type 0} (cells : List Cell) (b : Bool) (o p : Outcome S) → Raises cells o → Raises cells p
-    → Raises cells (if b then o else p)
-raised_if cells true o p ho hp = ho
-raised_if cells false o p ho hp = hp
-
-thrown : {S : Type 0} (cells : List Cell) (s : State S) → Raises cells (throw_entry cells s)
+thrown : {S : Type 0} (ends : Bool) (cells : List Cell) (s : State S)
+    → Raised (cell_in (Written (word.Throws throws.Throw)) cells) ends (throw_entry cells s)
 unfolding is_listed listed_numbers
-thrown [] s = inl refl
-thrown (n ∷ cells) s =
-    raised_if (n ∷ cells) (n.0 == 0) (done (with_stack cells s)) _ tt
-    (inr (n, (zero, omega arith, refl), refl))
+thrown ends [] s = inl refl
+thrown ends (n ∷ cells) s =
+    raised_if (Some n) ends (n.0 == 0) (done (with_stack cells s)) _ tt (inr (inr (n, refl, refl)))
 
 -- ---- executing
 
@@ -146,11 +151,12 @@ returns_raise returns.Index s = stacks_left _ s (stacks_listed returns.Index s.p
 returns_raise returns.OuterIndex s = stacks_left _ s (stacks_listed returns.OuterIndex s.parts.stack s.flow.items)
 returns_raise returns.Execute s = stacks_left _ s (stacks_listed returns.Execute s.parts.stack s.flow.items)
 
-throws_raise : {S : Type 0} (w : ThrowsWord) (s : State S) → Raises s.parts.stack (throws_entry w s)
+throws_raise : {S : Type 0} (ends : Bool) (w : ThrowsWord) (s : State S)
+    → Raised (cell_in (Written (word.Throws w)) s.parts.stack) ends (throws_entry w s)
 unfolding is_listed listed_numbers
-throws_raise throws.Abort s = inl refl
-throws_raise throws.Throw s = thrown s.parts.stack s
-throws_raise throws.Catch s = inl refl
+throws_raise ends throws.Abort s = inl refl
+throws_raise ends throws.Throw s = thrown ends s.parts.stack s
+throws_raise ends throws.Catch s = inl refl
 
 comma_if : {S : Type 0} (t : Option Throw) (a : Answered S) (cells : List Cell) (s : State S)
     → IsListedFault t → ThrowsListed a.ended → Lists (comma_unless t a cells s)
@@ -194,55 +200,77 @@ record Laws (S : Type 0) (c : Calls S) : Type 0 where
   words : WordsThrowListed
   faults : ThrowListedNumbers
 
-parts_raise : {S : Type 0} → WordsThrowListed → (w : Word) (s : State S)
-    → Raises s.parts.stack (by_parts (word_entry w s.parts) s)
-parts_raise law w s = weaker s.parts.stack _ (parts_left (word_entry w s.parts) s (law.words w s.parts))
+parts_raise : {S : Type 0} (ends : Bool) → WordsThrowListed → (w : Word) (s : State S)
+    → Raised None ends (by_parts (word_entry w s.parts) s)
+parts_raise ends law w s = weaker None ends _ (parts_left (word_entry w s.parts) s (law.words w s.parts))
 
-plains : {S : Type 0} (c : Calls S) → Laws S c → (w : Word) (s : State S) → Raises s.parts.stack (plain_entry c w s)
+plains : {S : Type 0} (c : Calls S) (ends : Bool) → Laws S c → (w : Word) (s : State S)
+    → Raised (cell_in (Written w) s.parts.stack) ends (plain_entry c w s)
 unfolding is_listed listed_numbers
-plains c l (word.Returns w) s = weaker s.parts.stack _ (returns_raise w s)
-plains c l (word.Throws w) s = throws_raise w s
-plains c l (word.Dictionary w) s = weaker s.parts.stack _ (dictionaries c l.calls l.faults w s)
-plains c l (word.Stream w) s = inl refl
-plains c l (word.Parsing w) s = inl refl
-plains c l (word.Compiling w) s = inl refl
-plains c l (word.Primitive w) s = parts_raise l.words (word.Primitive w) s
-plains c l (word.Printing w) s = parts_raise l.words (word.Printing w) s
-plains c l (word.Heap w) s = parts_raise l.words (word.Heap w) s
-plains c l (word.Keys w) s = parts_raise l.words (word.Keys w) s
-plains c l (word.Properties w) s = parts_raise l.words (word.Properties w) s
-plains c l (word.Tree w) s = parts_raise l.words (word.Tree w) s
-plains c l (word.Devices w) s = parts_raise l.words (word.Devices w) s
-plains c l (word.Console w) s = parts_raise l.words (word.Console w) s
+plains c ends l (word.Returns w) s = weaker None ends _ (returns_raise w s)
+plains c ends l (word.Throws w) s = throws_raise ends w s
+plains c ends l (word.Dictionary w) s = weaker None ends _ (dictionaries c l.calls l.faults w s)
+plains c ends l (word.Stream w) s = inl refl
+plains c ends l (word.Parsing w) s = inl refl
+plains c ends l (word.Compiling w) s = inl refl
+plains c ends l (word.Primitive w) s = parts_raise ends l.words (word.Primitive w) s
+plains c ends l (word.Printing w) s = parts_raise ends l.words (word.Printing w) s
+plains c ends l (word.Heap w) s = parts_raise ends l.words (word.Heap w) s
+plains c ends l (word.Keys w) s = parts_raise ends l.words (word.Keys w) s
+plains c ends l (word.Properties w) s = parts_raise ends l.words (word.Properties w) s
+plains c ends l (word.Tree w) s = parts_raise ends l.words (word.Tree w) s
+plains c ends l (word.Devices w) s = parts_raise ends l.words (word.Devices w) s
+plains c ends l (word.Console w) s = parts_raise ends l.words (word.Console w) s
 
-writtens : {S : Type 0} (c : Calls S) → Laws S c → (w : Word) (r : Runner) (s : State S) (i d : Outcome S)
-    → Raises s.parts.stack i → Raises s.parts.stack d → Raises s.parts.stack (written_entry c w r s i d)
-writtens c l w runner.Plain s i d hi hd = plains c l w s
-writtens c l w runner.Execute s i d hi hd = hi
-writtens c l w runner.Catch s i d hi hd = hd
+-- where a plan stops, that is by a listed throw
+abbrev StopsListed : Plan → Type 0
+StopsListed (Stops t) = is_listed t ≡ true
+StopsListed (Written w) = Unit {0}
+StopsListed (Own xt) = Unit {0}
+StopsListed (Execute cells p) = StopsListed p
+StopsListed (Catch cells p) = StopsListed p
 
-ats : {S : Type 0} (c : Calls S) → Laws S c → (w : Option Word) (xt : ℕ) (s : State S) (i d : Outcome S)
-    → Raises s.parts.stack i → Raises s.parts.stack d → Raises s.parts.stack (entry_at c w xt s i d)
-ats c l (Some w) xt s i d hi hd = writtens c l w (runner_of w) s i d hi hd
-ats c l None xt s i d hi hd =
-    weaker s.parts.stack _ (own_listed (kind_in (own_word s.words.dictionary xt)) xt s)
+stops_if : (b : Bool) (p q : Plan) → StopsListed p → StopsListed q → StopsListed (if b then p else q)
+stops_if true p q hp hq = hp
+stops_if false p q hp hq = hq
 
-behinds : {S : Type 0} (c : Calls S) → Laws S c → (o : Option ℕ) (s : State S) (i d : Outcome S)
-    → Raises s.parts.stack i → Raises s.parts.stack d → Raises s.parts.stack (entry_behind c o s i d)
+stops_planned : (w : Word) (r : Runner) (p q : Plan) → StopsListed p → StopsListed q → StopsListed (planned w r p q)
+stops_planned w runner.Plain p q hp hq = tt
+stops_planned w runner.Execute p q hp hq = hp
+stops_planned w runner.Catch p q hp hq = hq
+
+stops_at : (o : Option Word) (xt : ℕ) (p q : Plan) → StopsListed p → StopsListed q → StopsListed (plan_at o xt p q)
+stops_at None xt p q hp hq = tt
+stops_at (Some w) xt p q hp hq = stops_planned w (runner_of w) p q hp hq
+
+stops_behind : (o : Option ℕ) (p q : Plan) → StopsListed p → StopsListed q → StopsListed (plan_behind o p q)
 unfolding is_listed listed_numbers
-behinds c l None s i d hi hd = inl refl
-behinds c l (Some xt) s i d hi hd = ats c l (word_with_xt xt) xt s i d hi hd
+stops_behind None p q hp hq = refl
+stops_behind (Some xt) p q hp hq = stops_at (word_with_xt xt) xt p q hp hq
 
-executes : {S : Type 0} (c : Calls S) → Laws S c → (cells : List Cell) (xt : ℕ) (s : State S)
-    → Raises cells (executed c cells xt (with_stack cells s))
-unfolding executed is_listed listed_numbers
-executes c l [] xt s = behinds c l (executable s.words xt) (with_stack [] s) _ _ (inl refl) (inl refl)
-executes c l (x ∷ cells) xt s =
-    behinds c l (executable s.words xt) (with_stack (x ∷ cells) s) _ _
-    (raised_if (x ∷ cells) (is_word s.words.dictionary x.0) _ _
-    (raised_behind x cells _ (executes c l cells x.0 s)) (inl refl))
-    (raised_if (x ∷ cells) (nat_le 256 (length s.flow.items)) _ _ (inl refl)
-    (raised_behind x cells _ (executes c l cells x.0 (guarded cells (with_stack (x ∷ cells) s)))))
+plan_stops : (w : WordsState) (depth : ℕ) (cells : List Cell) (xt : ℕ) → StopsListed (plan w depth cells xt)
+unfolding plan is_listed listed_numbers
+plan_stops w depth [] xt = stops_behind (executable w xt) (Stops stack_underflow) (Stops stack_underflow) refl refl
+plan_stops w depth (x ∷ cells) xt =
+    stops_behind (executable w xt) _ _
+    (stops_if (is_word w.dictionary x.0) (Execute cells (plan w depth cells x.0)) (Stops bad_handle)
+    (plan_stops w depth cells x.0) refl)
+    (stops_if (nat_le 256 depth) (Stops return_stack_overflow) (Catch cells (plan w (suc depth) cells x.0)) refl
+    (plan_stops w (suc depth) cells x.0))
+
+performs : {S : Type 0} (c : Calls S) (ends : Bool) → Laws S c → (p : Plan) (s : State S) → StopsListed p
+    → Raised (cell_in p s.parts.stack) ends (performed c p s)
+performs c ends l (Stops t) s h = inl h
+performs c ends l (Written w) s h = plains c ends l w s
+performs c ends l (Own xt) s h = weaker None ends _ (own_listed (kind_in (own_word s.words.dictionary xt)) xt s)
+performs c ends l (Execute cells p) s h = performs c ends l p (with_stack cells s) h
+performs c ends l (Catch cells p) s h = performs c ends l p (guarded cells s) h
+
+executes : {S : Type 0} (c : Calls S) (ends : Bool) → Laws S c → (xt : ℕ) (s : State S)
+    → Raised (cell_in (plan_in s xt) s.parts.stack) ends (executed c xt s)
+unfolding executed
+executes c ends l xt s =
+    performs c ends l (plan_in s xt) s (plan_stops s.words (length s.flow.items) s.parts.stack xt)
 
 -- ---- defining and compiling
 
@@ -251,20 +279,20 @@ makings : {S : Type 0} (d : DefiningWord) (r : Result Making Throw) (s : State S
 makings d (Ok g) s h = tt
 makings d (Err t) s h = h
 
-knows : {S : Type 0} (o : Option ℕ) (a : Outcome S) → Lists a → Lists (then_known o a)
-knows None a h = h
-knows (Some n) a h = h
+knows : {S : Type 0} (home : Option Phandle) (o : Option ℕ) (a : Outcome S) → Lists a → Lists (then_known home o a)
+knows home None a h = h
+knows home (Some n) a h = h
 
 defines : {S : Type 0} (c : Calls S) (d : DefiningWord) (s : State S) → Lists (define_entry c d s)
 defines c d s =
-    knows (known_at_once d s.words.dictionary) (word_defined c d s)
+    knows s.parts.active.«package» (known_at_once d s.words.dictionary) (word_defined c d s)
     (makings d _ s (defining_listed d (c.ends_at s.code) (making s.words s.parts.stack s.parts.memory)))
 
-closes : {S : Type 0} (c : Calls S) → CallsThrowListed S c → (n : Option ℕ) (s : State S)
-    → Lists (semicolon_entry c n s)
+semicolons : {S : Type 0} (c : Calls S) → CallsThrowListed S c → (n : Option ℕ) (s : State S)
+    → EndsListed (semicolon_entry c n s).ended
 unfolding is_listed listed_numbers
-closes c h None s = refl
-closes c h (Some n) s = h.semicolon (record { 0 = xt_of n }) s.code
+semicolons c h None s = inl refl
+semicolons c h (Some n) s = h.semicolon (record { 0 = xt_of n }) s.code
 
 puts : {S : Type 0} (r : Result (Unit {0}) Throw) (code : S) (m : DataSpace) (s : State S) → ThrowsListed r
     → Lists (string_put r code m s)
@@ -294,26 +322,28 @@ ends c s = outcome_if (is_some s.words.defining && not (is_same (open_xt s) s.fl
 -- ---- tokens
 
 bares : {S : Type 0} (c : Calls S) → CallsThrowListed S c → (w : StreamWord) (here : Spot) (s : State S)
-    → Lists (bare_done c w here s)
+    → Raised None (is_semicolon (Some (word.Stream w))) (bare_done c w here s)
 unfolding bare_done is_listed listed_numbers
-bares c h stream.End0 here s = ends c s
-bares c h stream.End1 here s = ends c s
-bares c h stream.Leave here s = leave_listed here.size (loop_on_top s.flow.items) s (loop_listed s.flow.items)
-bares c h stream.EndCase here s = turn_left None _ s (control_listed control.EndCase _ _ s.parts.stack s.flow.items)
+bares c h stream.End0 here s = weaker None false _ (ends c s)
+bares c h stream.End1 here s = weaker None false _ (ends c s)
+bares c h stream.Leave here s =
+    weaker None false _ (leave_listed here.size (loop_on_top s.flow.items) s (loop_listed s.flow.items))
+bares c h stream.EndCase here s =
+    weaker None false _ (turn_left None _ s (control_listed control.EndCase _ _ s.parts.stack s.flow.items))
 bares c h stream.Case here s = tt
 bares c h stream.Mark here s = tt
 bares c h stream.Resolve here s = tt
 bares c h stream.Offset16 here s = tt
-bares c h stream.Colon here s = defines c defining.Colon s
-bares c h stream.Value here s = defines c defining.Value s
-bares c h stream.Constant here s = defines c defining.Constant s
-bares c h stream.Variable here s = defines c defining.Variable s
-bares c h stream.Create here s = defines c defining.Create s
-bares c h stream.Defer here s = defines c defining.Defer s
-bares c h stream.Buffer here s = defines c defining.Buffer s
-bares c h stream.Field here s = defines c defining.Field s
-bares c h stream.Semicolon here s = closes c h s.words.defining s
-bares c h _ here s = refl
+bares c h stream.Colon here s = weaker None false _ (defines c defining.Colon s)
+bares c h stream.Value here s = weaker None false _ (defines c defining.Value s)
+bares c h stream.Constant here s = weaker None false _ (defines c defining.Constant s)
+bares c h stream.Variable here s = weaker None false _ (defines c defining.Variable s)
+bares c h stream.Create here s = weaker None false _ (defines c defining.Create s)
+bares c h stream.Defer here s = weaker None false _ (defines c defining.Defer s)
+bares c h stream.Buffer here s = weaker None false _ (defines c defining.Buffer s)
+bares c h stream.Field here s = weaker None false _ (defines c defining.Field s)
+bares c h stream.Semicolon here s = ends_weaker None _ (semicolons c h s.words.defining s)
+bares c h _ here s = inl refl
 
 numbers : {S : Type 0} (w : StreamWord) (x : Cell) (s : State S) → Lists (number_done w x s)
 unfolding number_done is_listed listed_numbers
@@ -344,22 +374,33 @@ appends : {S : Type 0} (c : Calls S) → CallsThrowListed S c → (e : Option (E
 appends c h None s acted ha = ha
 appends c h (Some e) s acted ha = h.element e s.code
 
+appends_raise : {S : Type 0} (c : Calls S) (ends : Bool) → CallsThrowListed S c → (e : Option (Element PlainItem))
+    (s : State S) (acted : Outcome S) → Raised None ends acted → Raised None ends (appended_or c e s acted)
+appends_raise c ends h None s acted ha = ha
+appends_raise c ends h (Some e) s acted ha = weaker None ends _ (h.element e s.code)
+
 number_tokens : {S : Type 0} (c : Calls S) → CallsThrowListed S c → (w : StreamWord) (x : Cell) (here : Spot)
     (s : State S) → Lists (number_token c w x here s)
 number_tokens c h w x here s =
     appends c h (compiled_now w (operand.Number x) here.position s) s _ (numbers w x s)
 
-names : {S : Type 0} (c : Calls S) → CallsThrowListed S c → (w : StreamWord) (e : Option TokenEntry) (here : Spot)
-    (s : State S) → Lists (named_token c w e here s)
+names : {S : Type 0} (c : Calls S) → CallsThrowListed S c → (w : StreamWord) (t : Throw) (e : Option TokenEntry)
+    (here : Spot) (s : State S) → is_listed t ≡ true → Lists (named_token c w t e here s)
+names c h w t None here s l = l
+names c h w t (Some e) here s l = number_tokens c h w (record { 0 = e.xt }) here s
+
+nothings : (b : Bool) (cells : List Cell) → is_listed (names_nothing b cells) ≡ true
 unfolding is_listed listed_numbers
-names c h w None here s = refl
-names c h w (Some e) here s = number_tokens c h w (record { 0 = e.xt }) here s
+nothings true cells = refl
+nothings false [] = refl
+nothings false (x ∷ cells) = refl
 
 code_tokens : {S : Type 0} (c : Calls S) → CallsThrowListed S c → (w : StreamWord) (k : FCode) (here : Spot)
     (s : State S) → Lists (code_token c w k here s)
 unfolding code_token is_listed listed_numbers
-code_tokens c h stream.Tick k here s = names c h stream.Tick (entry_in s.words.table k.0) here s
-code_tokens c h stream.To k here s = names c h stream.To (entry_in s.words.table k.0) here s
+code_tokens c h stream.Tick k here s = names c h stream.Tick _ (entry_in s.words.table k.0) here s refl
+code_tokens c h stream.To k here s =
+    names c h stream.To _ (entry_in s.words.table k.0) here s (nothings s.flow.is_compiling s.parts.stack)
 code_tokens c h stream.NewToken k here s = words_left _ s (numbered_listed k None s.words)
 code_tokens c h _ k here s = refl
 
@@ -385,33 +426,41 @@ unfolding is_listed listed_numbers
 word_compiles c h xt s =
     outcome_if (is_word s.words.dictionary xt) _ _ (h.element (Plain (called (record { 0 = xt }))) s.code) refl
 
-word_tokens : {S : Type 0} (c : Calls S) → Laws S c → (e : Option TokenEntry) (s : State S)
-    → Raises s.parts.stack (word_token c e s)
+word_if : {S : Type 0} (ends b : Bool) (p : Plan) (cells : List Cell) (o q : Outcome S) → Raised None ends o
+    → Raised (cell_in p cells) ends q
+    → Raised (cell_of (if b then None else Some p) cells) ends (if b then o else q)
+word_if ends true p cells o q ho hq = ho
+word_if ends false p cells o q ho hq = hq
+
+word_tokens : {S : Type 0} (c : Calls S) (ends : Bool) → Laws S c → (e : Option TokenEntry) (s : State S)
+    → Raised (cell_of (plan_named e s.flow.is_compiling (plan_in s)) s.parts.stack) ends (word_token c e s)
 unfolding is_listed listed_numbers
-word_tokens c l None s = inl refl
-word_tokens c l (Some e) s =
-    raised_if s.parts.stack (s.flow.is_compiling && not e.immediate) _ _
-    (weaker s.parts.stack _ (word_compiles c l.calls e.xt s)) (executes c l s.parts.stack e.xt s)
+word_tokens c ends l None s = inl refl
+word_tokens c ends l (Some e) s =
+    word_if ends (s.flow.is_compiling && not e.immediate) (plan_in s e.xt) s.parts.stack _ _
+    (weaker None ends _ (word_compiles c l.calls e.xt s)) (executes c ends l e.xt s)
 
 bare_tokens : {S : Type 0} (c : Calls S) → Laws S c → (w : Option Word) (k : ℕ) (here : Spot) (s : State S)
-    → Raises s.parts.stack (bare_token c w k here s)
+    → Raised
+    (cell_of (plan_bare w (entry_in s.words.table k) s.flow.is_compiling (plan_in s)) s.parts.stack) (is_semicolon w)
+    (bare_token c w k here s)
 bare_tokens c l (Some (word.Stream w)) k here s =
-    weaker s.parts.stack _
-    (appends c l.calls (compiled_now w operand.Nothing here.position s) s _ (bares c l.calls w here s))
-bare_tokens c l (Some (word.Primitive w)) k here s = word_tokens c l (entry_in s.words.table k) s
-bare_tokens c l (Some (word.Printing w)) k here s = word_tokens c l (entry_in s.words.table k) s
-bare_tokens c l (Some (word.Heap w)) k here s = word_tokens c l (entry_in s.words.table k) s
-bare_tokens c l (Some (word.Keys w)) k here s = word_tokens c l (entry_in s.words.table k) s
-bare_tokens c l (Some (word.Returns w)) k here s = word_tokens c l (entry_in s.words.table k) s
-bare_tokens c l (Some (word.Dictionary w)) k here s = word_tokens c l (entry_in s.words.table k) s
-bare_tokens c l (Some (word.Throws w)) k here s = word_tokens c l (entry_in s.words.table k) s
-bare_tokens c l (Some (word.Properties w)) k here s = word_tokens c l (entry_in s.words.table k) s
-bare_tokens c l (Some (word.Tree w)) k here s = word_tokens c l (entry_in s.words.table k) s
-bare_tokens c l (Some (word.Devices w)) k here s = word_tokens c l (entry_in s.words.table k) s
-bare_tokens c l (Some (word.Console w)) k here s = word_tokens c l (entry_in s.words.table k) s
-bare_tokens c l (Some (word.Parsing w)) k here s = word_tokens c l (entry_in s.words.table k) s
-bare_tokens c l (Some (word.Compiling w)) k here s = word_tokens c l (entry_in s.words.table k) s
-bare_tokens c l None k here s = word_tokens c l (entry_in s.words.table k) s
+    appends_raise c (is_semicolon (Some (word.Stream w))) l.calls (compiled_now w operand.Nothing here.position s) s _
+    (bares c l.calls w here s)
+bare_tokens c l (Some (word.Primitive w)) k here s = word_tokens c false l (entry_in s.words.table k) s
+bare_tokens c l (Some (word.Printing w)) k here s = word_tokens c false l (entry_in s.words.table k) s
+bare_tokens c l (Some (word.Heap w)) k here s = word_tokens c false l (entry_in s.words.table k) s
+bare_tokens c l (Some (word.Keys w)) k here s = word_tokens c false l (entry_in s.words.table k) s
+bare_tokens c l (Some (word.Returns w)) k here s = word_tokens c false l (entry_in s.words.table k) s
+bare_tokens c l (Some (word.Dictionary w)) k here s = word_tokens c false l (entry_in s.words.table k) s
+bare_tokens c l (Some (word.Throws w)) k here s = word_tokens c false l (entry_in s.words.table k) s
+bare_tokens c l (Some (word.Properties w)) k here s = word_tokens c false l (entry_in s.words.table k) s
+bare_tokens c l (Some (word.Tree w)) k here s = word_tokens c false l (entry_in s.words.table k) s
+bare_tokens c l (Some (word.Devices w)) k here s = word_tokens c false l (entry_in s.words.table k) s
+bare_tokens c l (Some (word.Console w)) k here s = word_tokens c false l (entry_in s.words.table k) s
+bare_tokens c l (Some (word.Parsing w)) k here s = word_tokens c false l (entry_in s.words.table k) s
+bare_tokens c l (Some (word.Compiling w)) k here s = word_tokens c false l (entry_in s.words.table k) s
+bare_tokens c l None k here s = word_tokens c false l (entry_in s.words.table k) s
 
 held_tokens : {S : Type 0} (c : Calls S) → Laws S c → (w : Option StreamWord) (h : Held) (here : Spot) (s : State S)
     → Lists (held_token c w h here s)
@@ -423,58 +472,64 @@ held_tokens c l (Some w) (held.Code k) here s = code_tokens c l.calls w k here s
 held_tokens c l (Some w) (held.Offset by) here s =
     appends c l.calls (compiled_now w (operand.Offset by) here.position s) s _ (offsets w here by s)
 
-taken_tokens : {S : Type 0} (c : Calls S) → Laws S c → (k : FCode) (t : Taken) (here : Spot) (s : State S)
-    → Raises s.parts.stack (taken_token c k t here s)
-taken_tokens c l k taken.Nothing here s = bare_tokens c l (word_numbered k.0) k.0 here s
-taken_tokens c l k (taken.Held h) here s =
-    weaker s.parts.stack _ (held_tokens c l (stream_of (word_numbered k.0)) h here s)
-
+-- what stands behind the token is no operand that it executes anything by
 arguments : {S : Type 0} (c : Calls S) → Laws S c → (k : FCode) (a : Argument) (here : Spot) (s : State S)
-    → Raises s.parts.stack (argument_token c k a here s)
-arguments c l k Nothing here s = taken_tokens c l k taken.Nothing here s
+    → Raised
+    (cell_of
+    (plan_with a (word_numbered k.0) (entry_in s.words.table k.0) s.flow.is_compiling (plan_in s)) s.parts.stack)
+    (is_semicolon (word_numbered k.0)) (argument_token c k a here s)
+arguments c l k Nothing here s = bare_tokens c l (word_numbered k.0) k.0 here s
 arguments c l k (Named name code) here s =
-    weaker s.parts.stack _
-    (words_left _ s (announces (stream_of (word_numbered k.0)) name code s.parts.memory s.words))
-arguments c l k (Literal x) here s = taken_tokens c l k (taken.Held (held.Literal x)) here s
-arguments c l k (String t) here s = taken_tokens c l k (taken.Held (held.String (length t))) here s
-arguments c l k (Code code) here s = taken_tokens c l k (taken.Held (held.Code code)) here s
-arguments c l k (Offset by) here s = taken_tokens c l k (taken.Held (held.Offset by)) here s
+    weaker None _ _ (words_left _ s (announces (stream_of (word_numbered k.0)) name code s.parts.memory s.words))
+arguments c l k (Literal x) here s =
+    weaker None _ _ (held_tokens c l (stream_of (word_numbered k.0)) (held.Literal x) here s)
+arguments c l k (String t) here s =
+    weaker None _ _ (held_tokens c l (stream_of (word_numbered k.0)) (held.String (length t)) here s)
+arguments c l k (Code code) here s =
+    weaker None _ _ (held_tokens c l (stream_of (word_numbered k.0)) (held.Code code) here s)
+arguments c l k (Offset by) here s =
+    weaker None _ _ (held_tokens c l (stream_of (word_numbered k.0)) (held.Offset by) here s)
 
 -- ---- a step
 
 founds : {S : Type 0} (c : Calls S) → Laws S c → (f : Option (Token × ℕ)) (size : OffsetSize) (position : ℕ)
-    (s : State S) → Raises s.parts.stack (found_token c f size position s)
+    (s : State S)
+    → Raised (cell_of (plan_read (token_of f) s.words.table s.flow.is_compiling (plan_in s)) s.parts.stack)
+    (closes (token_of f)) (found_token c f size position s)
 unfolding is_listed listed_numbers
 founds c l None size position s = inl refl
 founds c l (Some x) size position s =
     arguments c l x.0.code x.0.argument (spot_in s.parts.memory position x.1)
     (read_on (size_behind x.0.code.0 size) x.1 s)
 
-tokens : {S : Type 0} (c : Calls S) → Laws S c → (i : Input) (s : State S) → Raises s.parts.stack (token_due c i s)
+tokens : {S : Type 0} (c : Calls S) → Laws S c → (i : Input) (s : State S)
+    → Raised (cell_of (plan_read (token_read i s) s.words.table s.flow.is_compiling (plan_in s)) s.parts.stack)
+    (closes (token_read i s)) (token_due c i s)
 unfolding is_listed listed_numbers
 tokens c l (input.Image size position) s =
     founds c l (token_from (latest_image s.parts.memory) position size) size position s
 tokens c l (input.Text position) s = inl refl
 tokens c l input.Nothing s = inl refl
 
-places : {S : Type 0} (w : ControlWord) (to : Place) (s : State S) → Raises s.parts.stack (control_item w to s)
+places : {S : Type 0} (w : ControlWord) (to : Place) (s : State S) → Raised None false (control_item w to s)
 places w to s =
-    weaker s.parts.stack _ (place_left to _ s (control_listed w true _ s.parts.stack s.flow.items))
+    weaker None false _ (place_left to _ s (control_listed w true _ s.parts.stack s.flow.items))
 
-items : {S : Type 0} (c : Calls S) → Laws S c → (i : Item) (s : State S) → Raises s.parts.stack (item_done c i s)
+items : {S : Type 0} (c : Calls S) → Laws S c → (i : Item) (s : State S)
+    → Raised (cell_of (plan_of_item i (plan_in s)) s.parts.stack) false (item_done c i s)
 unfolding item_done
-items c l (item.Operation xt) s = executes c l s.parts.stack xt.0 s
-items c l (item.Call xt) s = executes c l s.parts.stack xt.0 s
+items c l (item.Operation xt) s = executes c false l xt.0 s
+items c l (item.Call xt) s = executes c false l xt.0 s
 items c l (item.Literal x) s =
-    weaker s.parts.stack _ (stack_left (pushed x s.parts.stack) s (within_listed (x ∷ s.parts.stack)))
+    weaker None false _ (stack_left (pushed x s.parts.stack) s (within_listed (x ∷ s.parts.stack)))
 items c l (item.String a n) s =
     let cells = n ∷ a ∷ s.parts.stack in
-    weaker s.parts.stack _ (stack_left (within cells) s (within_listed cells))
-items c l (item.Store xt) s = weaker s.parts.stack _ (both_left _ s (store_listed xt.0 s.words s.parts.stack))
+    weaker None false _ (stack_left (within cells) s (within_listed cells))
+items c l (item.Store xt) s = weaker None false _ (both_left _ s (store_listed xt.0 s.words s.parts.stack))
 items c l (item.Leave to) s =
-    weaker s.parts.stack _ (leave_item_listed to (loop_on_top s.flow.items) s (loop_listed s.flow.items))
+    weaker None false _ (leave_item_listed to (loop_on_top s.flow.items) s (loop_listed s.flow.items))
 items c l item.EndCase s = places control.EndCase nowhere s
-items c l item.Return s = weaker s.parts.stack _ (flow_left _ s (exited_listed s.flow))
+items c l item.Return s = weaker None false _ (flow_left _ s (exited_listed s.flow))
 items c l (item.Branch to) s = places control.Branch to s
 items c l (item.BranchIfZero to) s = places control.BranchIfZero to s
 items c l (item.Do to) s = places control.Do to s
@@ -485,12 +540,13 @@ items c l (item.Of to) s = places control.Of to s
 items c l (item.EndOf to) s = places control.EndOf to s
 
 fetches : {S : Type 0} (c : Calls S) → Laws S c → (f : Option (Item × Place)) (s : State S)
-    → Raises s.parts.stack (item_due c f s)
+    → Raised (cell_of (plan_fetched f (plan_in s)) s.parts.stack) false (item_due c f s)
 unfolding is_listed listed_numbers
 fetches c l None s = inl refl
 fetches c l (Some x) s = items c l x.0 (with_next (continuation.Code x.1.cell) s)
 
-dues : {S : Type 0} (c : Calls S) → Laws S c → (to : Continuation) (s : State S) → Raises s.parts.stack (due c to s)
+dues : {S : Type 0} (c : Calls S) → Laws S c → (to : Continuation) (s : State S)
+    → Raised (cell_next c to s) (closes_next to s) (due c to s)
 dues c l continuation.Source s = tokens c l s.flow.reading.input s
 dues c l (continuation.Code n) s = fetches c l (c.fetch s.code (record { cell = n })) s
 
@@ -511,11 +567,11 @@ unfolding is_listed listed_numbers
 compiles true d c = tt
 compiles false d c = refl
 
-finishes : (a b : Bool) (d c : Coding) → ThrowsListed (ended_code a b d c).ended
+finishes : (a b : Bool) (d c : Coding) → EndsListed (ended_code a b d c).ended
 unfolding is_listed listed_numbers
 finishes true true d c = tt
-finishes true false d c = refl
-finishes false b d c = refl
+finishes true false d c = inl refl
+finishes false b d c = inr refl
 
 calls_listed : CallsThrowListed Coding flat_calls
 unfolding compiling finishing
@@ -532,11 +588,15 @@ unfolding is_listed listed_numbers
 tells true d e = tt
 tells false d e = refl
 
-bodies : (xt : Cell) (d : Definitions) (b : Option (Body PlainItem)) → ThrowsListed (finished_told xt d b).ended
+told_ends : (b : Bool) (d e : Definitions) → EndsListed (if b then told d else refused e dictionary_overflow).ended
 unfolding is_listed listed_numbers
-bodies xt d None = refl
+told_ends true d e = tt
+told_ends false d e = inl refl
+
+bodies : (xt : Cell) (d : Definitions) (b : Option (Body PlainItem)) → EndsListed (finished_told xt d b).ended
+bodies xt d None = inr refl
 bodies xt d (Some b) =
-    tells (has_room_in (Some ItemReturn) d)
+    told_ends (has_room_in (Some ItemReturn) d)
     (record { finished = record { xt = xt; body = b } ∷ d.finished; elements = [] }) d
 
 board_listed : CallsThrowListed Definitions board_calls
@@ -545,8 +605,13 @@ board_listed = record {
   semicolon = λ xt d. bodies xt d (body_in 32 d.elements);
 }
 
+mismatch_unlisted : is_listed control_mismatch ≡ false
+unfolding is_listed listed_numbers
+mismatch_unlisted = refl
+
 pub steps_throw_listed : WordsThrowListed → ThrowListedNumbers → StepsThrowListed
 steps_throw_listed words law = record {
   flat = λ s. dues flat_calls (record { calls = calls_listed; words = words; faults = law }) s.flow.next s;
   board = λ s. dues board_calls (record { calls = board_listed; words = words; faults = law }) s.flow.next s;
+  mismatch = mismatch_unlisted;
 }

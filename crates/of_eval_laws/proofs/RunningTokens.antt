@@ -80,6 +80,7 @@ use Rattle.of_eval_laws.proofs.RunningBytes.{IsReady, popped, ready, stands_read
 use Rattle.of_eval_laws.proofs.RunningEnds.{given_up_stands}
 use Rattle.of_eval_laws.proofs.RunningWords.{Kept, KeptBy, Laws, Leaves, either, executed_leaves, flow_leaves, left}
 use Rattle.of_eval_laws.proofs.RunningWords.{stack_leaves, store_leaves}
+use Rattle.of_nodes.specs.declared.phandles.Phandle.{Phandle}
 
 -- ---- control
 
@@ -131,8 +132,8 @@ leave_leaves size (Err t) s = same s.parts.memory
 item_leaves : {S : Type 0} (l : Laws) (c : Calls S) (i : Item) (s : State S) → IsSound s.parts.memory
     → Leaves false s.parts.memory (item_done c i s)
 unfolding item_done
-item_leaves l c (item.Operation xt) s sound = executed_leaves l c s.parts.stack xt.0 s sound
-item_leaves l c (item.Call xt) s sound = executed_leaves l c s.parts.stack xt.0 s sound
+item_leaves l c (item.Operation xt) s sound = executed_leaves l c xt.0 s sound
+item_leaves l c (item.Call xt) s sound = executed_leaves l c xt.0 s sound
 item_leaves l c (item.Literal x) s sound = stack_leaves (pushed x s.parts.stack) s
 item_leaves l c (item.String a n) s sound = stack_leaves (within (n ∷ a ∷ s.parts.stack)) s
 item_leaves l c (item.Store xt) s sound = store_leaves (store_entry xt.0 s.words s.parts.stack) s
@@ -210,23 +211,22 @@ method_memory : {S : Type 0} (x : Option (List Node)) (n : ℕ) (s : State S)
 method_memory None n s = refl
 method_memory (Some nodes) n s = refl
 
-known_memory : {S : Type 0} (r : Result (Unit {0}) Throw) (n : ℕ) (s : State S)
-    → (known_if r n s).parts.memory ≡ s.parts.memory
-known_memory (Ok x) n s =
-    method_memory
-    (method_made s.parts.active.«package» (name_in (word_at s.words.dictionary n)) (xt_cell n) s.parts.tree) n s
-known_memory (Err t) n s = refl
+known_memory : {S : Type 0} (r : Result (Unit {0}) Throw) (home : Option Phandle) (n : ℕ) (s : State S)
+    → (known_if r home n s).parts.memory ≡ s.parts.memory
+known_memory (Ok x) home n s =
+    method_memory (method_made home (name_in (word_at s.words.dictionary n)) (xt_cell n) s.parts.tree) n s
+known_memory (Err t) home n s = refl
 
-then_leaves : {S : Type 0} (m : DataSpace) (o : Option ℕ) (a : Outcome S) → Leaves false m a
-    → Leaves false m (then_known o a)
-then_leaves m None a h = h
-then_leaves m (Some n) a h = subst (λ x. KeptBy false m x a.ended) (sym (known_memory a.ended n a.state)) h
+then_leaves : {S : Type 0} (m : DataSpace) (home : Option Phandle) (o : Option ℕ) (a : Outcome S) → Leaves false m a
+    → Leaves false m (then_known home o a)
+then_leaves m home None a h = h
+then_leaves m home (Some n) a h = subst (λ x. KeptBy false m x a.ended) (sym (known_memory a.ended home n a.state)) h
 
 define_leaves : {S : Type 0} (c : Calls S) (d : DefiningWord) (s : State S) → IsReady s.parts.memory
     → Leaves false s.parts.memory (define_entry c d s)
 define_leaves c d s r =
     let x = made_by d (c.ends_at s.code) (aligned s.parts.memory.here) s.parts.stack in
-    then_leaves s.parts.memory (known_at_once d s.words.dictionary) (word_defined c d s)
+    then_leaves s.parts.memory s.parts.active.«package» (known_at_once d s.words.dictionary) (word_defined c d s)
     (making_leaves d (counting (defining_faults (making s.words s.parts.stack s.parts.memory) x)) x s r
     (has_bytes s x))
 
@@ -316,7 +316,7 @@ bare_leaves c stream.Defer here s r = define_leaves c defining.Defer s r
 bare_leaves c stream.Buffer here s r = define_leaves c defining.Buffer s r
 bare_leaves c stream.Field here s r = define_leaves c defining.Field s r
 bare_leaves c stream.Semicolon here s r =
-    then_leaves s.parts.memory s.words.defining _ (semicolon_leaves c s.words.defining s r)
+    then_leaves s.parts.memory s.flow.home s.words.defining _ (semicolon_leaves c s.words.defining s r)
 bare_leaves c w here s r = same s.parts.memory
 
 number_leaves : {S : Type 0} (w : StreamWord) (x : Cell) (s : State S)
@@ -373,10 +373,10 @@ number_token_leaves : {S : Type 0} (c : Calls S) (w : StreamWord) (x : Cell) (he
 number_token_leaves c w x here s =
     appended_leaves false c (compiled_now w (operand.Number x) here.position s) s _ (number_leaves w x s)
 
-named_leaves : {S : Type 0} (c : Calls S) (w : StreamWord) (e : Option TokenEntry) (here : Spot) (s : State S)
-    → Leaves false s.parts.memory (named_token c w e here s)
-named_leaves c w None here s = same s.parts.memory
-named_leaves c w (Some e) here s = number_token_leaves c w (record { 0 = e.xt }) here s
+named_leaves : {S : Type 0} (c : Calls S) (w : StreamWord) (t : Throw) (e : Option TokenEntry) (here : Spot)
+    (s : State S) → Leaves false s.parts.memory (named_token c w t e here s)
+named_leaves c w t None here s = same s.parts.memory
+named_leaves c w t (Some e) here s = number_token_leaves c w (record { 0 = e.xt }) here s
 
 words_leave : {S : Type 0} (r : Result WordsState Throw) (s : State S) → Leaves false s.parts.memory (by_words r s)
 words_leave (Ok w) s = left s.parts.memory
@@ -385,8 +385,8 @@ words_leave (Err t) s = same s.parts.memory
 code_token_leaves : {S : Type 0} (c : Calls S) (w : StreamWord) (k : FCode) (here : Spot) (s : State S)
     → Leaves false s.parts.memory (code_token c w k here s)
 unfolding code_token
-code_token_leaves c stream.Tick k here s = named_leaves c stream.Tick (entry_in s.words.table k.0) here s
-code_token_leaves c stream.To k here s = named_leaves c stream.To (entry_in s.words.table k.0) here s
+code_token_leaves c stream.Tick k here s = named_leaves c stream.Tick _ (entry_in s.words.table k.0) here s
+code_token_leaves c stream.To k here s = named_leaves c stream.To _ (entry_in s.words.table k.0) here s
 code_token_leaves c stream.NewToken k here s = words_leave (numbered k None s.words) s
 code_token_leaves c w k here s = same s.parts.memory
 
@@ -400,7 +400,7 @@ word_token_leaves : {S : Type 0} (l : Laws) (c : Calls S) (e : Option TokenEntry
 word_token_leaves l c None s sound = same s.parts.memory
 word_token_leaves l c (Some e) s sound =
     either false s.parts.memory (s.flow.is_compiling && not e.immediate) _ _ (word_compiled_leaves c e.xt s)
-    (executed_leaves l c s.parts.stack e.xt s sound)
+    (executed_leaves l c e.xt s sound)
 
 bare_token_leaves : {S : Type 0} (l : Laws) (c : Calls S) (w : Option Word) (k : ℕ) (here : Spot) (s : State S)
     → IsSound s.parts.memory → Leaves (ends_image w) s.parts.memory (bare_token c w k here s)

@@ -1,7 +1,6 @@
 -- The law `images_run`: what executing a word leaves of the images that run.
 use Rattle.std.proofs.Common.{◌≡◌, ◌⊎◌, inl, inr, ℕ, ◌==◌, Bool, true, false, List, [], ◌∷◌, length, Option, Some}
 use Rattle.std.proofs.Common.{None, Result, Ok, Err, is_some, refl, if◌then◌else◌}
-use Rattle.std.specs.Prelude.{nat_le}
 use Rattle.of_cells.specs.declared.cells.Cell.{Cell}
 use Rattle.of_stacks.specs.declared.throws.Throw.{Throw}
 use Rattle.of_stacks.specs.Order.{counting}
@@ -17,7 +16,6 @@ use Rattle.of_fcodes.specs.declared.words.ThrowsWord.{ThrowsWord}
 use Rattle.of_fcodes.specs.declared.words.ThrowsWord.TheVariants as throws
 use Rattle.of_fcodes.specs.declared.words.DictionaryWord.{DictionaryWord}
 use Rattle.of_fcodes.specs.declared.words.DictionaryWord.TheVariants as dictionary
-use Rattle.of_fcodes.specs.Finding.{word_with_xt}
 use Rattle.of_memory.specs.DataSpace.{DataSpace, IsSound}
 use Rattle.of_memory.specs.declared.fault.MemFault.{MemFault}
 use Rattle.of_memory.specs.Access.{read_spread, with_read}
@@ -29,7 +27,7 @@ use Rattle.of_dict.specs.declared.word.Kind.TheVariants as kind
 use Rattle.of_dict.specs.Words.{kind_in}
 use Rattle.of_compile.specs.DictionaryWords.{set_token_entry}
 use Rattle.of_compile.specs.Tokens.{called}
-use Rattle.of_compile.specs.Words.{WordsState, is_word, own_word}
+use Rattle.of_compile.specs.Words.{WordsState, own_word}
 use Rattle.of_instances.specs.Images.{ImagesStay, KeepsImages}
 use Rattle.of_instances.specs.PropertyWords.{properties_entry}
 use Rattle.of_instances.specs.Site.{Site}
@@ -41,9 +39,10 @@ use Rattle.of_prims.specs.Prims.{prim_entry}
 use Rattle.of_eval.specs.State.{Answered, Calls, Outcome, State, by_parts, by_stack, by_words_and_stack, open_xt}
 use Rattle.of_eval.specs.State.{with_stack}
 use Rattle.of_eval.specs.Executing.{Stacks, by_flow, by_stacks, colon_entry, comma_done, comma_entry, comma_faults}
-use Rattle.of_eval.specs.Executing.{comma_unless, dictionary_entry, entered, entry_at, entry_behind, executable}
+use Rattle.of_eval.specs.Executing.{comma_unless, dictionary_entry, entered}
 use Rattle.of_eval.specs.Executing.{executed, exited, guarded, is_opened, own_entry, product_entry}
 use Rattle.of_eval.specs.Executing.{returns_entry, stacks_entry, throw_entry, throws_entry}
+use Rattle.of_eval.specs.Executing.{Catch, Execute, Own, Plan, Stops, Written, performed, plain_entry, plan_in}
 use Rattle.of_eval.specs.ByteLoading.{byte_load_entry, length_at, loaded_unless, loading_entry, loading_faults}
 use Rattle.of_eval.specs.ByteLoading.{nested_in, spread_of, start_at}
 use Rattle.of_eval_laws.specs.Running.{LatestEnd, OneBegins}
@@ -266,48 +265,32 @@ dictionary_leaves l c dictionary.ByteLoad s sound = byte_load_leaves l s sound
 
 -- ---- all words
 
-at_leaves : {S : Type 0} (l : Laws) (c : Calls S) (w : Option Word) (xt : ℕ) (s : State S) (i k : Outcome S)
-    → IsSound s.parts.memory → Leaves false s.parts.memory i → Leaves false s.parts.memory k
-    → Leaves false s.parts.memory (entry_at c w xt s i k)
-at_leaves l c None xt s i k sound hi hk = own_leaves (kind_in (own_word s.words.dictionary xt)) xt s
-at_leaves l c (Some (word.Returns returns.Execute)) xt s i k sound hi hk = hi
-at_leaves l c (Some (word.Returns returns.Exit)) xt s i k sound hi hk = returns_leave returns.Exit s
-at_leaves l c (Some (word.Returns returns.ToReturn)) xt s i k sound hi hk = returns_leave returns.ToReturn s
-at_leaves l c (Some (word.Returns returns.FromReturn)) xt s i k sound hi hk = returns_leave returns.FromReturn s
-at_leaves l c (Some (word.Returns returns.FetchReturn)) xt s i k sound hi hk = returns_leave returns.FetchReturn s
-at_leaves l c (Some (word.Returns returns.Unloop)) xt s i k sound hi hk = returns_leave returns.Unloop s
-at_leaves l c (Some (word.Returns returns.Index)) xt s i k sound hi hk = returns_leave returns.Index s
-at_leaves l c (Some (word.Returns returns.OuterIndex)) xt s i k sound hi hk = returns_leave returns.OuterIndex s
-at_leaves l c (Some (word.Throws throws.Catch)) xt s i k sound hi hk = hk
-at_leaves l c (Some (word.Throws throws.Abort)) xt s i k sound hi hk = throws_leave throws.Abort s
-at_leaves l c (Some (word.Throws throws.Throw)) xt s i k sound hi hk = throws_leave throws.Throw s
-at_leaves l c (Some (word.Dictionary w)) xt s i k sound hi hk = dictionary_leaves l c w s sound
-at_leaves l c (Some (word.Stream w)) xt s i k sound hi hk = same s.parts.memory
-at_leaves l c (Some (word.Parsing w)) xt s i k sound hi hk = same s.parts.memory
-at_leaves l c (Some (word.Compiling w)) xt s i k sound hi hk = same s.parts.memory
-at_leaves l c (Some (word.Primitive w)) xt s i k sound hi hk = ordinary l (word.Primitive w) s sound
-at_leaves l c (Some (word.Printing w)) xt s i k sound hi hk = ordinary l (word.Printing w) s sound
-at_leaves l c (Some (word.Heap w)) xt s i k sound hi hk = ordinary l (word.Heap w) s sound
-at_leaves l c (Some (word.Keys w)) xt s i k sound hi hk = ordinary l (word.Keys w) s sound
-at_leaves l c (Some (word.Properties w)) xt s i k sound hi hk = ordinary l (word.Properties w) s sound
-at_leaves l c (Some (word.Tree w)) xt s i k sound hi hk = ordinary l (word.Tree w) s sound
-at_leaves l c (Some (word.Devices w)) xt s i k sound hi hk = ordinary l (word.Devices w) s sound
-at_leaves l c (Some (word.Console w)) xt s i k sound hi hk = ordinary l (word.Console w) s sound
+plain_leaves : {S : Type 0} (l : Laws) (c : Calls S) (w : Word) (s : State S) → IsSound s.parts.memory
+    → Leaves false s.parts.memory (plain_entry c w s)
+plain_leaves l c (word.Returns w) s sound = returns_leave w s
+plain_leaves l c (word.Throws w) s sound = throws_leave w s
+plain_leaves l c (word.Dictionary w) s sound = dictionary_leaves l c w s sound
+plain_leaves l c (word.Stream w) s sound = same s.parts.memory
+plain_leaves l c (word.Parsing w) s sound = same s.parts.memory
+plain_leaves l c (word.Compiling w) s sound = same s.parts.memory
+plain_leaves l c (word.Primitive w) s sound = ordinary l (word.Primitive w) s sound
+plain_leaves l c (word.Printing w) s sound = ordinary l (word.Printing w) s sound
+plain_leaves l c (word.Heap w) s sound = ordinary l (word.Heap w) s sound
+plain_leaves l c (word.Keys w) s sound = ordinary l (word.Keys w) s sound
+plain_leaves l c (word.Properties w) s sound = ordinary l (word.Properties w) s sound
+plain_leaves l c (word.Tree w) s sound = ordinary l (word.Tree w) s sound
+plain_leaves l c (word.Devices w) s sound = ordinary l (word.Devices w) s sound
+plain_leaves l c (word.Console w) s sound = ordinary l (word.Console w) s sound
 
-behind_leaves : {S : Type 0} (l : Laws) (c : Calls S) (o : Option ℕ) (s : State S) (i k : Outcome S)
-    → IsSound s.parts.memory → Leaves false s.parts.memory i → Leaves false s.parts.memory k
-    → Leaves false s.parts.memory (entry_behind c o s i k)
-behind_leaves l c None s i k sound hi hk = same s.parts.memory
-behind_leaves l c (Some xt) s i k sound hi hk = at_leaves l c (word_with_xt xt) xt s i k sound hi hk
+performed_leaves : {S : Type 0} (l : Laws) (c : Calls S) (p : Plan) (s : State S) → IsSound s.parts.memory
+    → Leaves false s.parts.memory (performed c p s)
+performed_leaves l c (Stops t) s sound = same s.parts.memory
+performed_leaves l c (Written w) s sound = plain_leaves l c w s sound
+performed_leaves l c (Own xt) s sound = own_leaves (kind_in (own_word s.words.dictionary xt)) xt s
+performed_leaves l c (Execute cells p) s sound = performed_leaves l c p (with_stack cells s) sound
+performed_leaves l c (Catch cells p) s sound = performed_leaves l c p (guarded cells s) sound
 
-pub executed_leaves : {S : Type 0} (l : Laws) (c : Calls S) (cells : List Cell) (xt : ℕ) (s : State S)
-    → IsSound s.parts.memory → Leaves false s.parts.memory (executed c cells xt s)
+pub executed_leaves : {S : Type 0} (l : Laws) (c : Calls S) (xt : ℕ) (s : State S) → IsSound s.parts.memory
+    → Leaves false s.parts.memory (executed c xt s)
 unfolding executed
-executed_leaves l c [] xt s sound =
-    behind_leaves l c (executable s.words xt) s _ _ sound (same s.parts.memory) (same s.parts.memory)
-executed_leaves l c (x ∷ cells) xt s sound =
-    behind_leaves l c (executable s.words xt) s _ _ sound
-    (either false s.parts.memory (is_word s.words.dictionary x.0) _ _
-    (executed_leaves l c cells x.0 (with_stack cells s) sound) (same s.parts.memory))
-    (either false s.parts.memory (nat_le 256 (length s.flow.items)) _ _ (same s.parts.memory)
-    (executed_leaves l c cells x.0 (guarded cells s) sound))
+executed_leaves l c xt s sound = performed_leaves l c (plan_in s xt) s sound

@@ -17,19 +17,17 @@ use Rattle.of_fcodes.specs.declared.words.ReturnsWord.TheVariants as returns
 use Rattle.of_fcodes.specs.declared.words.StreamWord.TheVariants as stream
 use Rattle.of_fcodes.specs.declared.words.Word.{Word}
 use Rattle.of_fcodes.specs.declared.words.Word.TheVariants as word
-use Rattle.of_fcodes.specs.Finding.{word_with_xt}
 use Rattle.of_fcodes.specs.Lookup.{word_numbered}
 use Rattle.of_memory.specs.Images.{latest_image}
 use Rattle.of_stream.specs.declared.stream.OffsetSize.{OffsetSize}
 use Rattle.of_stream.specs.Decoding.{Token, token_from}
 use Rattle.of_stream.specs.Sizes.{size_behind}
-use Rattle.of_compile.specs.Words.{WordsState}
 use Rattle.of_eval.specs.declared.control.ControlWord.{ControlWord}
 use Rattle.of_eval.specs.declared.control.ControlWord.TheVariants as control
 use Rattle.of_eval.specs.declared.flow.Flow.{Flow}
 use Rattle.of_eval.specs.Control.{Turn, control_entry}
 use Rattle.of_eval.specs.State.{Calls, State}
-use Rattle.of_eval.specs.Executing.{executable, executed}
+use Rattle.of_eval.specs.Executing.{Catch, Execute, Own, Plan, Stops, Written, executed, plan_in}
 use Rattle.of_eval.specs.Steps.{item_done}
 use Rattle.of_eval.specs.Tokens.{token_due}
 
@@ -96,20 +94,13 @@ abbrev pub PushedOn : List ReturnItem → List ReturnItem → Type 0
 PushedOn before [] = before ≡ []
 PushedOn before (item ∷ r) = (before ≡ item ∷ r) ⊎ PushedOn before r
 
--- the written word that is executed, which may be found behind an `execute`
-abbrev pub written_at : Option ℕ → Option Word
-written_at None = None
-written_at (Some xt) = word_with_xt xt
-
-abbrev pub behind_execute : Option Word → Option Word → Option Word
-behind_execute (Some (word.Returns returns.Execute)) inner = inner
-behind_execute w inner = w
-
--- the written word that runs at last where the word of an execution token is executed, if it is a written one; what
--- `catch` runs, runs within it
-unfoldable pub last_run : WordsState → List Cell → ℕ → Option Word
-last_run w [] xt = behind_execute (written_at (executable w xt)) None
-last_run w (x ∷ cells) xt = behind_execute (written_at (executable w xt)) (last_run w cells x.0)
+-- the written word that runs at last, if one does; what `catch` runs, runs within it
+abbrev pub last_word : Plan → Option Word
+last_word (Stops t) = None
+last_word (Written w) = Some w
+last_word (Own xt) = None
+last_word (Execute cells p) = last_word p
+last_word (Catch cells p) = None
 
 -- `r>`, `unloop` and `exit` drop an item
 abbrev pub drops_item : Option Word → Bool
@@ -124,8 +115,7 @@ drops_item w = false
 pub record FramesHold (S : Type 0) : Type 0 where
   -- Executing a word goes on in what is read, or begins an image inside it.
   pub words_read_on :
-      (c : Calls S) (cells : List Cell) (xt : ℕ) (s : State S) →
-      KeepsReading s.flow.reading (executed c cells xt s).state.flow
+      (c : Calls S) (xt : ℕ) (s : State S) → KeepsReading s.flow.reading (executed c xt s).state.flow
   -- So does an item of a definition.
   pub items_read_on :
       (c : Calls S) (i : Item) (s : State S) → KeepsReading s.flow.reading (item_done c i s).state.flow
@@ -140,11 +130,10 @@ pub record FramesHold (S : Type 0) : Type 0 where
   pub size_kept : (code : ℕ) (size : OffsetSize) → (code ≡ 0xcc → ⊥) → size_behind code size ≡ size
   -- Executing a word only pushes on the return stack, unless the word that runs at last drops an item.
   pub words_only_push :
-      (c : Calls S) (cells : List Cell) (xt : ℕ) (s : State S) →
-      drops_item (last_run s.words cells xt) ≡ false →
-      PushedOn s.flow.items (executed c cells xt s).state.flow.items
+      (c : Calls S) (xt : ℕ) (s : State S) → drops_item (last_word (plan_in s xt)) ≡ false →
+      PushedOn s.flow.items (executed c xt s).state.flow.items
   -- And such a word drops one item, the top.
   pub words_drop_one :
-      (c : Calls S) (cells : List Cell) (xt : ℕ) (s : State S) →
-      PushedOn s.flow.items (executed c cells xt s).state.flow.items
-      ⊎ ((executed c cells xt s).state.flow.items ≡ drop 1 s.flow.items)
+      (c : Calls S) (xt : ℕ) (s : State S) →
+      PushedOn s.flow.items (executed c xt s).state.flow.items
+      ⊎ ((executed c xt s).state.flow.items ≡ drop 1 s.flow.items)

@@ -5,3 +5,4 @@ pub mod Frames
 pub mod Images
 pub mod Running
 pub mod Throws
+pub mod Going

@@ -1,16 +1,33 @@
--- What words and steps throw has a listed number, unless a program throws it by `throw`.
-use Rattle.std.specs.Prelude.{◌≡◌, ◌⊎◌, true, List, Result, Ok, Err}
-use Rattle.std.specs.List.{Contains}
+-- What words and steps throw has a listed number, unless a program throws it by `throw`; and -22 is thrown at the end
+-- of a definition alone.
+use Rattle.std.specs.Prelude.{◌≡◌, ◌⊎◌, ℕ, Bool, true, false, ◌&&◌, not, List, ◌∷◌, Option, Some, None, Result, Ok, Err}
+use Rattle.std.specs.Prelude.{if◌then◌else◌}
 use Rattle.of_cells.specs.declared.cells.Cell.{Cell}
 use Rattle.of_cells.specs.Numbers.{signed}
+use Rattle.of_code.specs.declared.item.Item.{Item}
+use Rattle.of_code.specs.declared.item.Item.TheVariants.{Call, Operation}
+use Rattle.of_code.specs.declared.item.Place.{Place}
+use Rattle.of_stacks.specs.declared.return_item.Continuation.{Continuation}
+use Rattle.of_stacks.specs.declared.return_item.Continuation.TheVariants as continuation
+use Rattle.of_stacks.specs.declared.return_item.Input.{Input}
+use Rattle.of_stacks.specs.declared.return_item.Input.TheVariants as input
 use Rattle.of_stacks.specs.declared.throws.Throw.{Throw}
-use Rattle.of_stacks.specs.Throws.{ThrowsListed, is_listed}
+use Rattle.of_stacks.specs.Throws.{ThrowsListed, control_mismatch, is_listed}
+use Rattle.of_fcodes.specs.declared.token_table.TokenEntry.{TokenEntry}
+use Rattle.of_fcodes.specs.declared.words.StreamWord.TheVariants as stream
+use Rattle.of_fcodes.specs.declared.words.ThrowsWord.TheVariants as throws
 use Rattle.of_fcodes.specs.declared.words.Word.{Word}
+use Rattle.of_fcodes.specs.declared.words.Word.TheVariants as word
+use Rattle.of_fcodes.specs.Lookup.{word_numbered}
+use Rattle.of_fcodes.specs.Tokens.{entry_in}
+use Rattle.of_memory.specs.Images.{latest_image}
+use Rattle.of_stream.specs.Decoding.{Argument, Nothing, Token, token_from}
 use Rattle.of_compile.specs.Board.{Definitions}
 use Rattle.of_compile.specs.Coding.{Coding}
+use Rattle.of_eval.specs.Executing.{Catch, Execute, Plan, Written, plan_in}
 use Rattle.of_eval.specs.Words.{word_entry}
 use Rattle.of_eval.specs.declared.parts.Parts.{Parts}
-use Rattle.of_eval.specs.State.{State, flat_calls}
+use Rattle.of_eval.specs.State.{Calls, State, flat_calls}
 use Rattle.of_eval.specs.Steps.{due}
 use Rattle.of_eval_laws.specs.Board.{board_calls}
 
@@ -18,18 +35,104 @@ use Rattle.of_eval_laws.specs.Board.{board_calls}
 pub record WordsThrowListed : Type 0 where
   pub words : (w : Word) (m : Parts) → ThrowsListed (word_entry w m)
 
--- a listed throw, or the number of a cell among these, as `throw` takes it (Forth 2012, 9.6.1.2275)
-abbrev pub IsRaised : List Cell → Throw → Type 0
-IsRaised cells t = (is_listed t ≡ true) ⊎ ((x : Cell) × Contains cells x × (t.0 ≡ signed x))
+-- ---- what comes next
+
+-- the token that is read next, if one is
+abbrev pub token_of : Option (Token × ℕ) → Option Token
+token_of None = None
+token_of (Some x) = Some x.0
+
+abbrev pub token_read : {S : Type 0} → Input → State S → Option Token
+token_read (input.Image size position) s = token_of (token_from (latest_image s.parts.memory) position size)
+token_read (input.Text position) s = None
+token_read input.Nothing s = None
+
+-- the plan of an FCode that names a word, if that is executed, by the plans of execution tokens
+abbrev pub plan_named : Option TokenEntry → Bool → (ℕ → Plan) → Option Plan
+plan_named None compiling plans = None
+plan_named (Some e) compiling plans = if compiling && not e.immediate then None else Some (plans e.xt)
+
+abbrev pub plan_bare : Option Word → Option TokenEntry → Bool → (ℕ → Plan) → Option Plan
+plan_bare (Some (word.Stream w)) e compiling plans = None
+plan_bare w e compiling plans = plan_named e compiling plans
+
+abbrev pub plan_with : Argument → Option Word → Option TokenEntry → Bool → (ℕ → Plan) → Option Plan
+plan_with Nothing w e compiling plans = plan_bare w e compiling plans
+plan_with a w e compiling plans = None
+
+abbrev pub plan_read : Option Token → List (Option TokenEntry) → Bool → (ℕ → Plan) → Option Plan
+plan_read None table compiling plans = None
+plan_read (Some x) table compiling plans =
+    plan_with x.argument (word_numbered x.code.0) (entry_in table x.code.0) compiling plans
+
+-- and of an item
+abbrev pub plan_of_item : Item → (ℕ → Plan) → Option Plan
+plan_of_item (Operation xt) plans = Some (plans xt.0)
+plan_of_item (Call xt) plans = Some (plans xt.0)
+plan_of_item i plans = None
+
+abbrev pub plan_fetched : Option (Item × Place) → (ℕ → Plan) → Option Plan
+plan_fetched None plans = None
+plan_fetched (Some x) plans = plan_of_item x.0 plans
+
+-- the plan that is carried out next, if one is
+abbrev pub plan_next : {S : Type 0} → Calls S → Continuation → State S → Option Plan
+plan_next c continuation.Source s =
+    plan_read (token_read s.flow.reading.input s) s.words.table s.flow.is_compiling (plan_in s)
+plan_next c (continuation.Code n) s = plan_fetched (c.fetch s.code (record { cell = n })) (plan_in s)
+
+-- the cell that `throw` takes where a plan comes to it, with these cells on the data stack (Forth 2012, 9.6.1.2275)
+abbrev pub cell_in : Plan → List Cell → Option Cell
+cell_in (Written (word.Throws throws.Throw)) (x ∷ cells) = Some x
+cell_in (Execute left p) cells = cell_in p left
+cell_in (Catch left p) cells = cell_in p left
+cell_in p cells = None
+
+abbrev pub cell_of : Option Plan → List Cell → Option Cell
+cell_of None cells = None
+cell_of (Some p) cells = cell_in p cells
+
+-- the cell that `throw` takes next, if it runs next
+abbrev pub cell_next : {S : Type 0} → Calls S → Continuation → State S → Option Cell
+cell_next c to s = cell_of (plan_next c to s) s.parts.stack
+
+-- a word of the stream ends a definition
+abbrev pub is_semicolon : Option Word → Bool
+is_semicolon (Some (word.Stream stream.Semicolon)) = true
+is_semicolon w = false
+
+abbrev pub closes : Option Token → Bool
+closes None = false
+closes (Some x) = is_semicolon (word_numbered x.code.0)
+
+-- whether `b(;)` comes next
+abbrev pub closes_next : {S : Type 0} → Continuation → State S → Bool
+closes_next continuation.Source s = closes (token_read s.flow.reading.input s)
+closes_next (continuation.Code n) s = false
+
+-- ---- what is thrown
+
+-- a listed throw; or, where a definition is ended, -22, which is listed nowhere; or the number of the cell that `throw`
+-- takes
+abbrev pub IsRaised : Option Cell → Bool → Throw → Type 0
+IsRaised taken ends t =
+    (is_listed t ≡ true)
+    ⊎ (((ends ≡ true) × (t ≡ control_mismatch)) ⊎ ((x : Cell) × (taken ≡ Some x) × (t.0 ≡ signed x)))
 
 -- what is thrown is such a throw, if something is
-abbrev pub RaisesListed : List Cell → Result (Unit {0}) Throw → Type 0
-RaisesListed cells (Ok x) = Unit {0}
-RaisesListed cells (Err t) = IsRaised cells t
+abbrev pub Raises : Option Cell → Bool → Result (Unit {0}) Throw → Type 0
+Raises taken ends (Ok x) = Unit {0}
+Raises taken ends (Err t) = IsRaised taken ends t
 
--- the throws of tokens and items are listed, but for those of `throw`: they are numbers of cells of the data stack
+-- The throws of tokens and items are listed, but for -22 at `b(;)`, and for what `throw` throws where it runs.
 pub record StepsThrowListed : Type 0 where
   -- where definitions are cells
-  pub flat : (s : State Coding) → RaisesListed s.parts.stack (due flat_calls s.flow.next s).ended
+  pub flat :
+      (s : State Coding) →
+      Raises (cell_next flat_calls s.flow.next s) (closes_next s.flow.next s) (due flat_calls s.flow.next s).ended
   -- where they are structured bodies
-  pub board : (s : State Definitions) → RaisesListed s.parts.stack (due board_calls s.flow.next s).ended
+  pub board :
+      (s : State Definitions) →
+      Raises (cell_next board_calls s.flow.next s) (closes_next s.flow.next s) (due board_calls s.flow.next s).ended
+  -- -22 is no listed number
+  pub mismatch : is_listed control_mismatch ≡ false

@@ -3,13 +3,14 @@ ghost use Rattle.of_compile.specs.Board.{Definitions};
 ghost use Rattle.of_compile.specs.Coding.{Coding};
 ghost use Rattle.of_eval_laws.specs.Board.{MismatchIsNoBody, StepsAgree};
 ghost use Rattle.of_eval_laws.specs.Frames.{FramesHold, TargetsCountLast};
+ghost use Rattle.of_eval_laws.specs.Going.{CatchKeeps, DefinitionsRun, EndsGoBack, ItemsGo, ItemsThrow, LoadsBegin};
 ghost use Rattle.of_eval_laws.specs.Images.{ImagesStand};
 ghost use Rattle.of_eval_laws.specs.Listed.{StepsThrowListed, WordsThrowListed};
 ghost use Rattle.of_eval_laws.specs.Placed.{StatesStayPlaced};
 ghost use Rattle.of_eval_laws.specs.Running.{ImagesRun};
 ghost use Rattle.of_eval_laws.specs.Throws.{ThrowsSettle};
 
-use of_compile::{board_is_flat, compiles_reading};
+use of_compile::{board_is_flat, compiles_reading, runs_by_structure};
 use of_instances::{images_stay, tree_words_throw_listed};
 use of_memory::{latest_is_pushed, parts_are_good, ranges_are_placed, writes_join};
 use of_prims::prims_throw_listed;
@@ -23,8 +24,8 @@ pub fn words_throw_listed()
     tree_words_throw_listed();
 }
 
-/// What a token or an item throws has one of these numbers, too, or is the number of a cell on the data stack, as
-/// `throw` takes it.
+/// What a token or an item throws has one of these numbers, too, but for -22 where `b(;)` ends a definition, and for
+/// the number of the cell that `throw` takes where that runs.
 #[tactic(auto, using(crate::proofs::Raised::steps_throw_listed))]
 pub fn steps_throw_listed()
     ensures { StepsThrowListed }
@@ -96,3 +97,42 @@ pub fn images_run()
     ranges_are_placed();
     writes_join();
 }
+
+/// Each item of a definition leaves both stacks, and control goes on at its target, exactly as its control structure
+/// says; what it throws changes nothing.
+#[tactic(auto, using(crate::proofs::GoingLemmas::items_go, crate::proofs::GoingLemmas::items_throw))]
+pub fn items_go()
+    ensures cells { ItemsGo Coding }
+    ensures bodies { ItemsGo Definitions }
+    ensures cells_throw { ItemsThrow Coding }
+    ensures bodies_throw { ItemsThrow Definitions }
+{}
+
+/// A definition runs as its structure reads: at each point that is reached in its body the item is done that the
+/// structure takes there, and control goes on at the points that the structure gives.
+pub fn definitions_run()
+    ensures { DefinitionsRun }
+{
+    runs_by_structure();
+}
+
+/// `execute` runs the word of the cell that it takes, and `catch` keeps what was there then.
+#[tactic(auto, using(crate::proofs::GoingLemmas::catch_keeps))]
+pub fn catch_keeps()
+    ensures cells { CatchKeeps Coding }
+    ensures bodies { CatchKeeps Definitions }
+{}
+
+/// The end of an image goes back to what began it, and leaves the rest as it was.
+#[tactic(auto, using(crate::proofs::GoingLemmas::ends_go_back))]
+pub fn ends_go_back()
+    ensures cells { EndsGoBack Coding }
+    ensures bodies { EndsGoBack Definitions }
+{}
+
+/// An image that begins leaves all as it was but for what runs and is read.
+#[tactic(auto, using(crate::proofs::GoingLemmas::loads_begin))]
+pub fn loads_begin()
+    ensures cells { LoadsBegin Coding }
+    ensures bodies { LoadsBegin Definitions }
+{}

@@ -4,6 +4,7 @@
 mod laws;
 
 pub use laws::{
-    frames_hold, images_run, images_stand, mismatch_is_no_body, states_stay_placed, steps_agree,
-    steps_throw_listed, throws_settle, words_throw_listed,
+    catch_keeps, definitions_run, ends_go_back, frames_hold, images_run, images_stand, items_go,
+    loads_begin, mismatch_is_no_body, states_stay_placed, steps_agree, steps_throw_listed,
+    throws_settle, words_throw_listed,
 };

@@ -3,8 +3,9 @@ ghost use Rattle.std.specs.Prelude.{◌≤◌};
 
 use crate::running::{bytes_of, made_by, number_left, shown};
 use of_eval_laws::{
-    frames_hold, images_run, images_stand, mismatch_is_no_body, states_stay_placed, steps_agree,
-    steps_throw_listed, throws_settle, words_throw_listed,
+    catch_keeps, definitions_run, ends_go_back, frames_hold, images_run, images_stand, items_go,
+    loads_begin, mismatch_is_no_body, states_stay_placed, steps_agree, steps_throw_listed,
+    throws_settle, words_throw_listed,
 };
 use of_nodes::Phandle;
 use std::alloc::Global;
@@ -216,4 +217,9 @@ fn laws() {
     images_stand();
     throws_settle();
     images_run();
+    items_go();
+    definitions_run();
+    catch_keeps();
+    ends_go_back();
+    loads_begin();
 }

@@ -4,6 +4,8 @@
 #[cfg(test)]
 mod byte_loading;
 #[cfg(test)]
+mod going;
+#[cfg(test)]
 mod images;
 #[cfg(test)]
 mod running;

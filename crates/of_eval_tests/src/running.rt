@@ -105,3 +105,13 @@ pub(crate) fn shown(alloc: Global, image: &[u8], limit: u64) -> Result<String, F
     }
     Ok(text)
 }
+
+/// What an image prints in a run of so many steps at most, an end of line as `$`.
+pub(crate) fn printed_by(alloc: Global, image: &[u8], limit: u64) -> Result<String, Fail> {
+    let made = made_by(alloc, image, limit)?;
+    let mut text = String::new(alloc);
+    for byte in &made.console {
+        text.push(shown_byte(*byte))?;
+    }
+    Ok(text)
+}

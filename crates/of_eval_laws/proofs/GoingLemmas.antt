@@ -1,0 +1,434 @@
+-- The laws `items_go`, `definitions_run`, `catch_keeps`, `ends_go_back` and `loads_begin`.
+use Rattle.std.proofs.Common.{◌≡◌, ℕ, suc, ◌<◌, ◌≤◌, ◌==◌, nat_lt, nat_le, Bool, true, false, not, List, []}
+use Rattle.std.proofs.Common.{◌∷◌, ◌++◌, length, Option, Some, None, Result, Ok, Err, refl, ap, ◌∙◌, arith}
+use Rattle.std.proofs.Common.{if◌then◌else◌}
+use Rattle.std.proofs.lemmas.Bool.{eq-eqb}
+use Rattle.of_cells.specs.declared.cells.Cell.{Cell}
+use Rattle.of_cells.specs.Arithmetic.{plus}
+use Rattle.of_code.specs.declared.item.Item.TheVariants as item
+use Rattle.of_code.specs.declared.item.Place.{Place}
+use Rattle.of_stacks.specs.declared.throws.Throw.{Throw}
+use Rattle.of_stacks.specs.declared.return_item.Continuation.{Continuation}
+use Rattle.of_stacks.specs.declared.return_item.LoopExit.TheVariants as exit
+use Rattle.of_stacks.specs.declared.return_item.LoopParameters.{LoopParameters}
+use Rattle.of_stacks.specs.declared.return_item.Reading.{Reading}
+use Rattle.of_stacks.specs.declared.return_item.ReturnItem.{ReturnItem}
+use Rattle.of_stacks.specs.declared.return_item.ReturnItem.TheVariants.{Caller, Handler, Loop, Return, Source, User}
+use Rattle.of_stacks.specs.Loops.{goes_on, loop_on_top, passes_limit, turned}
+use Rattle.of_stacks.specs.Order.{refused_if}
+use Rattle.of_stacks.specs.Returns.{fitting, return_on_top}
+use Rattle.of_stacks.specs.Throws.{bad_handle, loop_unavailable, return_stack_imbalance, return_stack_overflow}
+use Rattle.of_stacks.specs.Throws.{stack_underflow}
+use Rattle.of_stacks.specs.Unwinding.{beneath_source, latest_source}
+use Rattle.of_fcodes.specs.declared.words.ReturnsWord.TheVariants as returns
+use Rattle.of_fcodes.specs.declared.words.ThrowsWord.TheVariants as throws
+use Rattle.of_fcodes.specs.declared.words.Word.{Word}
+use Rattle.of_fcodes.specs.declared.words.Word.TheVariants as word
+use Rattle.of_fcodes.specs.Finding.{word_with_xt}
+use Rattle.of_compile.specs.RunsLaw.{RunsByStructure}
+use Rattle.of_compile.specs.Words.{is_word}
+use Rattle.of_eval.specs.Control.{Turn, control_entry, entering, going, loop_item, one, repeated, repeating, staying}
+use Rattle.of_eval.specs.Executing.{Catch, Execute, Plan, Stops, by_flow, executable, executed, frame_of, performed}
+use Rattle.of_eval.specs.Executing.{plan}
+use Rattle.of_eval.specs.Executing.{plan_at, plan_behind, planned, returned, runner_of}
+use Rattle.of_eval.specs.Settling.{ended, going_back, or_nothing, reading_on, source_ended}
+use Rattle.of_eval.specs.State.{Calls, Outcome, State, done, failed, with_items, with_next, with_stack}
+use Rattle.of_eval.specs.Steps.{by_place, item_done, item_due, leave_item}
+use Rattle.of_eval_laws.specs.Board.{board_calls}
+use Rattle.of_eval_laws.specs.Going.{CatchKeeps, DefinitionsRun, EndsGoBack, Is, ItemsGo, ItemsThrow, LoadsBegin, Makes}
+use Rattle.of_eval_laws.specs.Going.{Throws, gone, has_opened, on}
+
+if_is : {A : Type 0} (b : Bool) (x y : A) → b ≡ true → (if b then x else y) ≡ x
+if_is true x y e = refl
+if_is false x y e = absurd cc
+
+if_not : {A : Type 0} (b : Bool) (x y : A) → b ≡ false → (if b then x else y) ≡ y
+if_not false x y e = refl
+if_not true x y e = absurd cc
+
+other : (x y : ℕ) → (x ≡ y → ⊥) → (x == y) ≡ false
+other x y h = grind (arith, h)
+
+-- ---- items
+
+placed : {S : Type 0} (to : Place) (s : State S) (r t : Result Turn Throw) → r ≡ t → by_place to r s ≡ by_place to t s
+placed to s r t e = ap (λ x. by_place to x s) e
+
+branch_goes : {S : Type 0} (c : Calls S) (to : Place) (s : State S) → Makes c (item.Branch to) s (gone to s)
+unfolding item_done control_entry
+branch_goes c to s = refl
+
+arm_goes : {S : Type 0} (c : Calls S) (to : Place) (s : State S) → Makes c (item.EndOf to) s (gone to s)
+unfolding item_done control_entry
+arm_goes c to s = refl
+
+case_stays : {S : Type 0} (c : Calls S) (s : State S) (x : Cell) (cells : List Cell)
+    → Makes c item.EndCase (with_stack (x ∷ cells) s) (with_stack cells s)
+unfolding item_done control_entry
+case_stays c s x cells = refl
+
+zero_goes : {S : Type 0} (c : Calls S) (to : Place) (s : State S) (x : Cell) (cells : List Cell) → x.0 ≡ 0
+    → Makes c (item.BranchIfZero to) (with_stack (x ∷ cells) s) (gone to (with_stack cells s))
+unfolding item_done control_entry
+zero_goes c to s x cells z =
+    placed to (with_stack (x ∷ cells) s) _ (going true cells s.flow.items)
+    (if_is (x.0 == 0) (going true cells s.flow.items) (staying cells s.flow.items) (eq-eqb x.0 0 z))
+
+flag_stays : {S : Type 0} (c : Calls S) (to : Place) (s : State S) (x : Cell) (cells : List Cell) → (x.0 ≡ 0 → ⊥)
+    → Makes c (item.BranchIfZero to) (with_stack (x ∷ cells) s) (with_stack cells s)
+unfolding item_done control_entry
+flag_stays c to s x cells z =
+    placed to (with_stack (x ∷ cells) s) _ (staying cells s.flow.items)
+    (if_not (x.0 == 0) (going true cells s.flow.items) (staying cells s.flow.items) (other x.0 0 z))
+
+accepted : {A : Type 0} (b : Bool) (t : Throw) (x : A) → b ≡ false → refused_if b t x ≡ Ok x
+accepted false t x e = refl
+accepted true t x e = absurd cc
+
+refused : {A : Type 0} (b : Bool) (t : Throw) (x : A) → b ≡ true → refused_if b t x ≡ Err t
+refused true t x e = refl
+refused false t x e = absurd cc
+
+has_room : (i : ReturnItem) (r : List ReturnItem) → length r < 256 → fitting (i ∷ r) ≡ Ok (i ∷ r)
+has_room i r l =
+    let e : nat_lt 256 (length (i ∷ r)) ≡ false = grind arith in
+    accepted (nat_lt 256 (length (i ∷ r))) return_stack_overflow (i ∷ r) e
+
+no_room : (i : ReturnItem) (r : List ReturnItem) → 256 ≤ length r → fitting (i ∷ r) ≡ Err return_stack_overflow
+no_room i r l =
+    let e : nat_lt 256 (length (i ∷ r)) ≡ true = grind arith in
+    refused (nat_lt 256 (length (i ∷ r))) return_stack_overflow (i ∷ r) e
+
+begins_loop : {S : Type 0} (c : Calls S) (to : Place) (s : State S) (index limit : Cell) (cells : List Cell)
+    (r : List ReturnItem) → length r < 256
+    → Makes c (item.Do to) (on (index ∷ limit ∷ cells) r s)
+    (on cells (loop_item index limit (exit.Code to.cell) ∷ r) s)
+unfolding item_done control_entry
+begins_loop c to s index limit cells r l =
+    ap (λ x. by_place to (entering cells x) (on (index ∷ limit ∷ cells) r s))
+    (has_room (loop_item index limit (exit.Code to.cell)) r l)
+
+full_loop : {S : Type 0} (c : Calls S) (to : Place) (s : State S) (index limit : Cell) (cells : List Cell)
+    → 256 ≤ length s.flow.items
+    → Throws c (item.Do to) (with_stack (index ∷ limit ∷ cells) s) return_stack_overflow
+unfolding item_done control_entry
+full_loop c to s index limit cells l =
+    ap (λ x. by_place to (entering cells x) (with_stack (index ∷ limit ∷ cells) s))
+    (no_room (loop_item index limit (exit.Code to.cell)) s.flow.items l)
+
+skips_loop : {S : Type 0} (c : Calls S) (to : Place) (s : State S) (index limit : Cell) (cells : List Cell)
+    → index.0 ≡ limit.0
+    → Makes c (item.QuestionDo to) (with_stack (index ∷ limit ∷ cells) s) (gone to (with_stack cells s))
+unfolding item_done control_entry
+skips_loop c to s index limit cells e =
+    placed to (with_stack (index ∷ limit ∷ cells) s) _ (going true cells s.flow.items)
+    (if_is (index.0 == limit.0) (going true cells s.flow.items)
+    (entering cells (fitting (loop_item index limit (exit.Code to.cell) ∷ s.flow.items))) (eq-eqb index.0 limit.0 e))
+
+asks_loop : {S : Type 0} (c : Calls S) (to : Place) (s : State S) (index limit : Cell) (cells : List Cell)
+    (r : List ReturnItem) → (index.0 ≡ limit.0 → ⊥) → length r < 256
+    → Makes c (item.QuestionDo to) (on (index ∷ limit ∷ cells) r s)
+    (on cells (loop_item index limit (exit.Code to.cell) ∷ r) s)
+unfolding item_done control_entry
+asks_loop c to s index limit cells r e l =
+    placed to (on (index ∷ limit ∷ cells) r s) _
+    (entering cells (fitting (loop_item index limit (exit.Code to.cell) ∷ r)))
+    (if_not (index.0 == limit.0) (going true cells r)
+    (entering cells (fitting (loop_item index limit (exit.Code to.cell) ∷ r))) (other index.0 limit.0 e))
+    ∙ ap (λ x. by_place to (entering cells x) (on (index ∷ limit ∷ cells) r s))
+    (has_room (loop_item index limit (exit.Code to.cell)) r l)
+
+-- what a step of a loop comes to, by whether it passes the limit
+stepped_by : {S : Type 0} → Bool → Place → Cell → LoopParameters → List Cell → List ReturnItem → State S → Outcome S
+stepped_by passes to step l cells r s =
+    by_place to
+    (repeating cells (if passes then r else Loop (record l { index = plus l.index step }) ∷ r)
+    (repeated true (Ok (not passes)))) s
+
+abbrev Loops : {S : Type 0} → Calls S → Place → State S → LoopParameters → List ReturnItem → Type 0
+Loops c to s l r =
+    item_done c (item.Loop to) (with_items (Loop l ∷ r) s)
+    ≡ stepped_by (passes_limit l.index l.limit one) to one l s.parts.stack r (with_items (Loop l ∷ r) s)
+
+loops_by : {S : Type 0} (c : Calls S) (to : Place) (s : State S) (l : LoopParameters) (r : List ReturnItem)
+    → Loops c to s l r
+unfolding item_done control_entry stepped_by
+loops_by c to s l r = refl
+
+adds_by : {S : Type 0} (c : Calls S) (to : Place) (s : State S) (l : LoopParameters) (step : Cell) (cells : List Cell)
+    (r : List ReturnItem)
+    → item_done c (item.PlusLoop to) (on (step ∷ cells) (Loop l ∷ r) s)
+    ≡ stepped_by (passes_limit l.index l.limit step) to step l cells r (on (step ∷ cells) (Loop l ∷ r) s)
+unfolding item_done control_entry stepped_by
+adds_by c to s l step cells r = refl
+
+repeats_at : {S : Type 0} (b : Bool) (to : Place) (step : Cell) (l : LoopParameters) (cells : List Cell)
+    (r : List ReturnItem) (s : State S) → b ≡ false
+    → stepped_by b to step l cells r s
+    ≡ done (gone to (on cells (Loop (record l { index = plus l.index step }) ∷ r) s))
+unfolding stepped_by
+repeats_at false to step l cells r s e = refl
+repeats_at true to step l cells r s e = absurd cc
+
+ends_at : {S : Type 0} (b : Bool) (to : Place) (step : Cell) (l : LoopParameters) (cells : List Cell)
+    (r : List ReturnItem) (s : State S) → b ≡ true → stepped_by b to step l cells r s ≡ done (on cells r s)
+unfolding stepped_by
+ends_at true to step l cells r s e = refl
+ends_at false to step l cells r s e = absurd cc
+
+leaves_loop : {S : Type 0} (c : Calls S) (to : Place) (s : State S) (l : LoopParameters) (r : List ReturnItem)
+    → Makes c (item.Leave to) (with_items (Loop l ∷ r) s) (gone to (with_items r s))
+unfolding item_done
+leaves_loop c to s l r = refl
+
+same_goes : {S : Type 0} (c : Calls S) (to : Place) (s : State S) (y x : Cell) (cells : List Cell) → x.0 ≡ y.0
+    → Makes c (item.Of to) (with_stack (y ∷ x ∷ cells) s) (with_stack cells s)
+unfolding item_done control_entry
+same_goes c to s y x cells e =
+    placed to (with_stack (y ∷ x ∷ cells) s) _ (staying cells s.flow.items)
+    (if_is (x.0 == y.0) (staying cells s.flow.items) (going true (x ∷ cells) s.flow.items) (eq-eqb x.0 y.0 e))
+
+another_goes : {S : Type 0} (c : Calls S) (to : Place) (s : State S) (y x : Cell) (cells : List Cell)
+    → (x.0 ≡ y.0 → ⊥) → Makes c (item.Of to) (with_stack (y ∷ x ∷ cells) s) (gone to (with_stack (x ∷ cells) s))
+unfolding item_done control_entry
+another_goes c to s y x cells e =
+    placed to (with_stack (y ∷ x ∷ cells) s) _ (going true (x ∷ cells) s.flow.items)
+    (if_not (x.0 == y.0) (staying cells s.flow.items) (going true (x ∷ cells) s.flow.items) (other x.0 y.0 e))
+
+return_goes : {S : Type 0} (c : Calls S) (to : Continuation) (s : State S) (r : List ReturnItem)
+    → Makes c item.Return (with_items (Return to ∷ r) s) (with_next to (with_items r s))
+unfolding item_done
+return_goes c to s r = refl
+
+pub items_go : {S : Type 0} → ItemsGo S
+items_go = record {
+  branch = branch_goes;
+  on_zero = zero_goes;
+  not_zero = flag_stays;
+  begins = begins_loop;
+  asks = asks_loop;
+  skips = skips_loop;
+  repeats = λ c to s l r e. loops_by c to s l r
+      ∙ repeats_at (passes_limit l.index l.limit one) to one l s.parts.stack r (with_items (Loop l ∷ r) s) e;
+  ends = λ c to s l r e. loops_by c to s l r
+      ∙ ends_at (passes_limit l.index l.limit one) to one l s.parts.stack r (with_items (Loop l ∷ r) s) e;
+  repeats_by = λ c to s l step cells r e. adds_by c to s l step cells r
+      ∙ repeats_at (passes_limit l.index l.limit step) to step l cells r (on (step ∷ cells) (Loop l ∷ r) s) e;
+  ends_by = λ c to s l step cells r e. adds_by c to s l step cells r
+      ∙ ends_at (passes_limit l.index l.limit step) to step l cells r (on (step ∷ cells) (Loop l ∷ r) s) e;
+  leaves = leaves_loop;
+  same = same_goes;
+  another = another_goes;
+  arm = arm_goes;
+  case = case_stays;
+  returned = return_goes;
+}
+
+-- ---- what they throw
+
+no_flag : {S : Type 0} (c : Calls S) (to : Place) (s : State S)
+    → Throws c (item.BranchIfZero to) (with_stack [] s) stack_underflow
+unfolding item_done control_entry
+no_flag c to s = refl
+
+no_step : {S : Type 0} (c : Calls S) (to : Place) (s : State S)
+    → Throws c (item.PlusLoop to) (with_stack [] s) stack_underflow
+unfolding item_done control_entry
+no_step c to s = refl
+
+no_case : {S : Type 0} (c : Calls S) (s : State S) → Throws c item.EndCase (with_stack [] s) stack_underflow
+unfolding item_done control_entry
+no_case c s = refl
+
+never_goes : (step : Cell) (r : List ReturnItem) → loop_on_top r ≡ Err loop_unavailable
+    → goes_on step r ≡ Err loop_unavailable
+never_goes step [] e = refl
+never_goes step (Loop l ∷ r) e = absurd cc
+never_goes step (Return to ∷ r) e = refl
+never_goes step (User x ∷ r) e = refl
+never_goes step (Handler h ∷ r) e = refl
+never_goes step (Source s ∷ r) e = refl
+never_goes step (Caller d ∷ r) e = refl
+
+no_loop : {S : Type 0} (c : Calls S) (to : Place) (s : State S) → loop_on_top s.flow.items ≡ Err loop_unavailable
+    → Throws c (item.Loop to) s loop_unavailable
+unfolding item_done control_entry
+no_loop c to s e =
+    ap (λ x. by_place to (repeating s.parts.stack (turned one s.flow.items) (repeated true x)) s)
+    (never_goes one s.flow.items e)
+
+no_loop_by : {S : Type 0} (c : Calls S) (to : Place) (s : State S) (step : Cell) (cells : List Cell)
+    → loop_on_top s.flow.items ≡ Err loop_unavailable
+    → Throws c (item.PlusLoop to) (with_stack (step ∷ cells) s) loop_unavailable
+unfolding item_done control_entry
+no_loop_by c to s step cells e =
+    ap (λ x. by_place to (repeating cells (turned step s.flow.items) (repeated true x)) (with_stack (step ∷ cells) s))
+    (never_goes step s.flow.items e)
+
+no_loop_left : {S : Type 0} (c : Calls S) (to : Place) (s : State S) → loop_on_top s.flow.items ≡ Err loop_unavailable
+    → Throws c (item.Leave to) s loop_unavailable
+unfolding item_done
+no_loop_left c to s e = ap (λ x. leave_item to x s) e
+
+no_return : {S : Type 0} (c : Calls S) (s : State S) → return_on_top s.flow.items ≡ Err return_stack_imbalance
+    → Throws c item.Return s return_stack_imbalance
+unfolding item_done
+no_return c s e = ap (λ x. by_flow (returned s.flow x) s) e
+
+pub items_throw : {S : Type 0} → ItemsThrow S
+items_throw = record {
+  no_flag = no_flag;
+  no_step = no_step;
+  no_case = no_case;
+  no_loop = no_loop;
+  no_loop_by = no_loop_by;
+  no_loop_left = no_loop_left;
+  no_return = no_return;
+  full = full_loop;
+}
+
+-- ---- definitions
+
+pub definitions_run : RunsByStructure → DefinitionsRun
+definitions_run law = record {
+  points = λ s cell w q qs h. ap (λ x. item_due board_calls x s) (law.steps s.code cell w q qs h);
+}
+
+-- ---- `execute` and `catch`
+
+-- the plan of `execute` or `catch`, by what the cells give
+behind : (o : Option ℕ) (p q : Plan) (k : ℕ) (w : Word) → o ≡ Some k → word_with_xt k ≡ Some w
+    → plan_behind o p q ≡ planned w (runner_of w) p q
+behind o p q k w e f = ap (λ x. plan_behind x p q) e ∙ ap (λ x. plan_at x k p q) f
+
+run_is : {S : Type 0} (c : Calls S) (xt : ℕ) (x : Cell) (cells : List Cell) (s : State S)
+    → Is s.words xt (word.Returns returns.Execute) → (b : Bool) → is_word s.words.dictionary x.0 ≡ b
+    → executed c xt (with_stack (x ∷ cells) s)
+    ≡ performed c (if b then Execute cells (plan s.words (length s.flow.items) cells x.0) else Stops bad_handle)
+    (with_stack (x ∷ cells) s)
+unfolding executed plan
+run_is c xt x cells s h b e =
+    ap (λ p. performed c p (with_stack (x ∷ cells) s))
+    (behind (executable s.words xt) _ _ h.0 (word.Returns returns.Execute) h.1 h.2
+    ∙ ap (λ y. if y then Execute cells (plan s.words (length s.flow.items) cells x.0) else Stops bad_handle) e)
+
+catch_is : {S : Type 0} (c : Calls S) (xt : ℕ) (x : Cell) (cells : List Cell) (s : State S)
+    → Is s.words xt (word.Throws throws.Catch) → (b : Bool) → nat_le 256 (length s.flow.items) ≡ b
+    → executed c xt (with_stack (x ∷ cells) s)
+    ≡ performed c
+    (if b then Stops return_stack_overflow else Catch cells (plan s.words (suc (length s.flow.items)) cells x.0))
+    (with_stack (x ∷ cells) s)
+unfolding executed plan
+catch_is c xt x cells s h b e =
+    ap (λ p. performed c p (with_stack (x ∷ cells) s))
+    (behind (executable s.words xt) _ _ h.0 (word.Throws throws.Catch) h.1 h.2
+    ∙ ap
+    (λ y. if y then Stops return_stack_overflow else Catch cells (plan s.words (suc (length s.flow.items)) cells x.0))
+    e)
+
+no_cell : {S : Type 0} (c : Calls S) (xt : ℕ) (s : State S) → Is s.words xt (word.Returns returns.Execute)
+    → executed c xt (with_stack [] s) ≡ failed stack_underflow (with_stack [] s)
+unfolding executed plan
+no_cell c xt s h =
+    ap (λ p. performed c p (with_stack [] s))
+    (behind (executable s.words xt) _ _ h.0 (word.Returns returns.Execute) h.1 h.2)
+
+no_caught : {S : Type 0} (c : Calls S) (xt : ℕ) (s : State S) → Is s.words xt (word.Throws throws.Catch)
+    → executed c xt (with_stack [] s) ≡ failed stack_underflow (with_stack [] s)
+unfolding executed plan
+no_caught c xt s h =
+    ap (λ p. performed c p (with_stack [] s))
+    (behind (executable s.words xt) _ _ h.0 (word.Throws throws.Catch) h.1 h.2)
+
+has_item : (n : ℕ) → n < 256 → nat_le 256 n ≡ false
+has_item n l = grind arith
+
+has_none : (n : ℕ) → 256 ≤ n → nat_le 256 n ≡ true
+has_none n l = grind arith
+
+pub catch_keeps : {S : Type 0} → CatchKeeps S
+unfolding executed
+catch_keeps = record {
+  runs = λ c xt x cells s h e. run_is c xt x cells s h true e;
+  refuses = λ c xt x cells s h e. run_is c xt x cells s h false e;
+  keeps = λ c xt x cells s h l. (
+    frame_of cells s,
+    catch_is c xt x cells s h false (has_item (length s.flow.items) l),
+    refl,
+    refl,
+    refl,
+    refl,
+  );
+  full = λ c xt x cells s h l. catch_is c xt x cells s h true (has_none (length s.flow.items) l);
+  no_execute = no_cell;
+  no_catch = no_caught;
+}
+
+-- ---- the end of an image
+
+source_found : (above rest : List ReturnItem) (r : Reading) → latest_source above ≡ None
+    → latest_source (above ++ Source r ∷ rest) ≡ Some r
+unfolding latest_source
+source_found [] rest r e = refl
+source_found (Source x ∷ above) rest r e = absurd cc
+source_found (Return x ∷ above) rest r e = source_found above rest r e
+source_found (Loop x ∷ above) rest r e = source_found above rest r e
+source_found (User x ∷ above) rest r e = source_found above rest r e
+source_found (Handler x ∷ above) rest r e = source_found above rest r e
+source_found (Caller x ∷ above) rest r e = source_found above rest r e
+
+rest_found : (above rest : List ReturnItem) (r : Reading) → latest_source above ≡ None
+    → beneath_source (above ++ Source r ∷ rest) ≡ rest
+unfolding latest_source beneath_source
+rest_found [] rest r e = refl
+rest_found (Source x ∷ above) rest r e = absurd cc
+rest_found (Return x ∷ above) rest r e = rest_found above rest r e
+rest_found (Loop x ∷ above) rest r e = rest_found above rest r e
+rest_found (User x ∷ above) rest r e = rest_found above rest r e
+rest_found (Handler x ∷ above) rest r e = rest_found above rest r e
+rest_found (Caller x ∷ above) rest r e = rest_found above rest r e
+
+went_back : {S : Type 0} → Option Reading → List ReturnItem → State S → State S
+went_back x r s =
+    record (reading_on (or_nothing x) s) { flow = going_back r (reading_on (or_nothing x) s).flow }
+
+back_is : {S : Type 0} (c : Calls S) (s : State S) (above beneath : List ReturnItem) (r : Reading) (to : Continuation)
+    → s.flow.items ≡ above ++ Source r ∷ Return to ∷ beneath → latest_source above ≡ None → has_opened s ≡ false
+    → ended c s ≡ done (went_back (Some r) (Return to ∷ beneath) s)
+unfolding went_back
+back_is c s above beneath r to e none b =
+    let rest = Return to ∷ beneath in
+    let found : latest_source s.flow.items ≡ Some r = ap latest_source e ∙ source_found above rest r none in
+    let left : beneath_source s.flow.items ≡ rest = ap beneath_source e ∙ rest_found above rest r none in
+    if_not _ _ (done (source_ended s)) b
+    ∙ (ap (λ x. done (went_back x (beneath_source s.flow.items) s)) found
+    ∙ ap (λ x. done (went_back (Some r) x s)) left)
+
+pub ends_go_back : {S : Type 0} → EndsGoBack S
+unfolding went_back
+ends_go_back = record {
+  back = λ c s above beneath r to e none b.
+      let is = back_is c s above beneath r to e none b in (
+        ap (λ o. o.ended) is,
+        ap (λ o. o.state.flow.items) is,
+        ap (λ o. o.state.flow.next) is,
+        ap (λ o. o.state.flow.reading) is,
+        ap (λ o. o.state.flow.is_running) is,
+        ap (λ o. o.state.parts.stack) is,
+        ap (λ o. o.state.parts.pictured) is,
+        ap (λ o. o.state.parts.console) is,
+        ap (λ o. o.state.parts.tree) is,
+        ap (λ o. o.state.parts.active) is,
+        ap (λ o. o.state.words) is,
+        ap (λ o. o.state.code) is,
+      );
+  gives_up = λ c s b. if_is (has_opened s) _ _ b;
+}
+
+-- ---- an image that begins
+
+pub loads_begin : {S : Type 0} → LoadsBegin S
+loads_begin = record {
+  begun = λ image node a m s.
+      (refl, refl, refl, refl, refl, refl, refl, refl, refl, refl, refl, refl, refl, refl, refl);
+}
