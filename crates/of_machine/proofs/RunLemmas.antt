@@ -1,25 +1,25 @@
 -- Runs, turn by turn, over cells and over structure.
 use Rattle.std.proofs.Common.{◌≡◌, ◌⊎◌, inl, inr, ℕ, zero, suc, ◌+◌, Bool, true, false, List, [], length, Option}
 use Rattle.std.proofs.Common.{Some, None, refl}
-use Rattle.std.proofs.Common.{ap, sym, subst, ◌∙◌, add-one, nat_lt, nat_le, arith, Result, Ok, Err}
+use Rattle.std.proofs.Common.{ap, sym, subst, ◌∙◌, add-one, nat_lt, nat_le, arith}
 use Rattle.std.specs.Prelude.{if◌then◌else◌, option_and_then, ◌<◌, ◌≤◌, ◌^◌, ◌-◌, ◌&&◌}
 use Rattle.std.proofs.lemmas.Bool.Decides.{nat_tests}
 use Rattle.of_memory.specs.DataSpace.{DataSpace}
 use Rattle.of_memory.specs.Growth.{image_fits, image_pushed}
-use Rattle.of_memory.specs.declared.fault.MemFault.{MemFault}
 use Rattle.of_stream.specs.Image.{header_fault}
 use Rattle.of_compile.specs.Board.{Definitions, flat_of}
 use Rattle.of_compile.specs.Coding.{Coding}
 use Rattle.of_eval.specs.State.{State, flat_calls}
 use Rattle.of_eval.specs.Steps.{stepped, steps_from}
-use Rattle.of_eval.specs.Loading.{begun, first_parts, first_state}
-use Rattle.of_eval_laws.specs.Board.{StepsAgree, board_calls, flat_state, no_definitions}
+use Rattle.of_eval.specs.Loading.{first_parts, first_state}
+use Rattle.of_eval_laws.specs.Board.{StepsAgree, board_calls, no_definitions}
 use Rattle.of_eval_laws.specs.Placed.{AllPlaced, StatesStayPlaced}
 use Rattle.of_machine.specs.declared.answers.Refusal.{Refusal}
 use Rattle.of_machine.specs.declared.answers.Refusal.TheVariants.{ImageTooLong}
 use Rattle.of_machine.specs.declared.answers.End.TheVariants.{LimitReached, Done}
 use Rattle.of_machine.specs.States.{HasMoved, MachineState, can_step, flat_machine, idle, image_refusal, is_running}
 use Rattle.of_machine.specs.States.{loaded, moved, slot, start_refusal}
+use Rattle.of_machine.proofs.EventLemmas.{begun_flat, begun_placed, some_same}
 use Rattle.of_machine.proofs.FirstLemmas.{first_images}
 use Rattle.of_machine.specs.Runs.{Feed, RunsAgree, RunsTo, States, after, beginning, next}
 
@@ -55,9 +55,6 @@ feed_from m = record { machine = m; lines = []; answers = []; calls = [] }
 
 abbrev at : State Coding → ℕ → MachineState Coding
 at s n = record { eval = s; steps = n }
-
-some_same : {A : Type 0} {x y : A} → ◌≡◌ {A = Option A} (Some x) (Some y) → x ≡ y
-some_same e = cc
 
 -- one step more, where something runs
 turn_made : (n : ℕ) (s t : State Coding) (b : Bool) → s.flow.is_running ≡ b → n < 2 ^ 64 - 1
@@ -132,16 +129,6 @@ feeds_agree (suc n) f agree stay placed =
     ap (next flat_calls) (feeds_agree n f agree stay placed)
     ∙ turned (can_step (after board_calls n f).machine) (after board_calls n f) agree stay (all_placed n f stay placed)
 
-begun_flat : (image : List ℕ) (r : Result (ℕ × DataSpace) MemFault) (s : State Definitions)
-    → begun image slot r (flat_state s) ≡ flat_state (begun image slot r s)
-begun_flat image (Ok x) s = refl
-begun_flat image (Err fault) s = refl
-
-begun_placed : (image : List ℕ) (r : Result (ℕ × DataSpace) MemFault) (s : State Definitions) →
-    StatesStayPlaced → AllPlaced s → AllPlaced (begun image slot r s)
-begun_placed image (Ok x) s stay placed = stay.begun image slot x.1 s placed
-begun_placed image (Err fault) s stay placed = placed
-
 pub runs_agree : StepsAgree → StatesStayPlaced → RunsAgree
 runs_agree agree stay image lines answers calls n =
     let first : State Definitions = first_state no_definitions in
@@ -149,10 +136,10 @@ runs_agree agree stay image lines answers calls n =
     let f = beginning no_definitions image lines answers calls in
     let from : beginning (flat_of no_definitions) image lines answers calls ≡ flat_feed f =
     ap (λ s. record { machine = record { eval = s; steps = 0 }; lines = lines; answers = answers; calls = calls })
-    (begun_flat image pushed first) in
+    (begun_flat image slot pushed first) in
     ap (λ (g : Feed Coding). (after flat_calls n g).machine) from
     ∙ ap (λ (g : Feed Coding). g.machine)
-    (feeds_agree n f agree stay (begun_placed image pushed first stay stay.first))
+    (feeds_agree n f agree stay (begun_placed image slot pushed first stay stay.first))
 
 -- a run as `run_script` makes it, and its end
 ends : (b : Bool) (image : List ℕ) (limit : ℕ) (m : MachineState Coding) → is_running m ≡ b

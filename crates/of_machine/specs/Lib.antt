@@ -1,3 +1,4 @@
 pub mod States
 pub mod Views
 pub mod Runs
+pub mod Events

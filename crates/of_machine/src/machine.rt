@@ -1,6 +1,8 @@
 ghost use Rattle.std.specs.Prelude.{◌≡◌, length, ◌≤◌, ◌+◌, ◌⊎◌, [], false, true, IfOk, IfErr, OnOk, OnErr, None, Some};
 ghost use Rattle.of_eval_laws.specs.Board.{no_definitions};
 ghost use Rattle.of_machine.specs.States.{MayGrow, Refuses, Steps, flat_machine, idle, image_refusal, loaded};
+ghost use Rattle.of_eval.specs.State.{flat_calls};
+ghost use Rattle.of_machine.specs.Events.{Load, Step, done_by};
 ghost use Rattle.of_machine.specs.States.{HasMoved, can_step, load_refusal, loaded_for, node_at, room_refusal};
 ghost use Rattle.of_memory.specs.Growth.{image_fits};
 
@@ -83,6 +85,7 @@ impl<C: CodeStore> Machine<C> {
     /// other steps ask for no memory, also where they throw.
     pub fn step(&mut self) -> Result<Progress, AllocError>
         ensures ok { IfOk result (λ p. Steps p self.old self.new) }
+        ensures event { OnOk result (self.new ≡ done_by flat_calls Step self.old) }
         ensures grows { OnErr result (MayGrow self.old) }
         ensures err { OnErr result (self.new ≡ self.old) }
     {
@@ -122,6 +125,7 @@ impl<C: CodeStore> Machine<C> {
     pub fn load(&mut self, image: &[u8], path: &str) -> Result<(), Refusal>
         ensures accepted { OnOk result (load_refusal self.old image.now path.now ≡ None) }
         ensures ok { OnOk result (self.new ≡ loaded_for self.old image.now (node_at self.old path.now)) }
+        ensures event { OnOk result (self.new ≡ done_by flat_calls (Load image.now path.now) self.old) }
         ensures err { IfErr result (λ e. Refuses (load_refusal self.old image.now path.now) e) }
         ensures unchanged { OnErr result (self.new ≡ self.old) }
     {

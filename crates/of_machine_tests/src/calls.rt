@@ -29,6 +29,25 @@ fn images_are_refused(rt: HostRuntime) -> Result<(), Fail> {
     Ok(())
 }
 
+/// An image of so many bytes that ends at once.
+fn long_image(alloc: Global, length: usize) -> Result<Vec<u8>, Fail> {
+    let mut image = vec![in alloc; 0u8; length]?;
+    if let Some(start) = image.first_mut() {
+        *start = 0xf1;
+    }
+    Ok(image)
+}
+
+/// An image has at most 262,144 bytes.
+#[test]
+fn the_longest_image(rt: HostRuntime) -> Result<(), Fail> {
+    let most = long_image(rt.alloc(), 262_144)?;
+    assert_eq!(rt; refusal(rt.alloc(), &most), None);
+    let more = long_image(rt.alloc(), 262_145)?;
+    assert_eq!(rt; refusal(rt.alloc(), &more), Some(Refusal::ImageTooLong));
+    Ok(())
+}
+
 /// What the load of an image for a path is answered.
 fn answer(machine: &mut ScriptMachine, image: &[u8], path: &str) -> Result<(), Refusal> {
     machine.load(image, path)

@@ -1,6 +1,6 @@
 use crate::shared::{bytes_of, image_of, push_bytes, ran};
 use hex::decode;
-use of_machine::{End, ScriptMachine, run_script, runs_agree};
+use of_machine::{End, ScriptMachine, calls_agree, run_script, runs_agree};
 use std::alloc::Global;
 use std::test::Fail;
 
@@ -98,6 +98,7 @@ fn tokens(rt: HostRuntime) -> Result<(), Fail> {
         assert_eq!(rt; shown(rt.alloc(), &image, 99)?.as_str(), wanted, "{tokens}");
     }
     runs_agree();
+    calls_agree();
     Ok(())
 }
 

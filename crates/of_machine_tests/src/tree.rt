@@ -1,5 +1,5 @@
 //! Images that build the device tree, and the tree that they leave.
-use crate::shared::{image_of, load, machine_if_room, new_machine, push_bytes, run_on};
+use crate::shared::{image_of, load, machine_if_room, new_machine, push_bytes, ran, run_on};
 use of_machine::ScriptMachine;
 use of_nodes::{Phandle, Property, Span};
 use std::alloc::Global;
@@ -138,6 +138,36 @@ fn said(alloc: Global, loads: &str) -> Result<String, Fail> {
     let mut text = String::new(alloc);
     push_bytes(&mut text, machine.console())?;
     Ok(text)
+}
+
+/// Images loaded one after another, and behind `|` what they print: the data stack and the base stay.
+const STAYING: &str = "\
+/slot a6 00 + /slot 9d 00|1
+/slot a7 a8 00 + /slot 9f 00|2 3
+/slot 1000000010 1000000008 a0 72 00 + /slot 9d 00|20
+";
+
+#[test]
+fn loads_begin_on_what_is_there(rt: HostRuntime) -> Result<(), Fail> {
+    for line in STAYING.lines() {
+        let (loads, wanted) = line.split_once('|').unwrap_or(("", ""));
+        assert_eq!(rt; said(rt.alloc(), loads)?.trim_end(), wanted, "{loads}");
+    }
+    Ok(())
+}
+
+/// What `run_script` makes of an image's tokens: what is printed, and the tree.
+fn made_by_script(alloc: Global, tokens: &str) -> Result<String, Fail> {
+    let (machine, _) = ran(alloc, &image_of(alloc, tokens)?, 999)?;
+    shown(alloc, &machine)
+}
+
+/// A script's image runs for `/slot`.
+#[test]
+fn scripts_run_for_the_slot(rt: HostRuntime) -> Result<(), Fail> {
+    let made = made_by_script(rt.alloc(), "a6 0111 120161 0110 00")?;
+    assert_eq!(rt; made.as_str(), ";/slot name=736c6f7400 a=00000001");
+    Ok(())
 }
 
 #[test]

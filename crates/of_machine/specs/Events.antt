@@ -1,0 +1,43 @@
+-- A machine by what is done to it: each call is an event, and one that is refused changes nothing.
+use Rattle.std.specs.Prelude.{◌≡◌, ℕ, ◌-◌, ◌^◌, ◌<◌, List, [], ◌∷◌, Option, Some, None, replicate, if◌then◌else◌}
+use Rattle.of_compile.specs.Board.{flat_of}
+use Rattle.of_compile.specs.Coding.{Coding}
+use Rattle.of_eval.specs.State.{Calls, flat_calls}
+use Rattle.of_eval_laws.specs.Board.{board_calls, no_definitions}
+use Rattle.of_machine.specs.declared.answers.Refusal.{Refusal}
+use Rattle.of_machine.specs.States.{HasMoved, MachineState, can_step, flat_machine, idle, load_refusal, loaded_for}
+use Rattle.of_machine.specs.States.{moved, node_at}
+
+pub data Event : Type 0 where
+  -- an image is loaded for the package at a path
+  Load : List ℕ → List ℕ → Event
+  -- a step is made
+  Step : Event
+
+-- a machine with an image for the package at a path, unless it is refused
+abbrev pub loaded_unless : {S : Type 0} → Option Refusal → MachineState S → List ℕ → List ℕ → MachineState S
+loaded_unless (Some e) m image path = m
+loaded_unless None m image path = loaded_for m image (node_at m path)
+
+-- what an event makes of a machine
+abbrev pub done_by : {S : Type 0} → Calls S → Event → MachineState S → MachineState S
+done_by c (Load image path) m = loaded_unless (load_refusal m image path) m image path
+done_by c Step m = if can_step m then moved c m else m
+
+-- a machine after these events, the latest first
+unfoldable pub after_events : {S : Type 0} → Calls S → List Event → MachineState S → MachineState S
+after_events c [] m = m
+after_events c (e ∷ es) m = done_by c e (after_events c es m)
+
+-- What the calls of a machine come to.
+pub record CallsAgree : Type 0 where
+  -- A new machine over cells is after any events the abstract machine after them, whose definitions are structured
+  -- bodies, with these laid out.
+  pub events :
+      (es : List Event) →
+      after_events flat_calls es (idle (flat_of no_definitions))
+      ≡ flat_machine (after_events board_calls es (idle no_definitions))
+  -- A machine that has moved by so many steps is where so many events of a step lead.
+  pub steps :
+      (old new : MachineState Coding) → HasMoved old new → new.steps < 2 ^ 64 →
+      new ≡ after_events flat_calls (replicate (new.steps - old.steps) Step) old
