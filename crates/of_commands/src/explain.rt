@@ -8,15 +8,37 @@ use of_machine::{End, Machine, ScriptMachine};
 use std::alloc::Global;
 use std::io::{self, Write};
 
+/// What a step does.
+#[derive(Clone, Copy)]
+enum Next {
+    /// The token itself.
+    Token,
+    /// An item of a definition that the token runs.
+    Item,
+    /// Nothing: behind the token the image ends before its next token does.
+    Cut,
+}
+
 /// Where a run is before a step.
 #[derive(Drop)]
 struct Spot {
     /// The token of the image that was read last, behind its position, or that comes next.
     token: Option<(usize, FCode)>,
-    /// Whether the step is the token's own, and not one in a definition that it runs.
-    is_own: bool,
+    /// What comes next.
+    next: Next,
     /// How many bytes were printed.
     printed: usize,
+}
+
+/// What comes next in a run.
+fn next_in(machine: &ScriptMachine) -> Next {
+    if machine.next_token().is_some() {
+        Next::Token
+    } else if machine.place().is_some() {
+        Next::Item
+    } else {
+        Next::Cut
+    }
 }
 
 /// Where a run is behind so many steps of an image, for which the machine is new.
@@ -33,10 +55,9 @@ fn walk(machine: &mut ScriptMachine, image: &[u8], steps: u64) -> Result<Spot, F
             return Err(Fault::NoMemory);
         }
     }
-    let next = machine.next_token();
     Ok(Spot {
-        token: next.or(last),
-        is_own: next.is_some(),
+        token: machine.next_token().or(last),
+        next: next_in(machine),
         printed: machine.console().len(),
     })
 }
@@ -54,17 +75,19 @@ fn follow(alloc: Global, image: &[u8], steps: u64) -> Result<Spot, Fault>
 impl Spot {
     /// Whether the end token comes next.
     fn is_end(&self) -> bool {
-        self.is_own && matches!(self.token, Some((_, FCode(0x000 | 0x0ff))))
+        matches!(self.next, Next::Token) && matches!(self.token, Some((_, FCode(0x000 | 0x0ff))))
     }
 }
 
-/// Says where a run is: at a token of the image, or in a definition behind it.
+/// Says where a run is: at a token of the image, in a definition behind it, or where the image was cut behind it.
 fn say_spot<E: Write>(spot: &Spot, errors: &mut E) -> io::Result<()> {
     let Some((position, code)) = spot.token else {
         return write!(errors, "end of the image");
     };
-    if !spot.is_own {
-        write!(errors, "in a definition, behind ")?;
+    match spot.next {
+        Next::Token => {}
+        Next::Item => write!(errors, "in a definition, behind ")?,
+        Next::Cut => write!(errors, "at the cut end, behind ")?,
     }
     match name_of(code) {
         Some(name) => write!(errors, "`{name}` at {position:06x}"),
@@ -102,10 +125,10 @@ fn say_how<E: Write>(
         say_spot(spot, errors)?;
         return writeln!(errors);
     }
-    if spot.is_end() {
+    let text = machine.console().get(spot.printed..).unwrap_or(&[]);
+    if spot.is_end() && text.is_empty() {
         return writeln!(errors, "ofw: {path}: done after {steps} steps");
     }
-    let text = machine.console().get(spot.printed..).unwrap_or(&[]);
     let text = std::str::from_utf8(text).unwrap_or("").trim_end();
     write!(errors, "ofw: {path}: ")?;
     say_spot(spot, errors)?;

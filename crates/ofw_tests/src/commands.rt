@@ -92,6 +92,15 @@ run a.hex --limit 3 --explain|99|99|3|ofw: a.hex: limit reached after 3 steps; n
 ofw: a.hex: stack: 5||f108020a0000000da7a81e9d00;
 run a.hex --limit 9 --explain|99|99|0|ofw: a.hex: `@` at 000009: fault -9: invalid memory address
 ofw: a.hex: stack:|fault -9: invalid memory address|f10800000000000ba76d00;
+run a.hex --limit 9 --explain|99|99|0|ofw: a.hex: `end0` at 00000c: fault -29: compiler nesting
+ofw: a.hex: stack:|fault -29: compiler nesting|f108000000000000b50800b700;
+run a.hex --limit 9 --explain|99|99|0|ofw: a.hex: at the cut end, behind `2` at 000008: fault -257: image ended
+ofw: a.hex: stack:|fault -257: image ended|f108000000000000a710;
+run a.hex --limit 9 --explain|99|99|0|ofw: a.hex: at the cut end, behind `0` at 00000c: fault -257: image ended
+ofw: a.hex: stack:|fault -257: image ended|f108000000000000b50800b7a5;
+run a.hex --limit 4 --explain|99|99|3|\
+ofw: a.hex: limit reached after 4 steps; next: at the cut end, behind `0` at 00000d
+ofw: a.hex: stack:||f108000000000000b50800b7a5a5;
 run a.hex --limit 9|99|99|1|ofw: bad start byte ff||ffffffffffffffff;
 run a.hex --limit 9|99|99|1|ofw: a.hex: image shorter than its header||f108;
 run a.hex --limit 9|99|99|1|ofw: a.hex: image shorter than its header||;
