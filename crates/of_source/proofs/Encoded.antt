@@ -1,5 +1,5 @@
--- The tokens of an accepted source have bytes, where there are FCodes for all definitions, and these are numbered in
--- their order.
+-- The tokens of an accepted source have bytes, where there are FCodes for all definitions; these are numbered in their
+-- order, and made before they are used.
 use Rattle.std.proofs.Common.{◌≡◌, ℕ, ◌+◌, ◌<◌, ◌≤◌, Bool, true, false, not, ◌&&◌, List, [], ◌∷◌, ◌++◌, length, Option}
 use Rattle.std.proofs.Common.{Some, None, Ok, if◌then◌else◌, refl, sym, ap, subst, ◌∙◌, arith}
 use Rattle.std.specs.Prelude.{option_and_then, is_some}
@@ -8,12 +8,13 @@ use Rattle.std.proofs.lemmas.Bool.{false≢true}
 use Rattle.std.proofs.lemmas.List.Elements.{All-append, All-cons}
 use Rattle.std.specs.Str.{str_eq_ignore_ascii_case}
 use Rattle.of_fcodes.specs.declared.codes.FCode.{FCode}
+use Rattle.of_stream.specs.Decoding.{Argument, Code}
 use Rattle.of_source.specs.declared.keyword.Keyword.TheVariants as keyword
 use Rattle.of_source.specs.declared.keyword.Maker.{Maker}
 use Rattle.of_source.specs.declared.nesting.Part.{Part}
 use Rattle.of_source.specs.declared.nesting.Part.TheVariants as part
-use Rattle.of_source.specs.Encodable.{AreEncodable, AreNumbered, HasBytes, IsNumbered, IsSound, defines, definitions}
-use Rattle.of_source.specs.Encodable.{made_by, most_definitions}
+use Rattle.of_source.specs.Encodable.{AreEncodable, AreMadeInOrder, HasBytes, IsNumbered, IsSound, defines, definitions}
+use Rattle.of_source.specs.Encodable.{IsAmong, NamesAmong, UsesAmong, made_by, most_definitions}
 use Rattle.of_source.specs.Items.{Item, Made, Source, call, string, naming, bare, own_code}
 use Rattle.of_source.specs.Items as item
 use Rattle.of_source.specs.Keywords.{ordinary_named}
@@ -32,6 +33,7 @@ use Rattle.of_source.proofs.AcceptedLemmas.{accepted_written}
 use Rattle.of_source.proofs.RunLemmas.{nested_runs, earlier_runs, later_run}
 use Rattle.of_source.proofs.ShapeLemmas.{both_true, not_true, same_kind, when_some}
 use Rattle.of_source.proofs.Tables.{IsBare, bare_bytes, bare_good, keyword_good, making_bytes, naming_bytes, number_bytes}
+use Rattle.of_source.proofs.Tables.{naming_low, number_among, one_low, ordinary_low, two_low}
 use Rattle.of_source.proofs.Tables.{offset16_bytes, ordinary_bare, own_bare, string_bytes, two_good, type_bytes}
 use Rattle.of_source.proofs.WrittenLemmas.{before_runs}
 
@@ -59,9 +61,30 @@ inner_count (i ∷ is) h =
     let e : count (defines i) ≡ 0 = ap (λ (o : Option Made). count (is_some o)) (makes_none i h.0) in
     omega (arith, e, inner_count is h.1)
 
-inner_numbers : (is : List Item) (n : ℕ) → AreInner is → AreNumbered n is
-inner_numbers [] n h = tt
-inner_numbers (i ∷ is) n h = (subst (IsNumbered n) (sym (makes_none i h.0)) tt, inner_numbers is _ h.1)
+among_more : (m n : ℕ) (i : Item) → m ≤ n → UsesAmong m i → UsesAmong n i
+among_more m n (item.Plain t) l h = (omega (arith, l, h.0), names t.argument h.1)
+  where
+    names : (a : Argument) → NamesAmong m a → NamesAmong n a
+    names (Code c) h = omega (arith, l, h)
+    names _ h = tt
+among_more m n _ l h = tt
+
+-- such items use the first n definitions at most
+abbrev AllAmong : ℕ → List Item → Type 0
+AllAmong n [] = Unit {0}
+AllAmong n (i ∷ is) = UsesAmong n i × AllAmong n is
+
+all_more : (is : List Item) (m n : ℕ) → m ≤ n → AllAmong m is → AllAmong n is
+all_more [] m n l h = tt
+all_more (i ∷ is) m n l h = (among_more m n i l h.0, all_more is m n l h.1)
+
+inner_numbers : (is : List Item) (n : ℕ) → AreInner is → AllAmong n is → AreMadeInOrder n is
+inner_numbers [] n h u = tt
+inner_numbers (i ∷ is) n h u = (
+  subst (IsNumbered n) (sym (makes_none i h.0)) tt,
+  u.0,
+  inner_numbers is _ h.1 (all_more is n _ (omega arith) u.1),
+)
 
 -- whether a definition is open
 abbrev in_one : Shape → Bool
@@ -146,7 +169,7 @@ record Inv (names : List Own) (one : Option Own) (items : List Item) : Type 0 wh
   known : AreBelow (definitions items) names
   latest : IsBelow (definitions items) one
   outside : (o : Shape) → run items nothing ≡ Some o → in_one o ≡ false → one ≡ None
-  numbered : AreNumbered 0 items
+  in_order : AreMadeInOrder 0 items
   bytes : AreEncodable items
 
 abbrev Holds : Known → Type 0
@@ -168,13 +191,13 @@ both_counted (x ∷ xs) ys = either (defines x) (both_counted xs ys)
         → (if b then 1 else 0) + definitions (xs ++ ys) ≡ (if b then 1 else 0) + definitions xs + definitions ys
     either b h = omega (arith, h)
 
-both_numbered : (n : ℕ) (xs ys : List Item) → AreNumbered n xs → AreNumbered (n + definitions xs) ys
-    → AreNumbered n (xs ++ ys)
-both_numbered n [] ys f g = let e : n + 0 ≡ n = omega arith in subst (λ k. AreNumbered k ys) e g
+both_numbered : (n : ℕ) (xs ys : List Item) → AreMadeInOrder n xs → AreMadeInOrder (n + definitions xs) ys
+    → AreMadeInOrder n (xs ++ ys)
+both_numbered n [] ys f g = let e : n + 0 ≡ n = omega arith in subst (λ k. AreMadeInOrder k ys) e g
 both_numbered n (x ∷ xs) ys f g =
     let one = if defines x then 1 else 0 in
     let e : n + (one + definitions xs) ≡ n + one + definitions xs = omega arith in
-    (f.0, both_numbered (n + one) xs ys f.1 (subst (λ k. AreNumbered k ys) e g))
+    (f.0, f.1, both_numbered (n + one) xs ys f.2 (subst (λ k. AreMadeInOrder k ys) e g))
 
 nothing_more : All HasBytes []
 nothing_more = λ k d l. absurd (omega (arith, l))
@@ -187,9 +210,10 @@ two_more i j h k = All-cons HasBytes i (j ∷ []) h (one_more j k)
 
 -- more items that neither begin a definition nor end one
 stays : (names : List Own) (one : Option Own) (items more : List Item) (o : Shape) → AreInner more
-    → run items nothing ≡ Some o → (definitions items ≤ most_definitions → All HasBytes more) → Inv names one items
+    → run items nothing ≡ Some o → AllAmong (definitions items) more
+    → (definitions items ≤ most_definitions → All HasBytes more) → Inv names one items
     → Inv names one (items ++ more)
-stays names one items more o n r b h =
+stays names one items more o n r u b h =
     let e : definitions (items ++ more) ≡ definitions items =
     omega (arith, both_counted items more, inner_count more n) in
     record {
@@ -197,22 +221,26 @@ stays names one items more o n r b h =
       known = subst (λ d. AreBelow d names) (sym e) h.known;
       latest = subst (λ d. IsBelow d one) (sym e) h.latest;
       outside = λ p s t. h.outside o r (sym (inner_run more o p n (later_run items more o p r s)) ∙ t);
-      numbered = both_numbered 0 items more h.numbered (inner_numbers more _ n);
+      in_order =
+          both_numbered 0 items more h.in_order
+          (inner_numbers more (0 + definitions items) n (all_more more _ _ (omega arith) u));
       bytes = λ l. All-append HasBytes items more (h.bytes (omega (arith, l, e))) (b (omega (arith, l, e)));
     }
 
-one_stays : (k : Known) (i : Item) (o : Shape) → IsInner i → run k.items nothing ≡ Some o → HasBytes i → Holds k
-    → Inv k.names k.open_one (k.items ++ i ∷ [])
-one_stays k i o n r b h = stays k.names k.open_one k.items (i ∷ []) o (n, tt) r (λ l. one_more i b) h
+one_stays : (k : Known) (i : Item) (o : Shape) → IsInner i → run k.items nothing ≡ Some o
+    → UsesAmong (definitions k.items) i → HasBytes i → Holds k → Inv k.names k.open_one (k.items ++ i ∷ [])
+one_stays k i o n r u b h =
+    stays k.names k.open_one k.items (i ∷ []) o (n, tt) r (u, tt) (λ l. one_more i b) h
 
-two_stay : (k : Known) (i j : Item) (o : Shape) → IsInner i → IsInner j → run k.items nothing ≡ Some o → HasBytes i
-    → HasBytes j → Holds k → Inv k.names k.open_one (k.items ++ i ∷ j ∷ [])
-two_stay k i j o m n r b c h =
-    stays k.names k.open_one k.items (i ∷ j ∷ []) o (m, (n, tt)) r (λ l. two_more i j b c) h
+two_stay : (k : Known) (i j : Item) (o : Shape) → IsInner i → IsInner j → run k.items nothing ≡ Some o
+    → UsesAmong (definitions k.items) i → UsesAmong (definitions k.items) j → HasBytes i → HasBytes j → Holds k
+    → Inv k.names k.open_one (k.items ++ i ∷ j ∷ [])
+two_stay k i j o m n r u v b c h =
+    stays k.names k.open_one k.items (i ∷ j ∷ []) o (m, (n, tt)) r (u, (v, tt)) (λ l. two_more i j b c) h
 
 none_stay : (k : Known) (o : Shape) → run k.items nothing ≡ Some o → Holds k
     → Inv k.names k.open_one (k.items ++ [])
-none_stay k o r h = stays k.names k.open_one k.items [] o tt r (λ l. nothing_more) h
+none_stay k o r h = stays k.names k.open_one k.items [] o tt r tt (λ l. nothing_more) h
 
 -- ---- definitions
 
@@ -245,7 +273,7 @@ begins_one maker name names one items o q s r f h =
           λ p t u.
           let v = when_some (not (in_one o)) (pushed part.Definition o) (run []) p (later_run items (i ∷ []) o p r t) in
           absurd (false≢true (sym u ∙ same_part (pushed part.Definition o) p v.1));
-      numbered = both_numbered 0 items (i ∷ []) h.numbered (omega (arith, n), tt);
+      in_order = both_numbered 0 items (i ∷ []) h.in_order (omega (arith, n), tt, tt);
       bytes =
           λ l. All-append HasBytes items (i ∷ []) (h.bytes (omega (arith, l, c)))
           (one_more i (making_bytes maker name (length names) (omega (arith, s)) (omega (arith, l, c, n))));
@@ -267,7 +295,7 @@ makes_one maker name t names one items o q s b r f h =
       known = (omega (arith, c, n), raised (definitions items) _ names (omega (arith, c)) h.known);
       latest = raised_one (definitions items) _ one (omega (arith, c)) h.latest;
       outside = λ p t u. none;
-      numbered = both_numbered 0 items (i ∷ []) h.numbered (omega (arith, n), tt);
+      in_order = both_numbered 0 items (i ∷ []) h.in_order (omega (arith, n), tt, tt);
       bytes =
           λ l. All-append HasBytes items (i ∷ []) (h.bytes (omega (arith, l, c)))
           (one_more i
@@ -283,7 +311,7 @@ ends_one names None items h =
       known = raised (definitions items) _ names (omega (arith, c)) h.known;
       latest = tt;
       outside = λ p t u. refl;
-      numbered = both_numbered 0 items (item.Semicolon ∷ []) h.numbered (tt, tt);
+      in_order = both_numbered 0 items (item.Semicolon ∷ []) h.in_order (tt, tt, tt);
       bytes =
           λ l. All-append HasBytes items (item.Semicolon ∷ []) (h.bytes (omega (arith, l, c)))
           (one_more item.Semicolon tt);
@@ -295,11 +323,15 @@ ends_one names (Some d) items h =
       known = raised (definitions items) _ (d ∷ names) (omega (arith, c)) (h.latest, h.known);
       latest = tt;
       outside = λ p t u. refl;
-      numbered = both_numbered 0 items (item.Semicolon ∷ []) h.numbered (tt, tt);
+      in_order = both_numbered 0 items (item.Semicolon ∷ []) h.in_order (tt, tt, tt);
       bytes =
           λ l. All-append HasBytes items (item.Semicolon ∷ []) (h.bytes (omega (arith, l, c)))
           (one_more item.Semicolon tt);
     }
+
+-- an FCode of the board is none of a definition
+board : (c : FCode) (n : ℕ) → c.0 < 0x800 → IsAmong n c
+board c n l = omega (arith, l)
 
 -- ---- names
 
@@ -324,10 +356,25 @@ named_bare name n ds c h l e = either (own_in ds name) refl e
         let b = own_below n ds name k h t in
         subst IsBare q (own_bare k (omega (arith, b, l)))
 
+named_among : (name : List ℕ) (n : ℕ) (ds : List Own) (c : FCode) → AreBelow n ds → code_named ds name ≡ Some c
+    → IsAmong n c
+named_among name n ds c h e = either (own_in ds name) refl e
+  where
+    either : (o : Option ℕ) → own_in ds name ≡ o → named_code o (ordinary_named name) ≡ Some c → IsAmong n c
+    either None t e = board c n (ordinary_low name c e)
+    either (Some k) t e =
+        let q : own_code k ≡ c = cc in
+        let b = own_below n ds name k h t in
+        subst (IsAmong n) q (omega (arith, b))
+
 -- the open definition calls itself
 recursion_inner : (one : Option Own) → AreInner (recursion one)
 recursion_inner None = tt
 recursion_inner (Some d) = (tt, tt)
+
+recursion_among : (one : Option Own) (n : ℕ) → IsBelow n one → AllAmong n (recursion one)
+recursion_among None n h = tt
+recursion_among (Some d) n h = ((omega (arith, h), tt), tt)
 
 recursion_bytes : (one : Option Own) (n : ℕ) → IsBelow n one → n ≤ most_definitions → All HasBytes (recursion one)
 recursion_bytes None n h l = nothing_more
@@ -340,32 +387,38 @@ recursion_bytes (Some d) n h l =
 strings : (prints : Bool) (bytes : List ℕ) (k : Known) (o : Shape) → length bytes ≤ 255
     → run k.items nothing ≡ Some o → Holds k → Inv k.names k.open_one (k.items ++ string_items prints bytes)
 strings false bytes k o l r h =
-    one_stays k (item.Plain (string bytes)) o tt r (string_bytes bytes (omega (arith, l))) h
+    one_stays k (item.Plain (string bytes)) o tt r (omega arith, tt) (string_bytes bytes (omega (arith, l))) h
 strings true bytes k o l r h =
-    two_stay k (item.Plain (string bytes)) (item.Plain (bare 0x090)) o tt tt r (string_bytes bytes (omega (arith, l)))
-    type_bytes h
+    two_stay k (item.Plain (string bytes)) (item.Plain (bare 0x090)) o tt tt r (omega arith, tt) (omega arith, tt)
+    (string_bytes bytes (omega (arith, l))) type_bytes h
 
 phrase_keeps : (p : Phrase) (k : Known) (word : List ℕ) (o q : Shape) → own_in k.names word ≡ own_of p
     → IsKeyword word p → IsPlaced k word p → run k.items nothing ≡ Some o → run (items_of p k) o ≡ Some q → Holds k
     → Holds (behind word p k)
 phrase_keeps (phrase.OwnWord n) k word o q e m w r f h =
+    let made = own_below (definitions k.items) k.names word n h.known e in
     stays k.names k.open_one k.items (item.Plain (call (own_code n)) ∷ []) o (tt, tt) r
+    ((omega (arith, made), tt), tt)
     (λ l. one_more (item.Plain (call (own_code n)))
-    (bare_bytes (own_code n)
-    (own_bare n (omega (arith, l, own_below (definitions k.items) k.names word n h.known e))))) h
+    (bare_bytes (own_code n) (own_bare n (omega (arith, l, made))))) h
 phrase_keeps (phrase.BoardWord c) k word o q e m w r f h =
-    one_stays k (item.Plain (call c)) o tt r (bare_bytes c (ordinary_bare word c w)) h
+    one_stays k (item.Plain (call c)) o tt r (board c _ (ordinary_low word c w), tt)
+    (bare_bytes c (ordinary_bare word c w)) h
 phrase_keeps (phrase.Number x) k word o q e m w r f h =
-    one_stays k (item.Plain (number_token x)) o tt r (number_bytes x) h
+    one_stays k (item.Plain (number_token x)) o tt r (number_among _ x) (number_bytes x) h
 phrase_keeps (phrase.NumberIn base blanks digits x) k word o q e m w r f h =
-    one_stays k (item.Plain (number_token x)) o tt r (number_bytes x) h
+    one_stays k (item.Plain (number_token x)) o tt r (number_among _ x) (number_bytes x) h
 phrase_keeps (phrase.Character blanks b bytes) k word o q e m w r f h =
-    one_stays k (item.Plain (number_token (record { 0 = b }))) o tt r (number_bytes (record { 0 = b })) h
+    one_stays k (item.Plain (number_token (record { 0 = b }))) o tt r (number_among _ (record { 0 = b }))
+    (number_bytes (record { 0 = b })) h
 phrase_keeps (phrase.Short t) k word o q e m w r f h =
-    one_stays k (item.Plain (call t)) o tt r (bare_bytes t (bare_good t (keyword_good word (keyword.One t) m))) h
+    one_stays k (item.Plain (call t)) o tt r (board t _ (one_low word t m), tt)
+    (bare_bytes t (bare_good t (keyword_good word (keyword.One t) m))) h
 phrase_keeps (phrase.Pair t u) k word o q e m w r f h =
     let b = two_good t u (keyword_good word (keyword.Two t u) m) in
-    two_stay k (item.Plain (call t)) (item.Plain (call u)) o tt tt r (bare_bytes t b.0) (bare_bytes u b.1) h
+    let l = two_low word t u m in
+    two_stay k (item.Plain (call t)) (item.Plain (call u)) o tt tt r (board t _ l.0, tt) (board u _ l.1, tt)
+    (bare_bytes t b.0) (bare_bytes u b.1) h
 phrase_keeps (phrase.Text prints blank bytes) k word o q e m w r f h = strings prints bytes k o w.1 r h
 phrase_keeps (phrase.Quoted blank pieces bytes) k word o q e m w r f h =
     strings false (pieces_bytes pieces ++ bytes) k o w.1 r h
@@ -373,6 +426,7 @@ phrase_keeps (phrase.Comment blank bytes) k word o q e m w r f h = none_stay k o
 phrase_keeps (phrase.LineComment bytes) k word o q e m w r f h = none_stay k o r h
 phrase_keeps (phrase.Naming t blanks name c) k word o q e m w r f h =
     stays k.names k.open_one k.items (item.Plain (naming t c) ∷ []) o (tt, tt) r
+    ((board t _ (naming_low word t m), named_among name (definitions k.items) k.names c h.known w.2), tt)
     (λ l. one_more (item.Plain (naming t c))
     (naming_bytes t c (keyword_good word (keyword.Naming t) m)
     (named_bare name (definitions k.items) k.names c h.known l w.2))) h
@@ -386,21 +440,23 @@ phrase_keeps (phrase.Colon blanks name) k word o q e m w r f h =
 phrase_keeps phrase.Semicolon k word o q e m w r f h = ends_one k.names k.open_one k.items h
 phrase_keeps phrase.Recurse k word o q e m w r f h =
     stays k.names k.open_one k.items (recursion k.open_one) o (recursion_inner k.open_one) r
+    (recursion_among k.open_one (definitions k.items) h.latest)
     (recursion_bytes k.open_one (definitions k.items) h.latest) h
-phrase_keeps phrase.Offset16 k word o q e m w r f h = one_stays k (item.Plain (bare 0x0cc)) o tt r offset16_bytes h
-phrase_keeps phrase.If k word o q e m w r f h = one_stays k (item.If k.at) o tt r tt h
-phrase_keeps phrase.Else k word o q e m w r f h = one_stays k (item.Else k.at) o tt r tt h
-phrase_keeps phrase.Then k word o q e m w r f h = one_stays k item.Then o tt r tt h
-phrase_keeps phrase.Begin k word o q e m w r f h = one_stays k item.Begin o tt r tt h
-phrase_keeps (phrase.Back z) k word o q e m w r f h = one_stays k (item.Back z k.at) o tt r tt h
-phrase_keeps phrase.Repeat k word o q e m w r f h = two_stay k (item.Back false k.at) item.Then o tt tt r tt tt h
-phrase_keeps (phrase.Do x) k word o q e m w r f h = one_stays k (item.Do x k.at) o tt r tt h
-phrase_keeps (phrase.Loop x) k word o q e m w r f h = one_stays k (item.Loop x k.at) o tt r tt h
-phrase_keeps phrase.Leave k word o q e m w r f h = one_stays k item.Leave o tt r tt h
-phrase_keeps phrase.Case k word o q e m w r f h = one_stays k item.Case o tt r tt h
-phrase_keeps phrase.Of k word o q e m w r f h = one_stays k (item.Of k.at) o tt r tt h
-phrase_keeps phrase.EndOf k word o q e m w r f h = one_stays k (item.EndOf k.at) o tt r tt h
-phrase_keeps phrase.EndCase k word o q e m w r f h = one_stays k item.EndCase o tt r tt h
+phrase_keeps phrase.Offset16 k word o q e m w r f h = one_stays k (item.Plain (bare 0x0cc)) o tt r (omega arith, tt)
+    offset16_bytes h
+phrase_keeps phrase.If k word o q e m w r f h = one_stays k (item.If k.at) o tt r tt tt h
+phrase_keeps phrase.Else k word o q e m w r f h = one_stays k (item.Else k.at) o tt r tt tt h
+phrase_keeps phrase.Then k word o q e m w r f h = one_stays k item.Then o tt r tt tt h
+phrase_keeps phrase.Begin k word o q e m w r f h = one_stays k item.Begin o tt r tt tt h
+phrase_keeps (phrase.Back z) k word o q e m w r f h = one_stays k (item.Back z k.at) o tt r tt tt h
+phrase_keeps phrase.Repeat k word o q e m w r f h = two_stay k (item.Back false k.at) item.Then o tt tt r tt tt tt tt h
+phrase_keeps (phrase.Do x) k word o q e m w r f h = one_stays k (item.Do x k.at) o tt r tt tt h
+phrase_keeps (phrase.Loop x) k word o q e m w r f h = one_stays k (item.Loop x k.at) o tt r tt tt h
+phrase_keeps phrase.Leave k word o q e m w r f h = one_stays k item.Leave o tt r tt tt h
+phrase_keeps phrase.Case k word o q e m w r f h = one_stays k item.Case o tt r tt tt h
+phrase_keeps phrase.Of k word o q e m w r f h = one_stays k (item.Of k.at) o tt r tt tt h
+phrase_keeps phrase.EndOf k word o q e m w r f h = one_stays k (item.EndOf k.at) o tt r tt tt h
+phrase_keeps phrase.EndCase k word o q e m w r f h = one_stays k item.EndCase o tt r tt tt h
 
 all_keep : (ps : List Spelled) (e : Ending) (k : Known) → AreSaid ps e k
     → run (all_behind ps k).items nothing ≡ Some nothing → Holds k → Holds (all_behind ps k)
@@ -425,16 +481,16 @@ parsed_sound text src h =
       known = tt;
       latest = tt;
       outside = λ o r t. refl;
-      numbered = tt;
+      in_order = tt;
       bytes = λ l. nothing_more;
     } in
     let all = all_keep w.0.phrases w.0.ending (begun_with w.0.beginning) w.0.said runs begins in
     record {
       nested = w.1;
-      numbered = subst (AreNumbered 0) (sym w.0.items) all.numbered;
+      in_order = subst (AreMadeInOrder 0) (sym w.0.items) all.in_order;
       encodable = subst AreEncodable (sym w.0.items) all.bytes;
     }
 
--- its items are those of a whole nest, with the numbers 0, 1, 2, .. of its definitions
-pub parsed_nested : (text : List ℕ) (src : Source) → parsed text ≡ Ok src → IsNested src.items × AreNumbered 0 src.items
-parsed_nested text src h = let s = parsed_sound text src h in (s.nested, s.numbered)
+-- its items are those of a whole nest, whose definitions have the numbers 0, 1, 2, .. and are made before they are used
+pub parsed_nested : (text : List ℕ) (src : Source) → parsed text ≡ Ok src → IsNested src.items × AreMadeInOrder 0 src.items
+parsed_nested text src h = let s = parsed_sound text src h in (s.nested, s.in_order)

@@ -5,6 +5,7 @@ use Rattle.std.proofs.Common.{arith}
 use Rattle.std.specs.Option.{option_map, option_map_or}
 use Rattle.std.specs.List.{list_all}
 use Rattle.std.specs.Str.{str_eq_ignore_ascii_case}
+use Rattle.std.proofs.lemmas.Bool.{false≢true}
 use Rattle.std.proofs.lemmas.Bool.Decides.{nat_tests}
 use Rattle.of_cells.specs.declared.cells.Cell.{Cell}
 use Rattle.of_fcodes.specs.declared.codes.FCode.{FCode}
@@ -18,7 +19,7 @@ use Rattle.of_source.specs.declared.keyword.Keyword.{Keyword}
 use Rattle.of_source.specs.declared.keyword.Keyword.TheVariants as keyword
 use Rattle.of_source.specs.declared.keyword.Maker.{Maker}
 use Rattle.of_source.specs.declared.keyword.Maker.TheVariants.{Named, External, Unnamed}
-use Rattle.of_source.specs.Encodable.{HasBytes, HasTokenBytes}
+use Rattle.of_source.specs.Encodable.{HasBytes, HasTokenBytes, UsesAmong}
 use Rattle.of_source.specs.Items.{Item, bare, call, literal, making, naming, own_code, string}
 use Rattle.of_source.specs.Items as item
 use Rattle.of_source.specs.Keywords.{control_rows, fcode, if_ordinary, is_ordinary, keyword_in, keyword_named, or_in}
@@ -163,6 +164,19 @@ named_ordinary name c h = named (number_named name) h
 pub ordinary_bare : (name : List ℕ) (c : FCode) → ordinary_named name ≡ Some c → IsBare c
 ordinary_bare name c h = ordinary_at c.0 (named_ordinary name c h)
 
+-- it is one of the board's
+pub ordinary_low : (name : List ℕ) (c : FCode) → ordinary_named name ≡ Some c → c.0 < 0x800
+unfolding row_numbered
+ordinary_low name c h = either (nat_lt c.0 0x800) refl
+  where
+    either : (b : Bool) → nat_lt c.0 0x800 ≡ b → c.0 < 0x800
+    either true e = grind (arith, nat_tests, e)
+    either false e =
+        let l : 0x800 ≤ c.0 = grind (arith, nat_tests, e) in
+        let none : is_ordinary (word_numbered c.0) ≡ false =
+        ap (λ (o : Option Row). is_ordinary (option_map (λ (r : Row). r.word) o)) (above rows c.0 rows_low l) in
+        absurd (false≢true (sym none ∙ named_ordinary name c h))
+
 -- ---- keywords
 
 -- what each row passes
@@ -225,6 +239,36 @@ bare_good c h =
 pub two_good : (c d : FCode) → (is_bare c && is_bare d) ≡ true → IsBare c × IsBare d
 two_good c d h = let w = both (is_bare c) (is_bare d) h in (bare_good c w.0, bare_good d w.1)
 
+-- the tokens of keywords are the board's
+abbrev is_low : Keyword → Bool
+is_low (keyword.Naming t) = nat_lt t.0 0x800
+is_low (keyword.One t) = nat_lt t.0 0x800
+is_low (keyword.Two t u) = nat_lt t.0 0x800 && nat_lt u.0 0x800
+is_low _ = true
+
+text_low : all_pass is_low text_rows ≡ true
+unfolding text_rows
+text_low = refl
+
+control_low : all_pass is_low control_rows ≡ true
+unfolding control_rows
+control_low = refl
+
+keyword_low : (name : List ℕ) (k : Keyword) → keyword_named name ≡ Some k → is_low k ≡ true
+keyword_low = each_keyword is_low text_low control_low
+
+pub naming_low : (name : List ℕ) (t : FCode) → keyword_named name ≡ Some (keyword.Naming t) → t.0 < 0x800
+naming_low name t h = let e = keyword_low name (keyword.Naming t) h in grind (arith, nat_tests, e)
+
+pub one_low : (name : List ℕ) (t : FCode) → keyword_named name ≡ Some (keyword.One t) → t.0 < 0x800
+one_low name t h = let e = keyword_low name (keyword.One t) h in grind (arith, nat_tests, e)
+
+pub two_low : (name : List ℕ) (t u : FCode) → keyword_named name ≡ Some (keyword.Two t u)
+    → (t.0 < 0x800) × (u.0 < 0x800)
+two_low name t u h =
+    let e = both (nat_lt t.0 0x800) (nat_lt u.0 0x800) (keyword_low name (keyword.Two t u) h) in
+    (grind (arith, nat_tests, e.0), grind (arith, nat_tests, e.1))
+
 -- `b(')` or `b(to)` and an FCode
 pub naming_bytes : (t c : FCode) → is_naming t ≡ true → IsBare c → HasBytes (item.Plain (naming t c))
 naming_bytes t c h k =
@@ -269,3 +313,13 @@ type_bytes = ((refl, refl, refl), (refl, refl, refl))
 pub offset16_bytes : HasBytes (item.Plain (bare 0x0cc))
 unfolding row_numbered rows first_rows second_rows third_rows fourth_rows fifth_rows
 offset16_bytes = ((refl, refl, refl), (refl, refl, refl))
+
+-- a number's token is the board's
+pub number_among : (n : ℕ) (x : Cell) → UsesAmong n (item.Plain (number_token x))
+number_among n x = pick (nat_eq x.0 0xffffffff) (nat_le x.0 3) refl
+  where
+    pick : (a b : Bool) → nat_le x.0 3 ≡ b
+        → UsesAmong n (item.Plain (if a then bare 0x0a4 else if b then bare (0x0a5 + x.0) else literal x))
+    pick true b e = (omega arith, tt)
+    pick false true e = let l : x.0 ≤ 3 = grind (arith, nat_tests, e) in (omega (arith, l), tt)
+    pick false false e = (omega arith, tt)

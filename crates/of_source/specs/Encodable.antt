@@ -1,9 +1,10 @@
 -- Which sources have tokens that can be written (IEEE 1275-1994, 5.2.2).
-use Rattle.std.specs.Prelude.{◌≡◌, ℕ, ◌+◌, ◌≤◌, Bool, List, [], ◌∷◌, Option, Some, None, is_some, if◌then◌else◌}
+use Rattle.std.specs.Prelude.{◌≡◌, ℕ, ◌+◌, ◌<◌, ◌≤◌, Bool, List, [], ◌∷◌, Option, Some, None, is_some, if◌then◌else◌}
 use Rattle.std.specs.List.{All}
 use Rattle.of_stream.specs.declared.stream.OffsetSize.TheVariants.{One, Two}
 use Rattle.of_stream.specs.Bytes.{IsEncodable}
-use Rattle.of_stream.specs.Decoding.{Token}
+use Rattle.of_stream.specs.Decoding.{Argument, Code, Token}
+use Rattle.of_fcodes.specs.declared.codes.FCode.{FCode}
 use Rattle.of_source.specs.Items.{Item, Made, Plain, Colon, Defining, call, maker_token}
 use Rattle.of_source.specs.Nest.{IsNested}
 
@@ -26,10 +27,26 @@ abbrev pub IsNumbered : ℕ → Option Made → Type 0
 IsNumbered n None = Unit {0}
 IsNumbered n (Some m) = m.number ≡ n
 
--- the definitions have the numbers n, n + 1, n + 2, .. in their order
-abbrev pub AreNumbered : ℕ → List Item → Type 0
-AreNumbered n [] = Unit {0}
-AreNumbered n (i ∷ is) = IsNumbered n (made_by i) × AreNumbered (n + (if defines i then 1 else 0)) is
+-- an FCode is one of the board's, or that of one of the first n definitions
+abbrev pub IsAmong : ℕ → FCode → Type 0
+IsAmong n c = c.0 < 0x800 + n
+
+-- so is what a token names
+abbrev pub NamesAmong : ℕ → Argument → Type 0
+NamesAmong n (Code c) = IsAmong n c
+NamesAmong n _ = Unit {0}
+
+-- a token by itself calls and names no other definitions than the first n
+abbrev pub UsesAmong : ℕ → Item → Type 0
+UsesAmong n (Plain t) = IsAmong n t.code × NamesAmong n t.argument
+UsesAmong n _ = Unit {0}
+
+-- behind n definitions, those that are made have the numbers n, n + 1, n + 2, .. in their order, and each that is called
+-- or named was made before, or is the one around that
+abbrev pub AreMadeInOrder : ℕ → List Item → Type 0
+AreMadeInOrder n [] = Unit {0}
+AreMadeInOrder n (i ∷ is) =
+    IsNumbered n (made_by i) × UsesAmong n i × AreMadeInOrder (n + (if defines i then 1 else 0)) is
 
 -- so many definitions have FCodes, 0x800 to 0xFFF
 abbrev pub most_definitions : ℕ
@@ -50,9 +67,9 @@ HasBytes _ = Unit {0}
 abbrev pub AreEncodable : List Item → Type 0
 AreEncodable items = definitions items ≤ most_definitions → All HasBytes items
 
--- what holds of the items of each source: they are those of a whole nest, with the numbers 0, 1, 2, .. of its
--- definitions, and their tokens can be written
+-- what holds of the items of each source: they are those of a whole nest, its definitions have the numbers 0, 1, 2, ..
+-- and are made before they are used, and the tokens can be written
 pub record IsSound (items : List Item) : Type 0 where
   pub nested : IsNested items
-  pub numbered : AreNumbered 0 items
+  pub in_order : AreMadeInOrder 0 items
   pub encodable : AreEncodable items
