@@ -1,0 +1,5 @@
+use Rattle.std.proofs.Common.{rules}
+use Rattle.of_nodes.proofs.tree.Tree.method_at.Goals as goal
+
+pub returns : goal.returns
+returns c = search rules
