@@ -19,7 +19,8 @@ use Rattle.of_nodes.specs.Lookup.{found, node_of}
 use Rattle.of_nodes.specs.Nodes.{first_tree, named_child, phandle_in, phandle_of, then_child, with_node}
 use Rattle.of_nodes.specs.Properties.{new_property, same_name, set_to, span}
 use Rattle.of_nodes.proofs.ComponentsFit.{and_true}
-use Rattle.of_nodes.proofs.PropertyPuts.{IsPut, IsStored, IsWide, is_put, stays_stored, stored_after, stored_reads, wide_after}
+use Rattle.of_nodes.proofs.PropertyPuts.{IsPut, IsStored, IsWide, is_put, stays_stored, stored_after, stored_reads}
+use Rattle.of_nodes.proofs.PropertyPuts.{wide_after}
 
 -- a node below the root that has a name alone
 abbrev named_node : Property → Node

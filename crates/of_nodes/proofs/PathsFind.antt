@@ -16,7 +16,8 @@ use Rattle.of_nodes.specs.Nodes.{AreNodes, new_node, node_at, parent_in}
 use Rattle.of_nodes.specs.Paths.{component_in, components_to, path_in}
 use Rattle.of_nodes.specs.Texts.{components, split, with_byte}
 use Rattle.of_nodes.specs.Ways.{IsFirst, PathsFind}
-use Rattle.of_nodes.proofs.ComponentsFit.{IsClear, IsWhole, both, clear, clear_component, clear_unit, fits_own, lacks, whole}
+use Rattle.of_nodes.proofs.ComponentsFit.{IsClear, IsWhole, both, clear, clear_component, clear_unit, fits_own, lacks}
+use Rattle.of_nodes.proofs.ComponentsFit.{whole}
 use Rattle.of_nodes.proofs.PathPieces.{nonzero, path_here, path_on}
 use Rattle.of_nodes.proofs.NodeLists.{parent_older}
 use Rattle.of_nodes.proofs.TextWalks.{split_is}

@@ -28,7 +28,8 @@ use Rattle.of_nodes.proofs.FirstPathsFind.{ArePut, first_put, wide}
 use Rattle.of_nodes.proofs.MethodsAreFound.{entry_found, number_within, others_found, some_if}
 use Rattle.of_nodes.proofs.PropertyNames.{first_is, gone, last_name, names, names_kept, names_last, next_name}
 use Rattle.of_nodes.proofs.PropertyNames.{order_left, others_left}
-use Rattle.of_nodes.proofs.PropertyPuts.{IsPut, IsStored, IsWide, is_put, read_stays, stays_stored, stored_after, stored_reads}
+use Rattle.of_nodes.proofs.PropertyPuts.{IsPut, IsStored, IsWide, is_put, read_stays, stays_stored, stored_after}
+use Rattle.of_nodes.proofs.PropertyPuts.{stored_reads}
 use Rattle.of_nodes.proofs.PropertyPuts.{wide_after}
 
 -- ---- the node of a phandle

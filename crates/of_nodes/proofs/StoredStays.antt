@@ -170,7 +170,8 @@ node_if : (b : Bool) (m : DataSpace) (ns nodes : List Node) (parent : ℕ) (ph :
     → AreStored m nodes
 node_if true m ns nodes parent ph a e = absurd (never TooManyNodes (ph, nodes) e)
 node_if false m ns nodes parent ph a e =
-    rw (← ap (λ (y : Phandle × List Node). y.1) (ok_is (phandle_of (length ns), ns ++ new_node parent ∷ []) (ph, nodes) e))
+    rw (← ap (λ (y : Phandle × List Node). y.1)
+    (ok_is (phandle_of (length ns), ns ++ new_node parent ∷ []) (ph, nodes) e))
     (with_last m ns (new_node parent) a (none_held m))
 
 by_node : (m : DataSpace) (ns nodes : List Node) (above ph : Phandle) → AreStored m ns
@@ -192,7 +193,8 @@ by_set m after ns nodes ph name value sound a s =
     let g = grows m after before name value s.property k in
     let held = put_held before m after name value s.property k g (λ q e. (a s.i).held name q e) in
     rw (← s.are)
-    (with_one after ns s.i (record (node_at ns s.i) { properties = with_entry ps name s.property }) (λ j. all_on m after (properties_in ns j) g (a j))
+    (with_one after ns s.i (record (node_at ns s.i) { properties = with_entry ps name s.property })
+    (λ j. all_on m after (properties_in ns j) g (a j))
     (with_held m after ps name s.property held g (a s.i)))
 
 by_delete : (m : DataSpace) (ns nodes : List Node) (ph : Phandle) (name : List ℕ) → AreStored m ns

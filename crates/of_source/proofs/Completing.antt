@@ -21,7 +21,8 @@ use Rattle.of_source.specs.Items as item
 use Rattle.of_source.specs.Keywords.{control_rows, keyword_named, text_rows}
 use Rattle.of_source.specs.Names.{Own, own_in}
 use Rattle.of_source.specs.Nesting.{Nesting, is_same, nothing_open}
-use Rattle.of_source.specs.Phrases.{Phrase, Spelled, Beginning, Ending, Known, all_behind, all_written, begun_with, behind}
+use Rattle.of_source.specs.Phrases.{Phrase, Spelled, Beginning, Ending, Known, all_behind, all_written, begun_with}
+use Rattle.of_source.specs.Phrases.{behind}
 use Rattle.of_source.specs.Phrases.{each_written, end_written, items_in, items_of, moved, taken, text_of, written}
 use Rattle.of_source.specs.Phrases as phrase
 use Rattle.of_source.specs.Shapes.{Shape, nothing, floor_of, is_even, closing, opens, pushed, run, shape_of, when}
@@ -97,7 +98,8 @@ opens_stacked (item.Of l) o p h s = when_stacked _ (pushed part.Of o) p h (λ e.
 opens_stacked (item.EndOf l) o p h s = closing_stacked part.Of o.count o.parts p h s
 opens_stacked item.EndCase o p h s = closing_stacked part.Case o.count o.parts p h s
 
-first_stacked : (i : Item) (is : List Item) (o p : Shape) → ((q : Shape) → run is q ≡ Some p → IsStacked q → IsStacked p)
+first_stacked : (i : Item) (is : List Item) (o p : Shape)
+    → ((q : Shape) → run is q ≡ Some p → IsStacked q → IsStacked p)
     → (r : Option Shape) → opens i o ≡ r → option_and_then (run is) r ≡ Some p → IsStacked o → IsStacked p
 first_stacked i is o p others None e h s = absurd cc
 first_stacked i is o p others (Some q) e h s = others q h (opens_stacked i o q e s)
@@ -412,7 +414,8 @@ completed : (z : OffsetSize) (b : Beginning) (ps : List Spelled) (more : List �
     × (parsed (begun_text b ps (on_lines (completion o))) ≡ Ok (record { size = z; items = items_in b ps ++ items }))
 completed z b ps more o begun said r free =
     let k = all_behind ps (begun_with b) in
-    let f = all_finish o.parts o.count k (known_with k.open_one k.names) refl (run_stacked (items_in b ps) nothing o r tt)
+    let f = all_finish o.parts o.count k (known_with k.open_one k.names) refl
+    (run_stacked (items_in b ps) nothing o r tt)
     free r in
     let line = closing_line o.parts o.count in
     let text : all_written f.phrases last_line ≡ 10 ∷ line.0 = f.text ∙ line.1 in
@@ -431,7 +434,8 @@ completed z b ps more o begun said r free =
     let items : items_in b all ≡ items_in b ps ++ grown.0 = ap (λ (l : Known). l.items) known ∙ grown.1 in
     let source : List Item → Result Source SourceFault = λ is. Ok (record { size = z; items = is }) in (
       grown.0,
-      ap (λ t. parsed (each_written b.comments (b.blanks ++ (b.word ++ t)))) (sym (joined ∙ ap (each_written ps) f.text))
+      ap (λ t. parsed (each_written b.comments (b.blanks ++ (b.word ++ t))))
+      (sym (joined ∙ ap (each_written ps) f.text))
           ∙ written_parsed z b all last_line begins says (nested (items_in b all) closes)
           ∙ ap source items,
     )

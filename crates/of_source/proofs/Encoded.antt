@@ -32,7 +32,8 @@ use Rattle.of_source.specs.Written.{AreSaid, IsKeyword, IsPlaced, own_of}
 use Rattle.of_source.proofs.AcceptedLemmas.{accepted_written}
 use Rattle.of_source.proofs.RunLemmas.{nested_runs, earlier_runs, later_run}
 use Rattle.of_source.proofs.ShapeLemmas.{both_true, not_true, same_kind, when_some}
-use Rattle.of_source.proofs.Tables.{IsBare, bare_bytes, bare_good, keyword_good, making_bytes, naming_bytes, number_bytes}
+use Rattle.of_source.proofs.Tables.{IsBare, bare_bytes, bare_good, keyword_good, making_bytes, naming_bytes}
+use Rattle.of_source.proofs.Tables.{number_bytes}
 use Rattle.of_source.proofs.Tables.{naming_low, number_among, one_low, ordinary_low, two_low}
 use Rattle.of_source.proofs.Tables.{offset16_bytes, ordinary_bare, own_bare, string_bytes, two_good, type_bytes}
 use Rattle.of_source.proofs.WrittenLemmas.{before_runs}
@@ -110,7 +111,8 @@ closing_same : (k : Part) (n : ℕ) (ps : List (Part × ℕ)) (p : Shape) → is
 closing_same k n [] p e h = absurd cc
 closing_same k n (q ∷ ps) p e h =
     let o : Shape = record { count = n; parts = ps } in
-    let w = when_some (is_same q.0 k && is_even k q.1 n) o (run []) p (some_run (is_same q.0 k && is_even k q.1 n) o p h) in
+    let w = when_some (is_same q.0 k && is_even k q.1 n) o (run []) p
+    (some_run (is_same q.0 k && is_even k q.1 n) o p h) in
     let s : q.0 ≡ k = same_kind q.0 k (both_true (is_same q.0 k) (is_even k q.1 n) w.0).0 in
     same_part o p w.1
     ∙ sym (part_around k ps e)
@@ -492,5 +494,6 @@ parsed_sound text src h =
     }
 
 -- its items are those of a whole nest, whose definitions have the numbers 0, 1, 2, .. and are made before they are used
-pub parsed_nested : (text : List ℕ) (src : Source) → parsed text ≡ Ok src → IsNested src.items × AreMadeInOrder 0 src.items
+pub parsed_nested : (text : List ℕ) (src : Source) → parsed text ≡ Ok src
+    → IsNested src.items × AreMadeInOrder 0 src.items
 parsed_nested text src h = let s = parsed_sound text src h in (s.nested, s.in_order)

@@ -46,7 +46,8 @@ use Rattle.of_source.specs.Faults.{string_behind, IsWrong, no_opener, left_open,
 use Rattle.of_source.specs.Faults.{bad_digits, long_name, long_string, no_end, no_code, not_outside, not_inside}
 use Rattle.of_source.specs.Faults.{not_straight, out_of_range, no_meaning, IsAstray, open_comment, another, IsFailure}
 use Rattle.of_source.specs.Faults.{cut, wrong, late, AllSaid, begins_source, IsFault, no_source, no_beginning, failure}
-use Rattle.of_source.proofs.Kept.{Inv, Kept, kept, run-append, definition_opens, defining_stands, pushes, one_more, else_closed}
+use Rattle.of_source.proofs.Kept.{Inv, Kept, kept, run-append, definition_opens, defining_stands, pushes, one_more}
+use Rattle.of_source.proofs.Kept.{else_closed}
 use Rattle.of_source.proofs.Kept.{then_closed, begin_at, part_at, repeat_at, leave_at, of_at}
 use Rattle.of_source.proofs.Deciding.{first_word_decides, decided-version1, decided-version2}
 use Rattle.of_source.proofs.ReadingBack.{ends_part, word_after, start_after, no_word_after}

@@ -3,7 +3,8 @@ use Rattle.std.proofs.Common.{◌≡◌, List, [], ◌∷◌, refl, ap, ◌∙�
 use Rattle.of_source.specs.Items.{Item}
 use Rattle.of_source.specs.Items as item
 use Rattle.of_source.specs.Nest.{Nest, Stop, Plain, Definition, Defining, If, Else, Then, Begin, Do, Leave, Case, Of}
-use Rattle.of_source.specs.Nest.{items_of, Inside, after_word, after_closer, after_opener, opened_by, read_back, nest_of}
+use Rattle.of_source.specs.Nest.{items_of, Inside, after_word, after_closer, after_opener, opened_by, read_back}
+use Rattle.of_source.specs.Nest.{nest_of}
 
 -- a nest, and then another
 abbrev pub joined : Nest → Nest → Nest

@@ -41,8 +41,8 @@ abbrev pub UsesAmong : ℕ → Item → Type 0
 UsesAmong n (Plain t) = IsAmong n t.code × NamesAmong n t.argument
 UsesAmong n _ = Unit {0}
 
--- behind n definitions, those that are made have the numbers n, n + 1, n + 2, .. in their order, and each that is called
--- or named was made before, or is the one around that
+-- behind n definitions, those that are made have the numbers n, n + 1, n + 2, .. in their order, and each that is
+-- called or named was made before, or is the one around that
 abbrev pub AreMadeInOrder : ℕ → List Item → Type 0
 AreMadeInOrder n [] = Unit {0}
 AreMadeInOrder n (i ∷ is) =

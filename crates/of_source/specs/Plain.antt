@@ -32,8 +32,8 @@ abbrev pub IsPlain : Token → Type 0
 IsPlain t = IsPlainWith t.argument t.code.0
 
 -- Behind some items, each token that stands by itself is plain, another defining word than `:` says what its definition
--- is, and `offset16` stands where what is before it leaves no control structure open: so the size of offsets is the same
--- whichever way control goes.
+-- is, and `offset16` stands where what is before it leaves no control structure open: so the size of offsets is the
+-- same whichever way control goes.
 abbrev pub ArePlain : List Item → List Item → Type 0
 ArePlain front [] = Unit {0}
 ArePlain front (Plain t ∷ is) =
