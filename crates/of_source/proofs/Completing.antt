@@ -435,7 +435,7 @@ completed z b ps more o begun said r free =
     let source : List Item → Result Source SourceFault = λ is. Ok (record { size = z; items = is }) in (
       grown.0,
       ap (λ t. parsed (each_written b.comments (b.blanks ++ (b.word ++ t))))
-      (sym (joined ∙ ap (each_written ps) f.text))
+          (sym (joined ∙ ap (each_written ps) f.text))
           ∙ written_parsed z b all last_line begins says (nested (items_in b all) closes)
           ∙ ap source items,
     )
