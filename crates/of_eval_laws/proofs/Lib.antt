@@ -9,8 +9,12 @@
 -- RunningBytes, RunningEnds, RunningSound, RunningWords, RunningTokens, ImagesRun: the law `images_run`, from bytes up
 -- to a step.
 -- GoingLemmas: the laws `items_go`, `definitions_run`, `catch_keeps`, `ends_go_back`, `loads_begin`.
+-- AskingLemmas: the law `memory_is_asked`.
+-- HomeLemmas: the law `names_stay_home`.
 -- MethodLemmas: words that become methods leave what runs and the code.
 pub mod MethodLemmas
+pub mod AskingLemmas
+pub mod HomeLemmas
 pub mod ListedLemmas
 pub mod ListedFaults
 pub mod ListedParts

@@ -6,3 +6,5 @@ pub mod Images
 pub mod Running
 pub mod Throws
 pub mod Going
+pub mod Asking
+pub mod Homes

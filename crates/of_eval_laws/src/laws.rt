@@ -1,9 +1,11 @@
 // A law has no parameters and does nothing: its contract is the law.
 ghost use Rattle.of_compile.specs.Board.{Definitions};
 ghost use Rattle.of_compile.specs.Coding.{Coding};
+ghost use Rattle.of_eval_laws.specs.Asking.{MemoryIsAsked};
 ghost use Rattle.of_eval_laws.specs.Board.{MismatchIsNoBody, StepsAgree};
 ghost use Rattle.of_eval_laws.specs.Frames.{FramesHold, TargetsCountLast};
 ghost use Rattle.of_eval_laws.specs.Going.{CatchKeeps, DefinitionsRun, EndsGoBack, ItemsGo, ItemsThrow, LoadsBegin};
+ghost use Rattle.of_eval_laws.specs.Homes.{NamesStayHome};
 ghost use Rattle.of_eval_laws.specs.Images.{ImagesStand};
 ghost use Rattle.of_eval_laws.specs.Listed.{StepsThrowListed, WordsThrowListed};
 ghost use Rattle.of_eval_laws.specs.Placed.{StatesStayPlaced};
@@ -135,4 +137,18 @@ pub fn ends_go_back()
 pub fn loads_begin()
     ensures cells { LoadsBegin Coding }
     ensures bodies { LoadsBegin Definitions }
+{}
+
+/// Which tokens and items ask for no memory.
+pub fn memory_is_asked()
+    ensures cells { MemoryIsAsked Coding }
+    ensures bodies { MemoryIsAsked Definitions }
+{}
+
+/// The name of a definition belongs to the package that was active at its `b(:)`, whatever package is active at its
+/// `b(;)`.
+#[tactic(auto, using(crate::proofs::HomeLemmas::names_stay_home))]
+pub fn names_stay_home()
+    ensures cells { NamesStayHome Coding }
+    ensures bodies { NamesStayHome Definitions }
 {}

@@ -1,0 +1,25 @@
+-- To which package the name of a definition belongs (IEEE 1275-1994, 3.2.2 and 5.3.3.1).
+use Rattle.std.specs.Prelude.{◌≡◌, ℕ, Option, Ok}
+use Rattle.of_compile.specs.declared.defining.DefiningWord.TheVariants as defining
+use Rattle.of_nodes.specs.declared.phandles.Phandle.{Phandle}
+use Rattle.of_eval.specs.State.{Calls, State}
+use Rattle.of_eval.specs.Tokens.{define_entry, semicolon_entry}
+
+-- the same state while another package is active
+abbrev pub with_package : {S : Type 0} → Option Phandle → State S → State S
+with_package node s =
+    record s { parts = record s.parts { active = record s.parts.active { «package» = node } } }
+
+-- A definition's name belongs to the package that was active at its `b(:)`.
+pub record NamesStayHome (S : Type 0) : Type 0 where
+  -- `b(:)` keeps the package that is active
+  pub kept :
+      (c : Calls S) (s : State S) → (define_entry c defining.Colon s).ended ≡ Ok tt →
+      (define_entry c defining.Colon s).state.flow.home ≡ s.parts.active.«package»
+  -- and whatever package is active at its `b(;)`, that makes the same methods and words
+  pub anywhere :
+      (c : Calls S) (o : Option ℕ) (node : Option Phandle) (s : State S) →
+      let here = semicolon_entry c o s in
+      let there = semicolon_entry c o (with_package node s) in
+      (there.ended ≡ here.ended) × (there.state.parts.tree ≡ here.state.parts.tree)
+      × (there.state.words ≡ here.state.words) × (there.state.code ≡ here.state.code)
