@@ -2,6 +2,7 @@
 use Rattle.std.proofs.Common.{◌≡◌, ℕ, suc, ◌<◌, ◌≤◌, ◌==◌, nat_lt, nat_le, Bool, true, false, not, List, []}
 use Rattle.std.proofs.Common.{◌∷◌, ◌++◌, length, Option, Some, None, Result, Ok, Err, refl, ap, ◌∙◌, arith}
 use Rattle.std.proofs.Common.{if◌then◌else◌}
+use Rattle.std.specs.Prelude.{is_some, option_map, ◌&&◌}
 use Rattle.std.proofs.lemmas.Bool.{eq-eqb}
 use Rattle.of_cells.specs.declared.cells.Cell.{Cell}
 use Rattle.of_cells.specs.Arithmetic.{plus}
@@ -25,13 +26,14 @@ use Rattle.of_fcodes.specs.declared.words.ThrowsWord.TheVariants as throws
 use Rattle.of_fcodes.specs.declared.words.Word.{Word}
 use Rattle.of_fcodes.specs.declared.words.Word.TheVariants as word
 use Rattle.of_fcodes.specs.Finding.{word_with_xt}
+use Rattle.of_dict.specs.Words.{xt_of}
 use Rattle.of_compile.specs.RunsLaw.{RunsByStructure}
 use Rattle.of_compile.specs.Words.{is_word}
 use Rattle.of_eval.specs.Control.{Turn, control_entry, entering, going, loop_item, one, repeated, repeating, staying}
 use Rattle.of_eval.specs.Executing.{Catch, Execute, Plan, Stops, by_flow, executable, executed, frame_of, performed}
 use Rattle.of_eval.specs.Executing.{plan}
 use Rattle.of_eval.specs.Executing.{plan_at, plan_behind, planned, returned, runner_of}
-use Rattle.of_eval.specs.Settling.{ended, going_back, or_nothing, reading_on, source_ended}
+use Rattle.of_eval.specs.Settling.{ended, going_back, is_same, or_nothing, reading_on, source_ended}
 use Rattle.of_eval.specs.State.{Calls, Outcome, State, done, failed, with_items, with_next, with_stack}
 use Rattle.of_eval.specs.Steps.{by_place, item_done, item_due, leave_item}
 use Rattle.of_eval_laws.specs.Board.{board_calls}
@@ -427,8 +429,32 @@ ends_go_back = record {
 
 -- ---- an image that begins
 
+abbrev xt_in : ℕ → Cell
+xt_in n = record { 0 = xt_of n }
+
+none_opened : (o : Option ℕ)
+    → (is_some o && not (is_same (option_map xt_in o) (option_map xt_in o))) ≡ false
+none_opened None = refl
+none_opened (Some n) = ap not (eq-eqb (xt_of n) (xt_of n) refl)
+
 pub loads_begin : {S : Type 0} → LoadsBegin S
 loads_begin = record {
-  begun = λ image node a m s.
-      (refl, refl, refl, refl, refl, refl, refl, refl, refl, refl, refl, refl, refl, refl, refl);
+  begun = λ image node a m s. (
+    refl,
+    refl,
+    refl,
+    refl,
+    refl,
+    refl,
+    refl,
+    refl,
+    refl,
+    refl,
+    refl,
+    refl,
+    refl,
+    refl,
+    refl,
+    none_opened s.words.defining,
+  );
 }

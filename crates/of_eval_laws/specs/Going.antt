@@ -229,7 +229,7 @@ pub record EndsGoBack (S : Type 0) : Type 0 where
 -- ---- an image that begins
 
 -- It changes only the memory, the console's room, the active package, and what runs and is read: beneath it stands what
--- its end brings back.
+-- its end brings back. No definition was opened in it.
 pub record LoadsBegin (S : Type 0) : Type 0 where
   pub begun :
       (image : List ℕ) (node : Phandle) (a : ℕ) (m : DataSpace) (s : State S) →
@@ -240,3 +240,4 @@ pub record LoadsBegin (S : Type 0) : Type 0 where
       × (o.parts.console.text ≡ s.parts.console.text) × (o.words ≡ s.words) × (o.code ≡ s.code)
       × (o.flow.is_compiling ≡ s.flow.is_compiling) × (o.flow.my_self ≡ s.flow.my_self)
       × (o.flow.home ≡ s.flow.home) × (o.parts.active.new_devices ≡ s.parts.active.new_devices)
+      × (has_opened o ≡ false)
