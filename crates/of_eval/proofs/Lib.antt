@@ -1,3 +1,4 @@
+-- Registers: what the functions on single registers make of them is what acts do.
 -- Executed: executing a word, one word at a time, and following its defers.
 -- AtOnce: words of one group that are run at once.
 -- Rests: behind which words nothing is due where nothing was.
@@ -6,6 +7,7 @@
 -- MethodLemmas: words that become methods of a package.
 -- Runs: runs, step by step.
 -- Strings: strings that are compiled.
+pub mod Registers
 pub mod Executed
 pub mod AtOnce
 pub mod Rests

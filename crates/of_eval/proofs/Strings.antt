@@ -13,7 +13,9 @@ use Rattle.of_memory.specs.declared.fault.MemFault.{MemFault}
 use Rattle.of_prims.specs.Data.{throw_of}
 use Rattle.of_compile.specs.Coding.{Coding, Outcome as CodingOutcome, compiled, compiling}
 use Rattle.of_eval.specs.State.{State, answer_of, done, failed, flat_calls}
-use Rattle.of_eval.specs.Tokens.{rounded, rounded_to, string_compiled, string_element, string_kept}
+use Rattle.of_eval.specs.Acts.{Copies}
+use Rattle.of_eval.specs.Defining.{rounded, rounded_to, string_element, string_kept}
+use Rattle.of_eval.specs.Doing.{acted}
 
 abbrev coded : Bool → Coding → Coding → CodingOutcome
 coded room d c =
@@ -38,21 +40,24 @@ refused (Ok x) d s = refl
 refused (Err fault) d s = refl
 
 pub string_full : (s : State Coding) (a n : ℕ) → 65536 < length s.code.code.cells + 3
-    → string_compiled flat_calls a n s ≡ failed dictionary_overflow s
+    → acted flat_calls (Copies a n) s ≡ failed dictionary_overflow s
+unfolding acted
 string_full s a n h =
     rw (string_coded s.parts.memory.here n s.code, no_room (length s.code.code.cells) h)
     (refused (append_copied s.parts.memory a n []) (compiled (string_element s.parts.memory.here n) s.code) s)
 
 pub string_faulty : (s : State Coding) (a n : ℕ) (fault : MemFault) → length s.code.code.cells + 3 ≤ 65536
-    → append_copied s.parts.memory a n [] ≡ Err fault → string_compiled flat_calls a n s ≡ failed (throw_of fault) s
+    → append_copied s.parts.memory a n [] ≡ Err fault → acted flat_calls (Copies a n) s ≡ failed (throw_of fault) s
+unfolding acted
 string_faulty s a n fault h e =
     rw (string_coded s.parts.memory.here n s.code, has_room (length s.code.code.cells) h, e) refl
 
 pub string_done : (s : State Coding) (a n : ℕ) (x : ℕ × DataSpace) (d : Coding) (r : Result (Unit {0}) Throw)
     → length s.code.code.cells + 3 ≤ 65536 → append_copied s.parts.memory a n [] ≡ Ok x
     → compiling (string_element s.parts.memory.here n) s.code ≡ record { coding = d; ended = r }
-    → string_compiled flat_calls a n s
+    → acted flat_calls (Copies a n) s
     ≡ done (record s { code = d; parts = record s.parts { memory = rounded x.1 } })
+unfolding acted
 string_done s a n x d r h e cd =
     let room = has_room (length s.code.code.cells) h in
     let c = compiled (string_element s.parts.memory.here n) s.code in
@@ -72,7 +77,8 @@ pub string_ends :
     → compiling (string_element s.parts.memory.here n) c ≡ record { coding = d; ended = r }
     → Answers z x.1 m (zeros_allotted x.1 0)
     → new ≡ record s { code = d; parts = record s.parts { memory = m } }
-    → string_compiled flat_calls a n s ≡ done new
+    → acted flat_calls (Copies a n) s ≡ done new
+unfolding acted
 string_ends s new a n x c d m r z h e same cd zeros en =
     let cd2 = ap (compiling (string_element s.parts.memory.here n)) (sym same) ∙ cd in
     string_done s a n x d r h e cd2

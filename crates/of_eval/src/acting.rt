@@ -10,9 +10,11 @@ ghost use Rattle.of_compile.specs.Words.{name_pending, named_at, named_next};
 ghost use Rattle.of_nodes.specs.declared.tree.Node.{Node};
 ghost use Rattle.of_eval.specs.Methods.{hidden_if, with_tree};
 ghost use Rattle.of_eval.specs.State.{Ends, Leaves, flat_calls};
-ghost use Rattle.of_eval.specs.Tokens.{at_position, compiled, define_entry, definition_ended, element_grows};
-ghost use Rattle.of_eval.specs.Tokens.{leave_done};
-ghost use Rattle.of_eval.specs.Tokens.{semicolon_entry, turn_at, word_defined};
+ghost use Rattle.of_eval.specs.Acts.{Appends};
+ghost use Rattle.of_eval.specs.Defining.{define_entry, definition_ended, semicolon_entry, word_defined};
+ghost use Rattle.of_eval.specs.Doing.{IsWorked, acted, read_at};
+ghost use Rattle.of_eval.specs.Items.{control_act};
+ghost use Rattle.of_eval.specs.Tokens.{at_position, leave_act};
 
 use crate::control::{ControlWord, run_control};
 use crate::eval::Eval;
@@ -147,11 +149,12 @@ impl<C: CodeStore> Eval<C> {
     }
 
     /// Appends an element to the open definition.
+    #[tactic(auto, unfolding(crate::specs::Doing::worked))]
     pub(crate) fn compile(&mut self, element: Element) -> Result<(), Stop>
         requires storable { CanBeStored (own_item (element_of element)) }
         requires ready { self.old.parts.console.ready ≡ true }
-        ensures outcome { Ends (element_grows (element_of element)) (compiled flat_calls (element_of element) self.old)
-            self.old self.new result }
+        ensures outcome { IsWorked (Appends (element_of element) self.old.parts.stack) self.old self.new result }
+        ensures parts { self.new.parts ≡ self.old.parts }
         ensures ready { self.new.parts.console.ready ≡ true }
     {
         self.coding.reserve_for(element)?;
@@ -164,7 +167,7 @@ impl<C: CodeStore> Eval<C> {
     /// Goes on at a position of what is being read.
     fn go_to(&mut self, position: usize)
         requires ready { self.old.parts.console.ready ≡ true }
-        ensures state { self.new ≡ at_position position self.old }
+        ensures state { self.new ≡ read_at position self.old }
         ensures ready { self.new.parts.console.ready ≡ true }
     {
         self.flow.reading.input = match self.flow.reading.input {
@@ -175,6 +178,7 @@ impl<C: CodeStore> Eval<C> {
     }
 
     /// Runs a word of control whose target is a position.
+    #[tactic(auto, using(crate::proofs::Registers::turns))]
     pub(crate) fn turn_at(
         &mut self,
         word: ControlWord,
@@ -182,7 +186,8 @@ impl<C: CodeStore> Eval<C> {
         exit: LoopExit,
     ) -> Result<(), Throw>
         requires ready { self.old.parts.console.ready ≡ true }
-        ensures outcome { Leaves (turn_at word target exit self.old) self.new result }
+        ensures outcome { Leaves (acted flat_calls (control_act word (at_position target) exit self.old.parts.stack
+            self.old.flow.items) self.old) self.new result }
         ensures ready { self.new.parts.console.ready ≡ true }
     {
         let goes = run_control(
@@ -201,9 +206,11 @@ impl<C: CodeStore> Eval<C> {
     /// `b(leave)` ( -- ) drops the loop on top, and goes on behind its end.
     ///
     /// -26 where no loop is on top, -257 where its end isn't in the image.
+    #[tactic(auto, unfolding(crate::specs::Doing::acted, crate::specs::Doing::worked))]
     pub(crate) fn leave(&mut self, size: usize) -> Result<(), Throw>
         requires ready { self.old.parts.console.ready ≡ true }
-        ensures outcome { Leaves (leave_done size (loop_on_top self.old.flow.items) self.old) self.new result }
+        ensures outcome { Leaves (acted flat_calls (leave_act size self.old.parts.stack
+            (loop_on_top self.old.flow.items)) self.old) self.new result }
         ensures ready { self.new.parts.console.ready ≡ true }
     {
         let found = self.flow.items.top_loop()?;

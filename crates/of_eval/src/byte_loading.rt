@@ -1,9 +1,11 @@
 //! `byte-load`: images whose bytes stand in the data space.
 ghost use Rattle.std.specs.Prelude.{◌≡◌, ◌≤◌, ◌+◌, drop, length, true};
 ghost use Rattle.of_stacks.specs.Order.{counting, fault_if};
-ghost use Rattle.of_eval.specs.ByteLoading.{begins_image, byte_load_entry, has_bad_header, image_loaded, length_at};
+ghost use Rattle.of_eval.specs.ByteLoading.{begins_image, byte_load_act, copying, has_bad_header, length_at};
 ghost use Rattle.of_eval.specs.ByteLoading.{loading_faults, spread_of, start_at};
-ghost use Rattle.of_eval.specs.State.{Leaves};
+ghost use Rattle.of_eval.specs.State.{Leaves, flat_calls};
+ghost use Rattle.of_eval.specs.Acts.{front_of};
+ghost use Rattle.of_eval.specs.Doing.{worked};
 
 use crate::eval::Eval;
 use of_cells::Cell;
@@ -85,11 +87,13 @@ impl<C: CodeStore> Eval<C> {
     /// Takes the operands, copies the image at an address behind the images that run, and goes on in it.
     ///
     /// -8 where it finds no place among them. A throw changes nothing.
+    #[tactic(auto, unfolding(crate::specs::Doing::worked))]
     fn load_image(&mut self, at: Cell) -> Result<(), Throw>
         requires ready { self.old.parts.console.ready ≡ true }
         requires operands { 2 ≤ length self.old.parts.stack }
         requires room { length self.old.flow.items + 2 ≤ 256 }
-        ensures outcome { Leaves (image_loaded at.0 (drop 2 self.old.parts.stack) self.old) self.new result }
+        ensures outcome { Leaves (worked flat_calls (copying self.old.parts.memory at.0 (drop 2 self.old.parts.stack))
+            self.old) self.new result }
         ensures ready { self.new.parts.console.ready ≡ true }
     {
         let start = start_at(&self.parts.memory, at);
@@ -121,9 +125,10 @@ impl<C: CodeStore> Eval<C> {
     /// -29 while a definition is open; -4 with fewer cells; -9 where the address can't be read; -24 for another fetch
     /// word than 1; -257 for a bad header; -5 where the return stack has no room for two items. A throw changes
     /// nothing.
+    #[tactic(auto, unfolding(crate::specs::Doing::worked))]
     pub(crate) fn byte_load(&mut self) -> Result<(), Throw>
         requires ready { self.old.parts.console.ready ≡ true }
-        ensures outcome { Leaves (byte_load_entry self.old) self.new result }
+        ensures outcome { Leaves (worked flat_calls (byte_load_act (front_of self.old)) self.old) self.new result }
         ensures ready { self.new.parts.console.ready ≡ true }
     {
         if self.words.defining().is_some() {

@@ -2,7 +2,7 @@
 ghost use Rattle.std.specs.Prelude.{◌≡◌, Ok, Err, OnOk, OnErr, if◌then◌else◌, true};
 ghost use Rattle.of_stacks.specs.Throws.{image_ended};
 ghost use Rattle.of_stacks.specs.Loops.{goes_on, turned};
-ghost use Rattle.of_eval.specs.Control.{Turns, control_entry, keeps_rest, repeated};
+ghost use Rattle.of_eval.specs.Registers.{Turns, control_entry, keeps_rest, repeated};
 
 use of_cells::Cell;
 use of_stacks::{DataStack, LoopExit, LoopParameters, ReturnItem, ReturnStack, Throw};
@@ -32,7 +32,7 @@ pub enum ControlWord {
 
 /// `b?branch` ( x -- )
 #[inline]
-#[tactic(auto, unfolding(crate::specs::Control::control_entry))]
+#[tactic(auto, unfolding(crate::specs::Registers::control_entry))]
 fn branch_if_zero(
     lands: bool,
     exit: LoopExit,
@@ -58,7 +58,7 @@ fn branch_if_zero(
 
 /// `b(do)` ( limit start -- ) enters a loop; -5 where the return stack has no room for it
 #[inline]
-#[tactic(auto, unfolding(crate::specs::Control::control_entry))]
+#[tactic(auto, unfolding(crate::specs::Registers::control_entry))]
 fn enter_loop(
     lands: bool,
     exit: LoopExit,
@@ -77,7 +77,7 @@ fn enter_loop(
 
 /// `b(?do)` ( limit start -- ) enters a loop, unless both are equal
 #[inline]
-#[tactic(auto, unfolding(crate::specs::Control::control_entry))]
+#[tactic(auto, unfolding(crate::specs::Registers::control_entry))]
 fn question_do(
     lands: bool,
     exit: LoopExit,
@@ -113,7 +113,7 @@ fn turn(step: Cell, lands: bool, items: &mut ReturnStack) -> Result<bool, Throw>
 
 /// `b(+loop)` ( step -- )
 #[inline]
-#[tactic(auto, unfolding(crate::specs::Control::control_entry))]
+#[tactic(auto, unfolding(crate::specs::Registers::control_entry))]
 fn plus_loop(
     lands: bool,
     exit: LoopExit,
@@ -132,7 +132,7 @@ fn plus_loop(
 
 /// `b(of)` ( x y -- )
 #[inline]
-#[tactic(auto, unfolding(crate::specs::Control::control_entry))]
+#[tactic(auto, unfolding(crate::specs::Registers::control_entry))]
 fn test_arm(
     lands: bool,
     exit: LoopExit,
@@ -174,7 +174,7 @@ fn go(lands: bool) -> Result<bool, Throw>
 /// -4 with too few cells, -26 where no loop is on top, -257 where control goes to a target that isn't
 /// there, -5 where the return stack has no room for a loop. A throw changes nothing.
 #[inline]
-#[tactic(auto, unfolding(crate::specs::Control::control_entry))]
+#[tactic(auto, unfolding(crate::specs::Registers::control_entry))]
 pub fn run_control(
     word: ControlWord,
     lands: bool,

@@ -20,6 +20,7 @@ mod reading_often;
 mod returns;
 mod settling;
 mod steps;
+mod token;
 mod tokens;
 mod views;
 mod words;

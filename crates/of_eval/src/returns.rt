@@ -2,7 +2,7 @@
 ghost use Rattle.std.specs.Prelude.{◌≡◌, ◌∷◌, false, OnOk};
 ghost use Rattle.of_stacks.specs.Stacks.{Becomes};
 ghost use Rattle.of_stacks.specs.Returns.{fitting, has_due_top};
-ghost use Rattle.of_eval.specs.Executing.{entered, exited, stacks_entry};
+ghost use Rattle.of_eval.specs.Registers.{entered, exited, stacks_entry};
 
 use crate::flow::Flow;
 use of_cells::Cell;
@@ -11,7 +11,7 @@ use of_stacks::{Continuation, DataStack, ReturnItem, ReturnStack, Throw};
 
 /// `>r` ( x -- ) ( R: -- x )
 #[inline]
-#[tactic(auto, unfolding(crate::specs::Executing::stacks_entry))]
+#[tactic(auto, unfolding(crate::specs::Registers::stacks_entry))]
 fn move_to_returns(stack: &mut DataStack, items: &mut ReturnStack) -> Result<(), Throw>
     ensures { Becomes (stacks_entry ReturnsWord.ToReturn stack.old items.old) (stack.old, items.old)
         (stack.new, items.new) result }
@@ -24,7 +24,7 @@ fn move_to_returns(stack: &mut DataStack, items: &mut ReturnStack) -> Result<(),
 
 /// `r>` ( -- x ) ( R: x -- )
 #[inline]
-#[tactic(auto, unfolding(crate::specs::Executing::stacks_entry))]
+#[tactic(auto, unfolding(crate::specs::Registers::stacks_entry))]
 fn move_from_returns(stack: &mut DataStack, items: &mut ReturnStack) -> Result<(), Throw>
     ensures { Becomes (stacks_entry ReturnsWord.FromReturn stack.old items.old) (stack.old, items.old)
         (stack.new, items.new) result }
@@ -41,7 +41,7 @@ fn move_from_returns(stack: &mut DataStack, items: &mut ReturnStack) -> Result<(
 /// and for `>r` above a handler or a caller; -26 where `unloop`, `i` or `j` find no loop; -5 and -3 where there is no
 /// room. A throw changes nothing.
 #[inline]
-#[tactic(auto, unfolding(crate::specs::Executing::stacks_entry))]
+#[tactic(auto, unfolding(crate::specs::Registers::stacks_entry))]
 pub fn run_stacks_word(
     word: ReturnsWord,
     stack: &mut DataStack,

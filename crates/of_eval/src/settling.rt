@@ -4,9 +4,8 @@ ghost use Rattle.of_stacks.specs.Returns.{has_due_top};
 ghost use Rattle.of_memory.specs.Growth.{with_state};
 ghost use Rattle.of_eval.specs.State.{Leaves, flat_calls, given_up, open_xt, with_compiling};
 ghost use Rattle.of_eval.specs.Settling.{caller_self, caught, cut_one, ended, given_back, given_up_since, going_back};
-ghost use Rattle.of_eval.specs.Settling.{is_same, load_left, or_nothing, package_of};
-ghost use Rattle.of_eval.specs.Settling.{reading_on, settled, source_ended, still_thrown};
-ghost use Rattle.of_eval.specs.Settling.{thrown_in, uncaught, worked_one, nothing_read};
+ghost use Rattle.of_eval.specs.Settling.{is_same, load_left, nothing_read, or_nothing, package_of, reading_on};
+ghost use Rattle.of_eval.specs.Settling.{settled, source_ended, still_thrown, thrown_in, uncaught, worked_one};
 
 use crate::eval::Eval;
 use crate::executing::is_opened;

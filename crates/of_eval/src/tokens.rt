@@ -1,25 +1,25 @@
 //! The tokens of an image: what they do, or leave in the open definition.
-ghost use Rattle.std.specs.Prelude.{◌≡◌, ◌<◌, ◌≤◌, ◌+◌, ◌^◌, true, IfSome, OnSome};
-ghost use Rattle.std.specs.Option.{option_map};
-ghost use Rattle.of_fcodes.specs.Lookup.{word_numbered};
+ghost use Rattle.std.specs.Prelude.{◌≡◌, ◌<◌, ◌≤◌, ◌+◌, ◌^◌, true};
 ghost use Rattle.of_fcodes.specs.Tokens.{entry_in};
 ghost use Rattle.of_stream.specs.Targets.{landing};
+ghost use Rattle.of_control.specs.Element.{Plain};
 ghost use Rattle.of_compile.specs.Elements.{CanBeStored, element_of, own_item};
-ghost use Rattle.of_eval.specs.State.{Ends, Leaves, flat_calls};
-ghost use Rattle.of_eval.specs.Tokens.{acting_grows, appended_grows, bare_done, bare_grows, bare_token, code_grows};
-ghost use Rattle.of_eval.specs.Tokens.{code_token, compiled_now, number_grows, offset_grows};
-ghost use Rattle.of_eval.specs.Tokens.{control_done, names_nothing, number_done, number_token, offset_done};
-ghost use Rattle.of_eval.specs.Tokens.{offset_token};
-ghost use Rattle.of_eval.specs.Tokens.{stream_token, string_compiled, string_token, word_grows, word_token};
+ghost use Rattle.of_compile.specs.declared.element.PlainItem.TheVariants as plain;
+ghost use Rattle.of_eval.specs.Acts.{Copies, Does, front_of, leaving};
+ghost use Rattle.of_eval.specs.Doing.{IsDone, acted, worked};
+ghost use Rattle.of_eval.specs.Executing.{execution, pushed};
+ghost use Rattle.of_eval.specs.Reading.{IsShort};
+ghost use Rattle.of_eval.specs.State.{Leaves, flat_calls};
+ghost use Rattle.of_eval.specs.Tokens.{appending, calling, compiling_act, control_element, control_token, named};
+ghost use Rattle.of_eval.specs.Tokens.{plain_act, storing, string_address, token_act};
 
 use crate::control::ControlWord;
 use crate::eval::Eval;
+use crate::token::Token;
 use of_cells::Cell;
 use of_code::{CAPACITY, CodeStore};
-use of_compile::{
-    CompiledOperand, DefiningWord, Element, PlainItem, TokenMaker, called, token_element,
-};
-use of_fcodes::{FCode, StreamWord, Word, word_of};
+use of_compile::{CompiledOperand, Element, PlainItem, TokenMaker, called, token_element};
+use of_fcodes::{FCode, StreamWord};
 use of_prims::throw_of;
 use of_stacks::{LoopExit, Stop, Throw};
 use of_stream::{HEADER_LENGTH, target_at};
@@ -37,19 +37,6 @@ pub struct Spot {
     pub size: usize,
 }
 
-/// What stands behind a token, other than a name.
-#[derive(Clone, Copy)]
-pub enum Held {
-    /// A cell.
-    Literal(Cell),
-    /// A string of so many bytes.
-    String(usize),
-    /// An FCode.
-    Code(FCode),
-    /// How many bytes a target stands behind the first byte of this offset.
-    Offset(i16),
-}
-
 impl Spot {
     /// The position to which an offset leads, if that is behind the header and in the image.
     #[inline]
@@ -63,206 +50,184 @@ impl Spot {
         }
         Some(target)
     }
+
+    /// The address of the string of so many bytes that ends where the token does.
+    #[inline]
+    fn string_address(self, length: usize) -> Cell
+        requires behind { self.behind ≤ self.size }
+        requires fits { self.begin.0 + self.size < 2 ^ 32 }
+        ensures { result.0 ≡ string_address self length }
+    {
+        Cell(self.begin.0 + self.behind.saturating_sub(length) as u32)
+    }
+}
+
+/// The element that a word of control leaves in the open definition.
+fn control_element(word: ControlWord, position: usize, by: i16) -> Element
+    requires { position < 2 ^ 63 }
+    ensures element { element_of result ≡ control_element word position by }
+    ensures storable { CanBeStored (own_item (element_of result)) }
+{
+    let stream = match word {
+        ControlWord::Branch => StreamWord::Branch,
+        ControlWord::BranchIfZero => StreamWord::BranchIfZero,
+        ControlWord::Do => StreamWord::Do,
+        ControlWord::QuestionDo => StreamWord::QuestionDo,
+        ControlWord::Loop => StreamWord::Loop,
+        ControlWord::PlusLoop => StreamWord::PlusLoop,
+        ControlWord::Of => StreamWord::Of,
+        ControlWord::EndOf => StreamWord::EndOf,
+        ControlWord::EndCase => return Element::EndCase,
+    };
+    match token_element(stream, CompiledOperand::Offset(by), position) {
+        Some(element) => element,
+        None => Element::EndCase,
+    }
 }
 
 impl<C: CodeStore> Eval<C> {
-    /// A word of control of the stream, with its offset.
-    fn control(&mut self, word: ControlWord, here: Spot, by: i16) -> Result<(), Throw>
+    // ---- what tokens do that aren't compiled
+
+    /// A word of control with its offset.
+    fn control(&mut self, word: ControlWord, by: i16, here: Spot) -> Result<(), Throw>
         requires position { here.position < 2 ^ 63 }
         requires ready { self.old.parts.console.ready ≡ true }
-        ensures outcome { Leaves (control_done word here by self.old) self.new result }
+        ensures outcome { Leaves (acted flat_calls (control_token word by here (front_of self.old)) self.old)
+            self.new result }
         ensures ready { self.new.parts.console.ready ≡ true }
     {
         let exit = LoopExit::Position(target_at(here.position, by).unwrap_or(0));
         self.turn_at(word, here.landing(by), exit)
     }
 
-    /// A token of the stream with an offset, where it isn't compiled.
-    #[tactic(auto, unfolding(crate::specs::Tokens::offset_done))]
-    fn run_offset(&mut self, word: StreamWord, here: Spot, by: i16) -> Result<(), Throw>
+    /// `b(')` ( -- xt )
+    #[tactic(auto, unfolding(crate::specs::Doing::worked))]
+    fn tick(&mut self, code: FCode) -> Result<(), Throw>
+        requires ready { self.old.parts.console.ready ≡ true }
+        ensures outcome { Leaves (worked flat_calls (named (entry_in self.old.words.table code.0)
+            (λ xt. leaving (pushed (record { 0 = xt }) self.old.parts.stack))) self.old) self.new result }
+        ensures ready { self.new.parts.console.ready ≡ true }
+    {
+        match self.words.table().get(code) {
+            Some(entry) => self.parts.stack.try_push(Cell(entry.xt)),
+            None => Err(Throw::NOT_ASSIGNED),
+        }
+    }
+
+    /// `b(to)` ( x -- ) looks for its cell before it asks what its FCode names.
+    #[tactic(auto, unfolding(crate::specs::Doing::worked))]
+    fn store(&mut self, code: FCode) -> Result<(), Throw>
+        requires ready { self.old.parts.console.ready ≡ true }
+        ensures outcome { Leaves (worked flat_calls (storing (entry_in self.old.words.table code.0) self.old.words
+            self.old.parts.stack) self.old) self.new result }
+        ensures ready { self.new.parts.console.ready ≡ true }
+    {
+        match self.words.table().get(code) {
+            Some(entry) => self.words.store(Cell(entry.xt), &mut self.parts.stack),
+            None => {
+                let _ = self.parts.stack.peek()?;
+                Err(Throw::NOT_ASSIGNED)
+            }
+        }
+    }
+
+    /// An FCode that names a word: the word is executed.
+    #[inline(always)]
+    #[tactic(auto, unfolding(crate::specs::Doing::acted, crate::specs::Doing::worked))]
+    fn run_named(&mut self, code: FCode) -> Result<(), Stop>
+        requires ready { self.old.parts.console.ready ≡ true }
+        ensures outcome { IsDone (Does (named (entry_in self.old.words.table code.0)
+            (λ xt. execution xt (front_of self.old)))) self.old self.new result }
+        ensures ready { self.new.parts.console.ready ≡ true }
+    {
+        let Some(entry) = self.words.table().get(code) else {
+            return Err(Stop::Thrown(Throw::NOT_ASSIGNED));
+        };
+        let _ = self.perform(Cell(entry.xt), 0)?;
+        Ok(())
+    }
+
+    /// Does what a token does that isn't compiled.
+    #[tactic(auto, unfolding(crate::specs::Tokens::token_act, crate::specs::Doing::acted, crate::specs::Doing::worked))]
+    fn run_token(&mut self, token: Token, here: Spot) -> Result<(), Stop>
         requires position { here.position < 2 ^ 63 }
+        requires behind { here.behind ≤ here.size }
+        requires fits { here.begin.0 + here.size < 2 ^ 32 }
+        requires short { IsShort token }
         requires ready { self.old.parts.console.ready ≡ true }
-        ensures outcome { Leaves (offset_done word here by self.old) self.new result }
+        ensures outcome { IsDone (token_act token here (front_of self.old)) self.old self.new result }
         ensures ready { self.new.parts.console.ready ≡ true }
     {
-        match word {
-            StreamWord::Branch => self.control(ControlWord::Branch, here, by),
-            StreamWord::BranchIfZero => self.control(ControlWord::BranchIfZero, here, by),
-            StreamWord::Do => self.control(ControlWord::Do, here, by),
-            StreamWord::QuestionDo => self.control(ControlWord::QuestionDo, here, by),
-            StreamWord::Loop => self.control(ControlWord::Loop, here, by),
-            StreamWord::PlusLoop => self.control(ControlWord::PlusLoop, here, by),
-            StreamWord::Of => self.control(ControlWord::Of, here, by),
-            StreamWord::EndOf => self.control(ControlWord::EndOf, here, by),
-            _ => Err(Throw::NOT_ASSIGNED),
-        }
-    }
-
-    /// A token of the stream with a cell, where it isn't compiled.
-    #[tactic(auto, unfolding(crate::specs::Tokens::number_done))]
-    fn run_number(&mut self, word: StreamWord, x: Cell) -> Result<(), Throw>
-        requires ready { self.old.parts.console.ready ≡ true }
-        ensures outcome { Leaves (number_done word x self.old) self.new result }
-        ensures ready { self.new.parts.console.ready ≡ true }
-    {
-        match word {
-            StreamWord::Literal | StreamWord::Tick => self.parts.stack.try_push(x),
-            StreamWord::To => self.words.store(x, &mut self.parts.stack),
-            _ => Err(Throw::NOT_ASSIGNED),
-        }
-    }
-
-    /// A token of the stream with nothing behind it, where it isn't compiled.
-    #[tactic(auto, unfolding(crate::specs::Tokens::bare_done))]
-    fn run_bare(&mut self, word: StreamWord, here: Spot) -> Result<(), Stop>
-        requires ready { self.old.parts.console.ready ≡ true }
-        ensures outcome { Ends (acting_grows word self.old.words) (bare_done flat_calls word here self.old) self.old
-            self.new result }
-        ensures ready { self.new.parts.console.ready ≡ true }
-    {
-        match word {
-            StreamWord::End0 | StreamWord::End1 => Ok(self.end_image()?),
-            StreamWord::Leave => Ok(self.leave(here.size)?),
-            StreamWord::EndCase => {
+        match token {
+            Token::Literal(x) => Ok(self.parts.stack.try_push(x)?),
+            Token::Tick(code) => Ok(self.tick(code)?),
+            Token::To(code) => Ok(self.store(code)?),
+            Token::String(length) => {
+                Ok(self.push_string(here.string_address(length), Cell(length as u32))?)
+            }
+            Token::Control(word, by) => Ok(self.control(word, by, here)?),
+            Token::Leave => Ok(self.leave(here.size)?),
+            Token::EndCase => {
                 Ok(self.turn_at(ControlWord::EndCase, None, LoopExit::Position(0))?)
             }
-            StreamWord::Case | StreamWord::Mark | StreamWord::Resolve | StreamWord::Offset16 => Ok(
-                (),
-            ),
-            StreamWord::Colon => self.define(DefiningWord::Colon),
-            StreamWord::Value => self.define(DefiningWord::Value),
-            StreamWord::Constant => self.define(DefiningWord::Constant),
-            StreamWord::Variable => self.define(DefiningWord::Variable),
-            StreamWord::Create => self.define(DefiningWord::Create),
-            StreamWord::Defer => self.define(DefiningWord::Defer),
-            StreamWord::Buffer => self.define(DefiningWord::Buffer),
-            StreamWord::Field => self.define(DefiningWord::Field),
-            StreamWord::Semicolon => self.semicolon(),
-            _ => Err(Stop::Thrown(Throw::NOT_ASSIGNED)),
-        }
-    }
-
-    /// The element that a token of the stream leaves in the open definition, if it is compiled now.
-    #[inline(always)]
-    fn compiled_element(
-        &self,
-        word: StreamWord,
-        operand: CompiledOperand,
-        here: Spot,
-    ) -> Option<Element>
-        requires position { here.position < 2 ^ 63 }
-        ensures element { option_map element_of result ≡ compiled_now word operand here.position self.now }
-        ensures compiling { OnSome result (self.now.flow.is_compiling ≡ true) }
-        ensures storable { IfSome result (λ e. CanBeStored (own_item (element_of e))) }
-    {
-        if self.flow.is_compiling {
-            token_element(word, operand, here.position)
-        } else {
-            None
-        }
-    }
-
-    /// A token of the stream with a cell.
-    #[tactic(auto, using(crate::proofs::Endings::ends_when))]
-    pub(crate) fn number_token(&mut self, word: StreamWord, x: Cell, here: Spot) -> Result<(), Stop>
-        requires position { here.position < 2 ^ 63 }
-        requires ready { self.old.parts.console.ready ≡ true }
-        ensures outcome { Ends (number_grows word x here self.old) (number_token flat_calls word x here self.old)
-            self.old self.new result }
-        ensures ready { self.new.parts.console.ready ≡ true }
-    {
-        match self.compiled_element(word, CompiledOperand::Number(x), here) {
-            Some(element) => self.compile(element),
-            None => Ok(self.run_number(word, x)?),
-        }
-    }
-
-    /// A token of the stream with an offset.
-    #[tactic(auto, using(crate::proofs::Endings::ends_when))]
-    pub(crate) fn offset_token(&mut self, word: StreamWord, by: i16, here: Spot) -> Result<(), Stop>
-        requires position { here.position < 2 ^ 63 }
-        requires ready { self.old.parts.console.ready ≡ true }
-        ensures outcome { Ends (offset_grows word by here self.old) (offset_token flat_calls word by here self.old)
-            self.old self.new result }
-        ensures ready { self.new.parts.console.ready ≡ true }
-    {
-        match self.compiled_element(word, CompiledOperand::Offset(by), here) {
-            Some(element) => self.compile(element),
-            None => Ok(self.run_offset(word, here, by)?),
-        }
-    }
-
-    /// A token of the stream with nothing behind it.
-    #[tactic(auto, using(crate::proofs::Endings::ends_when))]
-    fn stream_token(&mut self, word: StreamWord, here: Spot) -> Result<(), Stop>
-        requires position { here.position < 2 ^ 63 }
-        requires ready { self.old.parts.console.ready ≡ true }
-        ensures outcome { Ends (appended_grows (compiled_now word CompiledOperand.Nothing here.position self.old)
-            (acting_grows word self.old.words)) (stream_token flat_calls word here self.old) self.old self.new result }
-        ensures ready { self.new.parts.console.ready ≡ true }
-    {
-        match self.compiled_element(word, CompiledOperand::Nothing, here) {
-            Some(element) => self.compile(element),
-            None => self.run_bare(word, here),
-        }
-    }
-
-    /// What `b(to)` throws whose FCode names nothing: where it isn't compiled it looks for its cell first.
-    fn names_nothing(&self) -> Throw
-        ensures { result ≡ names_nothing self.now.flow.is_compiling self.now.parts.stack }
-    {
-        if !self.flow.is_compiling && self.parts.stack.depth() == 0 {
-            return Throw::STACK_UNDERFLOW;
-        }
-        Throw::NOT_ASSIGNED
-    }
-
-    /// A token of the stream with an FCode.
-    #[tactic(auto, unfolding(crate::specs::Tokens::code_token, crate::specs::Tokens::code_grows))]
-    pub(crate) fn code_token(
-        &mut self,
-        word: StreamWord,
-        code: FCode,
-        here: Spot,
-    ) -> Result<(), Stop>
-        requires position { here.position < 2 ^ 63 }
-        requires ready { self.old.parts.console.ready ≡ true }
-        ensures outcome { Ends (code_grows word code here self.old) (code_token flat_calls word code here self.old)
-            self.old self.new result }
-        ensures ready { self.new.parts.console.ready ≡ true }
-    {
-        match word {
-            StreamWord::NewToken => {
+            Token::Case | Token::Mark | Token::Resolve | Token::Offset16 => Ok(()),
+            Token::NewToken(code) => {
                 Ok(
                     self.words
                         .announce(TokenMaker::New, code, &self.parts.memory)?,
                 )
             }
-            StreamWord::Tick => match self.words.table().get(code) {
-                Some(entry) => self.number_token(word, Cell(entry.xt), here),
-                None => Err(Stop::Thrown(Throw::NOT_ASSIGNED)),
-            },
-            StreamWord::To => match self.words.table().get(code) {
-                Some(entry) => self.number_token(word, Cell(entry.xt), here),
-                None => Err(Stop::Thrown(self.names_nothing())),
-            },
-            _ => Err(Stop::Thrown(Throw::NOT_ASSIGNED)),
+            Token::Define(word) => self.define(word),
+            Token::Semicolon => self.semicolon(),
+            Token::End => Ok(self.end_image()?),
+            Token::Word(code) => self.run_named(code),
+            Token::Stray => Err(Stop::Thrown(Throw::NOT_ASSIGNED)),
         }
     }
 
-    /// An FCode that names a word: the word is executed, or a call of it is appended.
-    #[inline(always)]
-    fn word_token(&mut self, code: FCode) -> Result<(), Stop>
+    // ---- what tokens leave in the open definition
+
+    /// `b(')`: the execution token of the word that the FCode names.
+    #[tactic(auto, unfolding(crate::specs::Doing::acted, crate::specs::Doing::worked))]
+    fn compile_tick(&mut self, code: FCode) -> Result<(), Stop>
         requires ready { self.old.parts.console.ready ≡ true }
-        ensures outcome { Ends (word_grows (entry_in self.old.words.table code.0) self.old)
-            (word_token flat_calls (entry_in self.old.words.table code.0) self.old) self.old self.new result }
+        ensures outcome { IsDone (Does (named (entry_in self.old.words.table code.0) (λ xt. appending
+            (Plain (plain.Literal (record { 0 = xt }))) (front_of self.old)))) self.old self.new result }
+        ensures ready { self.new.parts.console.ready ≡ true }
+    {
+        match self.words.table().get(code) {
+            Some(entry) => self.compile(Element::Plain(PlainItem::Literal(Cell(entry.xt)))),
+            None => Err(Stop::Thrown(Throw::NOT_ASSIGNED)),
+        }
+    }
+
+    /// `b(to)`: a store into the word that the FCode names.
+    #[tactic(auto, unfolding(crate::specs::Doing::acted, crate::specs::Doing::worked))]
+    fn compile_store(&mut self, code: FCode) -> Result<(), Stop>
+        requires ready { self.old.parts.console.ready ≡ true }
+        ensures outcome { IsDone (Does (named (entry_in self.old.words.table code.0) (λ xt. appending
+            (Plain (plain.Store (record { 0 = xt }))) (front_of self.old)))) self.old self.new result }
+        ensures ready { self.new.parts.console.ready ≡ true }
+    {
+        match self.words.table().get(code) {
+            Some(entry) => self.compile(Element::Plain(PlainItem::Store(Cell(entry.xt)))),
+            None => Err(Stop::Thrown(Throw::NOT_ASSIGNED)),
+        }
+    }
+
+    /// An FCode that names a word: an immediate word is executed, a call of another is appended.
+    #[tactic(auto, unfolding(crate::specs::Doing::acted, crate::specs::Doing::worked))]
+    fn call_named(&mut self, code: FCode) -> Result<(), Stop>
+        requires ready { self.old.parts.console.ready ≡ true }
+        ensures outcome { IsDone (Does (calling (entry_in self.old.words.table code.0) (front_of self.old)))
+            self.old self.new result }
         ensures ready { self.new.parts.console.ready ≡ true }
     {
         let Some(entry) = self.words.table().get(code) else {
             return Err(Stop::Thrown(Throw::NOT_ASSIGNED));
         };
         let xt = Cell(entry.xt);
-        if !self.flow.is_compiling || entry.immediate {
+        if entry.immediate {
             let _ = self.perform(xt, 0)?;
             return Ok(());
         }
@@ -272,26 +237,11 @@ impl<C: CodeStore> Eval<C> {
         self.compile(Element::Plain(called(xt)))
     }
 
-    /// An FCode with nothing behind it.
-    #[inline(always)]
-    pub(crate) fn bare_token(&mut self, code: FCode, here: Spot) -> Result<(), Stop>
-        requires position { here.position < 2 ^ 63 }
-        requires ready { self.old.parts.console.ready ≡ true }
-        ensures outcome { Ends (bare_grows (word_numbered code.0) code.0 here self.old)
-            (bare_token flat_calls (word_numbered code.0) code.0 here self.old) self.old self.new result }
-        ensures ready { self.new.parts.console.ready ≡ true }
-    {
-        match word_of(code) {
-            Some(Word::Stream(word)) => self.stream_token(word, here),
-            _ => self.word_token(code),
-        }
-    }
-
     /// Copies a string that stands at an address to `here`, and appends its element.
     #[tactic(auto, using(crate::proofs::Strings::string_full, crate::proofs::Strings::string_faulty))]
     fn compile_string(&mut self, from: Cell, length: Cell) -> Result<(), Stop>
         requires ready { self.old.parts.console.ready ≡ true }
-        ensures outcome { Ends true (string_compiled flat_calls from.0 length.0 self.old) self.old self.new result }
+        ensures outcome { IsDone (Copies from.0 length.0) self.old self.new result }
         ensures ready { self.new.parts.console.ready ≡ true }
     {
         let address = self.parts.memory.here();
@@ -309,22 +259,55 @@ impl<C: CodeStore> Eval<C> {
         Ok(())
     }
 
-    /// A token with a string of so many bytes.
-    #[tactic(auto, using(crate::proofs::Endings::ends_when))]
-    pub(crate) fn string_token(&mut self, length: usize, here: Spot) -> Result<(), Stop>
-        requires length { length < 256 }
+    /// Leaves in the open definition what a token leaves there; one that isn't appended acts.
+    #[tactic(auto, unfolding(crate::specs::Tokens::compiling_act, crate::specs::Doing::acted))]
+    fn compile_token(&mut self, token: Token, here: Spot) -> Result<(), Stop>
+        requires position { here.position < 2 ^ 63 }
         requires behind { here.behind ≤ here.size }
         requires fits { here.begin.0 + here.size < 2 ^ 32 }
+        requires short { IsShort token }
         requires ready { self.old.parts.console.ready ≡ true }
-        ensures outcome { Ends self.old.flow.is_compiling (string_token flat_calls length here self.old)
-            self.old self.new result }
+        ensures outcome { IsDone (compiling_act token here (front_of self.old)) self.old self.new result }
         ensures ready { self.new.parts.console.ready ≡ true }
     {
-        let address = Cell(here.begin.0 + here.behind.saturating_sub(length) as u32);
-        let length = Cell(length as u32);
-        if self.flow.is_compiling {
-            return self.compile_string(address, length);
+        match token {
+            Token::Literal(x) => self.compile(Element::Plain(PlainItem::Literal(x))),
+            Token::Tick(code) => self.compile_tick(code),
+            Token::To(code) => self.compile_store(code),
+            Token::String(length) => {
+                self.compile_string(here.string_address(length), Cell(length as u32))
+            }
+            Token::Control(word, by) => self.compile(control_element(word, here.position, by)),
+            Token::Leave => self.compile(Element::Leave),
+            Token::Case => self.compile(Element::Case),
+            Token::EndCase => self.compile(Element::EndCase),
+            Token::Mark => self.compile(Element::Mark(Some(here.position))),
+            Token::Resolve => self.compile(Element::Resolve(Some(here.position))),
+            Token::Word(code) => self.call_named(code),
+            Token::Offset16 => self.run_token(Token::Offset16, here),
+            Token::NewToken(code) => self.run_token(Token::NewToken(code), here),
+            Token::Define(word) => self.run_token(Token::Define(word), here),
+            Token::Semicolon => self.run_token(Token::Semicolon, here),
+            Token::End => self.run_token(Token::End, here),
+            Token::Stray => self.run_token(Token::Stray, here),
         }
-        Ok(self.push_string(address, length)?)
+    }
+
+    /// Does what a token does, or appends it where words are compiled.
+    #[inline(always)]
+    pub(crate) fn plain_token(&mut self, token: Token, here: Spot) -> Result<(), Stop>
+        requires position { here.position < 2 ^ 63 }
+        requires behind { here.behind ≤ here.size }
+        requires fits { here.begin.0 + here.size < 2 ^ 32 }
+        requires short { IsShort token }
+        requires ready { self.old.parts.console.ready ≡ true }
+        ensures outcome { IsDone (plain_act token here (front_of self.old)) self.old self.new result }
+        ensures ready { self.new.parts.console.ready ≡ true }
+    {
+        if self.flow.is_compiling {
+            self.compile_token(token, here)
+        } else {
+            self.run_token(token, here)
+        }
     }
 }

@@ -1,27 +1,75 @@
-use Rattle.std.proofs.Common.{rules, ◌≡◌, Ok}
-use Rattle.of_compile.specs.Definitions.{compile_entry}
-use Rattle.of_eval.proofs.Endings.{comma_ends, comma_throws}
+use Rattle.std.proofs.Common.{rules, ◌≡◌, ◌∷◌, ◌∙◌, ap, drop, true, false, [], is_none}
+use Rattle.of_control.specs.Element.{Plain}
+use Rattle.of_compile.specs.Tokens.{called}
+use Rattle.of_compile.specs.Words.{is_word}
+use Rattle.of_eval.specs.Acts.{Appends}
+use Rattle.of_eval.specs.Doing.{work_grows, worked}
+use Rattle.of_eval.specs.Executing.{comma_act}
+use Rattle.of_eval.specs.State.{done, failed, flat_calls}
+use Rattle.of_eval.proofs.Endings.{comma_closed, comma_empty, comma_known, comma_unknown, not_taken, then_taken}
 use Rattle.of_eval.proofs.eval.Eval.compile_comma.Goals as goal
 
--- src/executing.rt:140:13
-pub returns-in-Err-clause-outcome : goal.returns-in-Err-clause-outcome
-returns-in-Err-clause-outcome g c =
+pub returns-then-is_none-clause-outcome : goal.returns-then-is_none-clause-outcome
+unfolding worked
+returns-then-is_none-clause-outcome g c =
     let s = c.args.self.now in
-    let w : c.self.inside.words ≡ s.words = search rules in
-    let cells : c.self.inside.parts.stack ≡ s.parts.stack = search rules in
-    let code : c.reserve.new.self.coding ≡ s.code = search rules in
-    let thrown = c.in-Err.ensures.outcome in
-    comma_throws s _ c.self.inside.words c.reserve.new.self.coding c.compile_call.new.coding.coding
-    c.self.inside.parts.stack c.compile_call.new.stack c.in-Err.fault thrown w cells code (search rules)
+    let closed : is_none s.words.defining ≡ true = search rules in
+    ap (λ a. worked flat_calls a s) (comma_closed s.words s.parts.stack closed)
 
--- src/executing.rt:132:5
-pub returns-clause-outcome : goal.returns-clause-outcome
-returns-clause-outcome g c =
+pub returns-in_default-clause-outcome : goal.returns-in_default-clause-outcome
+unfolding worked
+returns-in_default-clause-outcome g c =
     let s = c.args.self.now in
-    let w : c.self.inside.words ≡ s.words = search rules in
-    let cells : c.self.inside.parts.stack ≡ s.parts.stack = search rules in
-    let code : c.reserve.new.self.coding ≡ s.code = search rules in
-    let ended : compile_entry c.self.inside.words c.reserve.new.self.coding c.self.inside.parts.stack
-    ≡ Ok (c.compile_call.new.coding.coding, c.compile_call.new.stack) = search rules in
-    comma_ends s _ c.self.inside.words c.reserve.new.self.coding c.compile_call.new.coding.coding
-    c.self.inside.parts.stack c.compile_call.new.stack ended w cells code (search rules)
+    let opened : is_none s.words.defining ≡ false = search rules in
+    let empty : s.parts.stack ≡ [] = search rules in
+    ap (λ a. worked flat_calls a s) (comma_empty s.words s.parts.stack opened empty)
+
+pub returns-then-not-is_word-clause-outcome : goal.returns-then-not-is_word-clause-outcome
+unfolding worked
+returns-then-not-is_word-clause-outcome g c =
+    let s = c.args.self.now in
+    let xt = c.in-Ok.xt in
+    let opened : is_none s.words.defining ≡ false = search rules in
+    let cells : s.parts.stack ≡ xt ∷ drop 1 s.parts.stack = search rules in
+    let unknown : is_word s.words.dictionary xt.0 ≡ false = search rules in
+    ap (λ a. worked flat_calls a s)
+    (ap (comma_act s.words) cells ∙ comma_unknown s.words xt (drop 1 s.parts.stack) opened unknown)
+
+pub returns-in-Ok-compile-clause-outcome : goal.returns-in-Ok-compile-clause-outcome
+returns-in-Ok-compile-clause-outcome g c =
+    let s = c.args.self.now in
+    let xt = c.in-Ok.xt in
+    let rest = drop 1 s.parts.stack in
+    let n = c.compile.new.self in
+    let opened : is_none s.words.defining ≡ false = search rules in
+    let cells : s.parts.stack ≡ xt ∷ rest = search rules in
+    let known : is_word s.words.dictionary xt.0 ≡ true = search rules in
+    let appended : worked flat_calls (Appends (Plain (called xt)) s.parts.stack) s ≡ done n = search rules in
+    ap (λ a. worked flat_calls a s) (ap (comma_act s.words) cells ∙ comma_known s.words xt rest opened known)
+    ∙ then_taken (Plain (called xt)) rest s n appended
+    ∙ search rules
+
+pub returns-in-Err-Thrown-clause-outcome : goal.returns-in-Err-Thrown-clause-outcome
+returns-in-Err-Thrown-clause-outcome g c =
+    let s = c.args.self.now in
+    let xt = c.in-Ok.xt in
+    let rest = drop 1 s.parts.stack in
+    let n = c.compile.new.self in
+    let t = c.in-Err-Thrown.fault in
+    let opened : is_none s.words.defining ≡ false = search rules in
+    let cells : s.parts.stack ≡ xt ∷ rest = search rules in
+    let known : is_word s.words.dictionary xt.0 ≡ true = search rules in
+    let thrown : worked flat_calls (Appends (Plain (called xt)) s.parts.stack) s ≡ failed t n = search rules in
+    ap (λ a. worked flat_calls a s) (ap (comma_act s.words) cells ∙ comma_known s.words xt rest opened known)
+    ∙ not_taken (Plain (called xt)) rest t s n thrown
+
+pub returns-in-Err-NoMemory-clause-outcome : goal.returns-in-Err-NoMemory-clause-outcome
+returns-in-Err-NoMemory-clause-outcome g c =
+    let s = c.args.self.now in
+    let xt = c.in-Ok.xt in
+    let rest = drop 1 s.parts.stack in
+    let opened : is_none s.words.defining ≡ false = search rules in
+    let cells : s.parts.stack ≡ xt ∷ rest = search rules in
+    let known : is_word s.words.dictionary xt.0 ≡ true = search rules in
+    let grows : work_grows (Appends (Plain (called xt)) rest) ≡ true = search rules in
+    (ap work_grows (ap (comma_act s.words) cells ∙ comma_known s.words xt rest opened known) ∙ grows, search rules)

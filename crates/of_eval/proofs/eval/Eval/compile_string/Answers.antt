@@ -2,7 +2,7 @@ use Rattle.std.proofs.Common.{rules, ◌≡◌, ◌≤◌, ◌+◌, length, [], 
 use Rattle.of_memory.specs.Growth.{append_copied, zeros_allotted}
 use Rattle.of_memory.specs.Outcomes.{Answers}
 use Rattle.of_compile.specs.Coding.{compiling}
-use Rattle.of_eval.specs.Tokens.{string_element}
+use Rattle.of_eval.specs.Defining.{string_element}
 use Rattle.of_eval.proofs.Strings.{string_ends}
 use Rattle.of_eval.proofs.eval.Eval.compile_string.Goals as goal
 

@@ -7,7 +7,7 @@ use Rattle.of_dict.specs.Words.{name_in, word_at}
 use Rattle.of_compile.specs.Defining.{may_define, opens}
 use Rattle.of_eval.specs.Methods.{MayMake, then_known, with_tree, xt_cell}
 use Rattle.of_eval.specs.State.{Ends, done, flat_calls}
-use Rattle.of_eval.specs.Tokens.{define_entry, known_at_once, word_defined}
+use Rattle.of_eval.specs.Defining.{define_entry, known_at_once, word_defined}
 use Rattle.of_eval.proofs.Endings.{ends_any, ends_when}
 use Rattle.of_eval.proofs.MethodLemmas.{its_name, known_other, method_ends, method_undone, nameless_known}
 use Rattle.of_eval.proofs.MethodLemmas.{thrown_known}

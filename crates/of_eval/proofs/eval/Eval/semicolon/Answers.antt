@@ -3,7 +3,7 @@ use Rattle.of_compile.specs.Words.{named_open}
 use Rattle.of_dict.specs.Words.{name_in, word_at}
 use Rattle.of_eval.specs.Methods.{MayMake, then_known, with_tree, xt_cell}
 use Rattle.of_eval.specs.State.{Ends, done, flat_calls}
-use Rattle.of_eval.specs.Tokens.{definition_ended, semicolon_entry}
+use Rattle.of_eval.specs.Defining.{definition_ended, semicolon_entry}
 use Rattle.of_eval.proofs.Endings.{ends_when}
 use Rattle.of_eval.proofs.MethodLemmas.{its_open, method_ends, method_undone, nameless_open, over_its_tree, same_names}
 use Rattle.of_eval.proofs.eval.Eval.semicolon.Goals as goal
