@@ -1,98 +1,218 @@
 -- The law `memory_is_asked`.
-use Rattle.std.proofs.Common.{◌≡◌, ◌⊎◌, ℕ, Bool, true, false, Option, Some, None, inl, inr}
+use Rattle.std.proofs.Common.{◌≡◌, ◌⊎◌, ℕ, Bool, true, false, List, Option, Some, None, Result, Ok, Err, inl, inr}
 use Rattle.std.proofs.Common.{refl, sym, ◌∙◌, if◌then◌else◌}
+use Rattle.std.proofs.lemmas.Bool.{false≢true}
 use Rattle.std.specs.Prelude.{is_some}
 use Rattle.of_cells.specs.declared.cells.Cell.{Cell}
 use Rattle.of_code.specs.declared.item.Item.{Item}
 use Rattle.of_code.specs.declared.item.Item.TheVariants as item
+use Rattle.of_code.specs.Items.{target_of}
+use Rattle.of_stacks.specs.declared.throws.Throw.{Throw}
 use Rattle.of_fcodes.specs.declared.codes.FCode.{FCode}
 use Rattle.of_fcodes.specs.declared.token_table.TokenEntry.{TokenEntry}
 use Rattle.of_fcodes.specs.declared.words.StreamWord.{StreamWord}
 use Rattle.of_fcodes.specs.declared.words.StreamWord.TheVariants as stream
+use Rattle.of_fcodes.specs.declared.words.Word.{Word}
+use Rattle.of_fcodes.specs.declared.words.Word.TheVariants as word
+use Rattle.of_fcodes.specs.Lookup.{word_numbered}
 use Rattle.of_fcodes.specs.Tokens.{entry_in}
-use Rattle.of_compile.specs.declared.tokens.CompiledOperand.{CompiledOperand}
-use Rattle.of_compile.specs.declared.tokens.CompiledOperand.TheVariants as operand
+use Rattle.of_stream.specs.Decoding.{Argument, Named, Nothing}
 use Rattle.of_compile.specs.Defining.{may_define}
-use Rattle.of_compile.specs.Tokens.{token_element}
 use Rattle.of_compile.specs.Words.{WordsState}
-use Rattle.of_eval.specs.declared.tokens.Held.{Held}
-use Rattle.of_eval.specs.declared.tokens.Held.TheVariants as held
+use Rattle.of_eval.specs.declared.token.Token.{Token}
+use Rattle.of_eval.specs.declared.token.Token.TheVariants as token
 use Rattle.of_eval.specs.declared.tokens.Spot.{Spot}
-use Rattle.of_eval.specs.State.{State}
-use Rattle.of_eval.specs.Tokens.{acting_grows, appended_grows, code_grows, held_grows, named_grows}
-use Rattle.of_eval.specs.Executing.{executed_grows}
-use Rattle.of_eval.specs.Steps.{item_grows_in}
+use Rattle.of_eval.specs.Acts.{Act, Front, WordAct, front_of}
+use Rattle.of_eval.specs.Acts as act
+use Rattle.of_eval.specs.Doing.{act_grows, executed_grows, work_grows}
+use Rattle.of_eval.specs.Executing.{Plan, guarded, plan_in}
+use Rattle.of_eval.specs.Items.{item_act}
+use Rattle.of_eval.specs.State.{State, with_stack}
+use Rattle.of_eval.specs.Steps.{item_grows_in, typed_grows}
+use Rattle.of_eval.specs.Tokens.{Plain, act_of, announcing, compiling_act, plain_token, token_act, typed}
 use Rattle.of_eval_laws.specs.Asking.{MemoryIsAsked, Runs}
+use Rattle.of_eval_laws.specs.Listed.{plan_of_item, plan_with}
+use Rattle.of_eval_laws.proofs.Walk.{IsAct, Turns, item_acts, typed_acts}
+use Rattle.of_eval_laws.proofs.WalkFree.{anywhere, free_turns, keeping}
+use Rattle.of_eval_laws.proofs.WalkTyped.{typed_may}
+use Rattle.of_eval_laws.proofs.WalkWords.{IsWork, Rules}
 
--- what a token asks for that is compiled or acts, where neither needs memory
-either_none : (compiling : Bool) (w : StreamWord) (o : CompiledOperand) (position : ℕ) (acting : Bool)
-    → appended_grows (token_element w o position) acting ≡ false → acting ≡ false
-    → appended_grows (if compiling then token_element w o position else None) acting ≡ false
-either_none true w o position acting compiled acts = compiled
-either_none false w o position acting compiled acts = acts
+-- ---- acts
 
--- while interpreting it is what acting asks for
-interpreted : (compiling : Bool) (w : StreamWord) (o : CompiledOperand) (position : ℕ) (acting : Bool)
-    → compiling ≡ false
-    → appended_grows (if compiling then token_element w o position else None) acting ≡ acting
-interpreted false w o position acting e = refl
-interpreted true w o position acting e = absurd cc
+-- an act that runs no ordinary word, and appends nothing
+abbrev asking : (S : Type 0) → Rules S
+asking S = record (keeping S (λ s. Unit {0}) (λ cells s p. (tt, tt))) {
+  Runs = ⊥;
+  Works = λ w. ⊥;
+  Appends = λ s. ⊥;
+  works = λ r w. absurd r;
+  opens = λ r s p e. absurd r;
+}
 
-named_none : {S : Type 0} (w : StreamWord) (o : Option TokenEntry) (here : Spot) (s : State S)
-    → s.flow.is_compiling ≡ false → named_grows w o here s ≡ false
-named_none w None here s e = refl
-named_none w (Some x) here s e =
-    interpreted s.flow.is_compiling w (operand.Number (record { 0 = x.xt })) here.position false e
+-- it may make a word, or end a definition
+abbrev asking_turns : (S : Type 0) → Type 0 → Type 0 → Turns (asking S)
+asking_turns S makes closes =
+    record (free_turns (asking S) (λ s p. tt) (λ l s. tt) (λ n s. tt)) { Makes = makes; Closes = closes }
 
-code_none : {S : Type 0} (w : StreamWord) (k : FCode) (here : Spot) (s : State S) → s.flow.is_compiling ≡ false
-    → code_grows w k here s ≡ false
-unfolding code_grows
-code_none stream.Tick k here s e = named_none stream.Tick (entry_in s.words.table k.0) here s e
-code_none stream.To k here s e = named_none stream.To (entry_in s.words.table k.0) here s e
-code_none w k here s e = refl
+work_none : {S : Type 0} (a : WordAct) (s : State S) → IsWork (asking S) s a → work_grows a ≡ false
+work_none (act.Works w) s h = absurd h
+work_none (act.Appends e cells) s h = absurd h
+work_none (act.Takes cells a) s h = work_none a (with_stack cells s) h
+work_none (act.Guards cells a) s h = work_none a (guarded cells s) h
+work_none a s h = refl
 
-held_none : {S : Type 0} (w : StreamWord) (h : Held) (here : Spot) (s : State S) → s.flow.is_compiling ≡ false
-    → held_grows (Some w) h here s ≡ false
-held_none w (held.Literal x) here s e =
-    interpreted s.flow.is_compiling w (operand.Number x) here.position false e
-held_none w (held.String n) here s e = e
-held_none w (held.Code k) here s e = code_none w k here s e
-held_none w (held.Offset by) here s e =
-    interpreted s.flow.is_compiling w (operand.Offset by) here.position false e
+-- so it asks for memory only there
+act_asks : {S : Type 0} (makes closes : Type 0) (a : Act) (s : State S)
+    → IsAct (asking S) (asking_turns S makes closes) s a → act_grows a s.words ≡ true
+    → (makes × (may_define s.words ≡ true)) ⊎ (closes × (is_some s.words.defining ≡ true))
+act_asks makes closes (act.Does a) s h e = let no : work_grows a ≡ false = work_none a s h in absurd cc
+act_asks makes closes (act.Goes cells move n) s h e = absurd cc
+act_asks makes closes (act.Copies a n) s h e = absurd h
+act_asks makes closes (act.Makes d) s h e = inl (h, e)
+act_asks makes closes act.Closes s h e = inr (h, e)
+act_asks makes closes act.Ends s h e = absurd cc
 
-acts : (w : StreamWord) (words : WordsState) → acting_grows w words ≡ true
-    → (may_define words ≡ true) ⊎ (is_some words.defining ≡ true)
-acts stream.Colon words e = inl e
-acts stream.Value words e = inl e
-acts stream.Constant words e = inl e
-acts stream.Variable words e = inl e
-acts stream.Create words e = inl e
-acts stream.Defer words e = inl e
-acts stream.Buffer words e = inl e
-acts stream.Field words e = inl e
-acts stream.Semicolon words e = inr e
-acts w words e = absurd cc
+act_none : {S : Type 0} (a : Act) (s : State S) → IsAct (asking S) (asking_turns S ⊥ ⊥) s a
+    → act_grows a s.words ≡ true → ⊥
+act_none a s h e = elim (act_asks ⊥ ⊥ a s h e) [
+  | inl x ↦ x.0
+  | inr x ↦ x.0
+]
 
-item_runs : {S : Type 0} (i : Item) (s : State S) → item_grows_in i s ≡ true
+not_true : (b : Bool) → (b ≡ true → ⊥) → b ≡ false
+not_true true h = absurd (h refl)
+not_true false h = refl
+
+-- ---- tokens that are interpreted
+
+no_plan : (a : Argument) (w : StreamWord) (e : Option TokenEntry) (b : Bool) (plans : ℕ → Plan)
+    → plan_with a (Some (word.Stream w)) e b plans ≡ None
+no_plan Nothing w e b plans = refl
+no_plan a w e b plans = refl
+
+none_executed : (p : Option Plan) (q : Plan) → p ≡ None → p ≡ Some q → ⊥
+none_executed None q e f = absurd cc
+none_executed (Some p) q e f = absurd cc
+
+interpreted : {S : Type 0} (makes closes : Type 0) (w : StreamWord) (k : FCode) (a : Argument) (here : Spot)
+    (s : State S) → s.flow.is_compiling ≡ false → (a ≡ Nothing → makes) → (a ≡ Nothing → closes)
+    → IsAct (asking S) (asking_turns S makes closes) s (act_of (typed (Some (word.Stream w)) k a) here (front_of s))
+interpreted {S} makes closes w k a here s e m c =
+    typed_acts (asking S) (asking_turns S makes closes) (typed (Some (word.Stream w)) k a) here s tt
+    (typed_may (asking S) (asking_turns S makes closes) (Some (word.Stream w)) k a s.flow.is_compiling s
+    (record {
+      positions = tt;
+      ends = λ z. tt;
+      makes = m;
+      closes = λ z y. c y;
+      appends = λ z. false≢true (sym e ∙ z);
+      executes = λ xt z.
+          absurd (none_executed _ _ (no_plan a w (entry_in s.words.table k.0) s.flow.is_compiling (plan_in s)) z);
+    }))
+
+held_none : {S : Type 0} (w : StreamWord) (k : FCode) (a : Argument) (here : Spot) (s : State S) → (a ≡ Nothing → ⊥)
+    → s.flow.is_compiling ≡ false → typed_grows (typed (Some (word.Stream w)) k a) here s ≡ false
+held_none w k a here s h e =
+    let t = act_of (typed (Some (word.Stream w)) k a) here (front_of s) in
+    not_true (act_grows t s.words) (λ z. act_none t s (interpreted ⊥ ⊥ w k a here s e h h) z)
+
+bare : {S : Type 0} (w : StreamWord) (k : FCode) (here : Spot) (s : State S) → s.flow.is_compiling ≡ false
+    → typed_grows (typed (Some (word.Stream w)) k Nothing) here s ≡ true
+    → (may_define s.words ≡ true) ⊎ (is_some s.words.defining ≡ true)
+bare w k here s e grows =
+    let t = act_of (typed (Some (word.Stream w)) k Nothing) here (front_of s) in
+    let U = Unit {0} in
+    elim (act_asks U U t s (interpreted U U w k Nothing here s e (λ z. tt) (λ z. tt)) grows) [
+      | inl x ↦ inl x.1
+      | inr x ↦ inr x.1
+    ]
+
+-- ---- tokens that ask for none, compiled or not
+
+abbrev is_still : Token → Bool
+is_still token.Case = true
+is_still token.Mark = true
+is_still token.Resolve = true
+is_still token.Offset16 = true
+is_still token.End = true
+is_still token.Stray = true
+is_still t = false
+
+compiled_none : (t : Token) (here : Spot) (f : Front) (w : WordsState) → is_still t ≡ true
+    → act_grows (compiling_act t here f) w ≡ false
+unfolding compiling_act token_act
+compiled_none token.Case here f w e = refl
+compiled_none token.Mark here f w e = refl
+compiled_none token.Resolve here f w e = refl
+compiled_none token.Offset16 here f w e = refl
+compiled_none token.End here f w e = refl
+compiled_none token.Stray here f w e = refl
+compiled_none t here f w e = absurd cc
+
+acting_none : (t : Token) (here : Spot) (f : Front) (w : WordsState) → is_still t ≡ true
+    → act_grows (token_act t here f) w ≡ false
+unfolding token_act
+acting_none token.Case here f w e = refl
+acting_none token.Mark here f w e = refl
+acting_none token.Resolve here f w e = refl
+acting_none token.Offset16 here f w e = refl
+acting_none token.End here f w e = refl
+acting_none token.Stray here f w e = refl
+acting_none t here f w e = absurd cc
+
+none_if : (b : Bool) (p q : Act) (w : WordsState) → act_grows p w ≡ false → act_grows q w ≡ false
+    → act_grows (if b then p else q) w ≡ false
+none_if true p q w hp hq = hp
+none_if false p q w hp hq = hq
+
+still_none : {S : Type 0} (t : Token) (here : Spot) (s : State S) → is_still t ≡ true
+    → typed_grows (Plain t) here s ≡ false
+still_none t here s e =
+    none_if s.flow.is_compiling _ _ s.words (compiled_none t here (front_of s) s.words e)
+    (acting_none t here (front_of s) s.words e)
+
+-- ---- tokens with a name
+
+announced : (r : Result WordsState Throw) (s : List Cell) (w : WordsState)
+    → act_grows (act.Does (announcing r s)) w ≡ false
+announced (Ok x) s w = refl
+announced (Err t) s w = refl
+
+name_none : {S : Type 0} (w : Option Word) (k : FCode) (name : List ℕ) (code : FCode) (here : Spot) (s : State S)
+    → typed_grows (typed w k (Named name code)) here s ≡ false
+unfolding plain_token
+name_none (Some (word.Stream stream.NamedToken)) k name code here s = announced _ s.parts.stack s.words
+name_none (Some (word.Stream stream.ExternalToken)) k name code here s = announced _ s.parts.stack s.words
+name_none (Some (word.Stream w)) k name code here s = still_none token.Stray here s refl
+name_none w k name code here s = still_none token.Stray here s refl
+
+-- ---- items
+
+item_none : {S : Type 0} (i : Item) (s : State S) → plan_of_item i (plan_in s) ≡ None → item_grows_in i s ≡ true → ⊥
+item_none {S} i s e grows =
+    act_none (item_act i (front_of s)) s
+    (item_acts (asking S) (asking_turns S ⊥ ⊥) i s (anywhere (asking S) (λ n x. tt) (target_of i) s) tt
+    (λ xt z. absurd (none_executed _ _ e z)))
+    grows
+
+runs : {S : Type 0} (i : Item) (s : State S) → item_grows_in i s ≡ true
     → (xt : Cell) × Runs i xt × (executed_grows s xt.0 ≡ true)
-item_runs (item.Operation xt) s e = (xt, inl refl, e)
-item_runs (item.Call xt) s e = (xt, inr refl, e)
-item_runs i s e = absurd cc
+unfolding item_act
+runs (item.Operation xt) s e = (xt, inl refl, e)
+runs (item.Call xt) s e = (xt, inr refl, e)
+runs i s e = absurd (item_none i s refl e)
 
 pub memory_is_asked : {S : Type 0} → MemoryIsAsked S
+unfolding plain_token
 memory_is_asked = record {
-  end0 = λ k here s. either_none s.flow.is_compiling stream.End0 operand.Nothing here.position false refl refl;
-  end1 = λ k here s. either_none s.flow.is_compiling stream.End1 operand.Nothing here.position false refl refl;
-  offset16 = λ k here s.
-      either_none s.flow.is_compiling stream.Offset16 operand.Nothing here.position false refl refl;
-  mark = λ k here s. either_none s.flow.is_compiling stream.Mark operand.Nothing here.position false refl refl;
-  resolve = λ k here s.
-      either_none s.flow.is_compiling stream.Resolve operand.Nothing here.position false refl refl;
-  case = λ k here s. either_none s.flow.is_compiling stream.Case operand.Nothing here.position false refl refl;
-  named = λ k name code here s. refl;
-  held = λ w h here s e. held_none w h here s e;
-  bare = λ w k here s e grows.
-      acts w s.words
-      (sym (interpreted s.flow.is_compiling w operand.Nothing here.position (acting_grows w s.words) e) ∙ grows);
-  item = λ i s e. item_runs i s e;
+  end0 = λ k here s. still_none token.End here s refl;
+  end1 = λ k here s. still_none token.End here s refl;
+  offset16 = λ k here s. still_none token.Offset16 here s refl;
+  mark = λ k here s. still_none token.Mark here s refl;
+  resolve = λ k here s. still_none token.Resolve here s refl;
+  case = λ k here s. still_none token.Case here s refl;
+  named = λ k name code here s. name_none (word_numbered k.0) k name code here s;
+  held = λ w k a here s h e. held_none w k a here s h e;
+  bare = λ w k here s e grows. bare w k here s e grows;
+  item = λ i s e. runs i s e;
 }

@@ -1,23 +1,20 @@
 -- The laws `items_go`, `definitions_run`, `catch_keeps`, `ends_go_back` and `loads_begin`.
-use Rattle.std.proofs.Common.{◌≡◌, ℕ, suc, ◌<◌, ◌≤◌, ◌==◌, nat_lt, nat_le, Bool, true, false, not, List, []}
-use Rattle.std.proofs.Common.{◌∷◌, ◌++◌, length, Option, Some, None, Result, Ok, Err, refl, ap, ◌∙◌, arith}
-use Rattle.std.proofs.Common.{if◌then◌else◌}
-use Rattle.std.specs.Prelude.{is_some, option_map, ◌&&◌}
+use Rattle.std.proofs.Common.{◌≡◌, ℕ, suc, ◌<◌, ◌≤◌, ◌==◌, nat_lt, nat_le, Bool, true, false, not, List, [], ◌∷◌, ◌++◌}
+use Rattle.std.proofs.Common.{length, Option, Some, None, Err, refl, ap, ◌∙◌, arith, if◌then◌else◌}
 use Rattle.std.proofs.lemmas.Bool.{eq-eqb}
+use Rattle.std.specs.Prelude.{is_some, option_map, ◌&&◌}
 use Rattle.of_cells.specs.declared.cells.Cell.{Cell}
 use Rattle.of_cells.specs.Arithmetic.{plus}
 use Rattle.of_code.specs.declared.item.Item.TheVariants as item
 use Rattle.of_code.specs.declared.item.Place.{Place}
-use Rattle.of_stacks.specs.declared.throws.Throw.{Throw}
 use Rattle.of_stacks.specs.declared.return_item.Continuation.{Continuation}
 use Rattle.of_stacks.specs.declared.return_item.LoopExit.TheVariants as exit
 use Rattle.of_stacks.specs.declared.return_item.LoopParameters.{LoopParameters}
 use Rattle.of_stacks.specs.declared.return_item.Reading.{Reading}
 use Rattle.of_stacks.specs.declared.return_item.ReturnItem.{ReturnItem}
 use Rattle.of_stacks.specs.declared.return_item.ReturnItem.TheVariants.{Caller, Handler, Loop, Return, Source, User}
-use Rattle.of_stacks.specs.Loops.{goes_on, loop_on_top, passes_limit, turned}
-use Rattle.of_stacks.specs.Order.{refused_if}
-use Rattle.of_stacks.specs.Returns.{fitting, return_on_top}
+use Rattle.of_stacks.specs.Loops.{loop_on_top, passes_limit}
+use Rattle.of_stacks.specs.Returns.{return_on_top}
 use Rattle.of_stacks.specs.Throws.{bad_handle, loop_unavailable, return_stack_imbalance, return_stack_overflow}
 use Rattle.of_stacks.specs.Throws.{stack_underflow}
 use Rattle.of_stacks.specs.Unwinding.{beneath_source, latest_source}
@@ -29,16 +26,18 @@ use Rattle.of_fcodes.specs.Finding.{word_with_xt}
 use Rattle.of_dict.specs.Words.{xt_of}
 use Rattle.of_compile.specs.RunsLaw.{RunsByStructure}
 use Rattle.of_compile.specs.Words.{is_word}
-use Rattle.of_eval.specs.Control.{Turn, control_entry, entering, going, loop_item, one, repeated, repeating, staying}
-use Rattle.of_eval.specs.Executing.{Catch, Execute, Plan, Stops, by_flow, executable, executed, frame_of, performed}
-use Rattle.of_eval.specs.Executing.{plan}
-use Rattle.of_eval.specs.Executing.{plan_at, plan_behind, planned, returned, runner_of}
+use Rattle.of_eval.specs.Acts.{Act, Behind, Does, Drops, Fails, Keeps, Moves, Pushes, To, Turns, front_of}
+use Rattle.of_eval.specs.Doing.{acted, executed, worked}
+use Rattle.of_eval.specs.Executing.{Catch, Execute, Plan, Stops, act_of_plan, executable, execution, frame_of, plan}
+use Rattle.of_eval.specs.Executing.{plan_at, plan_behind, planned, pushing, returning, runner_of}
+use Rattle.of_eval.specs.Items.{beginning, control_act, going, item_act, leave_item, loop_item, one, staying, there}
+use Rattle.of_eval.specs.Items.{turning}
 use Rattle.of_eval.specs.Settling.{ended, going_back, is_same, or_nothing, reading_on, source_ended}
 use Rattle.of_eval.specs.State.{Calls, Outcome, State, done, failed, with_items, with_next, with_stack}
-use Rattle.of_eval.specs.Steps.{by_place, item_done, item_due, leave_item}
+use Rattle.of_eval.specs.Steps.{item_done, item_due}
 use Rattle.of_eval_laws.specs.Board.{board_calls}
-use Rattle.of_eval_laws.specs.Going.{CatchKeeps, DefinitionsRun, EndsGoBack, Is, ItemsGo, ItemsThrow, LoadsBegin, Makes}
-use Rattle.of_eval_laws.specs.Going.{Throws, gone, has_opened, on}
+use Rattle.of_eval_laws.specs.Going.{CatchKeeps, DefinitionsRun, EndsGoBack, Is, ItemsGo, ItemsThrow, LoadsBegin}
+use Rattle.of_eval_laws.specs.Going.{Makes, Throws, gone, has_opened, on}
 
 if_is : {A : Type 0} (b : Bool) (x y : A) → b ≡ true → (if b then x else y) ≡ x
 if_is true x y e = refl
@@ -53,153 +52,143 @@ other x y h = grind (arith, h)
 
 -- ---- items
 
-placed : {S : Type 0} (to : Place) (s : State S) (r t : Result Turn Throw) → r ≡ t → by_place to r s ≡ by_place to t s
-placed to s r t e = ap (λ x. by_place to x s) e
+-- a word of control whose act is that
+as_acted : {S : Type 0} (c : Calls S) (s : State S) (a b : Act) → a ≡ b → acted c a s ≡ acted c b s
+as_acted c s a b e = ap (λ x. acted c x s) e
 
 branch_goes : {S : Type 0} (c : Calls S) (to : Place) (s : State S) → Makes c (item.Branch to) s (gone to s)
-unfolding item_done control_entry
+unfolding item_act control_act acted worked
 branch_goes c to s = refl
 
 arm_goes : {S : Type 0} (c : Calls S) (to : Place) (s : State S) → Makes c (item.EndOf to) s (gone to s)
-unfolding item_done control_entry
+unfolding item_act control_act acted worked
 arm_goes c to s = refl
 
 case_stays : {S : Type 0} (c : Calls S) (s : State S) (x : Cell) (cells : List Cell)
     → Makes c item.EndCase (with_stack (x ∷ cells) s) (with_stack cells s)
-unfolding item_done control_entry
+unfolding item_act control_act acted worked
 case_stays c s x cells = refl
 
 zero_goes : {S : Type 0} (c : Calls S) (to : Place) (s : State S) (x : Cell) (cells : List Cell) → x.0 ≡ 0
     → Makes c (item.BranchIfZero to) (with_stack (x ∷ cells) s) (gone to (with_stack cells s))
-unfolding item_done control_entry
+unfolding item_act control_act acted worked
 zero_goes c to s x cells z =
-    placed to (with_stack (x ∷ cells) s) _ (going true cells s.flow.items)
-    (if_is (x.0 == 0) (going true cells s.flow.items) (staying cells s.flow.items) (eq-eqb x.0 0 z))
+    as_acted c (with_stack (x ∷ cells) s) _ (going (Some (there to)) cells Keeps)
+    (if_is (x.0 == 0) (going (Some (there to)) cells Keeps) (staying cells) (eq-eqb x.0 0 z))
 
 flag_stays : {S : Type 0} (c : Calls S) (to : Place) (s : State S) (x : Cell) (cells : List Cell) → (x.0 ≡ 0 → ⊥)
     → Makes c (item.BranchIfZero to) (with_stack (x ∷ cells) s) (with_stack cells s)
-unfolding item_done control_entry
+unfolding item_act control_act acted worked
 flag_stays c to s x cells z =
-    placed to (with_stack (x ∷ cells) s) _ (staying cells s.flow.items)
-    (if_not (x.0 == 0) (going true cells s.flow.items) (staying cells s.flow.items) (other x.0 0 z))
+    as_acted c (with_stack (x ∷ cells) s) _ (staying cells)
+    (if_not (x.0 == 0) (going (Some (there to)) cells Keeps) (staying cells) (other x.0 0 z))
 
-accepted : {A : Type 0} (b : Bool) (t : Throw) (x : A) → b ≡ false → refused_if b t x ≡ Ok x
-accepted false t x e = refl
-accepted true t x e = absurd cc
-
-refused : {A : Type 0} (b : Bool) (t : Throw) (x : A) → b ≡ true → refused_if b t x ≡ Err t
-refused true t x e = refl
-refused false t x e = absurd cc
-
-has_room : (i : ReturnItem) (r : List ReturnItem) → length r < 256 → fitting (i ∷ r) ≡ Ok (i ∷ r)
-has_room i r l =
+has_room : (i : ReturnItem) (r : List ReturnItem) (cells : List Cell) (to : To) → length r < 256
+    → pushing i r cells to ≡ Moves cells (Pushes i) to
+has_room i r cells to l =
     let e : nat_lt 256 (length (i ∷ r)) ≡ false = grind arith in
-    accepted (nat_lt 256 (length (i ∷ r))) return_stack_overflow (i ∷ r) e
+    if_not (nat_lt 256 (length (i ∷ r))) (Fails return_stack_overflow) (Moves cells (Pushes i) to) e
 
-no_room : (i : ReturnItem) (r : List ReturnItem) → 256 ≤ length r → fitting (i ∷ r) ≡ Err return_stack_overflow
-no_room i r l =
+no_room : (i : ReturnItem) (r : List ReturnItem) (cells : List Cell) (to : To) → 256 ≤ length r
+    → pushing i r cells to ≡ Fails return_stack_overflow
+no_room i r cells to l =
     let e : nat_lt 256 (length (i ∷ r)) ≡ true = grind arith in
-    refused (nat_lt 256 (length (i ∷ r))) return_stack_overflow (i ∷ r) e
+    if_is (nat_lt 256 (length (i ∷ r))) (Fails return_stack_overflow) (Moves cells (Pushes i) to) e
 
 begins_loop : {S : Type 0} (c : Calls S) (to : Place) (s : State S) (index limit : Cell) (cells : List Cell)
     (r : List ReturnItem) → length r < 256
     → Makes c (item.Do to) (on (index ∷ limit ∷ cells) r s)
     (on cells (loop_item index limit (exit.Code to.cell) ∷ r) s)
-unfolding item_done control_entry
+unfolding item_act control_act acted worked
 begins_loop c to s index limit cells r l =
-    ap (λ x. by_place to (entering cells x) (on (index ∷ limit ∷ cells) r s))
-    (has_room (loop_item index limit (exit.Code to.cell)) r l)
+    ap (λ x. worked c x (on (index ∷ limit ∷ cells) r s))
+    (has_room (loop_item index limit (exit.Code to.cell)) r cells Behind l)
 
 full_loop : {S : Type 0} (c : Calls S) (to : Place) (s : State S) (index limit : Cell) (cells : List Cell)
     → 256 ≤ length s.flow.items
     → Throws c (item.Do to) (with_stack (index ∷ limit ∷ cells) s) return_stack_overflow
-unfolding item_done control_entry
+unfolding item_act control_act acted worked
 full_loop c to s index limit cells l =
-    ap (λ x. by_place to (entering cells x) (with_stack (index ∷ limit ∷ cells) s))
-    (no_room (loop_item index limit (exit.Code to.cell)) s.flow.items l)
+    ap (λ x. worked c x (with_stack (index ∷ limit ∷ cells) s))
+    (no_room (loop_item index limit (exit.Code to.cell)) s.flow.items cells Behind l)
 
 skips_loop : {S : Type 0} (c : Calls S) (to : Place) (s : State S) (index limit : Cell) (cells : List Cell)
     → index.0 ≡ limit.0
     → Makes c (item.QuestionDo to) (with_stack (index ∷ limit ∷ cells) s) (gone to (with_stack cells s))
-unfolding item_done control_entry
+unfolding item_act control_act acted worked
 skips_loop c to s index limit cells e =
-    placed to (with_stack (index ∷ limit ∷ cells) s) _ (going true cells s.flow.items)
-    (if_is (index.0 == limit.0) (going true cells s.flow.items)
-    (entering cells (fitting (loop_item index limit (exit.Code to.cell) ∷ s.flow.items))) (eq-eqb index.0 limit.0 e))
+    as_acted c (with_stack (index ∷ limit ∷ cells) s) _ (going (Some (there to)) cells Keeps)
+    (if_is (index.0 == limit.0) (going (Some (there to)) cells Keeps)
+    (beginning index limit (exit.Code to.cell) cells s.flow.items) (eq-eqb index.0 limit.0 e))
 
 asks_loop : {S : Type 0} (c : Calls S) (to : Place) (s : State S) (index limit : Cell) (cells : List Cell)
     (r : List ReturnItem) → (index.0 ≡ limit.0 → ⊥) → length r < 256
     → Makes c (item.QuestionDo to) (on (index ∷ limit ∷ cells) r s)
     (on cells (loop_item index limit (exit.Code to.cell) ∷ r) s)
-unfolding item_done control_entry
+unfolding item_act control_act acted worked
 asks_loop c to s index limit cells r e l =
-    placed to (on (index ∷ limit ∷ cells) r s) _
-    (entering cells (fitting (loop_item index limit (exit.Code to.cell) ∷ r)))
-    (if_not (index.0 == limit.0) (going true cells r)
-    (entering cells (fitting (loop_item index limit (exit.Code to.cell) ∷ r))) (other index.0 limit.0 e))
-    ∙ ap (λ x. by_place to (entering cells x) (on (index ∷ limit ∷ cells) r s))
-    (has_room (loop_item index limit (exit.Code to.cell)) r l)
+    as_acted c (on (index ∷ limit ∷ cells) r s) _ (beginning index limit (exit.Code to.cell) cells r)
+    (if_not (index.0 == limit.0) (going (Some (there to)) cells Keeps)
+    (beginning index limit (exit.Code to.cell) cells r) (other index.0 limit.0 e))
+    ∙ ap (λ x. worked c x (on (index ∷ limit ∷ cells) r s))
+    (has_room (loop_item index limit (exit.Code to.cell)) r cells Behind l)
 
 -- what a step of a loop comes to, by whether it passes the limit
-stepped_by : {S : Type 0} → Bool → Place → Cell → LoopParameters → List Cell → List ReturnItem → State S → Outcome S
-stepped_by passes to step l cells r s =
-    by_place to
-    (repeating cells (if passes then r else Loop (record l { index = plus l.index step }) ∷ r)
-    (repeated true (Ok (not passes)))) s
-
-abbrev Loops : {S : Type 0} → Calls S → Place → State S → LoopParameters → List ReturnItem → Type 0
-Loops c to s l r =
-    item_done c (item.Loop to) (with_items (Loop l ∷ r) s)
-    ≡ stepped_by (passes_limit l.index l.limit one) to one l s.parts.stack r (with_items (Loop l ∷ r) s)
+stepped_by : Bool → Place → Cell → LoopParameters → List Cell → Act
+stepped_by passes to step l cells =
+    if passes then Does (Moves cells Drops Behind)
+    else going (Some (there to)) cells (Turns (record l { index = plus l.index step }))
 
 loops_by : {S : Type 0} (c : Calls S) (to : Place) (s : State S) (l : LoopParameters) (r : List ReturnItem)
-    → Loops c to s l r
-unfolding item_done control_entry stepped_by
+    → item_done c (item.Loop to) (with_items (Loop l ∷ r) s)
+    ≡ acted c (stepped_by (passes_limit l.index l.limit one) to one l s.parts.stack) (with_items (Loop l ∷ r) s)
+unfolding item_act control_act stepped_by
 loops_by c to s l r = refl
 
 adds_by : {S : Type 0} (c : Calls S) (to : Place) (s : State S) (l : LoopParameters) (step : Cell) (cells : List Cell)
     (r : List ReturnItem)
     → item_done c (item.PlusLoop to) (on (step ∷ cells) (Loop l ∷ r) s)
-    ≡ stepped_by (passes_limit l.index l.limit step) to step l cells r (on (step ∷ cells) (Loop l ∷ r) s)
-unfolding item_done control_entry stepped_by
+    ≡ acted c (stepped_by (passes_limit l.index l.limit step) to step l cells) (on (step ∷ cells) (Loop l ∷ r) s)
+unfolding item_act control_act stepped_by
 adds_by c to s l step cells r = refl
 
-repeats_at : {S : Type 0} (b : Bool) (to : Place) (step : Cell) (l : LoopParameters) (cells : List Cell)
-    (r : List ReturnItem) (s : State S) → b ≡ false
-    → stepped_by b to step l cells r s
+repeats_at : {S : Type 0} (c : Calls S) (b : Bool) (to : Place) (step : Cell) (l : LoopParameters)
+    (before cells : List Cell) (r : List ReturnItem) (s : State S) → b ≡ false
+    → acted c (stepped_by b to step l cells) (on before (Loop l ∷ r) s)
     ≡ done (gone to (on cells (Loop (record l { index = plus l.index step }) ∷ r) s))
-unfolding stepped_by
-repeats_at false to step l cells r s e = refl
-repeats_at true to step l cells r s e = absurd cc
+unfolding stepped_by acted worked
+repeats_at c false to step l before cells r s e = refl
+repeats_at c true to step l before cells r s e = absurd cc
 
-ends_at : {S : Type 0} (b : Bool) (to : Place) (step : Cell) (l : LoopParameters) (cells : List Cell)
-    (r : List ReturnItem) (s : State S) → b ≡ true → stepped_by b to step l cells r s ≡ done (on cells r s)
-unfolding stepped_by
-ends_at true to step l cells r s e = refl
-ends_at false to step l cells r s e = absurd cc
+ends_at : {S : Type 0} (c : Calls S) (b : Bool) (to : Place) (step : Cell) (l : LoopParameters)
+    (before cells : List Cell) (r : List ReturnItem) (s : State S) → b ≡ true
+    → acted c (stepped_by b to step l cells) (on before (Loop l ∷ r) s) ≡ done (on cells r s)
+unfolding stepped_by acted worked
+ends_at c true to step l before cells r s e = refl
+ends_at c false to step l before cells r s e = absurd cc
 
 leaves_loop : {S : Type 0} (c : Calls S) (to : Place) (s : State S) (l : LoopParameters) (r : List ReturnItem)
     → Makes c (item.Leave to) (with_items (Loop l ∷ r) s) (gone to (with_items r s))
-unfolding item_done
+unfolding item_act acted worked
 leaves_loop c to s l r = refl
 
 same_goes : {S : Type 0} (c : Calls S) (to : Place) (s : State S) (y x : Cell) (cells : List Cell) → x.0 ≡ y.0
     → Makes c (item.Of to) (with_stack (y ∷ x ∷ cells) s) (with_stack cells s)
-unfolding item_done control_entry
+unfolding item_act control_act acted worked
 same_goes c to s y x cells e =
-    placed to (with_stack (y ∷ x ∷ cells) s) _ (staying cells s.flow.items)
-    (if_is (x.0 == y.0) (staying cells s.flow.items) (going true (x ∷ cells) s.flow.items) (eq-eqb x.0 y.0 e))
+    as_acted c (with_stack (y ∷ x ∷ cells) s) _ (staying cells)
+    (if_is (x.0 == y.0) (staying cells) (going (Some (there to)) (x ∷ cells) Keeps) (eq-eqb x.0 y.0 e))
 
 another_goes : {S : Type 0} (c : Calls S) (to : Place) (s : State S) (y x : Cell) (cells : List Cell)
     → (x.0 ≡ y.0 → ⊥) → Makes c (item.Of to) (with_stack (y ∷ x ∷ cells) s) (gone to (with_stack (x ∷ cells) s))
-unfolding item_done control_entry
+unfolding item_act control_act acted worked
 another_goes c to s y x cells e =
-    placed to (with_stack (y ∷ x ∷ cells) s) _ (going true (x ∷ cells) s.flow.items)
-    (if_not (x.0 == y.0) (staying cells s.flow.items) (going true (x ∷ cells) s.flow.items) (other x.0 y.0 e))
+    as_acted c (with_stack (y ∷ x ∷ cells) s) _ (going (Some (there to)) (x ∷ cells) Keeps)
+    (if_not (x.0 == y.0) (staying cells) (going (Some (there to)) (x ∷ cells) Keeps) (other x.0 y.0 e))
 
 return_goes : {S : Type 0} (c : Calls S) (to : Continuation) (s : State S) (r : List ReturnItem)
     → Makes c item.Return (with_items (Return to ∷ r) s) (with_next to (with_items r s))
-unfolding item_done
+unfolding item_act acted worked
 return_goes c to s r = refl
 
 pub items_go : {S : Type 0} → ItemsGo S
@@ -211,13 +200,13 @@ items_go = record {
   asks = asks_loop;
   skips = skips_loop;
   repeats = λ c to s l r e. loops_by c to s l r
-      ∙ repeats_at (passes_limit l.index l.limit one) to one l s.parts.stack r (with_items (Loop l ∷ r) s) e;
+      ∙ repeats_at c (passes_limit l.index l.limit one) to one l s.parts.stack s.parts.stack r s e;
   ends = λ c to s l r e. loops_by c to s l r
-      ∙ ends_at (passes_limit l.index l.limit one) to one l s.parts.stack r (with_items (Loop l ∷ r) s) e;
+      ∙ ends_at c (passes_limit l.index l.limit one) to one l s.parts.stack s.parts.stack r s e;
   repeats_by = λ c to s l step cells r e. adds_by c to s l step cells r
-      ∙ repeats_at (passes_limit l.index l.limit step) to step l cells r (on (step ∷ cells) (Loop l ∷ r) s) e;
+      ∙ repeats_at c (passes_limit l.index l.limit step) to step l (step ∷ cells) cells r s e;
   ends_by = λ c to s l step cells r e. adds_by c to s l step cells r
-      ∙ ends_at (passes_limit l.index l.limit step) to step l cells r (on (step ∷ cells) (Loop l ∷ r) s) e;
+      ∙ ends_at c (passes_limit l.index l.limit step) to step l (step ∷ cells) cells r s e;
   leaves = leaves_loop;
   same = same_goes;
   another = another_goes;
@@ -230,52 +219,39 @@ items_go = record {
 
 no_flag : {S : Type 0} (c : Calls S) (to : Place) (s : State S)
     → Throws c (item.BranchIfZero to) (with_stack [] s) stack_underflow
-unfolding item_done control_entry
+unfolding item_act control_act acted worked
 no_flag c to s = refl
 
 no_step : {S : Type 0} (c : Calls S) (to : Place) (s : State S)
     → Throws c (item.PlusLoop to) (with_stack [] s) stack_underflow
-unfolding item_done control_entry
+unfolding item_act control_act acted worked
 no_step c to s = refl
 
 no_case : {S : Type 0} (c : Calls S) (s : State S) → Throws c item.EndCase (with_stack [] s) stack_underflow
-unfolding item_done control_entry
+unfolding item_act control_act acted worked
 no_case c s = refl
-
-never_goes : (step : Cell) (r : List ReturnItem) → loop_on_top r ≡ Err loop_unavailable
-    → goes_on step r ≡ Err loop_unavailable
-never_goes step [] e = refl
-never_goes step (Loop l ∷ r) e = absurd cc
-never_goes step (Return to ∷ r) e = refl
-never_goes step (User x ∷ r) e = refl
-never_goes step (Handler h ∷ r) e = refl
-never_goes step (Source s ∷ r) e = refl
-never_goes step (Caller d ∷ r) e = refl
 
 no_loop : {S : Type 0} (c : Calls S) (to : Place) (s : State S) → loop_on_top s.flow.items ≡ Err loop_unavailable
     → Throws c (item.Loop to) s loop_unavailable
-unfolding item_done control_entry
-no_loop c to s e =
-    ap (λ x. by_place to (repeating s.parts.stack (turned one s.flow.items) (repeated true x)) s)
-    (never_goes one s.flow.items e)
+unfolding item_act control_act acted worked
+no_loop c to s e = ap (λ x. acted c (turning (Some (there to)) one s.parts.stack x) s) e
 
 no_loop_by : {S : Type 0} (c : Calls S) (to : Place) (s : State S) (step : Cell) (cells : List Cell)
     → loop_on_top s.flow.items ≡ Err loop_unavailable
     → Throws c (item.PlusLoop to) (with_stack (step ∷ cells) s) loop_unavailable
-unfolding item_done control_entry
+unfolding item_act control_act acted worked
 no_loop_by c to s step cells e =
-    ap (λ x. by_place to (repeating cells (turned step s.flow.items) (repeated true x)) (with_stack (step ∷ cells) s))
-    (never_goes step s.flow.items e)
+    ap (λ x. acted c (turning (Some (there to)) step cells x) (with_stack (step ∷ cells) s)) e
 
 no_loop_left : {S : Type 0} (c : Calls S) (to : Place) (s : State S) → loop_on_top s.flow.items ≡ Err loop_unavailable
     → Throws c (item.Leave to) s loop_unavailable
-unfolding item_done
-no_loop_left c to s e = ap (λ x. leave_item to x s) e
+unfolding item_act acted worked
+no_loop_left c to s e = ap (λ x. acted c (leave_item to s.parts.stack x) s) e
 
 no_return : {S : Type 0} (c : Calls S) (s : State S) → return_on_top s.flow.items ≡ Err return_stack_imbalance
     → Throws c item.Return s return_stack_imbalance
-unfolding item_done
-no_return c s e = ap (λ x. by_flow (returned s.flow x) s) e
+unfolding item_act acted worked
+no_return c s e = ap (λ x. worked c (returning x s.parts.stack) s) e
 
 pub items_throw : {S : Type 0} → ItemsThrow S
 items_throw = record {
@@ -298,6 +274,10 @@ definitions_run law = record {
 
 -- ---- `execute` and `catch`
 
+-- a plan that is carried out
+abbrev performed : {S : Type 0} → Calls S → Plan → State S → Outcome S
+performed c p s = worked c (act_of_plan p (front_of s)) s
+
 -- the plan of `execute` or `catch`, by what the cells give
 behind : (o : Option ℕ) (p q : Plan) (k : ℕ) (w : Word) → o ≡ Some k → word_with_xt k ≡ Some w
     → plan_behind o p q ≡ planned w (runner_of w) p q
@@ -308,7 +288,7 @@ run_is : {S : Type 0} (c : Calls S) (xt : ℕ) (x : Cell) (cells : List Cell) (s
     → executed c xt (with_stack (x ∷ cells) s)
     ≡ performed c (if b then Execute cells (plan s.words (length s.flow.items) cells x.0) else Stops bad_handle)
     (with_stack (x ∷ cells) s)
-unfolding executed plan
+unfolding execution plan
 run_is c xt x cells s h b e =
     ap (λ p. performed c p (with_stack (x ∷ cells) s))
     (behind (executable s.words xt) _ _ h.0 (word.Returns returns.Execute) h.1 h.2
@@ -320,7 +300,7 @@ catch_is : {S : Type 0} (c : Calls S) (xt : ℕ) (x : Cell) (cells : List Cell) 
     ≡ performed c
     (if b then Stops return_stack_overflow else Catch cells (plan s.words (suc (length s.flow.items)) cells x.0))
     (with_stack (x ∷ cells) s)
-unfolding executed plan
+unfolding execution plan
 catch_is c xt x cells s h b e =
     ap (λ p. performed c p (with_stack (x ∷ cells) s))
     (behind (executable s.words xt) _ _ h.0 (word.Throws throws.Catch) h.1 h.2
@@ -330,14 +310,14 @@ catch_is c xt x cells s h b e =
 
 no_cell : {S : Type 0} (c : Calls S) (xt : ℕ) (s : State S) → Is s.words xt (word.Returns returns.Execute)
     → executed c xt (with_stack [] s) ≡ failed stack_underflow (with_stack [] s)
-unfolding executed plan
+unfolding execution plan act_of_plan worked
 no_cell c xt s h =
     ap (λ p. performed c p (with_stack [] s))
     (behind (executable s.words xt) _ _ h.0 (word.Returns returns.Execute) h.1 h.2)
 
 no_caught : {S : Type 0} (c : Calls S) (xt : ℕ) (s : State S) → Is s.words xt (word.Throws throws.Catch)
     → executed c xt (with_stack [] s) ≡ failed stack_underflow (with_stack [] s)
-unfolding executed plan
+unfolding execution plan act_of_plan worked
 no_caught c xt s h =
     ap (λ p. performed c p (with_stack [] s))
     (behind (executable s.words xt) _ _ h.0 (word.Throws throws.Catch) h.1 h.2)
@@ -349,7 +329,7 @@ has_none : (n : ℕ) → 256 ≤ n → nat_le 256 n ≡ true
 has_none n l = grind arith
 
 pub catch_keeps : {S : Type 0} → CatchKeeps S
-unfolding executed
+unfolding execution act_of_plan worked
 catch_keeps = record {
   runs = λ c xt x cells s h e. run_is c xt x cells s h true e;
   refuses = λ c xt x cells s h e. run_is c xt x cells s h false e;

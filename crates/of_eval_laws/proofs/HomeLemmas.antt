@@ -1,14 +1,14 @@
 -- The law `names_stay_home`.
 use Rattle.std.proofs.Common.{◌≡◌, ℕ, Option, Some, None, List, Result, Ok, Err, refl, ap}
 use Rattle.of_stacks.specs.declared.throws.Throw.{Throw}
+use Rattle.of_nodes.specs.declared.phandles.Phandle.{Phandle}
+use Rattle.of_nodes.specs.declared.tree.Node.{Node}
+use Rattle.of_dict.specs.Words.{name_in, word_at, xt_of}
 use Rattle.of_compile.specs.declared.defining.DefiningWord.TheVariants as defining
 use Rattle.of_compile.specs.Defining.{Making, defining_entry, making}
-use Rattle.of_dict.specs.Words.{name_in, word_at, xt_of}
-use Rattle.of_nodes.specs.declared.tree.Node.{Node}
-use Rattle.of_nodes.specs.declared.phandles.Phandle.{Phandle}
+use Rattle.of_eval.specs.Defining.{by_making, closed_if, semicolon_entry}
 use Rattle.of_eval.specs.Methods.{as_method, known, known_if, method_made, xt_cell}
 use Rattle.of_eval.specs.State.{Calls, State}
-use Rattle.of_eval.specs.Tokens.{by_making, closed_if, semicolon_entry}
 use Rattle.of_eval_laws.specs.Homes.{NamesStayHome, with_package}
 
 made_home : {S : Type 0} (r : Result Making Throw) (s : State S) → (by_making defining.Colon r s).ended ≡ Ok tt

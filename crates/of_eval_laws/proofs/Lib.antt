@@ -1,9 +1,12 @@
+-- WalkWords, Walk, WalkTyped, WalkFree: one walk of the tables of words, items and tokens, for what a law asks of an
+-- act, and the rules that ask nothing. Each law below that asks something has rules of its own, and a row for each act.
+-- Squares, SquareEnds, Square: the law `steps_agree`, from what a part leaves up to a step.
+-- Placed, PlacedEnds, PlacedRules, PlacedActs, PlacedSteps: the law `states_stay_placed`, from what stays placed up to
+-- a step.
 -- ListedLemmas: the law `words_throw_listed`.
--- ListedFaults, ListedParts, Raised: the law `steps_throw_listed`, from one fault of several up to a step.
--- Squares, SquareEnds, SquareWords, SquareTokens: the law `steps_agree`, from what a part leaves up to a step.
--- Placed, PlacedParts, PlacedWords, PlacedTokens: the law `states_stay_placed`, from what stays placed up to a step.
+-- ListedFaults, ListedWords, Raised: the law `steps_throw_listed`, from one fault of several up to a step.
 -- Mismatch: the law `mismatch_is_no_body`.
--- Frames, FramedTurns, FramedWords, FramedTokens: the law `frames_hold`.
+-- Frames, FramedTurns, FramedReading, FramedStack: the law `frames_hold`.
 -- FramedSpace, FramedMemory, FramedWriting: the law `images_stand`.
 -- ThrowsSettle: the law `throws_settle`.
 -- RunningBytes, RunningEnds, RunningSound, RunningWords, RunningTokens, ImagesRun: the law `images_run`, from bytes up
@@ -17,21 +20,25 @@ pub mod AskingLemmas
 pub mod HomeLemmas
 pub mod ListedLemmas
 pub mod ListedFaults
-pub mod ListedParts
+pub mod ListedWords
+pub mod WalkWords
+pub mod Walk
+pub mod WalkTyped
+pub mod WalkFree
 pub mod Raised
 pub mod Squares
 pub mod SquareEnds
-pub mod SquareWords
-pub mod SquareTokens
+pub mod Square
 pub mod Placed
-pub mod PlacedParts
-pub mod PlacedWords
-pub mod PlacedTokens
+pub mod PlacedEnds
+pub mod PlacedRules
+pub mod PlacedActs
+pub mod PlacedSteps
 pub mod Mismatch
 pub mod GoingLemmas
 pub mod FramedTurns
-pub mod FramedWords
-pub mod FramedTokens
+pub mod FramedReading
+pub mod FramedStack
 pub mod FramedSpace
 pub mod FramedMemory
 pub mod FramedWriting

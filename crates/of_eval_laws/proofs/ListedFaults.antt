@@ -3,21 +3,21 @@ use Rattle.std.proofs.Common.{◌≡◌, ℕ, Bool, true, false, nat_le, nat_eq,
 use Rattle.std.proofs.Common.{Some, None, Result, Ok, Err, is_some, is_none, refl, if◌then◌else◌}
 use Rattle.of_cells.specs.declared.cells.Cell.{Cell}
 use Rattle.of_cells.specs.Numbers.{flag}
-use Rattle.of_stacks.specs.declared.throws.Throw.{Throw}
 use Rattle.of_stacks.specs.declared.return_item.LoopParameters.{LoopParameters}
 use Rattle.of_stacks.specs.declared.return_item.ReturnItem.{ReturnItem}
-use Rattle.of_stacks.specs.declared.return_item.ReturnItem.TheVariants.{Return, Loop, User, Handler, Source, Caller}
-use Rattle.of_stacks.specs.Throws.{ThrowsListed, is_listed, listed_numbers}
-use Rattle.of_stacks.specs.Throws.{compiler_nesting, dictionary_overflow, empty_name, invalid_argument, long_name}
-use Rattle.of_stacks.specs.Throws.{bad_handle, return_stack_imbalance, return_stack_overflow, stack_overflow}
-use Rattle.of_stacks.specs.Throws.{stack_underflow}
+use Rattle.of_stacks.specs.declared.return_item.ReturnItem.TheVariants.{Caller, Handler, Loop, Return, Source, User}
+use Rattle.of_stacks.specs.declared.throws.Throw.{Throw}
+use Rattle.of_stacks.specs.Loops.{index_of, loop_on_top}
 use Rattle.of_stacks.specs.Order.{counted, counting, fault_if, rank, refused_if, unless}
+use Rattle.of_stacks.specs.Returns.{return_on_top, user_on_top}
 use Rattle.of_stacks.specs.Stacks.{within}
-use Rattle.of_stacks.specs.Returns.{fitting, has_due_top, return_on_top, user_on_top, user_pushed}
-use Rattle.of_stacks.specs.Loops.{goes_on, index_of, loop_on_top}
+use Rattle.of_stacks.specs.Throws.{ThrowsListed, bad_handle, compiler_nesting, dictionary_overflow, empty_name}
+use Rattle.of_stacks.specs.Throws.{invalid_argument, is_listed, listed_numbers, long_name, stack_overflow}
+use Rattle.of_stacks.specs.Throws.{stack_underflow}
 use Rattle.of_fcodes.specs.declared.codes.FCode.{FCode}
 use Rattle.of_fcodes.specs.declared.token_table.TokenEntry.{TokenEntry}
 use Rattle.of_fcodes.specs.Tokens.{entry_in}
+use Rattle.of_memory.specs.Growth.{aligned}
 use Rattle.of_dict.specs.declared.word.Kind.{Kind}
 use Rattle.of_dict.specs.declared.word.Kind.TheVariants as kind
 use Rattle.of_dict.specs.declared.word.Slot.TheVariants as slot
@@ -29,7 +29,6 @@ use Rattle.of_compile.specs.DictionaryWords.{from_body_entry, get_token_entry, k
 use Rattle.of_compile.specs.DictionaryWords.{store_entry, stored_kind, to_body_entry, token_given, with_stored}
 use Rattle.of_compile.specs.DictionaryWords.{xt_found}
 use Rattle.of_compile.specs.Words.{WordsState, is_own_code, is_word, name_fault, numbered}
-use Rattle.of_memory.specs.Growth.{aligned}
 
 -- ---- one fault of several
 
@@ -67,19 +66,6 @@ pub within_listed : (cells : List Cell) → ThrowsListed (within cells)
 unfolding is_listed listed_numbers
 within_listed cells = refused_listed (nat_lt 256 (length cells)) stack_overflow cells refl
 
-pub fitting_listed : (r : List ReturnItem) → ThrowsListed (fitting r)
-unfolding is_listed listed_numbers
-fitting_listed r = refused_listed (nat_lt 256 (length r)) return_stack_overflow r refl
-
-imbalance_if : {A : Type 0} (b : Bool) (r : Result A Throw) → ThrowsListed r
-    → ThrowsListed (if b then Err return_stack_imbalance else r)
-unfolding is_listed listed_numbers
-imbalance_if true r h = refl
-imbalance_if false r h = h
-
-pub user_pushed_listed : (x : Cell) (r : List ReturnItem) → ThrowsListed (user_pushed x r)
-user_pushed_listed x r = imbalance_if (has_due_top r) _ (fitting_listed (User x ∷ r))
-
 pub user_listed : (r : List ReturnItem) → ThrowsListed (user_on_top r)
 unfolding is_listed listed_numbers
 user_listed [] = refl
@@ -109,16 +95,6 @@ loop_listed (User x ∷ r) = refl
 loop_listed (Handler h ∷ r) = refl
 loop_listed (Source s ∷ r) = refl
 loop_listed (Caller c ∷ r) = refl
-
-pub goes_listed : (step : Cell) (r : List ReturnItem) → ThrowsListed (goes_on step r)
-unfolding is_listed listed_numbers
-goes_listed step [] = refl
-goes_listed step (Loop l ∷ r) = tt
-goes_listed step (Return to ∷ r) = refl
-goes_listed step (User x ∷ r) = refl
-goes_listed step (Handler h ∷ r) = refl
-goes_listed step (Source s ∷ r) = refl
-goes_listed step (Caller c ∷ r) = refl
 
 pub index_listed : (l : Option LoopParameters) → ThrowsListed (index_of l)
 unfolding is_listed listed_numbers

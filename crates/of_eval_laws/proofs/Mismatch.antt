@@ -1,18 +1,17 @@
 -- The law `mismatch_is_no_body`.
-use Rattle.std.proofs.Common.{◌≡◌, ◌↔◌, ℕ, nat_abs, Bool, true, false, [], ◌∷◌, Option, Some, None, Result, Ok}
-use Rattle.std.proofs.Common.{Err, refl, ap, ◌∙◌, arith, if◌then◌else◌}
+use Rattle.std.proofs.Common.{◌≡◌, ◌↔◌, ℕ, nat_abs, Bool, true, false, [], ◌∷◌, Option, Some, None, Result, Ok, Err}
+use Rattle.std.proofs.Common.{refl, ap, ◌∙◌, arith, if◌then◌else◌}
 use Rattle.of_cells.specs.declared.cells.Cell.{Cell}
 use Rattle.of_code.specs.declared.item.Item.TheVariants as item
-use Rattle.of_control.specs.Body.{Body}
-use Rattle.of_control.specs.Reading.{body_in}
 use Rattle.of_stacks.specs.declared.throws.Throw.{Throw}
 use Rattle.of_stacks.specs.Throws.{control_mismatch, dictionary_overflow}
 use Rattle.of_dict.specs.Words.{xt_of}
+use Rattle.of_control.specs.Body.{Body}
+use Rattle.of_control.specs.Reading.{body_in}
 use Rattle.of_compile.specs.declared.element.PlainItem.{PlainItem}
 use Rattle.of_compile.specs.Board.{Definitions, Told, finished_told, has_room, refused, told}
-use Rattle.of_eval_laws.specs.Board.{MismatchIsNoBody}
-use Rattle.of_eval_laws.specs.Board.{board_calls}
-use Rattle.of_eval.specs.Tokens.{definition_ended}
+use Rattle.of_eval.specs.Defining.{definition_ended}
+use Rattle.of_eval_laws.specs.Board.{MismatchIsNoBody, board_calls}
 use Rattle.of_eval_laws.proofs.MethodLemmas.{known_code}
 
 -- the number of what was thrown, without its sign

@@ -1,158 +1,82 @@
--- The law `images_run`: what an item and a token leave of the images that run, and a whole step.
-use Rattle.std.proofs.Common.{◌≡◌, inl, inr, ℕ, ◌+◌, ◌≤◌, ℤ, Bool, true, false, ◌&&◌, not, List, []}
-use Rattle.std.proofs.Common.{◌∷◌, ◌++◌, length, replicate, Option, Some, None, Result, Ok, Err, is_none, is_some}
-use Rattle.std.proofs.Common.{refl, sym, subst, arith, nat_le, if◌then◌else◌}
+-- The law `images_run`: what an item and a token leave of the images that run.
+use Rattle.std.proofs.Common.{◌≡◌, inl, inr, ℕ, ◌+◌, ◌≤◌, Bool, true, false, ◌&&◌, not, List, [], ◌∷◌, ◌++◌, length}
+use Rattle.std.proofs.Common.{replicate, Option, Some, None, Result, Ok, Err, is_none, is_some, refl, sym, subst}
+use Rattle.std.proofs.Common.{arith, nat_le, if◌then◌else◌}
 use Rattle.std.proofs.lemmas.Bool.{leb-true, ltb-false}
 use Rattle.std.proofs.lemmas.List.{length-replicate}
 use Rattle.of_cells.specs.declared.cells.Cell.{Cell}
 use Rattle.of_code.specs.declared.item.Item.{Item}
-use Rattle.of_code.specs.declared.item.Item.TheVariants as item
 use Rattle.of_code.specs.declared.item.Place.{Place}
-use Rattle.of_stacks.specs.declared.throws.Throw.{Throw}
+use Rattle.of_code.specs.Items.{target_of}
 use Rattle.of_stacks.specs.declared.return_item.Continuation.{Continuation}
 use Rattle.of_stacks.specs.declared.return_item.Continuation.TheVariants as continuation
 use Rattle.of_stacks.specs.declared.return_item.Input.{Input}
 use Rattle.of_stacks.specs.declared.return_item.Input.TheVariants as input
-use Rattle.of_stacks.specs.declared.return_item.LoopExit.{LoopExit}
-use Rattle.of_stacks.specs.declared.return_item.LoopExit.TheVariants as exit
-use Rattle.of_stacks.specs.declared.return_item.LoopParameters.{LoopParameters}
-use Rattle.of_stacks.specs.Loops.{loop_on_top}
+use Rattle.of_stacks.specs.declared.throws.Throw.{Throw}
 use Rattle.of_stacks.specs.Order.{counting, fault_if, unless}
-use Rattle.of_stacks.specs.Stacks.{within}
 use Rattle.of_stacks.specs.Throws.{compiler_nesting, dictionary_overflow, stack_underflow}
-use Rattle.of_fcodes.specs.declared.codes.FCode.{FCode}
-use Rattle.of_fcodes.specs.declared.token_table.TokenEntry.{TokenEntry}
-use Rattle.of_fcodes.specs.declared.words.StreamWord.{StreamWord}
-use Rattle.of_fcodes.specs.declared.words.StreamWord.TheVariants as stream
-use Rattle.of_fcodes.specs.declared.words.Word.{Word}
-use Rattle.of_fcodes.specs.declared.words.Word.TheVariants as word
 use Rattle.of_fcodes.specs.Lookup.{word_numbered}
-use Rattle.of_fcodes.specs.Tokens.{entry_in}
-use Rattle.of_memory.specs.DataSpace.{DataSpace, IsSound}
-use Rattle.of_memory.specs.Access.{read_bytes, with_read}
-use Rattle.of_memory.specs.Growth.{aligned, append_copied, appended, with_zeros}
-use Rattle.of_memory.specs.Images.{latest_image}
-use Rattle.of_memory.specs.Regions.{byte_count, data_limit, place_of}
+use Rattle.of_stream.specs.declared.stream.OffsetSize.{OffsetSize}
+use Rattle.of_stream.specs.Decoding.{Token, token_from}
+use Rattle.of_stream.specs.Sizes.{size_behind}
 use Rattle.of_memory.specs.declared.fault.MemFault.{MemFault}
 use Rattle.of_memory.specs.declared.fault.MemFault.TheVariants.{Full}
+use Rattle.of_memory.specs.Access.{read_bytes, with_read}
+use Rattle.of_memory.specs.DataSpace.{DataSpace, IsSound}
+use Rattle.of_memory.specs.Growth.{aligned, append_copied, appended as with_bytes, with_zeros}
+use Rattle.of_memory.specs.Images.{latest_image}
+use Rattle.of_memory.specs.Regions.{byte_count, data_limit, place_of}
+use Rattle.of_nodes.specs.declared.phandles.Phandle.{Phandle}
 use Rattle.of_nodes.specs.declared.tree.Node.{Node}
-use Rattle.of_control.specs.Element.{Element}
 use Rattle.of_dict.specs.Words.{capacity, name_in, word_at, xt_of}
-use Rattle.of_stream.specs.declared.stream.OffsetSize.{OffsetSize}
-use Rattle.of_stream.specs.Decoding.{Argument, Code, Literal, Named, Nothing, Offset, String, Token, token_from}
-use Rattle.of_stream.specs.Sizes.{size_behind}
-use Rattle.of_stream.specs.Targets.{landing, within_tokens}
 use Rattle.of_compile.specs.declared.defining.DefiningWord.{DefiningWord}
-use Rattle.of_compile.specs.declared.defining.DefiningWord.TheVariants as defining
-use Rattle.of_compile.specs.declared.element.PlainItem.{PlainItem}
-use Rattle.of_compile.specs.declared.tokens.CompiledOperand.TheVariants as operand
 use Rattle.of_compile.specs.declared.words.Pending.{Pending}
 use Rattle.of_compile.specs.Defining.{Made, defining_faults, has_no_bytes, made_by, making, opens, word_made}
-use Rattle.of_compile.specs.DictionaryWords.{store_entry}
-use Rattle.of_compile.specs.Words.{WordsState, is_word, numbered}
-use Rattle.of_eval.specs.declared.control.ControlWord.{ControlWord}
-use Rattle.of_eval.specs.declared.control.ControlWord.TheVariants as control
-use Rattle.of_eval.specs.declared.reading.Taken.{Taken}
-use Rattle.of_eval.specs.declared.reading.Taken.TheVariants as taken
-use Rattle.of_eval.specs.declared.tokens.Held.{Held}
-use Rattle.of_eval.specs.declared.tokens.Held.TheVariants as held
-use Rattle.of_eval.specs.declared.tokens.Spot.{Spot}
-use Rattle.of_eval.specs.Control.{Turn}
-use Rattle.of_eval.specs.State.{Answered, Calls, Outcome, State, by_code, by_words}
-use Rattle.of_eval.specs.State.{open_xt}
-use Rattle.of_eval.specs.Executing.{exited, pushed}
+use Rattle.of_compile.specs.Words.{WordsState}
+use Rattle.of_eval.specs.Acts.{Act, Ends, Loads, To, WordAct, front_of}
+use Rattle.of_eval.specs.Acts as act
+use Rattle.of_eval.specs.Defining.{by_making, closed_if, define_entry, definition_ended, known_at_once, opened}
+use Rattle.of_eval.specs.Defining.{rounded, rounded_to, semicolon_entry, string_compiled, string_kept, string_put}
+use Rattle.of_eval.specs.Defining.{string_refused, word_defined}
+use Rattle.of_eval.specs.Doing.{acted, appended, gone, worked}
+use Rattle.of_eval.specs.Doing as doing
+use Rattle.of_eval.specs.Executing.{guarded, plan_in}
+use Rattle.of_eval.specs.Items.{item_act}
 use Rattle.of_eval.specs.Methods.{as_method, known_if, method_made, then_known, xt_cell}
 use Rattle.of_eval.specs.Settling.{ended, given_back, is_same}
-use Rattle.of_eval.specs.Steps.{by_place, due, item_done, item_due, leave_item, next_if, nowhere}
-use Rattle.of_eval.specs.Tokens.{announced, appended_or, argument_token, at_target, bare_done, bare_token, by_making}
-use Rattle.of_eval.specs.Tokens.{by_turn, closed_if, code_token, compiled_now, control_done, define_entry}
-use Rattle.of_eval.specs.Tokens.{definition_ended, found_token, held_token, known_at_once, leave_done, left_at}
-use Rattle.of_eval.specs.Tokens.{left_by, named_token, number_done, number_token, offset_done, opened, read_on}
-use Rattle.of_eval.specs.Tokens.{rounded, rounded_to, spot_in, stream_of, string_address, string_kept, string_put}
-use Rattle.of_eval.specs.Tokens.{string_refused, string_token, taken_token, token_due, word_compiled, word_defined}
-use Rattle.of_eval.specs.Tokens.{word_token}
-use Rattle.of_eval_laws.specs.Frames.{ends_image}
-use Rattle.of_eval_laws.specs.Running.{is_at_end, reading_ends, token_ends}
+use Rattle.of_eval.specs.State.{Answered, Calls, Outcome, State, by_code, open_xt, with_items, with_next, with_stack}
+use Rattle.of_eval.specs.Steps.{due, found_token, item_due, read_on, token_due}
+use Rattle.of_eval.specs.Tokens.{act_of, spot_in, typed_of}
+use Rattle.of_eval_laws.specs.Listed.{plan_of_item}
+use Rattle.of_eval_laws.specs.Running.{OneBegins, is_at_end, reading_ends, token_ends}
 use Rattle.of_eval_laws.proofs.FramedMemory.{append_stands}
 use Rattle.of_eval_laws.proofs.FramedSpace.{AddressStands, Stands, below_stands, same, then_stands}
-use Rattle.of_eval_laws.proofs.PlacedWords.{found_none}
+use Rattle.of_eval_laws.proofs.PlacedActs.{found_none}
 use Rattle.of_eval_laws.proofs.RunningBytes.{IsReady, popped, ready, stands_ready, state_stands}
 use Rattle.of_eval_laws.proofs.RunningEnds.{given_up_stands}
-use Rattle.of_eval_laws.proofs.RunningWords.{Kept, KeptBy, Laws, Leaves, either, executed_leaves, flow_leaves, left}
-use Rattle.of_eval_laws.proofs.RunningWords.{stack_leaves, store_leaves}
-use Rattle.of_nodes.specs.declared.phandles.Phandle.{Phandle}
+use Rattle.of_eval_laws.proofs.RunningWords.{Kept, KeptBy, Laws, Leaves, either, image_begins, left, ordinary}
+use Rattle.of_eval_laws.proofs.Walk.{IsAct, Turns, item_acts, typed_acts}
+use Rattle.of_eval_laws.proofs.WalkFree.{anywhere, free_turns, keeping}
+use Rattle.of_eval_laws.proofs.WalkTyped.{typed_may}
+use Rattle.of_eval_laws.proofs.WalkWords.{IsWork, Rules, all_executed}
 
--- ---- control
+-- a data space with one image more, by the laws of the layers below
+abbrev Begins : DataSpace → DataSpace → Type 0
+Begins m after = Laws → IsReady after × OneBegins m after
 
-next_kept : {S : Type 0} (b : Bool) (to : Place) (s : State S)
-    → Kept false s.parts.memory (next_if b to s).parts.memory
-next_kept true to s = left s.parts.memory
-next_kept false to s = left s.parts.memory
+-- ---- the rules
 
-place_leaves : {S : Type 0} (to : Place) (r : Result Turn Throw) (s : State S)
-    → Leaves false s.parts.memory (by_place to r s)
-place_leaves to (Ok t) s = next_kept t.goes to _
-place_leaves to (Err t) s = same s.parts.memory
+-- a data space that is sound stays so while words run, and one image more may run
+abbrev running_rules : (S : Type 0) → Rules S
+running_rules S = record (keeping S (λ s. IsSound s.parts.memory) (λ cells s p. (p, p))) {
+  Loads = λ s m. Begins s.parts.memory m;
+  loads = λ a n spread x s p e l. image_begins l s.parts.memory a n spread x p e;
+}
 
-leave_item_leaves : {S : Type 0} (to : Place) (r : Result LoopParameters Throw) (s : State S)
-    → Leaves false s.parts.memory (leave_item to r s)
-leave_item_leaves to (Ok l) s = left s.parts.memory
-leave_item_leaves to (Err t) s = same s.parts.memory
-
-target_kept : {S : Type 0} (b : Bool) (target : Option ℕ) (s : State S)
-    → Kept false s.parts.memory (at_target b target s).parts.memory
-target_kept true (Some n) s = left s.parts.memory
-target_kept true None s = left s.parts.memory
-target_kept false target s = left s.parts.memory
-
-turn_leaves : {S : Type 0} (target : Option ℕ) (r : Result Turn Throw) (s : State S)
-    → Leaves false s.parts.memory (by_turn target r s)
-turn_leaves target (Ok t) s = target_kept t.goes target _
-turn_leaves target (Err t) s = same s.parts.memory
-
-control_leaves : {S : Type 0} (w : ControlWord) (here : Spot) (by : ℤ) (s : State S)
-    → Leaves false s.parts.memory (control_done w here by s)
-control_leaves w here by s = turn_leaves (landing here.size here.position by) _ s
-
-left_leaves : {S : Type 0} (target : Option ℕ) (s : State S) → Leaves false s.parts.memory (left_at target s)
-left_leaves (Some n) s = left s.parts.memory
-left_leaves None s = same s.parts.memory
-
-exit_leaves : {S : Type 0} (size : ℕ) (e : LoopExit) (s : State S) → Leaves false s.parts.memory (left_by size e s)
-exit_leaves size (exit.Position n) s = left_leaves (within_tokens size (Some n)) s
-exit_leaves size (exit.Code n) s = left s.parts.memory
-
-leave_leaves : {S : Type 0} (size : ℕ) (r : Result LoopParameters Throw) (s : State S)
-    → Leaves false s.parts.memory (leave_done size r s)
-leave_leaves size (Ok l) s = exit_leaves size l.exit s
-leave_leaves size (Err t) s = same s.parts.memory
-
--- ---- items
-
-item_leaves : {S : Type 0} (l : Laws) (c : Calls S) (i : Item) (s : State S) → IsSound s.parts.memory
-    → Leaves false s.parts.memory (item_done c i s)
-unfolding item_done
-item_leaves l c (item.Operation xt) s sound = executed_leaves l c xt.0 s sound
-item_leaves l c (item.Call xt) s sound = executed_leaves l c xt.0 s sound
-item_leaves l c (item.Literal x) s sound = stack_leaves (pushed x s.parts.stack) s
-item_leaves l c (item.String a n) s sound = stack_leaves (within (n ∷ a ∷ s.parts.stack)) s
-item_leaves l c (item.Store xt) s sound = store_leaves (store_entry xt.0 s.words s.parts.stack) s
-item_leaves l c (item.Branch to) s sound = place_leaves to _ s
-item_leaves l c (item.BranchIfZero to) s sound = place_leaves to _ s
-item_leaves l c (item.Do to) s sound = place_leaves to _ s
-item_leaves l c (item.QuestionDo to) s sound = place_leaves to _ s
-item_leaves l c (item.Loop to) s sound = place_leaves to _ s
-item_leaves l c (item.PlusLoop to) s sound = place_leaves to _ s
-item_leaves l c (item.Leave to) s sound = leave_item_leaves to (loop_on_top s.flow.items) s
-item_leaves l c (item.Of to) s sound = place_leaves to _ s
-item_leaves l c (item.EndOf to) s sound = place_leaves to _ s
-item_leaves l c item.EndCase s sound = place_leaves nowhere _ s
-item_leaves l c item.Return s sound = flow_leaves (exited s.flow) s
-
-item_due_leaves : {S : Type 0} (l : Laws) (c : Calls S) (x : Option (Item × Place)) (s : State S)
-    → IsSound s.parts.memory → Leaves false s.parts.memory (item_due c x s)
-item_due_leaves l c None s sound = same s.parts.memory
-item_due_leaves l c (Some x) s sound = item_leaves l c x.0 _ sound
+-- and where an image ends, that is by `end0` or `end1`
+abbrev running_turns : (S : Type 0) → Bool → Turns (running_rules S)
+running_turns S at_end =
+    record (free_turns (running_rules S) (λ s p. tt) (λ l s. tt) (λ n s. tt)) { Ends = at_end ≡ true }
 
 -- ---- defining
 
@@ -244,7 +168,7 @@ semicolon_leaves c (Some n) s r =
 -- ---- strings
 
 copied_stands : (m : DataSpace) (r : Result (List ℕ) MemFault) → length m.bytes ≡ byte_count
-    → AddressStands m (with_read r (λ xs. appended m (xs ++ [])))
+    → AddressStands m (with_read r (λ xs. with_bytes m (xs ++ [])))
 copied_stands m (Ok xs) full = append_stands m (xs ++ []) full
 copied_stands m (Err fault) full = tt
 
@@ -273,14 +197,6 @@ kept_leaves : {S : Type 0} (a : Answered S) (r : Result (ℕ × DataSpace) MemFa
 kept_leaves a (Ok x) s r h = put_leaves a.ended a.code x.1 s r h
 kept_leaves a (Err fault) s r h = refused_leaves a.ended _ s
 
-string_leaves : {S : Type 0} (c : Calls S) (n : ℕ) (here : Spot) (s : State S) → IsReady s.parts.memory
-    → Leaves false s.parts.memory (string_token c n here s)
-string_leaves c n here s r =
-    either false s.parts.memory s.flow.is_compiling _ _
-    (kept_leaves _ (append_copied s.parts.memory (string_address here n) n []) s r
-    (copied_stands s.parts.memory (read_bytes s.parts.memory (string_address here n) n) r.0))
-    (stack_leaves (within (record { 0 = n } ∷ record { 0 = string_address here n } ∷ s.parts.stack)) s)
-
 -- ---- the end of an image
 
 back_kept : (i : Input) (m : DataSpace) → IsReady m → Kept true m (given_back i m)
@@ -294,53 +210,7 @@ ended_leaves c s r =
     either true s.parts.memory (is_some s.words.defining && not (is_same (open_xt s) s.flow.reading.opened)) _ _
     (given_up_stands c s r.0) (back_kept s.flow.reading.input s.parts.memory r)
 
--- ---- tokens that act
-
-bare_leaves : {S : Type 0} (c : Calls S) (w : StreamWord) (here : Spot) (s : State S) → IsReady s.parts.memory
-    → Leaves (ends_image (Some (word.Stream w))) s.parts.memory (bare_done c w here s)
-unfolding bare_done
-bare_leaves c stream.End0 here s r = ended_leaves c s r
-bare_leaves c stream.End1 here s r = ended_leaves c s r
-bare_leaves c stream.Leave here s r = leave_leaves here.size (loop_on_top s.flow.items) s
-bare_leaves c stream.EndCase here s r = turn_leaves None _ s
-bare_leaves c stream.Case here s r = left s.parts.memory
-bare_leaves c stream.Mark here s r = left s.parts.memory
-bare_leaves c stream.Resolve here s r = left s.parts.memory
-bare_leaves c stream.Offset16 here s r = left s.parts.memory
-bare_leaves c stream.Colon here s r = define_leaves c defining.Colon s r
-bare_leaves c stream.Value here s r = define_leaves c defining.Value s r
-bare_leaves c stream.Constant here s r = define_leaves c defining.Constant s r
-bare_leaves c stream.Variable here s r = define_leaves c defining.Variable s r
-bare_leaves c stream.Create here s r = define_leaves c defining.Create s r
-bare_leaves c stream.Defer here s r = define_leaves c defining.Defer s r
-bare_leaves c stream.Buffer here s r = define_leaves c defining.Buffer s r
-bare_leaves c stream.Field here s r = define_leaves c defining.Field s r
-bare_leaves c stream.Semicolon here s r =
-    then_leaves s.parts.memory s.flow.home s.words.defining _ (semicolon_leaves c s.words.defining s r)
-bare_leaves c w here s r = same s.parts.memory
-
-number_leaves : {S : Type 0} (w : StreamWord) (x : Cell) (s : State S)
-    → Leaves false s.parts.memory (number_done w x s)
-unfolding number_done
-number_leaves stream.Literal x s = stack_leaves (pushed x s.parts.stack) s
-number_leaves stream.Tick x s = stack_leaves (pushed x s.parts.stack) s
-number_leaves stream.To x s = store_leaves (store_entry x.0 s.words s.parts.stack) s
-number_leaves w x s = same s.parts.memory
-
-offset_leaves : {S : Type 0} (w : StreamWord) (here : Spot) (by : ℤ) (s : State S)
-    → Leaves false s.parts.memory (offset_done w here by s)
-unfolding offset_done
-offset_leaves stream.Branch here by s = control_leaves control.Branch here by s
-offset_leaves stream.BranchIfZero here by s = control_leaves control.BranchIfZero here by s
-offset_leaves stream.Do here by s = control_leaves control.Do here by s
-offset_leaves stream.QuestionDo here by s = control_leaves control.QuestionDo here by s
-offset_leaves stream.Loop here by s = control_leaves control.Loop here by s
-offset_leaves stream.PlusLoop here by s = control_leaves control.PlusLoop here by s
-offset_leaves stream.Of here by s = control_leaves control.Of here by s
-offset_leaves stream.EndOf here by s = control_leaves control.EndOf here by s
-offset_leaves w here by s = same s.parts.memory
-
--- ---- tokens that act or are appended
+-- ---- acts
 
 -- what is left elsewhere may be left at the end of an image
 weaken_by : (b : Bool) (m after : DataSpace) (e : Result (Unit {0}) Throw) → KeptBy false m after e
@@ -353,96 +223,92 @@ weaken_by true m after (Err t) h = h
 weaken : {S : Type 0} (b : Bool) (m : DataSpace) (o : Outcome S) → Leaves false m o → Leaves b m o
 weaken b m o h = weaken_by b m o.state.parts.memory o.ended h
 
-code_leaves : {S : Type 0} (code : S) (e : Result (Unit {0}) Throw) (s : State S)
-    → Leaves false s.parts.memory (by_code (record { code = code; ended = e }) s)
-code_leaves code (Ok x) s = left s.parts.memory
-code_leaves code (Err t) s = same s.parts.memory
+appended_leaves : {S : Type 0} (code : S) (e : Result (Unit {0}) Throw) (cells : List Cell) (s : State S)
+    → Leaves false s.parts.memory (appended (record { code = code; ended = e }) cells s)
+appended_leaves code (Ok x) cells s = left s.parts.memory
+appended_leaves code (Err t) cells s = same s.parts.memory
 
-compiled_leaves : {S : Type 0} (c : Calls S) (e : Element PlainItem) (s : State S)
-    → Leaves false s.parts.memory (by_code (c.element e s.code) s)
-compiled_leaves c e s = let a = c.element e s.code in code_leaves a.code a.ended s
+gone_leaves : {S : Type 0} (to : To) (s : State S) → Kept false s.parts.memory (gone to s).parts.memory
+gone_leaves act.Behind s = left s.parts.memory
+gone_leaves (act.Next to) s = left s.parts.memory
 
-appended_leaves : {S : Type 0} (b : Bool) (c : Calls S) (e : Option (Element PlainItem)) (s : State S)
-    (acted : Outcome S) → Leaves b s.parts.memory acted → Leaves b s.parts.memory (appended_or c e s acted)
-appended_leaves b c None s acted h = h
-appended_leaves b c (Some e) s acted h =
-    weaken b s.parts.memory (by_code (c.element e s.code) s) (compiled_leaves c e s)
+worked_leaves : {S : Type 0} (l : Laws) (c : Calls S) (a : WordAct) (s : State S) → IsWork (running_rules S) s a
+    → IsSound s.parts.memory → Leaves false s.parts.memory (worked c a s)
+unfolding worked
+worked_leaves l c (act.Fails t) s h sound = same s.parts.memory
+worked_leaves l c (act.Raises t cells) s h sound = same s.parts.memory
+worked_leaves l c (act.Leaves cells) s h sound = left s.parts.memory
+worked_leaves l c (act.Works w) s h sound = ordinary l w s sound
+worked_leaves l c (act.Moves cells move to) s h sound =
+    gone_leaves to (with_stack cells (with_items (doing.moved move s.flow.items) s))
+worked_leaves l c (act.Knows w cells) s h sound = left s.parts.memory
+worked_leaves l c (act.Appends e cells) s h sound =
+    appended_leaves (c.element e s.code).code (c.element e s.code).ended cells s
+worked_leaves l c (act.Loads size m cells) s h sound = inr (h l)
+worked_leaves l c (act.Takes cells a) s h sound = worked_leaves l c a (with_stack cells s) h sound
+worked_leaves l c (act.Guards cells a) s h sound = worked_leaves l c a (guarded cells s) h sound
 
-number_token_leaves : {S : Type 0} (c : Calls S) (w : StreamWord) (x : Cell) (here : Spot) (s : State S)
-    → Leaves false s.parts.memory (number_token c w x here s)
-number_token_leaves c w x here s =
-    appended_leaves false c (compiled_now w (operand.Number x) here.position s) s _ (number_leaves w x s)
+ends_leave : {S : Type 0} (at_end : Bool) (c : Calls S) (s : State S) → at_end ≡ true → IsReady s.parts.memory
+    → Leaves at_end s.parts.memory (ended c s)
+ends_leave true c s e r = ended_leaves c s r
+ends_leave false c s e r = absurd cc
 
-named_leaves : {S : Type 0} (c : Calls S) (w : StreamWord) (t : Throw) (e : Option TokenEntry) (here : Spot)
-    (s : State S) → Leaves false s.parts.memory (named_token c w t e here s)
-named_leaves c w t None here s = same s.parts.memory
-named_leaves c w t (Some e) here s = number_token_leaves c w (record { 0 = e.xt }) here s
+acted_leaves : {S : Type 0} (l : Laws) (c : Calls S) (at_end : Bool) (a : Act) (s : State S)
+    → IsAct (running_rules S) (running_turns S at_end) s a → IsSound s.parts.memory
+    → Leaves at_end s.parts.memory (acted c a s)
+unfolding acted
+acted_leaves l c at_end (act.Does a) s h sound =
+    weaken at_end s.parts.memory (worked c a s) (worked_leaves l c a s h sound)
+acted_leaves l c at_end (act.Goes cells move n) s h sound =
+    weaken_by at_end s.parts.memory s.parts.memory (Ok tt) (left s.parts.memory)
+acted_leaves l c at_end (act.Copies a n) s h sound =
+    let r = ready s.parts.memory sound in
+    weaken at_end s.parts.memory (string_compiled c a n s)
+    (kept_leaves _ (append_copied s.parts.memory a n []) s r
+    (copied_stands s.parts.memory (read_bytes s.parts.memory a n) r.0))
+acted_leaves l c at_end (act.Makes d) s h sound =
+    weaken at_end s.parts.memory (define_entry c d s) (define_leaves c d s (ready s.parts.memory sound))
+acted_leaves l c at_end act.Closes s h sound =
+    weaken at_end s.parts.memory (semicolon_entry c s.words.defining s)
+    (then_leaves s.parts.memory s.flow.home s.words.defining _
+    (semicolon_leaves c s.words.defining s (ready s.parts.memory sound)))
+acted_leaves l c at_end act.Ends s h sound = ends_leave at_end c s h (ready s.parts.memory sound)
 
-words_leave : {S : Type 0} (r : Result WordsState Throw) (s : State S) → Leaves false s.parts.memory (by_words r s)
-words_leave (Ok w) s = left s.parts.memory
-words_leave (Err t) s = same s.parts.memory
+-- ---- items
 
-code_token_leaves : {S : Type 0} (c : Calls S) (w : StreamWord) (k : FCode) (here : Spot) (s : State S)
-    → Leaves false s.parts.memory (code_token c w k here s)
-unfolding code_token
-code_token_leaves c stream.Tick k here s = named_leaves c stream.Tick _ (entry_in s.words.table k.0) here s
-code_token_leaves c stream.To k here s = named_leaves c stream.To _ (entry_in s.words.table k.0) here s
-code_token_leaves c stream.NewToken k here s = words_leave (numbered k None s.words) s
-code_token_leaves c w k here s = same s.parts.memory
+item_due_leaves : {S : Type 0} (l : Laws) (c : Calls S) (x : Option (Item × Place)) (s : State S)
+    → IsSound s.parts.memory → Leaves false s.parts.memory (item_due c x s)
+item_due_leaves l c None s sound = same s.parts.memory
+item_due_leaves {S} l c (Some x) s sound =
+    let on = with_next (continuation.Code x.1.cell) s in
+    let R = running_rules S in
+    acted_leaves l c false (item_act x.0 (front_of on)) on
+    (item_acts R (running_turns S false) x.0 on (anywhere R (λ n y. tt) (target_of x.0) on) sound
+    (all_executed R tt (plan_of_item x.0 (plan_in on)) on sound tt (λ y e. tt)))
+    sound
 
-word_compiled_leaves : {S : Type 0} (c : Calls S) (xt : ℕ) (s : State S)
-    → Leaves false s.parts.memory (word_compiled c xt s)
-word_compiled_leaves c xt s =
-    either false s.parts.memory (is_word s.words.dictionary xt) _ _ (compiled_leaves c _ s) (same s.parts.memory)
-
-word_token_leaves : {S : Type 0} (l : Laws) (c : Calls S) (e : Option TokenEntry) (s : State S)
-    → IsSound s.parts.memory → Leaves false s.parts.memory (word_token c e s)
-word_token_leaves l c None s sound = same s.parts.memory
-word_token_leaves l c (Some e) s sound =
-    either false s.parts.memory (s.flow.is_compiling && not e.immediate) _ _ (word_compiled_leaves c e.xt s)
-    (executed_leaves l c e.xt s sound)
-
-bare_token_leaves : {S : Type 0} (l : Laws) (c : Calls S) (w : Option Word) (k : ℕ) (here : Spot) (s : State S)
-    → IsSound s.parts.memory → Leaves (ends_image w) s.parts.memory (bare_token c w k here s)
-bare_token_leaves l c (Some (word.Stream w)) k here s sound =
-    appended_leaves (ends_image (Some (word.Stream w))) c (compiled_now w operand.Nothing here.position s) s _
-    (bare_leaves c w here s (ready s.parts.memory sound))
-bare_token_leaves l c w k here s sound = word_token_leaves l c (entry_in s.words.table k) s sound
-
-held_leaves : {S : Type 0} (c : Calls S) (w : Option StreamWord) (x : Held) (here : Spot) (s : State S)
-    → IsReady s.parts.memory → Leaves false s.parts.memory (held_token c w x here s)
-held_leaves c None x here s r = same s.parts.memory
-held_leaves c (Some w) (held.Literal x) here s r = number_token_leaves c w x here s
-held_leaves c (Some w) (held.String n) here s r = string_leaves c n here s r
-held_leaves c (Some w) (held.Code k) here s r = code_token_leaves c w k here s
-held_leaves c (Some w) (held.Offset by) here s r =
-    appended_leaves false c (compiled_now w (operand.Offset by) here.position s) s _ (offset_leaves w here by s)
-
-taken_leaves : {S : Type 0} (l : Laws) (c : Calls S) (k : FCode) (t : Taken) (here : Spot) (s : State S)
-    → IsSound s.parts.memory → Leaves (ends_image (word_numbered k.0)) s.parts.memory (taken_token c k t here s)
-taken_leaves l c k taken.Nothing here s sound = bare_token_leaves l c (word_numbered k.0) k.0 here s sound
-taken_leaves l c k (taken.Held x) here s sound =
-    weaken (ends_image (word_numbered k.0)) s.parts.memory (held_token c (stream_of (word_numbered k.0)) x here s)
-    (held_leaves c (stream_of (word_numbered k.0)) x here s (ready s.parts.memory sound))
-
-argument_leaves : {S : Type 0} (l : Laws) (c : Calls S) (k : FCode) (a : Argument) (here : Spot) (s : State S)
-    → IsSound s.parts.memory → Leaves (ends_image (word_numbered k.0)) s.parts.memory (argument_token c k a here s)
-argument_leaves l c k Nothing here s sound = taken_leaves l c k taken.Nothing here s sound
-argument_leaves l c k (Named name code) here s sound =
-    weaken (ends_image (word_numbered k.0)) s.parts.memory
-    (by_words (announced (stream_of (word_numbered k.0)) name code s.parts.memory s.words) s)
-    (words_leave (announced (stream_of (word_numbered k.0)) name code s.parts.memory s.words) s)
-argument_leaves l c k (Literal x) here s sound = taken_leaves l c k (taken.Held (held.Literal x)) here s sound
-argument_leaves l c k (String t) here s sound = taken_leaves l c k (taken.Held (held.String (length t))) here s sound
-argument_leaves l c k (Code x) here s sound = taken_leaves l c k (taken.Held (held.Code x)) here s sound
-argument_leaves l c k (Offset by) here s sound = taken_leaves l c k (taken.Held (held.Offset by)) here s sound
+-- ---- tokens
 
 found_leaves : {S : Type 0} (l : Laws) (c : Calls S) (x : Option (Token × ℕ)) (size : OffsetSize) (position : ℕ)
     (s : State S) → IsSound s.parts.memory → Leaves (token_ends x) s.parts.memory (found_token c x size position s)
 found_leaves l c None size position s sound = same s.parts.memory
-found_leaves l c (Some x) size position s sound =
-    argument_leaves l c x.0.code x.0.argument (spot_in s.parts.memory position x.1)
-    (read_on (size_behind x.0.code.0 size) x.1 s) sound
+found_leaves {S} l c (Some x) size position s sound =
+    let on = read_on (size_behind x.0.code.0 size) x.1 s in
+    let here = spot_in s.parts.memory position x.1 in
+    let R = running_rules S in
+    let T = running_turns S (token_ends (Some x)) in
+    acted_leaves l c (token_ends (Some x)) (act_of (typed_of x.0) here (front_of on)) on
+    (typed_acts R T (typed_of x.0) here on sound
+    (typed_may R T (word_numbered x.0.code.0) x.0.code x.0.argument on.flow.is_compiling on
+    (record {
+      positions = tt;
+      ends = λ e. e;
+      makes = λ e. tt;
+      closes = λ e z. tt;
+      appends = λ e. tt;
+      executes = all_executed R tt _ on sound tt (λ y e. tt);
+    })))
+    sound
 
 token_leaves : {S : Type 0} (l : Laws) (c : Calls S) (i : Input) (s : State S) → IsSound s.parts.memory
     → Leaves (reading_ends s.parts.memory i) s.parts.memory (token_due c i s)

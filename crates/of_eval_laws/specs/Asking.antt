@@ -8,18 +8,18 @@ use Rattle.of_fcodes.specs.declared.codes.FCode.{FCode}
 use Rattle.of_fcodes.specs.declared.words.StreamWord.{StreamWord}
 use Rattle.of_fcodes.specs.declared.words.StreamWord.TheVariants as stream
 use Rattle.of_fcodes.specs.declared.words.Word.TheVariants as word
-use Rattle.of_stream.specs.Decoding.{Named}
+use Rattle.of_stream.specs.Decoding.{Argument, Named, Nothing}
 use Rattle.of_compile.specs.Defining.{may_define}
-use Rattle.of_eval.specs.declared.tokens.Held.{Held}
 use Rattle.of_eval.specs.declared.tokens.Spot.{Spot}
+use Rattle.of_eval.specs.Doing.{executed_grows}
 use Rattle.of_eval.specs.State.{State}
-use Rattle.of_eval.specs.Tokens.{argument_grows, bare_grows, held_grows}
-use Rattle.of_eval.specs.Executing.{executed_grows}
-use Rattle.of_eval.specs.Steps.{item_grows_in}
+use Rattle.of_eval.specs.Steps.{item_grows_in, typed_grows}
+use Rattle.of_eval.specs.Tokens.{typed, typed_of}
 
 -- a token of the stream asks for no memory, whatever the state, compiled or not
 abbrev pub AsksForNone : Type 0 → StreamWord → Type 0
-AsksForNone S w = (k : ℕ) (here : Spot) (s : State S) → bare_grows (Some (word.Stream w)) k here s ≡ false
+AsksForNone S w =
+    (k : FCode) (here : Spot) (s : State S) → typed_grows (typed (Some (word.Stream w)) k Nothing) here s ≡ false
 
 -- an item that runs a word with an execution token
 abbrev pub Runs : Item → Cell → Type 0
@@ -36,15 +36,16 @@ pub record MemoryIsAsked (S : Type 0) : Type 0 where
   -- a token with a name asks for none
   pub named :
       (k : FCode) (name : List ℕ) (code : FCode) (here : Spot) (s : State S) →
-      argument_grows k (Named name code) here s ≡ false
+      typed_grows (typed_of (record { code = k; argument = Named name code })) here s ≡ false
   -- while interpreting, no token with another operand does
   pub held :
-      (w : StreamWord) (h : Held) (here : Spot) (s : State S) → s.flow.is_compiling ≡ false →
-      held_grows (Some w) h here s ≡ false
+      (w : StreamWord) (k : FCode) (a : Argument) (here : Spot) (s : State S) → (a ≡ Nothing → ⊥) →
+      s.flow.is_compiling ≡ false →
+      typed_grows (typed (Some (word.Stream w)) k a) here s ≡ false
   -- and one of the stream without an operand only where it may define a word, or where a definition is open
   pub bare :
-      (w : StreamWord) (k : ℕ) (here : Spot) (s : State S) → s.flow.is_compiling ≡ false →
-      bare_grows (Some (word.Stream w)) k here s ≡ true →
+      (w : StreamWord) (k : FCode) (here : Spot) (s : State S) → s.flow.is_compiling ≡ false →
+      typed_grows (typed (Some (word.Stream w)) k Nothing) here s ≡ true →
       (may_define s.words ≡ true) ⊎ (is_some s.words.defining ≡ true)
   -- an item only where it runs a word that does
   pub item :

@@ -2,20 +2,20 @@
 -- the evaluator whose definitions are cells, once they are laid out.
 use Rattle.std.specs.Prelude.{◌≡◌, ◌↔◌, ℕ, ◌+◌, ◌<◌, true, [], ◌∷◌, length, Some, None, Ok, Err}
 use Rattle.of_code.specs.declared.item.Item.TheVariants as item
-use Rattle.of_control.specs.Body.{Body}
-use Rattle.of_control.specs.Reading.{body_in}
 use Rattle.of_stacks.specs.declared.return_item.Continuation.{Continuation}
 use Rattle.of_stacks.specs.declared.return_item.Continuation.TheVariants.{Code, Source}
 use Rattle.of_stacks.specs.Throws.{control_mismatch}
 use Rattle.of_dict.specs.Words.{xt_of}
+use Rattle.of_control.specs.Body.{Body}
+use Rattle.of_control.specs.Reading.{body_in}
 use Rattle.of_compile.specs.declared.element.PlainItem.{PlainItem}
 use Rattle.of_compile.specs.Board.{Definitions, Told, abandoned_told, element_told, fetched, flat_of, has_room}
 use Rattle.of_compile.specs.Board.{laid_all, semicolon_told}
 use Rattle.of_compile.specs.Coding.{Coding}
 use Rattle.of_compile.specs.Elements.{element_cells}
+use Rattle.of_eval.specs.Defining.{semicolon_entry}
 use Rattle.of_eval.specs.State.{Answered, Calls, Outcome, State, flat_calls}
 use Rattle.of_eval.specs.Steps.{stepped}
-use Rattle.of_eval.specs.Tokens.{semicolon_entry}
 
 -- no word is finished, and the open definition is empty
 abbrev pub no_definitions : Definitions

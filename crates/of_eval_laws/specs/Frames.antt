@@ -1,16 +1,15 @@
 -- What parts of a step leave as it was: what is read, with which size of offsets, and the return stack (IEEE 1275-1994,
 -- 5.2.2, 5.3.3.1; Forth 2012, 3.2.3.3).
-use Rattle.std.specs.Prelude.{◌≡◌, ◌⊎◌, ℕ, Bool, true, false, List, [], ◌∷◌, drop, Option, Some, None, Result, Ok, Err}
-use Rattle.std.specs.Prelude.{if◌then◌else◌}
+use Rattle.std.specs.Prelude.{◌≡◌, ◌⊎◌, ℕ, Bool, true, false, List, [], ◌∷◌, drop, Option, Some, None}
 use Rattle.of_cells.specs.declared.cells.Cell.{Cell}
 use Rattle.of_code.specs.declared.item.Item.{Item}
-use Rattle.of_stacks.specs.declared.throws.Throw.{Throw}
 use Rattle.of_stacks.specs.declared.return_item.Input.{Input}
 use Rattle.of_stacks.specs.declared.return_item.Input.TheVariants as input
 use Rattle.of_stacks.specs.declared.return_item.LoopExit.{LoopExit}
 use Rattle.of_stacks.specs.declared.return_item.Reading.{Reading}
 use Rattle.of_stacks.specs.declared.return_item.ReturnItem.{ReturnItem}
 use Rattle.of_stacks.specs.declared.return_item.ReturnItem.TheVariants.{Source}
+use Rattle.of_stacks.specs.declared.throws.Throw.{Throw}
 use Rattle.of_stacks.specs.Returns.{top_item}
 use Rattle.of_stacks.specs.Throws.{image_ended}
 use Rattle.of_fcodes.specs.declared.words.ReturnsWord.TheVariants as returns
@@ -18,47 +17,54 @@ use Rattle.of_fcodes.specs.declared.words.StreamWord.TheVariants as stream
 use Rattle.of_fcodes.specs.declared.words.Word.{Word}
 use Rattle.of_fcodes.specs.declared.words.Word.TheVariants as word
 use Rattle.of_fcodes.specs.Lookup.{word_numbered}
-use Rattle.of_memory.specs.Images.{latest_image}
 use Rattle.of_stream.specs.declared.stream.OffsetSize.{OffsetSize}
 use Rattle.of_stream.specs.Decoding.{Token, token_from}
 use Rattle.of_stream.specs.Sizes.{size_behind}
+use Rattle.of_memory.specs.Images.{latest_image}
 use Rattle.of_eval.specs.declared.control.ControlWord.{ControlWord}
 use Rattle.of_eval.specs.declared.control.ControlWord.TheVariants as control
 use Rattle.of_eval.specs.declared.flow.Flow.{Flow}
-use Rattle.of_eval.specs.Control.{Turn, control_entry}
+use Rattle.of_eval.specs.Acts.{Act, Does, Fails, Goes, Moves, Next}
+use Rattle.of_eval.specs.Doing.{executed}
+use Rattle.of_eval.specs.Executing.{Catch, Execute, Own, Plan, Stops, Written, plan_in}
+use Rattle.of_eval.specs.Items.{Target, control_act}
 use Rattle.of_eval.specs.State.{Calls, State}
-use Rattle.of_eval.specs.Executing.{Catch, Execute, Own, Plan, Stops, Written, executed, plan_in}
-use Rattle.of_eval.specs.Steps.{item_done}
-use Rattle.of_eval.specs.Tokens.{token_due}
+use Rattle.of_eval.specs.Steps.{item_done, token_due}
 
 -- ---- the target of a word of control
 
--- what a word of control leaves whose target isn't in the image, by what it would leave if it were
-abbrev pub without_target : Result Turn Throw → Result Turn Throw
-without_target (Ok t) = if t.goes then Err image_ended else Ok t
-without_target (Err t) = Err t
+-- what a word of control comes to whose target isn't in the image, by what it would come to if it were
+abbrev pub without_target : Act → Act
+without_target (Goes cells move n) = Does (Fails image_ended)
+without_target (Does (Moves cells move (Next to))) = Does (Fails image_ended)
+without_target a = a
+
+-- what it throws, if it does
+abbrev pub thrown_by : Act → Option Throw
+thrown_by (Does (Fails t)) = Some t
+thrown_by a = None
 
 -- Where a target counts.
 pub record TargetsCountLast : Type 0 where
   -- the target of a word of control counts only where control goes there, and after all else
   pub turns :
-      (w : ControlWord) (e : LoopExit) (s : List Cell) (r : List ReturnItem) →
-      control_entry w false e s r ≡ without_target (control_entry w true e s r)
+      (w : ControlWord) (to : Target) (e : LoopExit) (s : List Cell) (r : List ReturnItem) →
+      control_act w None e s r ≡ without_target (control_act w (Some to) e s r)
   -- what a word leaves whose target isn't in the image it leaves with any
   pub left :
-      (w : ControlWord) (lands : Bool) (e : LoopExit) (s : List Cell) (r : List ReturnItem) (t : Turn) →
-      control_entry w false e s r ≡ Ok t →
-      control_entry w lands e s r ≡ Ok t
+      (w : ControlWord) (to : Option Target) (e : LoopExit) (s : List Cell) (r : List ReturnItem) (a : Act) →
+      control_act w None e s r ≡ a → thrown_by a ≡ None →
+      control_act w to e s r ≡ a
   -- and what it throws it throws with any, unless that is the fault of the target
   pub thrown :
-      (w : ControlWord) (lands : Bool) (e : LoopExit) (s : List Cell) (r : List ReturnItem) (t : Throw) →
+      (w : ControlWord) (to : Option Target) (e : LoopExit) (s : List Cell) (r : List ReturnItem) (t : Throw) →
       (t ≡ image_ended → ⊥) →
-      control_entry w false e s r ≡ Err t →
-      control_entry w lands e s r ≡ Err t
+      control_act w None e s r ≡ Does (Fails t) →
+      control_act w to e s r ≡ Does (Fails t)
   -- that of `do` never counts
   pub entering :
-      (e : LoopExit) (s : List Cell) (r : List ReturnItem) →
-      control_entry control.Do false e s r ≡ control_entry control.Do true e s r
+      (to : Option Target) (e : LoopExit) (s : List Cell) (r : List ReturnItem) →
+      control_act control.Do None e s r ≡ control_act control.Do to e s r
 
 -- ---- what is read
 

@@ -1,15 +1,13 @@
 -- Where control goes on, and what stays as it was: items of definitions, `execute` and `catch`, the end of an image,
 -- and an image that begins, a sentence a field (Forth 2012, 3.2.3.3, 6.1.0140, 6.1.1240, 6.1.1370, 6.1.1800, 6.2.0620,
 -- 6.2.0873, 9.6.1.0875; IEEE 1275-1994, 5.2.2.5, 5.3.3.1).
-use Rattle.std.specs.Prelude.{◌≡◌, ℕ, ◌<◌, ◌≤◌, Bool, true, false, List, [], ◌∷◌, ◌++◌, length, Some, None}
-use Rattle.std.specs.Prelude.{Ok, Err, is_some, ◌&&◌, not, if◌then◌else◌}
+use Rattle.std.specs.Prelude.{◌≡◌, ℕ, ◌<◌, ◌≤◌, Bool, true, false, List, [], ◌∷◌, ◌++◌, length, Some, None, Ok, Err}
+use Rattle.std.specs.Prelude.{is_some, ◌&&◌, not, if◌then◌else◌}
 use Rattle.of_cells.specs.declared.cells.Cell.{Cell}
 use Rattle.of_cells.specs.Arithmetic.{plus}
 use Rattle.of_code.specs.declared.item.Item.{Item}
 use Rattle.of_code.specs.declared.item.Item.TheVariants as item
 use Rattle.of_code.specs.declared.item.Place.{Place}
-use Rattle.of_control.specs.Running.{Point, step_from}
-use Rattle.of_stacks.specs.declared.throws.Throw.{Throw}
 use Rattle.of_stacks.specs.declared.return_item.Continuation.{Continuation}
 use Rattle.of_stacks.specs.declared.return_item.Continuation.TheVariants as continuation
 use Rattle.of_stacks.specs.declared.return_item.ExceptionFrame.{ExceptionFrame}
@@ -18,10 +16,11 @@ use Rattle.of_stacks.specs.declared.return_item.LoopParameters.{LoopParameters}
 use Rattle.of_stacks.specs.declared.return_item.Reading.{Reading}
 use Rattle.of_stacks.specs.declared.return_item.ReturnItem.{ReturnItem}
 use Rattle.of_stacks.specs.declared.return_item.ReturnItem.TheVariants.{Handler, Loop, Return, Source}
+use Rattle.of_stacks.specs.declared.throws.Throw.{Throw}
 use Rattle.of_stacks.specs.Loops.{loop_on_top, passes_limit}
 use Rattle.of_stacks.specs.Returns.{return_on_top}
-use Rattle.of_stacks.specs.Throws.{bad_handle, loop_unavailable, return_stack_imbalance, return_stack_overflow}
-use Rattle.of_stacks.specs.Throws.{compiler_nesting, stack_underflow}
+use Rattle.of_stacks.specs.Throws.{bad_handle, compiler_nesting, loop_unavailable, return_stack_imbalance}
+use Rattle.of_stacks.specs.Throws.{return_stack_overflow, stack_underflow}
 use Rattle.of_stacks.specs.Unwinding.{latest_source}
 use Rattle.of_fcodes.specs.declared.words.ReturnsWord.TheVariants as returns
 use Rattle.of_fcodes.specs.declared.words.ThrowsWord.TheVariants as throws
@@ -30,13 +29,15 @@ use Rattle.of_fcodes.specs.declared.words.Word.TheVariants as word
 use Rattle.of_fcodes.specs.Finding.{word_with_xt}
 use Rattle.of_memory.specs.DataSpace.{DataSpace}
 use Rattle.of_nodes.specs.declared.phandles.Phandle.{Phandle}
+use Rattle.of_control.specs.Running.{Point, step_from}
 use Rattle.of_compile.specs.declared.element.PlainItem.{PlainItem}
 use Rattle.of_compile.specs.Board.{Definitions, Spot, is_return, point_place, taken_item}
 use Rattle.of_compile.specs.Coding.{past}
 use Rattle.of_compile.specs.RunsLaw.{IsReached}
 use Rattle.of_compile.specs.Words.{WordsState, is_word}
-use Rattle.of_eval.specs.Control.{loop_item, one}
-use Rattle.of_eval.specs.Executing.{executable, executed}
+use Rattle.of_eval.specs.Doing.{executed}
+use Rattle.of_eval.specs.Executing.{executable}
+use Rattle.of_eval.specs.Items.{loop_item, one}
 use Rattle.of_eval.specs.Loading.{begun, load_caller}
 use Rattle.of_eval.specs.Settling.{ended, is_same}
 use Rattle.of_eval.specs.State.{Calls, State, done, failed, given_up, open_xt, with_items, with_next, with_stack}

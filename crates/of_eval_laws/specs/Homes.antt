@@ -1,9 +1,9 @@
 -- To which package the name of a definition belongs (IEEE 1275-1994, 3.2.2 and 5.3.3.1).
 use Rattle.std.specs.Prelude.{◌≡◌, ℕ, Option, Ok}
-use Rattle.of_compile.specs.declared.defining.DefiningWord.TheVariants as defining
 use Rattle.of_nodes.specs.declared.phandles.Phandle.{Phandle}
+use Rattle.of_compile.specs.declared.defining.DefiningWord.TheVariants as defining
+use Rattle.of_eval.specs.Defining.{define_entry, semicolon_entry}
 use Rattle.of_eval.specs.State.{Calls, State}
-use Rattle.of_eval.specs.Tokens.{define_entry, semicolon_entry}
 
 -- the same state while another package is active
 abbrev pub with_package : {S : Type 0} → Option Phandle → State S → State S

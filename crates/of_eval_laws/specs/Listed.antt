@@ -1,7 +1,7 @@
 -- What words and steps throw has a listed number, unless a program throws it by `throw`; and -22 is thrown at the end
 -- of a definition alone.
-use Rattle.std.specs.Prelude.{◌≡◌, ◌⊎◌, ℕ, Bool, true, false, ◌&&◌, not, List, ◌∷◌, Option, Some, None, Result, Ok, Err}
-use Rattle.std.specs.Prelude.{if◌then◌else◌}
+use Rattle.std.specs.Prelude.{◌≡◌, ◌⊎◌, ℕ, Bool, true, false, ◌&&◌, not, List, ◌∷◌, Option, Some, None, Result, Ok}
+use Rattle.std.specs.Prelude.{Err, if◌then◌else◌}
 use Rattle.of_cells.specs.declared.cells.Cell.{Cell}
 use Rattle.of_cells.specs.Numbers.{signed}
 use Rattle.of_code.specs.declared.item.Item.{Item}
@@ -20,15 +20,15 @@ use Rattle.of_fcodes.specs.declared.words.Word.{Word}
 use Rattle.of_fcodes.specs.declared.words.Word.TheVariants as word
 use Rattle.of_fcodes.specs.Lookup.{word_numbered}
 use Rattle.of_fcodes.specs.Tokens.{entry_in}
-use Rattle.of_memory.specs.Images.{latest_image}
 use Rattle.of_stream.specs.Decoding.{Argument, Nothing, Token, token_from}
+use Rattle.of_memory.specs.Images.{latest_image}
 use Rattle.of_compile.specs.Board.{Definitions}
 use Rattle.of_compile.specs.Coding.{Coding}
-use Rattle.of_eval.specs.Executing.{Catch, Execute, Plan, Written, plan_in}
-use Rattle.of_eval.specs.Words.{word_entry}
 use Rattle.of_eval.specs.declared.parts.Parts.{Parts}
+use Rattle.of_eval.specs.Executing.{Catch, Execute, Plan, Written, plan_in}
 use Rattle.of_eval.specs.State.{Calls, State, flat_calls}
 use Rattle.of_eval.specs.Steps.{due}
+use Rattle.of_eval.specs.Words.{word_entry}
 use Rattle.of_eval_laws.specs.Board.{board_calls}
 
 -- the throws of the table are listed

@@ -1,4 +1,4 @@
-use Rattle.of_eval_laws.proofs.PlacedTokens.{states_stay_placed}
+use Rattle.of_eval_laws.proofs.PlacedSteps.{states_stay_placed}
 use Rattle.of_eval_laws.proofs.laws.states_stay_placed.Goals as goal
 
 pub returns : goal.returns

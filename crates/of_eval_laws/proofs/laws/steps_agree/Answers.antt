@@ -1,4 +1,4 @@
-use Rattle.of_eval_laws.proofs.SquareTokens.{steps_agree}
+use Rattle.of_eval_laws.proofs.Square.{steps_agree}
 use Rattle.of_eval_laws.proofs.laws.steps_agree.Goals as goal
 
 pub returns : goal.returns

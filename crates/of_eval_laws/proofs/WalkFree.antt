@@ -1,0 +1,77 @@
+-- Rules that ask nothing of acts: those of a law are these, but for what it asks.
+use Rattle.std.specs.Prelude.{ℕ, List, Option, Some, None}
+use Rattle.of_cells.specs.declared.cells.Cell.{Cell}
+use Rattle.of_code.specs.declared.item.Place.{Place}
+use Rattle.of_stacks.specs.declared.return_item.Continuation.TheVariants as continuation
+use Rattle.of_stacks.specs.declared.return_item.LoopParameters.{LoopParameters}
+use Rattle.of_stacks.specs.declared.return_item.ReturnItem.TheVariants.{Loop}
+use Rattle.of_eval.specs.Executing.{guarded}
+use Rattle.of_eval.specs.State.{State, with_stack}
+use Rattle.of_eval_laws.proofs.Walk.{IsPlace, Turns}
+use Rattle.of_eval_laws.proofs.WalkWords.{Rules}
+
+-- what is so of the state stays so while a word takes cells, or is guarded
+abbrev pub Stays : {S : Type 0} → (State S → Type 0) → Type 0
+Stays {S} Held =
+    (cells : List Cell) (s : State S) → Held s → Held (with_stack cells s) × Held (guarded cells s)
+
+-- this is so of the state, and nothing is asked of acts
+abbrev pub keeping : (S : Type 0) (Held : State S → Type 0) → Stays Held → Rules S
+keeping S Held stays = record {
+  Held = Held;
+  Runs = Unit {0};
+  Works = λ w. Unit {0};
+  Fails = λ t. Unit {0};
+  Raises = λ t. Unit {0};
+  Item = λ s i. Unit {0};
+  Drops = λ s. Unit {0};
+  Target = λ s to. Unit {0};
+  Known = λ s w. Unit {0};
+  Appends = λ s. Unit {0};
+  Loads = λ s m. Unit {0};
+  works = λ r w. tt;
+  fails = λ t l. tt;
+  faults = λ f. tt;
+  user = λ x s p. tt;
+  return = λ s p. tt;
+  returns = λ to s p e. tt;
+  begins = λ start xt s p e z. tt;
+  stores = λ xt x s p e. tt;
+  sets = λ x s p e. tt;
+  announces = λ k name w s p e. tt;
+  opens = λ r s p e. tt;
+  loads = λ a n spread x s p e. tt;
+  takes = λ cells s p. (stays cells s p).0;
+  guards = λ cells s p. (stays cells s p).1;
+  drops_taken = λ cells s d. tt;
+  drops_guarded = λ cells s p. tt;
+}
+
+-- where nothing is asked of what is dropped, of loops that are pushed and of where control goes on
+abbrev pub free_turns :
+    {S : Type 0} (R : Rules S) → ((s : State S) → R.Held s → R.Drops s)
+    → ((l : LoopParameters) (s : State S) → R.Item s (Loop l))
+    → ((n : ℕ) (s : State S) → R.Target s (continuation.Code n)) → Turns R
+free_turns R drop loop target = record {
+  Exit = λ s e. Unit {0};
+  Positions = Unit {0};
+  Ends = Unit {0};
+  Makes = Unit {0};
+  Closes = Unit {0};
+  drop = drop;
+  loop = λ l s x. loop l s;
+  exit_on_top = λ l s p e. tt;
+  exit_at = λ n s p. tt;
+  exit_goes = λ n s x. target n s;
+  goes_exit = λ n s x. tt;
+}
+
+-- nothing is asked of the state, either
+abbrev pub free : (S : Type 0) → Rules S
+free S = keeping S (λ s. Unit {0}) (λ cells s p. (tt, tt))
+
+-- nor of the target of an item
+pub anywhere : {S : Type 0} (R : Rules S) → ((n : ℕ) (s : State S) → R.Target s (continuation.Code n))
+    → (to : Option Place) (s : State S) → IsPlace R s to
+anywhere R h None s = tt
+anywhere R h (Some to) s = h to.cell s

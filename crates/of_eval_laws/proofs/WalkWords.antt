@@ -1,0 +1,342 @@
+-- One walk of the tables of words: what a word comes to is what a law asks of it, by the rules of the law.
+use Rattle.std.proofs.Common.{◌≡◌, ◌==◌, ℕ, nat_lt, Bool, true, false, List, [], ◌∷◌, length, Option, Some, None}
+use Rattle.std.proofs.Common.{Result, Ok, Err, is_none, is_some, refl, ap, ◌∙◌, if◌then◌else◌}
+use Rattle.std.specs.Prelude.{not, slice_get}
+use Rattle.of_cells.specs.declared.cells.Cell.{Cell}
+use Rattle.of_cells.specs.Numbers.{signed}
+use Rattle.of_stacks.specs.declared.return_item.Continuation.{Continuation}
+use Rattle.of_stacks.specs.declared.return_item.Continuation.TheVariants as continuation
+use Rattle.of_stacks.specs.declared.return_item.LoopParameters.{LoopParameters}
+use Rattle.of_stacks.specs.declared.return_item.ReturnItem.{ReturnItem}
+use Rattle.of_stacks.specs.declared.return_item.ReturnItem.TheVariants.{Loop, Return, User}
+use Rattle.of_stacks.specs.declared.throws.Throw.{Throw}
+use Rattle.of_stacks.specs.Loops.{loop_on_top, open_loops}
+use Rattle.of_stacks.specs.Order.{counted, counting, fault_if}
+use Rattle.of_stacks.specs.Returns.{has_due_top, return_on_top, user_on_top}
+use Rattle.of_stacks.specs.Throws.{ThrowsListed, bad_handle, compile_only, is_listed, listed_numbers, stack_underflow}
+use Rattle.of_fcodes.specs.declared.codes.FCode.{FCode}
+use Rattle.of_fcodes.specs.declared.words.DictionaryWord.{DictionaryWord}
+use Rattle.of_fcodes.specs.declared.words.DictionaryWord.TheVariants as dictionary
+use Rattle.of_fcodes.specs.declared.words.ReturnsWord.{ReturnsWord}
+use Rattle.of_fcodes.specs.declared.words.ReturnsWord.TheVariants as returns
+use Rattle.of_fcodes.specs.declared.words.ThrowsWord.{ThrowsWord}
+use Rattle.of_fcodes.specs.declared.words.ThrowsWord.TheVariants as throws
+use Rattle.of_fcodes.specs.declared.words.Word.{Word}
+use Rattle.of_fcodes.specs.declared.words.Word.TheVariants as word
+use Rattle.of_stream.specs.declared.stream.OffsetSize.{OffsetSize}
+use Rattle.of_stream.specs.Image.{first_size}
+use Rattle.of_memory.specs.declared.fault.MemFault.{MemFault}
+use Rattle.of_memory.specs.DataSpace.{DataSpace}
+use Rattle.of_memory.specs.Growth.{image_pushed_from}
+use Rattle.of_prims.specs.Data.{throw_of}
+use Rattle.of_dict.specs.declared.word.Kind.{Kind}
+use Rattle.of_dict.specs.declared.word.Kind.TheVariants as kind
+use Rattle.of_dict.specs.Words.{kind_in}
+use Rattle.of_compile.specs.DictionaryWords.{set_token_entry, store_entry}
+use Rattle.of_compile.specs.Words.{WordsState, is_word, numbered, own_word}
+use Rattle.of_eval.specs.Acts.{Move, To, WordAct, front_of, knowing, leaving}
+use Rattle.of_eval.specs.Acts as act
+use Rattle.of_eval.specs.ByteLoading.{copying, length_at, load_act, loading, loading_faults, spread_of, start_at}
+use Rattle.of_eval.specs.Executing.{Catch, Execute, Own, Plan, Stops, Written, act_of_plan, comma_act, comma_faults}
+use Rattle.of_eval.specs.Executing.{dictionary_act, dropping, execution, found, guarded, is_opened, own_act, plan_in}
+use Rattle.of_eval.specs.Executing.{product_entry, pushed, pushing, returning, returns_act, throw_act, throws_act}
+use Rattle.of_eval.specs.Executing.{unlooping, written_act}
+use Rattle.of_eval.specs.State.{State, open_xt, with_stack}
+use Rattle.of_eval_laws.specs.Frames.{drops_item, last_word}
+use Rattle.of_eval_laws.specs.Listed.{cell_of}
+use Rattle.of_eval_laws.proofs.ListedFaults.{IsListedFault, behavior_listed, from_body_listed, get_token_listed}
+use Rattle.of_eval_laws.proofs.ListedFaults.{index_listed, loop_listed, return_listed, set_token_listed, store_listed}
+use Rattle.of_eval_laws.proofs.ListedFaults.{to_body_listed, user_listed, within_listed}
+use Rattle.of_eval_laws.proofs.ListedWords.{StopsListed, comma_fault, finds, loading_fault, plan_stops, products}
+
+-- What a law asks of the acts of words, and why what the tables look at has it.
+pub record Rules (S : Type 0) : Type 1 where
+  -- what is so of the state
+  pub Held : State S → Type 0
+  -- where words are executed, and of an ordinary one
+  pub Runs : Type 0
+  pub Works : Word → Type 0
+  -- of what is thrown, and of what `throw` throws
+  pub Fails : Throw → Type 0
+  pub Raises : Throw → Type 0
+  -- of an item that is pushed, where one is dropped, and of where control goes on
+  pub Item : State S → ReturnItem → Type 0
+  pub Drops : State S → Type 0
+  pub Target : State S → Continuation → Type 0
+  -- of words, where something is appended, and of a data space with one image more
+  pub Known : State S → WordsState → Type 0
+  pub Appends : State S → Type 0
+  pub Loads : State S → DataSpace → Type 0
+  -- an ordinary word runs; what the tables throw is listed, or a fault of memory
+  pub works : Runs → (w : Word) → Works w
+  pub fails : (t : Throw) → is_listed t ≡ true → Fails t
+  pub faults : (fault : MemFault) → Fails (throw_of fault)
+  -- a cell of the program is pushed, or where control goes on behind a definition
+  pub user : (x : Cell) (s : State S) → Held s → Item s (User x)
+  pub return : (s : State S) → Held s → Item s (Return s.flow.next)
+  -- control goes on where the return on top says, or where a definition begins that isn't open
+  pub returns : (to : Continuation) (s : State S) → Held s → return_on_top s.flow.items ≡ Ok to → Target s to
+  pub begins :
+      (start xt : ℕ) (s : State S) → Held s → kind_in (own_word s.words.dictionary xt) ≡ Some (kind.Colon start) →
+      is_opened (open_xt s) xt ≡ false → Target s (continuation.Code start)
+  -- words are known that come of a store, of `set-token` or of a number for the next word
+  pub stores :
+      (xt : ℕ) (x : WordsState × List Cell) (s : State S) → Held s → store_entry xt s.words s.parts.stack ≡ Ok x →
+      Known s x.0
+  pub sets :
+      (x : WordsState × List Cell) (s : State S) → Held s → set_token_entry s.words s.parts.stack ≡ Ok x → Known s x.0
+  pub announces :
+      (k : FCode) (name : Option (List ℕ)) (w : WordsState) (s : State S) → Held s → numbered k name s.words ≡ Ok w →
+      Known s w
+  -- `compile,` appends where a definition is open
+  pub opens : Runs → (s : State S) → Held s → is_none s.words.defining ≡ false → Appends s
+  -- an image was copied
+  pub loads :
+      (a n spread : ℕ) (x : ℕ × DataSpace) (s : State S) → Held s →
+      image_pushed_from s.parts.memory a n spread ≡ Ok x → Loads s x.1
+  -- `execute` and `catch` leave the state so
+  pub takes : (cells : List Cell) (s : State S) → Held s → Held (with_stack cells s)
+  pub guards : (cells : List Cell) (s : State S) → Held s → Held (guarded cells s)
+  -- an item that may be dropped may be behind `execute`, and any behind `catch`
+  pub drops_taken : (cells : List Cell) (s : State S) → Drops s → Drops (with_stack cells s)
+  pub drops_guarded : (cells : List Cell) (s : State S) → Held s → Drops (guarded cells s)
+
+abbrev pub IsMove : {S : Type 0} → Rules S → State S → Move → Type 0
+IsMove R s act.Keeps = Unit {0}
+IsMove R s (act.Pushes item) = R.Item s item
+IsMove R s act.Drops = R.Drops s
+IsMove R s (act.Turns l) = R.Item s (Loop l) × R.Drops s
+
+abbrev pub IsTo : {S : Type 0} → Rules S → State S → To → Type 0
+IsTo R s act.Behind = Unit {0}
+IsTo R s (act.Next to) = R.Target s to
+
+abbrev pub IsWork : {S : Type 0} → Rules S → State S → WordAct → Type 0
+IsWork R s (act.Fails t) = R.Fails t
+IsWork R s (act.Raises t cells) = R.Raises t
+IsWork R s (act.Leaves cells) = Unit {0}
+IsWork R s (act.Works w) = R.Works w
+IsWork R s (act.Moves cells move to) = IsMove R s move × IsTo R s to
+IsWork R s (act.Knows w cells) = R.Known s w
+IsWork R s (act.Appends e cells) = R.Appends s
+IsWork R s (act.Loads size m cells) = R.Loads s m
+IsWork R s (act.Takes cells a) = IsWork R (with_stack cells s) a
+IsWork R s (act.Guards cells a) = IsWork R (guarded cells s) a
+
+-- the number of the cell that `throw` takes may be thrown, where a plan comes to it
+abbrev pub MayRaise : {S : Type 0} → Rules S → Option Plan → List Cell → Type 0
+MayRaise R p cells = (x : Cell) → cell_of p cells ≡ Some x → R.Raises (record { 0 = signed x })
+
+-- ---- what an entry gives
+
+pub if_works : {S : Type 0} (R : Rules S) (b : Bool) (x y : WordAct) (s : State S) → (b ≡ true → IsWork R s x)
+    → (b ≡ false → IsWork R s y) → IsWork R s (if b then x else y)
+if_works R true x y s p q = p refl
+if_works R false x y s p q = q refl
+
+unless_works : {S : Type 0} (R : Rules S) (f : Option Throw) (a : WordAct) (s : State S) → IsListedFault f
+    → (f ≡ None → IsWork R s a) → IsWork R s (act.unless f a)
+unless_works R None a s l h = h refl
+unless_works R (Some t) a s l h = R.fails t l
+
+pub leaving_works : {S : Type 0} (R : Rules S) (r : Result (List Cell) Throw) (s : State S) → ThrowsListed r
+    → IsWork R s (leaving r)
+leaving_works R (Ok cells) s l = tt
+leaving_works R (Err t) s l = R.fails t l
+
+pub pushed_works : {S : Type 0} (R : Rules S) (x : Cell) (cells : List Cell) (s : State S)
+    → IsWork R s (leaving (pushed x cells))
+pushed_works R x cells s = leaving_works R (pushed x cells) s (within_listed (x ∷ cells))
+
+knowing_works : {S : Type 0} (R : Rules S) (r : Result (WordsState × List Cell) Throw) (s : State S) → ThrowsListed r
+    → ((x : WordsState × List Cell) → r ≡ Ok x → R.Known s x.0) → IsWork R s (knowing r)
+knowing_works R (Ok x) s l h = h x refl
+knowing_works R (Err t) s l h = R.fails t l
+
+pub store_works : {S : Type 0} (R : Rules S) (xt : ℕ) (s : State S) → R.Held s
+    → IsWork R s (knowing (store_entry xt s.words s.parts.stack))
+store_works R xt s p =
+    knowing_works R (store_entry xt s.words s.parts.stack) s (store_listed xt s.words s.parts.stack)
+    (λ x e. R.stores xt x s p e)
+
+pub pushing_works : {S : Type 0} (R : Rules S) (item : ReturnItem) (r : List ReturnItem) (cells : List Cell) (to : To)
+    (s : State S) → R.Item s item → IsTo R s to → IsWork R s (pushing item r cells to)
+unfolding is_listed listed_numbers
+pushing_works R item r cells to s i t =
+    if_works R (nat_lt 256 (length (item ∷ r))) _ _ s (λ e. R.fails _ refl) (λ e. (i, t))
+
+pub returning_works : {S : Type 0} (R : Rules S) (r : Result Continuation Throw) (cells : List Cell) (s : State S)
+    → R.Held s → R.Drops s → return_on_top s.flow.items ≡ r → ThrowsListed r → IsWork R s (returning r cells)
+returning_works R (Ok to) cells s p d e l = (d, R.returns to s p e)
+returning_works R (Err t) cells s p d e l = R.fails t l
+
+-- ---- own words
+
+own_works : {S : Type 0} (R : Rules S) (k : Option Kind) (xt : ℕ) (s : State S)
+    → kind_in (own_word s.words.dictionary xt) ≡ k → R.Held s → IsWork R s (own_act k xt (front_of s))
+unfolding is_listed listed_numbers
+own_works R None xt s e p = R.fails _ refl
+own_works R (Some (kind.Colon start)) xt s e p =
+    if_works R (is_opened (open_xt s) xt) _ _ s (λ z. R.fails _ refl)
+    (λ z. pushing_works R (Return s.flow.next) s.flow.items s.parts.stack (act.Next (continuation.Code start)) s
+    (R.return s p) (R.begins start xt s p e z))
+own_works R (Some k) xt s e p = leaving_works R (product_entry k s.parts.stack) s (products k s.parts.stack)
+
+-- ---- the return stack
+
+found_works : {S : Type 0} (R : Rules S) (r : Result Cell Throw) (cells : List Cell) (s : State S) → ThrowsListed r
+    → IsWork R s (leaving (found r cells))
+found_works R r cells s l = leaving_works R (found r cells) s (finds r cells l)
+
+dropping_works : {S : Type 0} (R : Rules S) (r : Result (List Cell) Throw) (s : State S) → R.Drops s → ThrowsListed r
+    → IsWork R s (dropping r)
+dropping_works R (Ok cells) s d l = (d, tt)
+dropping_works R (Err t) s d l = R.fails t l
+
+unlooping_works : {S : Type 0} (R : Rules S) (r : Result LoopParameters Throw) (cells : List Cell) (s : State S)
+    → R.Drops s → ThrowsListed r → IsWork R s (unlooping r cells)
+unlooping_works R (Ok l) cells s d t = (d, tt)
+unlooping_works R (Err t) cells s d l = R.fails t l
+
+-- a word drops an item only where it is known as one that does
+returns_works : {S : Type 0} (R : Rules S) (w : ReturnsWord) (cells : List Cell) (s : State S) → R.Held s
+    → (drops_item (Some (word.Returns w)) ≡ true → R.Drops s) → IsWork R s (returns_act w cells s.flow.items)
+unfolding returns_act is_listed listed_numbers
+returns_works R returns.ToReturn [] s p d = R.fails _ refl
+returns_works R returns.ToReturn (x ∷ cells) s p d =
+    if_works R (has_due_top s.flow.items) _ _ s (λ e. R.fails _ refl)
+    (λ e. pushing_works R (User x) s.flow.items cells act.Behind s (R.user x s p) tt)
+returns_works R returns.FromReturn cells s p d =
+    dropping_works R (found (user_on_top s.flow.items) cells) s (d refl)
+    (finds (user_on_top s.flow.items) cells (user_listed s.flow.items))
+returns_works R returns.FetchReturn cells s p d = found_works R _ cells s (user_listed s.flow.items)
+returns_works R returns.Unloop cells s p d =
+    unlooping_works R (loop_on_top s.flow.items) cells s (d refl) (loop_listed s.flow.items)
+returns_works R returns.Index cells s p d =
+    found_works R _ cells s (index_listed (slice_get (open_loops s.flow.items) 0))
+returns_works R returns.OuterIndex cells s p d =
+    found_works R _ cells s (index_listed (slice_get (open_loops s.flow.items) 1))
+returns_works R returns.Exit cells s p d =
+    returning_works R (return_on_top s.flow.items) cells s p (d refl) refl (return_listed s.flow.items)
+returns_works R returns.Execute cells s p d = R.fails _ refl
+
+-- ---- throws
+
+throw_works : {S : Type 0} (R : Rules S) (cells : List Cell) (s : State S)
+    → MayRaise R (Some (Written (word.Throws throws.Throw))) cells → IsWork R s (throw_act cells)
+unfolding is_listed listed_numbers
+throw_works R [] s h = R.fails _ refl
+throw_works R (n ∷ cells) s h = if_works R (n.0 == 0) _ _ s (λ e. tt) (λ e. h n refl)
+
+throws_work : {S : Type 0} (R : Rules S) (w : ThrowsWord) (cells : List Cell) (s : State S)
+    → MayRaise R (Some (Written (word.Throws w))) cells → IsWork R s (throws_act w cells)
+unfolding is_listed listed_numbers
+throws_work R throws.Abort cells s h = R.fails _ refl
+throws_work R throws.Throw cells s h = throw_works R cells s h
+throws_work R throws.Catch cells s h = R.fails _ refl
+
+-- ---- words on words
+
+none_found : (b : Bool) (t : Throw) (f : Option Throw) → counted (fault_if b t) f ≡ None → b ≡ false
+none_found true t None e = absurd cc
+none_found true t (Some u) e = absurd cc
+none_found false t f e = refl
+
+comma_none : {S : Type 0} (R : Rules S) (b : Bool) (s : State S)
+    → IsWork R s (act.Fails (if b then compile_only else stack_underflow))
+unfolding is_listed listed_numbers
+comma_none R true s = R.fails _ refl
+comma_none R false s = R.fails _ refl
+
+comma_works : {S : Type 0} (R : Rules S) → R.Runs → (cells : List Cell) (s : State S) → R.Held s
+    → IsWork R s (comma_act s.words cells)
+comma_works R r [] s p = comma_none R (is_none s.words.defining) s
+comma_works R r (xt ∷ cells) s p =
+    unless_works R (counting (comma_faults s.words xt)) _ s (comma_fault s.words xt)
+    (λ e. R.opens r s p
+    (none_found (is_none s.words.defining) compile_only
+    (counting (fault_if (not (is_word s.words.dictionary xt.0)) bad_handle ∷ [])) e))
+
+-- ---- `byte-load`
+
+loading_works : {S : Type 0} (R : Rules S) (size : OffsetSize) (r : Result (ℕ × DataSpace) MemFault) (cells : List Cell)
+    (s : State S) → ((x : ℕ × DataSpace) → r ≡ Ok x → R.Loads s x.1) → IsWork R s (loading size r cells)
+loading_works R size (Ok x) cells s h = h x refl
+loading_works R size (Err fault) cells s h = R.faults fault
+
+copying_works : {S : Type 0} (R : Rules S) (a : ℕ) (cells : List Cell) (s : State S) → R.Held s
+    → IsWork R s (copying s.parts.memory a cells)
+copying_works R a cells s p =
+    let m = s.parts.memory in
+    loading_works R (first_size (start_at m a ∷ []))
+    (image_pushed_from m a (length_at m a) (spread_of (start_at m a))) cells s
+    (λ x e. R.loads a (length_at m a) (spread_of (start_at m a)) x s p e)
+
+load_works : {S : Type 0} (R : Rules S) (cells : List Cell) (s : State S) → R.Held s
+    → IsWork R s (load_act cells (front_of s))
+unfolding is_listed listed_numbers
+load_works R [] s p = R.fails _ refl
+load_works R (fetch ∷ []) s p = R.fails _ refl
+load_works R (fetch ∷ a ∷ cells) s p =
+    unless_works R (counting (loading_faults s.parts.memory a fetch (length s.flow.items)))
+    (copying s.parts.memory a.0 cells) s (loading_fault s.parts.memory a fetch (length s.flow.items))
+    (λ e. copying_works R a.0 cells s p)
+
+-- ---- all words
+
+dictionary_works : {S : Type 0} (R : Rules S) → R.Runs → (w : DictionaryWord) (s : State S) → R.Held s
+    → IsWork R s (dictionary_act w (front_of s))
+unfolding dictionary_act is_listed listed_numbers
+dictionary_works R r dictionary.FromBody s p = leaving_works R _ s (from_body_listed s.words s.parts.stack)
+dictionary_works R r dictionary.ToBody s p = leaving_works R _ s (to_body_listed s.words s.parts.stack)
+dictionary_works R r dictionary.GetToken s p = leaving_works R _ s (get_token_listed s.words s.parts.stack)
+dictionary_works R r dictionary.SetToken s p =
+    knowing_works R (set_token_entry s.words s.parts.stack) s (set_token_listed s.words s.parts.stack)
+    (λ x e. R.sets x s p e)
+dictionary_works R r dictionary.State s p = pushed_works R _ s.parts.stack s
+dictionary_works R r dictionary.CompileComma s p = comma_works R r s.parts.stack s p
+dictionary_works R r dictionary.Behavior s p = leaving_works R _ s (behavior_listed s.words s.parts.stack)
+dictionary_works R r dictionary.ByteLoad s p =
+    if_works R (is_some s.words.defining) _ _ s (λ e. R.fails _ refl) (λ e. load_works R s.parts.stack s p)
+dictionary_works R r w s p = R.fails _ refl
+
+written_works : {S : Type 0} (R : Rules S) → R.Runs → (w : Word) (s : State S) → R.Held s
+    → (drops_item (Some w) ≡ true → R.Drops s) → MayRaise R (Some (Written w)) s.parts.stack
+    → IsWork R s (written_act w (front_of s))
+unfolding written_act is_listed listed_numbers
+written_works R r (word.Returns w) s p d h = returns_works R w s.parts.stack s p d
+written_works R r (word.Throws w) s p d h = throws_work R w s.parts.stack s h
+written_works R r (word.Dictionary w) s p d h = dictionary_works R r w s p
+written_works R r (word.Stream w) s p d h = R.fails _ refl
+written_works R r (word.Parsing w) s p d h = R.fails _ refl
+written_works R r (word.Compiling w) s p d h = R.fails _ refl
+written_works R r w s p d h = R.works r w
+
+plan_works : {S : Type 0} (R : Rules S) → R.Runs → (q : Plan) (s : State S) → StopsListed q → R.Held s
+    → (drops_item (last_word q) ≡ true → R.Drops s) → MayRaise R (Some q) s.parts.stack
+    → IsWork R s (act_of_plan q (front_of s))
+unfolding act_of_plan
+plan_works R r (Stops t) s l p d h = R.fails t l
+plan_works R r (Written w) s l p d h = written_works R r w s p d h
+plan_works R r (Own xt) s l p d h = own_works R (kind_in (own_word s.words.dictionary xt)) xt s refl p
+plan_works R r (Execute cells q) s l p d h =
+    plan_works R r q (with_stack cells s) l (R.takes cells s p) (λ e. R.drops_taken cells s (d e)) h
+plan_works R r (Catch cells q) s l p d h =
+    plan_works R r q (guarded cells s) l (R.guards cells s p) (λ e. R.drops_guarded cells s p) h
+
+-- executing a word
+pub execution_works : {S : Type 0} (R : Rules S) → R.Runs → (xt : ℕ) (s : State S) → R.Held s
+    → (drops_item (last_word (plan_in s xt)) ≡ true → R.Drops s) → MayRaise R (Some (plan_in s xt)) s.parts.stack
+    → IsWork R s (execution xt (front_of s))
+unfolding execution
+execution_works R r xt s p d h =
+    plan_works R r (plan_in s xt) s (plan_stops s.words (length s.flow.items) s.parts.stack xt) p d h
+
+-- where a plan is carried out, what its word comes to is what the law asks
+abbrev pub Executes : {S : Type 0} → Rules S → Option Plan → State S → Type 0
+Executes R p s = (xt : ℕ) → p ≡ Some (plan_in s xt) → IsWork R s (execution xt (front_of s))
+
+pub all_executed : {S : Type 0} (R : Rules S) → R.Runs → (p : Option Plan) (s : State S) → R.Held s → R.Drops s
+    → MayRaise R p s.parts.stack → Executes R p s
+all_executed R r p s h d raises xt e =
+    execution_works R r xt s h (λ z. d) (λ x c. raises x (ap (λ o. cell_of o s.parts.stack) e ∙ c))
