@@ -5,18 +5,19 @@ use Rattle.std.proofs.Common.{inl, inr, refl, sym, ap, ◌∙◌, subst, arith, 
 use Rattle.std.proofs.lemmas.Bool.{and_parts, cases_lt, eqb-true, leb-true, false≢true}
 use Rattle.std.proofs.lemmas.List.{drop-drop, places, same_lists}
 use Rattle.std.specs.Prelude.{◌||◌}
-use Rattle.std.specs.Int.{bytes_high_first}
 use Rattle.of_memory.specs.declared.blocks.Block.{Block}
 use Rattle.of_memory.specs.declared.fault.MemFault.{MemFault}
 use Rattle.of_memory.specs.declared.fault.MemFault.TheVariants.{ReadOnly}
 use Rattle.of_memory.specs.declared.width.Width.{Width}
 use Rattle.of_memory.specs.Access.{or_fault, read_fault, unless, write_fault}
-use Rattle.of_memory.specs.Blocks.{first_of_eighths, least_free, meets_none}
-use Rattle.of_memory.specs.DataSpace.{DataSpace, splice, written}
+use Rattle.of_memory.specs.Blocks.{IsFree, first_of_eighths, least_free, meets_none}
+use Rattle.of_memory.specs.DataSpace.{DataSpace, IsSound, splice, written}
 use Rattle.of_memory.specs.RangeLaws.{PartsAreGood, RangesArePlaced, WritesJoin}
-use Rattle.of_memory.specs.Regions.{byte_count, heap_limit, heap_start, image_start, may_write, place_of}
+use Rattle.of_memory.specs.Regions.{heap_limit, heap_start, image_start, may_write, place_of}
 use Rattle.of_memory.specs.Regions.{region_numbered, region_of, span}
 use Rattle.of_instances.specs.Images.{KeepsImages}
+use Rattle.of_eval_laws.specs.Sound.{AreBytes}
+use Rattle.of_eval_laws.proofs.SoundSpace.{written_sound}
 
 -- what of_memory's laws say
 pub record Given : Type 0 where
@@ -24,12 +25,13 @@ pub record Given : Type 0 where
   pub ranges : RangesArePlaced
   pub joins : WritesJoin
 
--- the images are the same, and so are all bytes from where they begin on
+-- the images are the same, so are all bytes from where they begin on, and the data space is sound
 abbrev pub Stands : DataSpace → DataSpace → Type 0
-Stands m after = (after.images ≡ m.images) × ((p : ℕ) → 0x14_0000 ≤ p → drop p after.bytes ≡ drop p m.bytes)
+Stands m after =
+    (after.images ≡ m.images) × ((p : ℕ) → 0x14_0000 ≤ p → drop p after.bytes ≡ drop p m.bytes) × IsSound after
 
-pub same : (m : DataSpace) → Stands m m
-same m = (refl, λ p l. refl)
+pub same : (m : DataSpace) → IsSound m → Stands m m
+same m sound = (refl, (λ p l. refl), sound)
 
 -- ---- below the image region
 
@@ -38,14 +40,14 @@ spliced :
     → drop p (splice xs i ys) ≡ drop p xs
 spliced xs ys i p fits below = same_lists _ _ (grind (arith, places)) (λ k d h. grind (arith, places))
 
-pub splice_length : (xs ys : List ℕ) (i : ℕ) → i + length ys ≤ length xs → length (splice xs i ys) ≡ length xs
-splice_length xs ys i fits = grind (arith, places)
-
 -- bytes written below the image region
-pub below_stands : (m : DataSpace) (a : ℕ) (ys : List ℕ) → length m.bytes ≡ byte_count
+pub below_stands : (m : DataSpace) (a : ℕ) (ys : List ℕ) → IsSound m → AreBytes ys
     → place_of a + length ys ≤ 0x14_0000 → Stands m (written m a ys)
-below_stands m a ys full below =
-    (refl, λ p l. spliced m.bytes ys (place_of a) p (omega (arith, full, below)) (omega (arith, below, l)))
+below_stands m a ys sound small below = (
+  refl,
+  (λ p l. spliced m.bytes ys (place_of a) p (omega (arith, sound.bytes, below)) (omega (arith, below, l))),
+  written_sound m a ys sound (omega (arith, below)) small,
+)
 
 -- ---- where programs may write
 
@@ -84,30 +86,16 @@ fault_place g m a n w e l =
 
 -- as many bytes as may be written, or fewer
 pub fault_stands :
-    (g : Given) (m : DataSpace) (a n : ℕ) (ys : List ℕ) (w : Width) → length m.bytes ≡ byte_count
-    → length ys ≤ n → write_fault m a n w ≡ None → Stands m (written m a ys)
-fault_stands g m a n [] w full few e = subst (λ x. Stands m x) (sym (g.joins.none m a)) (same m)
-fault_stands g m a n (y ∷ ys) w full few e =
+    (g : Given) (m : DataSpace) (a n : ℕ) (ys : List ℕ) (w : Width) → IsSound m → AreBytes ys → length ys ≤ n
+    → write_fault m a n w ≡ None → Stands m (written m a ys)
+fault_stands g m a n [] w sound small few e = subst (λ x. Stands m x) (sym (g.joins.none m a)) (same m sound)
+fault_stands g m a n (y ∷ ys) w sound small few e =
     let most = fault_place g m a n w e (omega (arith, few)) in
-    below_stands m a (y ∷ ys) full (omega (arith, most, few))
-
--- there are as many bytes then
-pub fault_full :
-    (g : Given) (m : DataSpace) (a n : ℕ) (ys : List ℕ) (w : Width) → length m.bytes ≡ byte_count
-    → length ys ≤ n → 0 < n → write_fault m a n w ≡ None → length (written m a ys).bytes ≡ byte_count
-fault_full g m a n ys w full few some e =
-    let most = fault_place g m a n w e some in
-    splice_length m.bytes ys (place_of a) (omega (arith, most, few, full)) ∙ full
+    below_stands m a (y ∷ ys) sound small (omega (arith, most, few))
 
 -- and then others
 pub then_stands : (m after last : DataSpace) → Stands m after → Stands after last → Stands m last
-then_stands m after last x y = (y.0 ∙ x.0, λ p l. y.1 p l ∙ x.1 p l)
-
--- ---- how many bytes
-
-pub high_length : (n x : ℕ) → length (bytes_high_first n x) ≡ n
-high_length zero x = refl
-high_length (suc n) x = ap (λ k. suc k) (high_length n x)
+then_stands m after last x y = (y.0 ∙ x.0, (λ p l. y.1 p l ∙ x.1 p l), y.2)
 
 -- ---- answers
 
@@ -126,29 +114,30 @@ unless_stands m (Some f) after h = tt
 
 -- ---- blocks of the heap
 
-first_if : (p : ℕ → Bool) (b : Bool) (low a x : ℕ) (rest : Option ℕ) → p a ≡ b → low ≤ a
-    → (rest ≡ Some x → (p x ≡ true) × (low ≤ x)) → (if b then Some a else rest) ≡ Some x
-    → (p x ≡ true) × (low ≤ x)
-first_if p true low a x rest e l h at =
-    let one : a ≡ x = cc in (subst (λ y. p y ≡ true) one e, subst (λ y. low ≤ y) one l)
-first_if p false low a x rest e l h at = h at
+-- a number from the first on, a multiple of 8 behind it, that passes
+abbrev Passes : (ℕ → Bool) → ℕ → ℕ → Type 0
+Passes p low x = (p x ≡ true) × (low ≤ x) × (x % 8 ≡ 0)
 
-first_passes : (p : ℕ → Bool) (low a n x : ℕ) → low ≤ a → first_of_eighths p a n ≡ Some x
-    → (p x ≡ true) × (low ≤ x)
-first_passes p low a zero x l e = absurd cc
-first_passes p low a (suc n) x l e =
-    first_if p (p a) low a x (first_of_eighths p (a + 8) n) refl l
-    (λ h. first_passes p low (a + 8) n x (omega (arith, l)) h) e
+first_if : (p : ℕ → Bool) (b : Bool) (low a x : ℕ) (rest : Option ℕ) → p a ≡ b → low ≤ a → a % 8 ≡ 0
+    → (rest ≡ Some x → Passes p low x) → (if b then Some a else rest) ≡ Some x → Passes p low x
+first_if p true low a x rest e l eighth h at = let one : a ≡ x = cc in subst (λ y. Passes p low y) one (e, l, eighth)
+first_if p false low a x rest e l eighth h at = h at
 
-pub free_place : (blocks : List Block) (size a : ℕ) → least_free heap_start heap_limit blocks size ≡ Some a
-    → place_of a + size ≤ 0x14_0000
+first_passes : (p : ℕ → Bool) (low a n x : ℕ) → low ≤ a → a % 8 ≡ 0 → first_of_eighths p a n ≡ Some x
+    → Passes p low x
+first_passes p low a zero x l eighth e = absurd cc
+first_passes p low a (suc n) x l eighth e =
+    first_if p (p a) low a x (first_of_eighths p (a + 8) n) refl l eighth
+    (λ h. first_passes p low (a + 8) n x (omega (arith, l)) (omega (arith, eighth)) h) e
+
+pub free_is : (blocks : List Block) (size a : ℕ) → least_free heap_start heap_limit blocks size ≡ Some a
+    → IsFree heap_start heap_limit blocks size a
 unfolding least_free
-free_place blocks size a e =
+free_is blocks size a e =
     let found = first_passes (λ x. nat_le (x + size) heap_limit && meets_none blocks size x) heap_start heap_start
-    ((heap_limit - heap_start) / 8) a (omega arith) e in
-    let ends = leb-true (a + size) heap_limit
-    (and_parts (nat_le (a + size) heap_limit) (meets_none blocks size a) found.0).0 in
-    omega (arith, ends, found.1)
+    ((heap_limit - heap_start) / 8) a (omega arith) (omega arith) e in
+    let both = and_parts (nat_le (a + size) heap_limit) (meets_none blocks size a) found.0 in
+    record { aligned = found.2; from = found.1; to = leb-true (a + size) heap_limit both.0; apart = both.1 }
 
 -- ---- the image region
 
@@ -158,10 +147,11 @@ behind xs p l =
     sym (drop-drop (p - 0x14_0000) 0x14_0000 xs ∙ ap (λ k. drop k xs) whole)
 
 -- where the image region is as it was, so are all bytes from there on
-pub kept_stands : (m after : DataSpace) → KeepsImages m after → Stands m after
-kept_stands m after k = (
+pub kept_stands : (m after : DataSpace) → KeepsImages m after → IsSound after → Stands m after
+kept_stands m after k sound = (
   k.0,
-  λ p l. behind after.bytes p l ∙ ap (λ xs. drop (p - 0x14_0000) xs) k.1 ∙ sym (behind m.bytes p l),
+  (λ p l. behind after.bytes p l ∙ ap (λ xs. drop (p - 0x14_0000) xs) k.1 ∙ sym (behind m.bytes p l)),
+  sound,
 )
 
 pub images_kept : (m after : DataSpace) → Stands m after → KeepsImages m after

@@ -1,16 +1,19 @@
 -- The law `images_run`: what comes next and the end of a step, taken together.
-use Rattle.std.proofs.Common.{◌≡◌, ◌⊎◌, inl, inr, Bool, true, false, Some, None}
-use Rattle.std.proofs.Common.{Result, Ok, Err, refl, subst, ◌∙◌, if◌then◌else◌}
+use Rattle.std.proofs.Common.{◌≡◌, ◌⊎◌, inl, inr, ℕ, zero, suc, ◌+◌, Bool, true, false, List, [], ◌∷◌, ◌++◌, drop, Some, None}
+use Rattle.std.proofs.Common.{Result, Ok, Err, refl, ap, subst, ◌∙◌, if◌then◌else◌}
+use Rattle.std.proofs.lemmas.List.{drop-drop}
 use Rattle.of_stacks.specs.declared.throws.Throw.{Throw}
 use Rattle.of_memory.specs.DataSpace.{AreStacked, DataSpace, IsSound}
 use Rattle.of_eval.specs.State.{Calls, State}
 use Rattle.of_eval.specs.Settling.{settled, thrown_in}
-use Rattle.of_eval.specs.Steps.{due, settled_of, stepped}
-use Rattle.of_eval_laws.specs.Running.{DueLeaves, GoOn, ImagesRun, SomeEnd, is_at_end}
+use Rattle.of_eval.specs.Steps.{due, settled_of, stepped, steps_from}
+use Rattle.of_eval_laws.specs.Running.{DueLeaves, GoOn, ImagesRun, OthersRun, RunningImage, SomeEnd, is_at_end}
+use Rattle.of_eval_laws.specs.Running.{running}
+use Rattle.of_eval_laws.specs.Sound.{HasSoundSpace}
 use Rattle.of_eval_laws.proofs.FramedSpace.{Stands, then_stands}
-use Rattle.of_eval_laws.proofs.RunningBytes.{IsReady, all_run, pushed, ready, stands_ready}
+use Rattle.of_eval_laws.proofs.RunningBytes.{all_run, pushed}
 use Rattle.of_eval_laws.proofs.RunningEnds.{cut_off, end_leaves, popped_ends, then_end, worked_off}
-use Rattle.of_eval_laws.proofs.RunningSound.{settled_sound}
+use Rattle.of_eval_laws.proofs.SoundSteps.{kept_sound, step_sound, steps_keep}
 use Rattle.of_eval_laws.proofs.RunningTokens.{due_leaves}
 use Rattle.of_eval_laws.proofs.RunningWords.{Kept, KeptBy, Laws}
 
@@ -25,43 +28,38 @@ due_left b m after (Err t) stacked h = all_run m after stacked h
 
 -- ---- with what is worked off then
 
--- what was left is ready for what is worked off
-kept_ready : (b : Bool) (m after : DataSpace) → IsReady m → Kept b m after → IsReady after
-kept_ready b m after r (inl h) = stands_ready m after r h
-kept_ready b m after r (inr h) = h.0
-
-goes_on : (m after last : DataSpace) → IsReady m → Kept false m after → Stands after last → GoOn m last
-goes_on m after last r (inl h) st = inl (all_run m last r.1 (then_stands m after last h st))
-goes_on m after last r (inr (full, (image, e))) st = inr (image, all_run after last full.1 st ∙ e)
+goes_on : (m after last : DataSpace) → IsSound m → Kept false m after → Stands after last → GoOn m last
+goes_on m after last r (inl h) st = inl (all_run m last r.images (then_stands m after last h st))
+goes_on m after last r (inr (full, (image, e))) st = inr (image, all_run after last full.images st ∙ e)
 
 -- what a whole step may leave
 abbrev StepLeaves : DataSpace → DataSpace → Type 0
 StepLeaves m after = SomeEnd m after ⊎ GoOn m after
 
-kept_then : (b : Bool) (m after last : DataSpace) → IsReady m → Kept b m after → Stands after last
+kept_then : (b : Bool) (m after last : DataSpace) → IsSound m → Kept b m after → Stands after last
     → StepLeaves m last
 kept_then false m after last r h st = inr (goes_on m after last r h st)
 kept_then true m after last r (inl h) st = inr (goes_on m after last r (inl h) st)
-kept_then true m after last r (inr (full, inl e)) st = inl (1, all_run after last full.1 st ∙ e)
+kept_then true m after last r (inr (full, inl e)) st = inl (1, all_run after last full.images st ∙ e)
 kept_then true m after last r (inr (full, inr one)) st = inr (goes_on m after last r (inr (full, one)) st)
 
 settles : {S : Type 0} (b : Bool) (c : Calls S) (m : DataSpace) (e : Result (Unit {0}) Throw) (s : State S)
-    → IsReady m → KeptBy b m s.parts.memory e
+    → IsSound m → KeptBy b m s.parts.memory e
     → StepLeaves m (settled c s.flow.items (thrown_in e) s).parts.memory
 settles b c m (Ok x) s r h =
     kept_then b m s.parts.memory (settled c s.flow.items None s).parts.memory r h
-    (worked_off c s.flow.items s (kept_ready b m s.parts.memory r h))
+    (worked_off c s.flow.items s (kept_sound b m s.parts.memory h))
 settles b c m (Err t) s r h =
     inl
-    (then_end m s.parts.memory (settled c s.flow.items (Some t) s).parts.memory 0 (all_run m s.parts.memory r.1 h)
-    (cut_off c s.flow.items t s (stands_ready m s.parts.memory r h)))
+    (then_end m s.parts.memory (settled c s.flow.items (Some t) s).parts.memory 0 (all_run m s.parts.memory r.images h)
+    (cut_off c s.flow.items t s h.2).1)
 
-nothing_ends : {S : Type 0} (c : Calls S) (m : DataSpace) (e : Result (Unit {0}) Throw) (s : State S) → IsReady m
+nothing_ends : {S : Type 0} (c : Calls S) (m : DataSpace) (e : Result (Unit {0}) Throw) (s : State S) → IsSound m
     → e ≡ Ok tt → KeptBy false m s.parts.memory e
     → GoOn m (settled c s.flow.items (thrown_in e) s).parts.memory
 nothing_ends c m (Ok x) s r done h =
     goes_on m s.parts.memory (settled c s.flow.items None s).parts.memory r h
-    (worked_off c s.flow.items s (kept_ready false m s.parts.memory r h))
+    (worked_off c s.flow.items s (kept_sound false m s.parts.memory h))
 nothing_ends c m (Err t) s r done h = absurd cc
 
 -- ---- one step, or none where nothing runs
@@ -77,7 +75,7 @@ unfolding stepped
 step_leaves l c s sound =
     let o = due c s.flow.next s in
     either (λ x. StepLeaves s.parts.memory x) s.flow.is_running (settled_of c o) s
-    (settles (is_at_end s.flow.next s) c s.parts.memory o.ended o.state (ready s.parts.memory sound)
+    (settles (is_at_end s.flow.next s) c s.parts.memory o.ended o.state sound
     (due_leaves l c s.flow.next s sound))
     (inr (inl refl))
 
@@ -88,30 +86,51 @@ unfolding stepped
 step_goes_on l c s sound inside done =
     let o = due c s.flow.next s in
     either (λ x. GoOn s.parts.memory x) s.flow.is_running (settled_of c o) s
-    (nothing_ends c s.parts.memory o.ended o.state (ready s.parts.memory sound) done
+    (nothing_ends c s.parts.memory o.ended o.state sound done
     (subst (λ b. KeptBy b s.parts.memory o.state.parts.memory o.ended) inside (due_leaves l c s.flow.next s sound)))
     (inl refl)
 
-step_sound : {S : Type 0} (c : Calls S) (s : State S) → IsSound s.parts.memory
-    → IsSound (due c s.flow.next s).state.parts.memory → IsSound (stepped c s).parts.memory
-unfolding stepped
-step_sound c s sound whole =
-    let o = due c s.flow.next s in
-    either IsSound s.flow.is_running (settled_of c o) s
-    (settled_sound c o.state.flow.items (thrown_in o.ended) o.state whole) sound
+-- ---- any number of steps
+
+dropped : (n k : ℕ) (xs ys : List RunningImage)
+    → (ended : ℕ) × (more : List RunningImage) × (drop n (xs ++ drop k ys) ≡ more ++ drop ended ys)
+dropped zero k xs ys = (k, xs, refl)
+dropped (suc n) k [] ys = (k + suc n, [], drop-drop (suc n) k ys)
+dropped (suc n) k (x ∷ xs) ys = dropped n k xs ys
+
+run_then : (m after last : DataSpace) → OthersRun m after → StepLeaves after last → OthersRun m last
+run_then m after last (k, begun, e) (inl (n, h)) =
+    let rest = dropped n k begun (running m) in
+    (rest.0, rest.1, h ∙ ap (λ x. drop n x) e ∙ rest.2)
+run_then m after last (k, begun, e) (inr (inl h)) = (k, begun, h ∙ e)
+run_then m after last (k, begun, e) (inr (inr (image, h))) = (k, image ∷ begun, h ∙ ap (λ x. image ∷ x) e)
+
+-- what is so of a state that some steps lead to
+abbrev IsLater : {S : Type 0} → DataSpace → State S → Type 0
+IsLater m s = HasSoundSpace s × OthersRun m s.parts.memory
+
+steps_run : {S : Type 0} (l : Laws) (c : Calls S) (n : ℕ) (s after : State S) → HasSoundSpace s
+    → steps_from c n s ≡ Some after → OthersRun s.parts.memory after.parts.memory
+steps_run l c n s after sound e =
+    (steps_keep (λ x. IsLater s.parts.memory x) c
+    (λ x h. (
+      step_sound l c x h.0,
+      run_then s.parts.memory x.parts.memory (stepped c x).parts.memory h.1 (step_leaves l c x h.0),
+    ))
+    n s after (sound, (0, [], refl)) e).1
 
 -- ---- the law
 
 pub images_run : Laws → (S : Type 0) → ImagesRun S
 images_run l S = record {
   begun = λ image node a m s sound e. (pushed l.pushes s.parts.memory m image a sound e).1;
-  given_back = λ n m sound. popped_ends n m (ready m sound);
+  given_back = λ n m sound. popped_ends n m sound;
   done = λ c s sound.
       let o = due c s.flow.next s in
       due_left (is_at_end s.flow.next s) s.parts.memory o.state.parts.memory o.ended sound.images
       (due_leaves l c s.flow.next s sound);
-  settled = λ c items thrown s sound. end_leaves c items thrown s (ready s.parts.memory sound);
-  sound = λ c s sound whole. step_sound c s sound whole;
+  settled = λ c items thrown s sound. end_leaves c items thrown s sound;
   go_on = λ c s sound inside done. step_goes_on l c s sound inside done;
   step = λ c s sound. step_leaves l c s sound;
+  steps = λ c n s after sound e. steps_run l c n s after sound e;
 }

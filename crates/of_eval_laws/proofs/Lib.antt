@@ -7,10 +7,11 @@
 -- ListedFaults, ListedWords, Raised: the law `steps_throw_listed`, from one fault of several up to a step.
 -- Mismatch: the law `mismatch_is_no_body`.
 -- Frames, FramedTurns, FramedReading, FramedStack: the law `frames_hold`.
--- FramedSpace, FramedMemory, FramedWriting: the law `images_stand`.
+-- SoundSpace, SoundSites: what writes leaves a data space sound, from bytes up to words over the device tree.
+-- FramedSpace, FramedMemory, FramedWriting: the law `images_stand`, and that the data space stays sound.
 -- ThrowsSettle: the law `throws_settle`.
--- RunningBytes, RunningEnds, RunningSound, RunningWords, RunningTokens, ImagesRun: the law `images_run`, from bytes up
--- to a step.
+-- RunningBytes, RunningEnds, RunningWords, RunningTokens: what becomes of the images that run and of the data space,
+-- from bytes up to what comes next. SoundSteps: the law `space_stays_sound`. ImagesRun: the law `images_run`.
 -- GoingLemmas: the laws `items_go`, `definitions_run`, `catch_keeps`, `ends_go_back`, `loads_begin`.
 -- AskingLemmas: the law `memory_is_asked`.
 -- HomeLemmas: the law `names_stay_home`.
@@ -39,6 +40,8 @@ pub mod GoingLemmas
 pub mod FramedTurns
 pub mod FramedReading
 pub mod FramedStack
+pub mod SoundSpace
+pub mod SoundSites
 pub mod FramedSpace
 pub mod FramedMemory
 pub mod FramedWriting
@@ -46,7 +49,7 @@ pub mod Frames
 pub mod ThrowsSettle
 pub mod RunningBytes
 pub mod RunningEnds
-pub mod RunningSound
 pub mod RunningWords
 pub mod RunningTokens
+pub mod SoundSteps
 pub mod ImagesRun

@@ -1,12 +1,12 @@
 -- The law `images_run`: what writes, a new image and the end of the latest leave of the images that run.
-use Rattle.std.proofs.Common.{◌≡◌, ℕ, ◌+◌, ◌-◌, ◌≤◌, Bool, true, false, List, [], ◌∷◌, length, take, drop}
+use Rattle.std.proofs.Common.{◌≡◌, ℕ, ◌+◌, ◌-◌, ◌≤◌, ◌<◌, Bool, true, false, List, [], ◌∷◌, length, take, drop}
 use Rattle.std.proofs.Common.{replicate, Result, Ok, Err, refl, sym, ap, ◌∙◌, subst, arith, nat_le, nat_lt}
 use Rattle.std.proofs.Common.{if◌then◌else◌}
 use Rattle.std.specs.Prelude.{◌&&◌}
 use Rattle.std.specs.Int.{bytes_high_first}
 use Rattle.of_cells.specs.Numbers.{flag}
-use Rattle.std.proofs.lemmas.Bool.{and_parts, leb-true}
-use Rattle.std.proofs.lemmas.List.{length-drop, length-replicate, places, same_lists}
+use Rattle.std.proofs.lemmas.Bool.{and_parts, leb-true, ltb-true}
+use Rattle.std.proofs.lemmas.List.{length-replicate, places, same_lists}
 use Rattle.of_memory.specs.declared.fault.MemFault.{MemFault}
 use Rattle.of_memory.specs.declared.fault.MemFault.TheVariants.{Full}
 use Rattle.of_memory.specs.DataSpace.{AreStacked, DataSpace, IsSound, bytes_from, free_after, splice, written}
@@ -14,36 +14,17 @@ use Rattle.of_memory.specs.Growth.{image_popped, image_pushed, with_state, witho
 use Rattle.of_memory.specs.Images.{LatestIsPushed, latest_image}
 use Rattle.of_memory.specs.Regions.{byte_count, image_count, image_limit, image_start, place_of, property_start}
 use Rattle.of_eval_laws.specs.Running.{AllRun, RunningImage, images_to, running}
-use Rattle.of_eval_laws.proofs.FramedSpace.{Stands, below_stands, high_length, splice_length}
-
--- as many bytes as a data space has, and its images are stacked
-abbrev pub IsReady : DataSpace → Type 0
-IsReady m = (length m.bytes ≡ byte_count) × AreStacked m.images
-
-pub ready : (m : DataSpace) → IsSound m → IsReady m
-ready m sound = (sound.bytes, sound.images)
+use Rattle.of_eval_laws.specs.Sound.{AreBytes}
+use Rattle.of_eval_laws.proofs.FramedSpace.{Stands, below_stands}
+use Rattle.of_eval_laws.proofs.SoundSpace.{free_from, high_bytes, high_length, popped_sound, with_image}
+use Rattle.of_eval_laws.proofs.SoundSpace.{with_image_sound}
 
 -- ---- what stands
-
-full_length : (xs ys : List ℕ) → drop 0x14_0000 xs ≡ drop 0x14_0000 ys → length ys ≡ byte_count
-    → length xs ≡ byte_count
-full_length xs ys e full =
-    let same : length xs - 0x14_0000 ≡ length ys - 0x14_0000
-    = sym (length-drop 0x14_0000 xs) ∙ ap length e ∙ length-drop 0x14_0000 ys in
-    omega (arith, same, full)
-
-pub stands_ready : (m after : DataSpace) → IsReady m → Stands m after → IsReady after
-stands_ready m after r h =
-    (full_length after.bytes m.bytes (h.1 0x14_0000 (omega arith)) r.0, subst (λ x. AreStacked x) (sym h.0) r.1)
 
 -- the bytes up to an address of the image region are the same
 abbrev AgreesTo : ℕ → DataSpace → DataSpace → Type 0
 AgreesTo end m after =
     (p n : ℕ) → 0x14_0000 ≤ p → p + n ≤ place_of end → take n (drop p after.bytes) ≡ take n (drop p m.bytes)
-
-pub free_from : (ends : List ℕ) → AreStacked ends → image_start ≤ free_after ends
-free_from [] h = omega arith
-free_from (end ∷ ends) h = omega (arith, h.0, h.1)
 
 low_place : (a : ℕ) → image_start ≤ a → a ≤ image_limit → 0x14_0000 ≤ place_of a
 low_place a from to = omega (arith, from, to)
@@ -79,12 +60,10 @@ all_run m after stacked h =
 
 -- ---- the cell `state`
 
-state_length : (x : ℕ) → length (bytes_high_first 4 x) ≤ 4
-state_length x = omega (arith, high_length 4 x)
-
-pub state_stands : (m : DataSpace) (b : Bool) → length m.bytes ≡ byte_count → Stands m (with_state m b)
-state_stands m b full =
-    below_stands m property_start (bytes_high_first 4 (flag b).0) full (omega (arith, state_length (flag b).0))
+pub state_stands : (m : DataSpace) (b : Bool) → IsSound m → Stands m (with_state m b)
+state_stands m b sound =
+    below_stands m property_start (bytes_high_first 4 (flag b).0) sound (high_bytes 4 (flag b).0)
+    (omega (arith, high_length 4 (flag b).0))
 
 -- ---- images that begin and end
 
@@ -98,53 +77,43 @@ written_agrees : (m : DataSpace) (a : ℕ) (ys : List ℕ) → length m.bytes �
 written_agrees m a ys full from to p n l e =
     kept_before m.bytes ys (place_of a) p n (omega (arith, full, from, to)) e
 
-written_full : (m : DataSpace) (a : ℕ) (ys : List ℕ) → length m.bytes ≡ byte_count → image_start ≤ a
-    → a + length ys ≤ image_limit → length (written m a ys).bytes ≡ byte_count
-written_full m a ys full from to = splice_length m.bytes ys (place_of a) (omega (arith, full, from, to)) ∙ full
-
 zeros_fit : (end a : ℕ) → a ≤ end → end ≤ image_limit → a + length (replicate {A = ℕ} (end - a) 0) ≤ image_limit
 zeros_fit end a l to = omega (arith, length-replicate {A = ℕ} (end - a) 0)
 
 -- the latest has ended, and the others run
 abbrev pub Popped : DataSpace → DataSpace → Type 0
-Popped m after = IsReady after × (running after ≡ drop 1 (running m))
+Popped m after = IsSound after × (running after ≡ drop 1 (running m))
 
-popped_from : (m : DataSpace) (ends : List ℕ) → m.images ≡ ends → IsReady m → Popped m (without_image m ends)
-popped_from m [] e r = (r, ap (λ x. images_to m x) e ∙ sym (ap (λ x. drop 1 (images_to m x)) e))
-popped_from m (end ∷ ends) e r =
-    let h : AreStacked (end ∷ ends) = subst (λ x. AreStacked x) e r.1 in
+popped_from : (m : DataSpace) (ends : List ℕ) → m.images ≡ ends → IsSound m
+    → running (without_image m ends) ≡ drop 1 (running m)
+popped_from m [] e s = ap (λ x. images_to m x) e ∙ sym (ap (λ x. drop 1 (images_to m x)) e)
+popped_from m (end ∷ ends) e s =
+    let h : AreStacked (end ∷ ends) = subst (λ x. AreStacked x) e s.images in
     let a = free_after ends in
     let zeros = replicate (end - a) 0 in
-    let fits = zeros_fit end a h.1 h.2 in (
-      (written_full m a zeros r.0 h.0 fits, h.3),
-      images_same m (record (written m a zeros) { images = ends }) ends h.3 (written_agrees m a zeros r.0 h.0 fits)
-          ∙ sym (ap (λ x. drop 1 (images_to m x)) e),
-    )
+    images_same m (record (written m a zeros) { images = ends }) ends h.3
+    (written_agrees m a zeros s.bytes h.0 (zeros_fit end a h.1 h.2))
+    ∙ sym (ap (λ x. drop 1 (images_to m x)) e)
 
-pub popped : (m : DataSpace) → IsReady m → Popped m (image_popped m)
-popped m r = popped_from m m.images refl r
+pub popped : (m : DataSpace) → IsSound m → Popped m (image_popped m)
+popped m s = (popped_sound m s, popped_from m m.images refl s)
 
--- one more runs
+-- one more runs; if it has bytes, the data space is sound
 abbrev pub Pushed : DataSpace → ℕ → List ℕ → DataSpace → Type 0
-Pushed m a xs after = IsReady after × (running after ≡ record { begin = a; bytes = xs } ∷ running m)
+Pushed m a xs after =
+    (AreBytes xs → IsSound after) × (running after ≡ record { begin = a; bytes = xs } ∷ running m)
 
-abbrev with_image : DataSpace → List ℕ → DataSpace
-with_image m xs =
-    record (written m (free_after m.images) xs) { images = (free_after m.images + length xs) ∷ m.images }
-
-more_stacked : (ends : List ℕ) (n : ℕ) → AreStacked ends → free_after ends + n ≤ image_limit
-    → AreStacked ((free_after ends + n) ∷ ends)
-more_stacked ends n h to = (free_from ends h, omega arith, to, h)
-
-with_image_runs : (m : DataSpace) (xs : List ℕ) → IsReady m → free_after m.images + length xs ≤ image_limit
+with_image_runs : (m : DataSpace) (xs : List ℕ) → IsSound m → free_after m.images + length xs ≤ image_limit
+    → length m.images < image_count
     → bytes_from (with_image m xs) (free_after m.images) (free_after m.images + length xs - free_after m.images) ≡ xs
     → Pushed m (free_after m.images) xs (with_image m xs)
-with_image_runs m xs r to e =
-    let from = free_from m.images r.1 in (
-      (written_full m (free_after m.images) xs r.0 from to, more_stacked m.images (length xs) r.1 to),
+with_image_runs m xs s to few e =
+    let from = free_from m.images s.images in (
+      (λ small. with_image_sound m xs s small to few),
       ap (λ (x : List ℕ). record { begin = free_after m.images; bytes = x } ∷ images_to (with_image m xs) m.images) e
           ∙ ap (λ (x : List RunningImage). record { begin = free_after m.images; bytes = xs } ∷ x)
-          (images_same m (with_image m xs) m.images r.1 (written_agrees m (free_after m.images) xs r.0 from to)),
+          (images_same m (with_image m xs) m.images s.images
+          (written_agrees m (free_after m.images) xs s.bytes from to)),
     )
 
 abbrev answer_if : Bool → DataSpace → List ℕ → Result (ℕ × DataSpace) MemFault
@@ -152,17 +121,19 @@ answer_if true m xs = Ok (free_after m.images, with_image m xs)
 answer_if false m xs = Err Full
 
 pushed_if : (b : Bool) (m after : DataSpace) (xs : List ℕ) (a : ℕ)
-    → (nat_le (free_after m.images + length xs) image_limit && nat_lt (length m.images) image_count) ≡ b → IsReady m
+    → (nat_le (free_after m.images + length xs) image_limit && nat_lt (length m.images) image_count) ≡ b → IsSound m
     → answer_if b m xs ≡ Ok (a, after)
     → latest_image after ≡ xs → Pushed m a xs after
-pushed_if true m after xs a h r e latest =
+pushed_if true m after xs a h s e latest =
     let one : ◌≡◌ {A = ℕ × DataSpace} (free_after m.images, with_image m xs) (a, after) = cc in
-    let fits = leb-true (free_after m.images + length xs) image_limit
-    (and_parts (nat_le (free_after m.images + length xs) image_limit) (nat_lt (length m.images) image_count) h).0 in
+    let both =
+    and_parts (nat_le (free_after m.images + length xs) image_limit) (nat_lt (length m.images) image_count) h in
+    let fits = leb-true (free_after m.images + length xs) image_limit both.0 in
     let left : with_image m xs ≡ after = ap (λ (p : ℕ × DataSpace). p.1) one in
     subst (λ (p : ℕ × DataSpace). Pushed m p.0 xs p.1) one
-    (with_image_runs m xs r fits (subst (λ x. latest_image x ≡ xs) (sym left) latest))
-pushed_if false m after xs a h r e latest = absurd cc
+    (with_image_runs m xs s fits (ltb-true (length m.images) image_count both.1)
+    (subst (λ x. latest_image x ≡ xs) (sym left) latest))
+pushed_if false m after xs a h s e latest = absurd cc
 
 answer_is : (b : Bool) (m : DataSpace) (xs : List ℕ)
     → answer_if b m xs
@@ -174,4 +145,4 @@ pub pushed : (l : LatestIsPushed) (m after : DataSpace) (xs : List ℕ) (a : ℕ
     → image_pushed m xs ≡ Ok (a, after) → Pushed m a xs after
 pushed l m after xs a sound e =
     let b = nat_le (free_after m.images + length xs) image_limit && nat_lt (length m.images) image_count in
-    pushed_if b m after xs a refl (ready m sound) (answer_is b m xs ∙ e) (l m after xs a sound e).0
+    pushed_if b m after xs a refl sound (answer_is b m xs ∙ e) (l m after xs a sound e).0

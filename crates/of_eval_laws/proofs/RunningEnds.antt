@@ -1,5 +1,5 @@
 -- The law `images_run`: what is worked off and what a throw cuts at the end of a step leave of the images that run.
-use Rattle.std.proofs.Common.{◌≡◌, ℕ, zero, suc, ◌+◌, Bool, true, false, List, [], ◌∷◌, drop, length, Option, Some}
+use Rattle.std.proofs.Common.{◌≡◌, ℕ, zero, suc, ◌+◌, Bool, true, false, List, [], ◌∷◌, drop, Option, Some}
 use Rattle.std.proofs.Common.{None, refl, ap, ◌∙◌, arith, is_some, if◌then◌else◌}
 use Rattle.std.proofs.lemmas.List.{drop-drop}
 use Rattle.of_cells.specs.declared.cells.Cell.{Cell}
@@ -13,16 +13,16 @@ use Rattle.of_stacks.specs.declared.return_item.ReturnItem.{ReturnItem}
 use Rattle.of_stacks.specs.declared.return_item.ReturnItem.TheVariants.{Return, Loop, User, Handler, Source, Caller}
 use Rattle.of_stacks.specs.Returns.{is_due}
 use Rattle.of_stacks.specs.Throws.{stack_overflow}
-use Rattle.of_memory.specs.DataSpace.{DataSpace}
+use Rattle.of_memory.specs.DataSpace.{DataSpace, IsSound}
 use Rattle.of_memory.specs.Growth.{image_popped}
-use Rattle.of_memory.specs.Regions.{byte_count}
 use Rattle.of_eval.specs.State.{Calls, State, given_up, open_xt, with_items}
 use Rattle.of_eval.specs.Settling.{caught, fallen, given_back, given_up_since, is_full, is_same, load_left}
 use Rattle.of_eval.specs.Settling.{reading_on, settled, uncaught, worked_one}
 use Rattle.of_eval_laws.specs.Running.{EndLeaves, LatestEnd, SomeEnd, running}
 use Rattle.of_eval_laws.specs.Throws.{images_popped}
 use Rattle.of_eval_laws.proofs.FramedSpace.{Stands, same, then_stands}
-use Rattle.of_eval_laws.proofs.RunningBytes.{IsReady, all_run, popped, stands_ready, state_stands}
+use Rattle.of_eval_laws.proofs.RunningBytes.{all_run, popped, state_stands}
+use Rattle.of_eval_laws.proofs.SoundSpace.{popped_sound}
 
 -- ---- definitions that are given up
 
@@ -35,54 +35,62 @@ either : {S : Type 0} (m : DataSpace) (b : Bool) (x y : State S) → StateStands
 either m true x y hx hy = hx
 either m false x y hx hy = hy
 
-pub given_up_stands : {S : Type 0} (c : Calls S) (s : State S) → length s.parts.memory.bytes ≡ byte_count
+pub given_up_stands : {S : Type 0} (c : Calls S) (s : State S) → IsSound s.parts.memory
     → StateStands s.parts.memory (given_up c s)
-given_up_stands c s full =
-    either s.parts.memory (is_some s.words.defining) _ s (state_stands s.parts.memory false full) (same s.parts.memory)
+given_up_stands c s sound =
+    either s.parts.memory (is_some s.words.defining) _ s (state_stands s.parts.memory false sound)
+    (same s.parts.memory sound)
 
-since_stands : {S : Type 0} (c : Calls S) (o : Option Cell) (s : State S) → length s.parts.memory.bytes ≡ byte_count
+since_stands : {S : Type 0} (c : Calls S) (o : Option Cell) (s : State S) → IsSound s.parts.memory
     → StateStands s.parts.memory (given_up_since c o s)
-since_stands c o s full =
-    either s.parts.memory (is_same (open_xt s) o) s (given_up c s) (same s.parts.memory) (given_up_stands c s full)
+since_stands c o s sound =
+    either s.parts.memory (is_same (open_xt s) o) s (given_up c s) (same s.parts.memory sound)
+    (given_up_stands c s sound)
 
 caught_stands : {S : Type 0} (c : Calls S) (h : ExceptionFrame) (t : Throw) (s : State S)
-    → length s.parts.memory.bytes ≡ byte_count → StateStands s.parts.memory (caught c h t s)
-caught_stands c h t s full = since_stands c h.opened _ full
+    → IsSound s.parts.memory → StateStands s.parts.memory (caught c h t s)
+caught_stands c h t s sound = since_stands c h.opened _ sound
 
-load_stands : {S : Type 0} (d : Due) (s : State S) → StateStands s.parts.memory (load_left d s)
-load_stands (due.Load active me instance count) s = same s.parts.memory
-load_stands (due.Method me) s = same s.parts.memory
-load_stands (due.Open me instance) s = same s.parts.memory
-load_stands (due.Close me instance) s = same s.parts.memory
+load_stands : {S : Type 0} (d : Due) (s : State S) → IsSound s.parts.memory
+    → StateStands s.parts.memory (load_left d s)
+load_stands (due.Load active me instance count) s sound = same s.parts.memory sound
+load_stands (due.Method me) s sound = same s.parts.memory sound
+load_stands (due.Open me instance) s sound = same s.parts.memory sound
+load_stands (due.Close me instance) s sound = same s.parts.memory sound
 
 -- ---- what is due
 
 worked_stands : {S : Type 0} (c : Calls S) (item : ReturnItem) (s : State S)
-    → length s.parts.memory.bytes ≡ byte_count → StateStands s.parts.memory (worked_one c item s)
-worked_stands c (Handler h) s full =
-    either s.parts.memory (is_full s) _ _ (caught_stands c h stack_overflow s full) (same s.parts.memory)
-worked_stands c (Caller d) s full = load_stands d _
-worked_stands c (Source r) s full = same s.parts.memory
-worked_stands c (Return to) s full = same s.parts.memory
-worked_stands c (Loop l) s full = same s.parts.memory
-worked_stands c (User x) s full = same s.parts.memory
+    → IsSound s.parts.memory → StateStands s.parts.memory (worked_one c item s)
+worked_stands c (Handler h) s sound =
+    either s.parts.memory (is_full s) _ _ (caught_stands c h stack_overflow s sound)
+    (same s.parts.memory sound)
+worked_stands c (Caller d) s sound = load_stands d _ sound
+worked_stands c (Source r) s sound = same s.parts.memory sound
+worked_stands c (Return to) s sound = same s.parts.memory sound
+worked_stands c (Loop l) s sound = same s.parts.memory sound
+worked_stands c (User x) s sound = same s.parts.memory sound
 
-pub worked_off : {S : Type 0} (c : Calls S) (items : List ReturnItem) (s : State S) → IsReady s.parts.memory
+pub worked_off : {S : Type 0} (c : Calls S) (items : List ReturnItem) (s : State S) → IsSound s.parts.memory
     → StateStands s.parts.memory (settled c items None s)
 unfolding settled
-worked_off c [] s r = same s.parts.memory
+worked_off c [] s r = same s.parts.memory r
 worked_off c (item ∷ items) s r =
     let next = worked_one c item (with_items items s) in
-    let kept = worked_stands c item (with_items items s) r.0 in
+    let kept = worked_stands c item (with_items items s) r in
     either s.parts.memory (is_due item) (settled c items None next) s
     (then_stands s.parts.memory next.parts.memory (settled c items None next).parts.memory kept
-    (worked_off c items next (stands_ready s.parts.memory next.parts.memory r kept)))
-    (same s.parts.memory)
+    (worked_off c items next kept.2))
+    (same s.parts.memory r)
 
 -- ---- what is thrown
 
-pub none_end : (m after : DataSpace) → IsReady m → Stands m after → SomeEnd m after
-none_end m after r h = (0, all_run m after r.1 h)
+-- some have ended, and the data space is sound
+abbrev pub SomeEnded : DataSpace → DataSpace → Type 0
+SomeEnded m after = IsSound after × SomeEnd m after
+
+none_end : (m after : DataSpace) → IsSound m → Stands m after → SomeEnded m after
+none_end m after s h = (h.2, (0, all_run m after s.images h))
 
 -- some end, and then others
 pub then_end : (m after last : DataSpace) (k : ℕ) → running after ≡ drop k (running m) → SomeEnd after last
@@ -90,32 +98,32 @@ pub then_end : (m after last : DataSpace) (k : ℕ) → running after ≡ drop k
 then_end m after last k e h =
     (k + h.0, h.1 ∙ ap (λ x. drop h.0 x) e ∙ drop-drop h.0 k (running m))
 
-back_ready : (i : Input) (m : DataSpace) → IsReady m → IsReady (given_back i m)
-back_ready input.Nothing m r = r
-back_ready (input.Text n) m r = r
-back_ready (input.Image size n) m r = (popped m r).0
+back_sound : (i : Input) (m : DataSpace) → IsSound m → IsSound (given_back i m)
+back_sound input.Nothing m s = s
+back_sound (input.Text n) m s = s
+back_sound (input.Image size n) m s = popped_sound m s
 
 -- what giving back an image and then more leaves
-back_ends : (i : Input) (m last : DataSpace) → IsReady m → SomeEnd (given_back i m) last → SomeEnd m last
-back_ends input.Nothing m last r h = h
-back_ends (input.Text n) m last r h = h
-back_ends (input.Image size n) m last r h = then_end m (image_popped m) last 1 (popped m r).1 h
+back_ends : (i : Input) (m last : DataSpace) → IsSound m → SomeEnded (given_back i m) last → SomeEnded m last
+back_ends input.Nothing m last s h = h
+back_ends (input.Text n) m last s h = h
+back_ends (input.Image size n) m last s h = (h.0, then_end m (image_popped m) last 1 (popped m s).1 h.1)
 
-uncaught_ends : {S : Type 0} (c : Calls S) (t : Throw) (s : State S) → IsReady s.parts.memory
-    → SomeEnd s.parts.memory (uncaught c t s).parts.memory
-uncaught_ends c t s r = none_end s.parts.memory (uncaught c t s).parts.memory r (given_up_stands c (fallen t s) r.0)
+uncaught_ends : {S : Type 0} (c : Calls S) (t : Throw) (s : State S) → IsSound s.parts.memory
+    → SomeEnded s.parts.memory (uncaught c t s).parts.memory
+uncaught_ends c t s r = none_end s.parts.memory (uncaught c t s).parts.memory r (given_up_stands c (fallen t s) r)
 
 caught_ends : {S : Type 0} (c : Calls S) (h : ExceptionFrame) (t : Throw) (items : List ReturnItem) (s : State S)
-    → IsReady s.parts.memory → SomeEnd s.parts.memory (settled c items None (caught c h t s)).parts.memory
+    → IsSound s.parts.memory → SomeEnded s.parts.memory (settled c items None (caught c h t s)).parts.memory
 caught_ends c h t items s r =
     let next = caught c h t s in
-    let kept = caught_stands c h t s r.0 in
+    let kept = caught_stands c h t s r in
     none_end s.parts.memory (settled c items None next).parts.memory r
     (then_stands s.parts.memory next.parts.memory (settled c items None next).parts.memory kept
-    (worked_off c items next (stands_ready s.parts.memory next.parts.memory r kept)))
+    (worked_off c items next kept.2))
 
-pub cut_off : {S : Type 0} (c : Calls S) (items : List ReturnItem) (t : Throw) (s : State S) → IsReady s.parts.memory
-    → SomeEnd s.parts.memory (settled c items (Some t) s).parts.memory
+pub cut_off : {S : Type 0} (c : Calls S) (items : List ReturnItem) (t : Throw) (s : State S) → IsSound s.parts.memory
+    → SomeEnded s.parts.memory (settled c items (Some t) s).parts.memory
 unfolding settled
 cut_off c [] t s r = uncaught_ends c t s r
 cut_off c (Return to ∷ items) t s r = cut_off c items t (with_items items s) r
@@ -126,7 +134,7 @@ cut_off c (Source x ∷ items) t s r =
     let i = s.flow.reading.input in
     let next = reading_on x (with_items items s) in
     back_ends i s.parts.memory (settled c items (Some t) next).parts.memory r
-    (cut_off c items t next (back_ready i s.parts.memory r))
+    (cut_off c items t next (back_sound i s.parts.memory r))
 cut_off c (Caller (due.Load active me instance count) ∷ items) t s r =
     cut_off c items t (load_left (due.Load active me instance count) (with_items items s)) r
 cut_off c (Caller (due.Method me) ∷ items) t s r = cut_off c items t (with_items items s) r
@@ -135,7 +143,7 @@ cut_off c (Caller (due.Close me instance) ∷ items) t s r = cut_off c items t (
 
 -- ---- so many images
 
-pub popped_ends : (n : ℕ) (m : DataSpace) → IsReady m → LatestEnd n m (images_popped n m)
+pub popped_ends : (n : ℕ) (m : DataSpace) → IsSound m → LatestEnd n m (images_popped n m)
 popped_ends zero m r = refl
 popped_ends (suc n) m r =
     let first = popped m r in
@@ -146,7 +154,12 @@ popped_ends (suc n) m r =
 -- ---- the end of a step
 
 pub end_leaves : {S : Type 0} (c : Calls S) (items : List ReturnItem) (thrown : Option Throw) (s : State S)
-    → IsReady s.parts.memory → EndLeaves s.parts.memory (settled c items thrown s).parts.memory thrown
+    → IsSound s.parts.memory → EndLeaves s.parts.memory (settled c items thrown s).parts.memory thrown
 end_leaves c items None s r =
-    all_run s.parts.memory (settled c items None s).parts.memory r.1 (worked_off c items s r)
-end_leaves c items (Some t) s r = cut_off c items t s r
+    all_run s.parts.memory (settled c items None s).parts.memory r.images (worked_off c items s r)
+end_leaves c items (Some t) s r = (cut_off c items t s r).1
+
+pub settled_sound : {S : Type 0} (c : Calls S) (items : List ReturnItem) (thrown : Option Throw) (s : State S)
+    → IsSound s.parts.memory → IsSound (settled c items thrown s).parts.memory
+settled_sound c items None s r = (worked_off c items s r).2
+settled_sound c items (Some t) s r = (cut_off c items t s r).0

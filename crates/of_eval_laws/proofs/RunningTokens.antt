@@ -21,11 +21,12 @@ use Rattle.of_stream.specs.Decoding.{Token, token_from}
 use Rattle.of_stream.specs.Sizes.{size_behind}
 use Rattle.of_memory.specs.declared.fault.MemFault.{MemFault}
 use Rattle.of_memory.specs.declared.fault.MemFault.TheVariants.{Full}
-use Rattle.of_memory.specs.Access.{read_bytes, with_read}
-use Rattle.of_memory.specs.DataSpace.{DataSpace, IsSound}
+use Rattle.of_memory.specs.declared.width.Width.TheVariants.{One}
+use Rattle.of_memory.specs.Access.{read_fault, unless as unless_fault, with_read}
+use Rattle.of_memory.specs.DataSpace.{DataSpace, IsSound, bytes_from}
 use Rattle.of_memory.specs.Growth.{aligned, append_copied, appended as with_bytes, with_zeros}
 use Rattle.of_memory.specs.Images.{latest_image}
-use Rattle.of_memory.specs.Regions.{byte_count, data_limit, place_of}
+use Rattle.of_memory.specs.Regions.{data_limit, place_of}
 use Rattle.of_nodes.specs.declared.phandles.Phandle.{Phandle}
 use Rattle.of_nodes.specs.declared.tree.Node.{Node}
 use Rattle.of_dict.specs.Words.{capacity, name_in, word_at, xt_of}
@@ -52,7 +53,9 @@ use Rattle.of_eval_laws.specs.Running.{OneBegins, is_at_end, reading_ends, token
 use Rattle.of_eval_laws.proofs.FramedMemory.{append_stands}
 use Rattle.of_eval_laws.proofs.FramedSpace.{AddressStands, Stands, below_stands, same, then_stands}
 use Rattle.of_eval_laws.proofs.PlacedActs.{found_none}
-use Rattle.of_eval_laws.proofs.RunningBytes.{IsReady, popped, ready, stands_ready, state_stands}
+use Rattle.of_eval_laws.specs.Sound.{AreBytes}
+use Rattle.of_eval_laws.proofs.RunningBytes.{popped, state_stands}
+use Rattle.of_eval_laws.proofs.SoundSpace.{bytes_joined, bytes_part, bytes_same, no_bytes, zeros_sound}
 use Rattle.of_eval_laws.proofs.RunningEnds.{given_up_stands}
 use Rattle.of_eval_laws.proofs.RunningWords.{Kept, KeptBy, Laws, Leaves, either, image_begins, left, ordinary}
 use Rattle.of_eval_laws.proofs.Walk.{IsAct, Turns, item_acts, typed_acts}
@@ -62,7 +65,7 @@ use Rattle.of_eval_laws.proofs.WalkWords.{IsWork, Rules, all_executed}
 
 -- a data space with one image more, by the laws of the layers below
 abbrev Begins : DataSpace → DataSpace → Type 0
-Begins m after = Laws → IsReady after × OneBegins m after
+Begins m after = Laws → IsSound after × OneBegins m after
 
 -- ---- the rules
 
@@ -83,38 +86,37 @@ running_turns S at_end =
 data_place : (a n : ℕ) → a + n ≤ data_limit → place_of a + n ≤ 0x14_0000
 data_place a n l = omega (arith, l)
 
-zeros_stand : (m : DataSpace) (n : ℕ) → length m.bytes ≡ byte_count → aligned m.here + n ≤ data_limit
-    → Stands m (with_zeros m n)
-zeros_stand m n full fits =
+zeros_stand : (m : DataSpace) (n : ℕ) → IsSound m → aligned m.here + n ≤ data_limit → Stands m (with_zeros m n)
+zeros_stand m n sound fits =
     let below = data_place (aligned m.here) n fits in
     let kept =
-    below_stands m (aligned m.here) (replicate n 0) full (omega (arith, below, length-replicate {A = ℕ} n 0)) in
-    (kept.0, kept.1)
+    below_stands m (aligned m.here) (replicate n 0) sound (bytes_same n 0 (omega arith))
+    (omega (arith, below, length-replicate {A = ℕ} n 0)) in
+    (kept.0, kept.1, zeros_sound m n sound fits)
 
-opened_stands : {S : Type 0} (m : DataSpace) (b : Bool) (s : State S) → IsReady m → Stands m s.parts.memory
+opened_stands : {S : Type 0} (m : DataSpace) (b : Bool) (s : State S) → Stands m s.parts.memory
     → Stands m (opened b s).parts.memory
-opened_stands m true s r h =
-    then_stands m s.parts.memory (opened true s).parts.memory h
-    (state_stands s.parts.memory true (stands_ready m s.parts.memory r h).0)
-opened_stands m false s r h = h
+opened_stands m true s h =
+    then_stands m s.parts.memory (opened true s).parts.memory h (state_stands s.parts.memory true h.2)
+opened_stands m false s h = h
 
 made_stands : (d : DefiningWord) (q : Option Pending) (x : Option Made) (w : WordsState) (cells : List Cell)
-    (m : DataSpace) → length m.bytes ≡ byte_count → has_no_bytes m x ≡ false
+    (m : DataSpace) → IsSound m → has_no_bytes m x ≡ false
     → Stands m (word_made d (making w cells m) q x).memory
-made_stands d None x w cells m full e = same m
-made_stands d (Some p) None w cells m full e = same m
-made_stands d (Some p) (Some x) w cells m full e =
-    zeros_stand m x.bytes full (ltb-false data_limit (aligned m.here + x.bytes) e)
+made_stands d None x w cells m sound e = same m sound
+made_stands d (Some p) None w cells m sound e = same m sound
+made_stands d (Some p) (Some x) w cells m sound e =
+    zeros_stand m x.bytes sound (ltb-false data_limit (aligned m.here + x.bytes) e)
 
 making_leaves : {S : Type 0} (d : DefiningWord) (f : Option Throw) (x : Option Made) (s : State S)
-    → IsReady s.parts.memory → (f ≡ None → has_no_bytes s.parts.memory x ≡ false)
+    → IsSound s.parts.memory → (f ≡ None → has_no_bytes s.parts.memory x ≡ false)
     → Leaves false s.parts.memory
     (by_making d (unless f (word_made d (making s.words s.parts.stack s.parts.memory) s.words.pending x)) s)
-making_leaves d (Some t) x s r h = same s.parts.memory
+making_leaves d (Some t) x s r h = same s.parts.memory r
 making_leaves d None x s r h =
     inl
-    (opened_stands s.parts.memory (opens d) _ r
-    (made_stands d s.words.pending x s.words s.parts.stack s.parts.memory r.0 (h refl)))
+    (opened_stands s.parts.memory (opens d) _
+    (made_stands d s.words.pending x s.words s.parts.stack s.parts.memory r (h refl)))
 
 has_bytes : {S : Type 0} (s : State S) (x : Option Made)
     → counting (defining_faults (making s.words s.parts.stack s.parts.memory) x) ≡ None
@@ -146,7 +148,7 @@ then_leaves : {S : Type 0} (m : DataSpace) (home : Option Phandle) (o : Option �
 then_leaves m home None a h = h
 then_leaves m home (Some n) a h = subst (λ x. KeptBy false m x a.ended) (sym (known_memory a.ended home n a.state)) h
 
-define_leaves : {S : Type 0} (c : Calls S) (d : DefiningWord) (s : State S) → IsReady s.parts.memory
+define_leaves : {S : Type 0} (c : Calls S) (d : DefiningWord) (s : State S) → IsSound s.parts.memory
     → Leaves false s.parts.memory (define_entry c d s)
 define_leaves c d s r =
     let x = made_by d (c.ends_at s.code) (aligned s.parts.memory.here) s.parts.stack in
@@ -154,61 +156,59 @@ define_leaves c d s r =
     (making_leaves d (counting (defining_faults (making s.words s.parts.stack s.parts.memory) x)) x s r
     (has_bytes s x))
 
-closed_leaves : {S : Type 0} (e : Result (Unit {0}) Throw) (code : S) (s : State S) → IsReady s.parts.memory
+closed_leaves : {S : Type 0} (e : Result (Unit {0}) Throw) (code : S) (s : State S) → IsSound s.parts.memory
     → Leaves false s.parts.memory (by_code (record { code = code; ended = e }) (closed_if e s))
-closed_leaves (Ok x) code s r = inl (state_stands s.parts.memory false r.0)
-closed_leaves (Err t) code s r = same s.parts.memory
+closed_leaves (Ok x) code s r = inl (state_stands s.parts.memory false r)
+closed_leaves (Err t) code s r = same s.parts.memory r
 
-semicolon_leaves : {S : Type 0} (c : Calls S) (o : Option ℕ) (s : State S) → IsReady s.parts.memory
+semicolon_leaves : {S : Type 0} (c : Calls S) (o : Option ℕ) (s : State S) → IsSound s.parts.memory
     → Leaves false s.parts.memory (definition_ended c o s)
-semicolon_leaves c None s r = same s.parts.memory
+semicolon_leaves c None s r = same s.parts.memory r
 semicolon_leaves c (Some n) s r =
     let a = c.semicolon (record { 0 = xt_of n }) s.code in closed_leaves a.ended a.code s r
 
 -- ---- strings
 
-copied_stands : (m : DataSpace) (r : Result (List ℕ) MemFault) → length m.bytes ≡ byte_count
-    → AddressStands m (with_read r (λ xs. with_bytes m (xs ++ [])))
-copied_stands m (Ok xs) full = append_stands m (xs ++ []) full
-copied_stands m (Err fault) full = tt
+copied_stands : (m : DataSpace) (fault : Option MemFault) (xs : List ℕ) → IsSound m → AreBytes xs
+    → AddressStands m (with_read (unless_fault fault xs) (λ xs. with_bytes m (xs ++ [])))
+copied_stands m None xs sound small = append_stands m (xs ++ []) sound (bytes_joined xs [] small no_bytes)
+copied_stands m (Some fault) xs sound small = tt
 
-rounded_if : (b : Bool) (m : DataSpace) → nat_le (aligned m.here + 0) data_limit ≡ b → length m.bytes ≡ byte_count
+rounded_if : (b : Bool) (m : DataSpace) → nat_le (aligned m.here + 0) data_limit ≡ b → IsSound m
     → Stands m (rounded_to m (if b then Ok (aligned m.here, with_zeros m 0) else Err Full))
-rounded_if true m e full = zeros_stand m 0 full (leb-true (aligned m.here + 0) data_limit e)
-rounded_if false m e full = same m
+rounded_if true m e sound = zeros_stand m 0 sound (leb-true (aligned m.here + 0) data_limit e)
+rounded_if false m e sound = same m sound
 
-rounded_stands : (m : DataSpace) → length m.bytes ≡ byte_count → Stands m (rounded m)
-rounded_stands m full = rounded_if (nat_le (aligned m.here + 0) data_limit) m refl full
+rounded_stands : (m : DataSpace) → IsSound m → Stands m (rounded m)
+rounded_stands m sound = rounded_if (nat_le (aligned m.here + 0) data_limit) m refl sound
 
 put_leaves : {S : Type 0} (e : Result (Unit {0}) Throw) (code : S) (m : DataSpace) (s : State S)
-    → IsReady s.parts.memory → Stands s.parts.memory m → Leaves false s.parts.memory (string_put e code m s)
-put_leaves (Ok x) code m s r h =
-    inl
-    (then_stands s.parts.memory m (rounded m) h (rounded_stands m (stands_ready s.parts.memory m r h).0))
-put_leaves (Err t) code m s r h = same s.parts.memory
+    → IsSound s.parts.memory → Stands s.parts.memory m → Leaves false s.parts.memory (string_put e code m s)
+put_leaves (Ok x) code m s r h = inl (then_stands s.parts.memory m (rounded m) h (rounded_stands m h.2))
+put_leaves (Err t) code m s r h = same s.parts.memory r
 
-refused_leaves : {S : Type 0} (e : Result (Unit {0}) Throw) (t : Throw) (s : State S)
+refused_leaves : {S : Type 0} (e : Result (Unit {0}) Throw) (t : Throw) (s : State S) → IsSound s.parts.memory
     → Leaves false s.parts.memory (string_refused e t s)
-refused_leaves (Ok x) t s = same s.parts.memory
-refused_leaves (Err first) t s = same s.parts.memory
+refused_leaves (Ok x) t s r = same s.parts.memory r
+refused_leaves (Err first) t s r = same s.parts.memory r
 
 kept_leaves : {S : Type 0} (a : Answered S) (r : Result (ℕ × DataSpace) MemFault) (s : State S)
-    → IsReady s.parts.memory → AddressStands s.parts.memory r → Leaves false s.parts.memory (string_kept a r s)
+    → IsSound s.parts.memory → AddressStands s.parts.memory r → Leaves false s.parts.memory (string_kept a r s)
 kept_leaves a (Ok x) s r h = put_leaves a.ended a.code x.1 s r h
-kept_leaves a (Err fault) s r h = refused_leaves a.ended _ s
+kept_leaves a (Err fault) s r h = refused_leaves a.ended _ s r
 
 -- ---- the end of an image
 
-back_kept : (i : Input) (m : DataSpace) → IsReady m → Kept true m (given_back i m)
-back_kept input.Nothing m r = inl (same m)
-back_kept (input.Text n) m r = inl (same m)
+back_kept : (i : Input) (m : DataSpace) → IsSound m → Kept true m (given_back i m)
+back_kept input.Nothing m r = inl (same m r)
+back_kept (input.Text n) m r = inl (same m r)
 back_kept (input.Image size n) m r = (let p = popped m r in inr (p.0, inl p.1))
 
-ended_leaves : {S : Type 0} (c : Calls S) (s : State S) → IsReady s.parts.memory
+ended_leaves : {S : Type 0} (c : Calls S) (s : State S) → IsSound s.parts.memory
     → Leaves true s.parts.memory (ended c s)
 ended_leaves c s r =
     either true s.parts.memory (is_some s.words.defining && not (is_same (open_xt s) s.flow.reading.opened)) _ _
-    (given_up_stands c s r.0) (back_kept s.flow.reading.input s.parts.memory r)
+    (given_up_stands c s r) (back_kept s.flow.reading.input s.parts.memory r)
 
 -- ---- acts
 
@@ -224,31 +224,33 @@ weaken : {S : Type 0} (b : Bool) (m : DataSpace) (o : Outcome S) → Leaves fals
 weaken b m o h = weaken_by b m o.state.parts.memory o.ended h
 
 appended_leaves : {S : Type 0} (code : S) (e : Result (Unit {0}) Throw) (cells : List Cell) (s : State S)
+    → IsSound s.parts.memory
     → Leaves false s.parts.memory (appended (record { code = code; ended = e }) cells s)
-appended_leaves code (Ok x) cells s = left s.parts.memory
-appended_leaves code (Err t) cells s = same s.parts.memory
+appended_leaves code (Ok x) cells s sound = left s.parts.memory sound
+appended_leaves code (Err t) cells s sound = same s.parts.memory sound
 
-gone_leaves : {S : Type 0} (to : To) (s : State S) → Kept false s.parts.memory (gone to s).parts.memory
-gone_leaves act.Behind s = left s.parts.memory
-gone_leaves (act.Next to) s = left s.parts.memory
+gone_leaves : {S : Type 0} (to : To) (s : State S) → IsSound s.parts.memory
+    → Kept false s.parts.memory (gone to s).parts.memory
+gone_leaves act.Behind s sound = left s.parts.memory sound
+gone_leaves (act.Next to) s sound = left s.parts.memory sound
 
 worked_leaves : {S : Type 0} (l : Laws) (c : Calls S) (a : WordAct) (s : State S) → IsWork (running_rules S) s a
     → IsSound s.parts.memory → Leaves false s.parts.memory (worked c a s)
 unfolding worked
-worked_leaves l c (act.Fails t) s h sound = same s.parts.memory
-worked_leaves l c (act.Raises t cells) s h sound = same s.parts.memory
-worked_leaves l c (act.Leaves cells) s h sound = left s.parts.memory
+worked_leaves l c (act.Fails t) s h sound = same s.parts.memory sound
+worked_leaves l c (act.Raises t cells) s h sound = same s.parts.memory sound
+worked_leaves l c (act.Leaves cells) s h sound = left s.parts.memory sound
 worked_leaves l c (act.Works w) s h sound = ordinary l w s sound
 worked_leaves l c (act.Moves cells move to) s h sound =
-    gone_leaves to (with_stack cells (with_items (doing.moved move s.flow.items) s))
-worked_leaves l c (act.Knows w cells) s h sound = left s.parts.memory
+    gone_leaves to (with_stack cells (with_items (doing.moved move s.flow.items) s)) sound
+worked_leaves l c (act.Knows w cells) s h sound = left s.parts.memory sound
 worked_leaves l c (act.Appends e cells) s h sound =
-    appended_leaves (c.element e s.code).code (c.element e s.code).ended cells s
+    appended_leaves (c.element e s.code).code (c.element e s.code).ended cells s sound
 worked_leaves l c (act.Loads size m cells) s h sound = inr (h l)
 worked_leaves l c (act.Takes cells a) s h sound = worked_leaves l c a (with_stack cells s) h sound
 worked_leaves l c (act.Guards cells a) s h sound = worked_leaves l c a (guarded cells s) h sound
 
-ends_leave : {S : Type 0} (at_end : Bool) (c : Calls S) (s : State S) → at_end ≡ true → IsReady s.parts.memory
+ends_leave : {S : Type 0} (at_end : Bool) (c : Calls S) (s : State S) → at_end ≡ true → IsSound s.parts.memory
     → Leaves at_end s.parts.memory (ended c s)
 ends_leave true c s e r = ended_leaves c s r
 ends_leave false c s e r = absurd cc
@@ -260,25 +262,25 @@ unfolding acted
 acted_leaves l c at_end (act.Does a) s h sound =
     weaken at_end s.parts.memory (worked c a s) (worked_leaves l c a s h sound)
 acted_leaves l c at_end (act.Goes cells move n) s h sound =
-    weaken_by at_end s.parts.memory s.parts.memory (Ok tt) (left s.parts.memory)
+    weaken_by at_end s.parts.memory s.parts.memory (Ok tt) (left s.parts.memory sound)
 acted_leaves l c at_end (act.Copies a n) s h sound =
-    let r = ready s.parts.memory sound in
     weaken at_end s.parts.memory (string_compiled c a n s)
-    (kept_leaves _ (append_copied s.parts.memory a n []) s r
-    (copied_stands s.parts.memory (read_bytes s.parts.memory a n) r.0))
+    (kept_leaves _ (append_copied s.parts.memory a n []) s sound
+    (copied_stands s.parts.memory (read_fault s.parts.memory a n One) (bytes_from s.parts.memory a n) sound
+    (bytes_part s.parts.memory.bytes (place_of a) n sound.small)))
 acted_leaves l c at_end (act.Makes d) s h sound =
-    weaken at_end s.parts.memory (define_entry c d s) (define_leaves c d s (ready s.parts.memory sound))
+    weaken at_end s.parts.memory (define_entry c d s) (define_leaves c d s sound)
 acted_leaves l c at_end act.Closes s h sound =
     weaken at_end s.parts.memory (semicolon_entry c s.words.defining s)
     (then_leaves s.parts.memory s.flow.home s.words.defining _
-    (semicolon_leaves c s.words.defining s (ready s.parts.memory sound)))
-acted_leaves l c at_end act.Ends s h sound = ends_leave at_end c s h (ready s.parts.memory sound)
+    (semicolon_leaves c s.words.defining s sound))
+acted_leaves l c at_end act.Ends s h sound = ends_leave at_end c s h sound
 
 -- ---- items
 
 item_due_leaves : {S : Type 0} (l : Laws) (c : Calls S) (x : Option (Item × Place)) (s : State S)
     → IsSound s.parts.memory → Leaves false s.parts.memory (item_due c x s)
-item_due_leaves l c None s sound = same s.parts.memory
+item_due_leaves l c None s sound = same s.parts.memory sound
 item_due_leaves {S} l c (Some x) s sound =
     let on = with_next (continuation.Code x.1.cell) s in
     let R = running_rules S in
@@ -291,7 +293,7 @@ item_due_leaves {S} l c (Some x) s sound =
 
 found_leaves : {S : Type 0} (l : Laws) (c : Calls S) (x : Option (Token × ℕ)) (size : OffsetSize) (position : ℕ)
     (s : State S) → IsSound s.parts.memory → Leaves (token_ends x) s.parts.memory (found_token c x size position s)
-found_leaves l c None size position s sound = same s.parts.memory
+found_leaves l c None size position s sound = same s.parts.memory sound
 found_leaves {S} l c (Some x) size position s sound =
     let on = read_on (size_behind x.0.code.0 size) x.1 s in
     let here = spot_in s.parts.memory position x.1 in
@@ -314,8 +316,8 @@ token_leaves : {S : Type 0} (l : Laws) (c : Calls S) (i : Input) (s : State S) �
     → Leaves (reading_ends s.parts.memory i) s.parts.memory (token_due c i s)
 token_leaves l c (input.Image size position) s sound =
     found_leaves l c (token_from (latest_image s.parts.memory) position size) size position s sound
-token_leaves l c (input.Text position) s sound = same s.parts.memory
-token_leaves l c input.Nothing s sound = same s.parts.memory
+token_leaves l c (input.Text position) s sound = same s.parts.memory sound
+token_leaves l c input.Nothing s sound = same s.parts.memory sound
 
 -- ---- what comes next
 

@@ -3,6 +3,7 @@ pub mod Listed
 pub mod Placed
 pub mod Frames
 pub mod Images
+pub mod Sound
 pub mod Running
 pub mod Throws
 pub mod Going

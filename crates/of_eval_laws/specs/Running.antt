@@ -1,5 +1,5 @@
 -- The images that run are a stack, and each has the bytes that it had while it runs (IEEE 1275-1994, 5.2.2, 5.2.2.5).
-use Rattle.std.specs.Prelude.{◌≡◌, ◌⊎◌, ℕ, ◌-◌, Bool, true, false, List, [], ◌∷◌, drop, Option, Some, None, Result, Ok}
+use Rattle.std.specs.Prelude.{◌≡◌, ◌⊎◌, ℕ, ◌-◌, Bool, true, false, List, [], ◌∷◌, ◌++◌, drop, Option, Some, None, Result, Ok}
 use Rattle.std.specs.Prelude.{Err}
 use Rattle.of_stacks.specs.declared.throws.Throw.{Throw}
 use Rattle.of_stacks.specs.declared.return_item.Continuation.{Continuation}
@@ -15,7 +15,7 @@ use Rattle.of_memory.specs.Images.{latest_image}
 use Rattle.of_nodes.specs.declared.phandles.Phandle.{Phandle}
 use Rattle.of_eval.specs.State.{Calls, State}
 use Rattle.of_eval.specs.Settling.{settled}
-use Rattle.of_eval.specs.Steps.{due, stepped}
+use Rattle.of_eval.specs.Steps.{due, stepped, steps_from}
 use Rattle.of_eval.specs.Loading.{begun}
 use Rattle.of_eval_laws.specs.Frames.{ends_image}
 use Rattle.of_eval_laws.specs.Throws.{images_popped}
@@ -78,6 +78,11 @@ OneBegins m after = (image : RunningImage) × (running after ≡ image ∷ runni
 abbrev pub GoOn : DataSpace → DataSpace → Type 0
 GoOn m after = AllRun m after ⊎ OneBegins m after
 
+-- some of the latest have ended, others have begun on those that were left, and these run, each as it was
+abbrev pub OthersRun : DataSpace → DataSpace → Type 0
+OthersRun m after =
+    (ended : ℕ) × (begun : List RunningImage) × (running after ≡ begun ++ drop ended (running m))
+
 -- what is left where nothing was thrown: at the end of an image the latest may have ended
 abbrev pub WorkLeaves : Bool → DataSpace → DataSpace → Type 0
 WorkLeaves false m after = GoOn m after
@@ -114,10 +119,6 @@ pub record ImagesRun (S : Type 0) : Type 0 where
   pub settled :
       (c : Calls S) (items : List ReturnItem) (thrown : Option Throw) (s : State S) → IsSound s.parts.memory →
       EndLeaves s.parts.memory (settled c items thrown s).parts.memory thrown
-  -- A data space that is sound when what comes next was done is sound behind the step, too.
-  pub sound :
-      (c : Calls S) (s : State S) → IsSound s.parts.memory →
-      IsSound (due c s.flow.next s).state.parts.memory → IsSound (stepped c s).parts.memory
   -- In a step that isn't the end of an image and throws nothing they go on.
   pub go_on :
       (c : Calls S) (s : State S) → IsSound s.parts.memory →
@@ -127,3 +128,7 @@ pub record ImagesRun (S : Type 0) : Type 0 where
   pub step :
       (c : Calls S) (s : State S) → IsSound s.parts.memory →
       SomeEnd s.parts.memory (stepped c s).parts.memory ⊎ GoOn s.parts.memory (stepped c s).parts.memory
+  -- So it is over any number of steps.
+  pub steps :
+      (c : Calls S) (n : ℕ) (s after : State S) → IsSound s.parts.memory → steps_from c n s ≡ Some after →
+      OthersRun s.parts.memory after.parts.memory

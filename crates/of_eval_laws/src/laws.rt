@@ -10,6 +10,7 @@ ghost use Rattle.of_eval_laws.specs.Images.{ImagesStand};
 ghost use Rattle.of_eval_laws.specs.Listed.{StepsThrowListed, WordsThrowListed};
 ghost use Rattle.of_eval_laws.specs.Placed.{StatesStayPlaced};
 ghost use Rattle.of_eval_laws.specs.Running.{ImagesRun};
+ghost use Rattle.of_eval_laws.specs.Sound.{SpaceStaysSound};
 ghost use Rattle.of_eval_laws.specs.Throws.{ThrowsSettle};
 
 use of_compile::{board_is_flat, compiles_reading, runs_by_structure};
@@ -87,8 +88,21 @@ pub fn throws_settle()
     ensures bodies { ThrowsSettle Definitions }
 {}
 
+/// The data space is sound at first, and a load and each step leave it so, whatever is done or thrown.
+pub fn space_stays_sound()
+    ensures cells { SpaceStaysSound Coding }
+    ensures bodies { SpaceStaysSound Definitions }
+{
+    images_stay();
+    latest_is_pushed();
+    parts_are_good();
+    ranges_are_placed();
+    writes_join();
+}
+
 /// The images that run are a stack, and each has the bytes that it had while it runs: a step ends some of the latest,
-/// or one more begins.
+/// or one more begins. All it asks is a data space that is sound, as `space_stays_sound` has it at first, behind a load
+/// and behind each step; so it goes on from step to step, and over any number of them.
 pub fn images_run()
     ensures cells { ImagesRun Coding }
     ensures bodies { ImagesRun Definitions }
