@@ -5,6 +5,7 @@ use Rattle.std.proofs.lemmas.Bool.{eq-eqb, false≢true}
 use Rattle.std.specs.Prelude.{option_and_then}
 use Rattle.of_cells.specs.declared.cells.Cell.{Cell}
 use Rattle.of_stacks.specs.declared.return_item.Continuation.{Continuation}
+use Rattle.of_stacks.specs.declared.return_item.Continuation.TheVariants as continuation
 use Rattle.of_stacks.specs.declared.return_item.LoopParameters.{LoopParameters}
 use Rattle.of_stacks.specs.declared.return_item.ReturnItem.{ReturnItem}
 use Rattle.of_stacks.specs.declared.return_item.ReturnItem.TheVariants.{Caller, Handler, Loop, Return, Source, User}
@@ -121,6 +122,8 @@ abbrev pub placed : Rules Definitions
 placed = record (keeping Definitions (λ s. AllPlaced s) (λ cells s p. (p, guarded_placed cells s p))) {
   Item = λ s i. IsItemIn (finished_end s.code) i;
   Target = λ s to. IsPlacedIn (finished_end s.code) to;
+  Aims = λ s n. IsPlacedIn (finished_end s.code) (continuation.Code n);
+  aims = λ n s a. a;
   Known = λ s w. AllPlaced (with_words w s);
   Appends = λ s. s.words.defining ≡ None → ⊥;
   return = λ s p. p.goes_on;
@@ -141,10 +144,12 @@ placed_turns = record {
   Ends = Unit {0};
   Makes = Unit {0};
   Closes = Unit {0};
+  Stands = λ s. AllPlaced s;
+  held = λ s p. p;
   drop = λ s p. tt;
   loop = λ l s x. x;
   exit_on_top = λ l s p e. exit_placed (finished_end s.code) s.flow.items l p.goes_back e;
   exit_at = λ n s p. tt;
   exit_goes = λ n s x. x;
-  goes_exit = λ n s x. x;
+  goes_exit = λ n s p x. x;
 }

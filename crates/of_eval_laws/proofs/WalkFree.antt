@@ -26,6 +26,7 @@ keeping S Held stays = record {
   Item = λ s i. Unit {0};
   Drops = λ s. Unit {0};
   Target = λ s to. Unit {0};
+  Aims = λ s n. Unit {0};
   Known = λ s w. Unit {0};
   Appends = λ s. Unit {0};
   Loads = λ s m. Unit {0};
@@ -36,6 +37,7 @@ keeping S Held stays = record {
   return = λ s p. tt;
   returns = λ to s p e. tt;
   begins = λ start xt s p e z. tt;
+  aims = λ n s a. tt;
   stores = λ xt x s p e. tt;
   sets = λ x s p e. tt;
   announces = λ k name w s p e. tt;
@@ -51,19 +53,21 @@ keeping S Held stays = record {
 abbrev pub free_turns :
     {S : Type 0} (R : Rules S) → ((s : State S) → R.Held s → R.Drops s)
     → ((l : LoopParameters) (s : State S) → R.Item s (Loop l))
-    → ((n : ℕ) (s : State S) → R.Target s (continuation.Code n)) → Turns R
-free_turns R drop loop target = record {
+    → ((n : ℕ) (s : State S) → R.Aims s n) → Turns R
+free_turns R drop loop aims = record {
   Exit = λ s e. Unit {0};
   Positions = Unit {0};
   Ends = Unit {0};
   Makes = Unit {0};
   Closes = Unit {0};
+  Stands = R.Held;
+  held = λ s p. p;
   drop = drop;
   loop = λ l s x. loop l s;
   exit_on_top = λ l s p e. tt;
   exit_at = λ n s p. tt;
-  exit_goes = λ n s x. target n s;
-  goes_exit = λ n s x. tt;
+  exit_goes = λ n s x. aims n s;
+  goes_exit = λ n s p x. tt;
 }
 
 -- nothing is asked of the state, either
@@ -71,7 +75,7 @@ abbrev pub free : (S : Type 0) → Rules S
 free S = keeping S (λ s. Unit {0}) (λ cells s p. (tt, tt))
 
 -- nor of the target of an item
-pub anywhere : {S : Type 0} (R : Rules S) → ((n : ℕ) (s : State S) → R.Target s (continuation.Code n))
+pub anywhere : {S : Type 0} (R : Rules S) → ((n : ℕ) (s : State S) → R.Aims s n)
     → (to : Option Place) (s : State S) → IsPlace R s to
 anywhere R h None s = tt
 anywhere R h (Some to) s = h to.cell s

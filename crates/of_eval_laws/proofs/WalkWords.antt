@@ -1,5 +1,5 @@
 -- One walk of the tables of words: what a word comes to is what a law asks of it, by the rules of the law.
-use Rattle.std.proofs.Common.{◌≡◌, ◌==◌, ℕ, nat_lt, Bool, true, false, List, [], ◌∷◌, length, Option, Some, None}
+use Rattle.std.proofs.Common.{◌⊎◌, inl, inr, ◌≡◌, ◌==◌, ℕ, nat_lt, Bool, true, false, List, [], ◌∷◌, length, Option, Some, None}
 use Rattle.std.proofs.Common.{Result, Ok, Err, is_none, is_some, refl, ap, ◌∙◌, if◌then◌else◌}
 use Rattle.std.specs.Prelude.{not, slice_get}
 use Rattle.of_cells.specs.declared.cells.Cell.{Cell}
@@ -63,6 +63,8 @@ pub record Rules (S : Type 0) : Type 1 where
   pub Item : State S → ReturnItem → Type 0
   pub Drops : State S → Type 0
   pub Target : State S → Continuation → Type 0
+  -- of a place in the code where a word of control goes
+  pub Aims : State S → ℕ → Type 0
   -- of words, where something is appended, and of a data space with one image more
   pub Known : State S → WordsState → Type 0
   pub Appends : State S → Type 0
@@ -79,6 +81,7 @@ pub record Rules (S : Type 0) : Type 1 where
   pub begins :
       (start xt : ℕ) (s : State S) → Held s → kind_in (own_word s.words.dictionary xt) ≡ Some (kind.Colon start) →
       is_opened (open_xt s) xt ≡ false → Target s (continuation.Code start)
+  pub aims : (n : ℕ) (s : State S) → Aims s n → Target s (continuation.Code n)
   -- words are known that come of a store, of `set-token` or of a number for the next word
   pub stores :
       (xt : ℕ) (x : WordsState × List Cell) (s : State S) → Held s → store_entry xt s.words s.parts.stack ≡ Ok x →
@@ -111,12 +114,42 @@ abbrev pub IsTo : {S : Type 0} → Rules S → State S → To → Type 0
 IsTo R s act.Behind = Unit {0}
 IsTo R s (act.Next to) = R.Target s to
 
+abbrev pub AimsAt : {S : Type 0} → Rules S → State S → Continuation → Type 0
+AimsAt R s continuation.Source = ⊥
+AimsAt R s (continuation.Code n) = R.Aims s n
+
+abbrev pub IsCellOnTop : List ReturnItem → Type 0
+IsCellOnTop r = (x : Cell) × (user_on_top r ≡ Ok x)
+
+abbrev pub IsLoopOnTop : List ReturnItem → Type 0
+IsLoopOnTop r = (l : LoopParameters) × (loop_on_top r ≡ Ok l)
+
+-- a word of control pushes nothing where it goes somewhere, and drops or turns a loop
+abbrev pub IsTurn : Move → List ReturnItem → Type 0
+IsTurn act.Keeps r = Unit {0}
+IsTurn (act.Pushes item) r = ⊥
+IsTurn act.Drops r = IsLoopOnTop r
+IsTurn (act.Turns l) r = IsLoopOnTop r
+
+-- A move fits the return stack and where control goes on: a cell is pushed where nothing due is on top, a return behind
+-- what begins, and what is dropped is a cell, a loop, or the return to where control goes on.
+abbrev pub Fits : {S : Type 0} → Rules S → State S → Move → To → Type 0
+Fits R s act.Keeps act.Behind = Unit {0}
+Fits R s (act.Pushes (User x)) act.Behind = has_due_top s.flow.items ≡ false
+Fits R s (act.Pushes (Loop l)) act.Behind = Unit {0}
+Fits R s act.Drops act.Behind = IsCellOnTop s.flow.items ⊎ IsLoopOnTop s.flow.items
+Fits R s (act.Pushes (Return to)) (act.Next (continuation.Code n)) = to ≡ s.flow.next
+Fits R s act.Drops (act.Next to) =
+    (return_on_top s.flow.items ≡ Ok to) ⊎ (AimsAt R s to × IsLoopOnTop s.flow.items)
+Fits R s m act.Behind = ⊥
+Fits R s m (act.Next to) = AimsAt R s to × IsTurn m s.flow.items
+
 abbrev pub IsWork : {S : Type 0} → Rules S → State S → WordAct → Type 0
 IsWork R s (act.Fails t) = R.Fails t
 IsWork R s (act.Raises t cells) = R.Raises t
 IsWork R s (act.Leaves cells) = Unit {0}
 IsWork R s (act.Works w) = R.Works w
-IsWork R s (act.Moves cells move to) = IsMove R s move × IsTo R s to
+IsWork R s (act.Moves cells move to) = IsMove R s move × IsTo R s to × Fits R s move to
 IsWork R s (act.Knows w cells) = R.Known s w
 IsWork R s (act.Appends e cells) = R.Appends s
 IsWork R s (act.Loads size m cells) = R.Loads s m
@@ -160,14 +193,15 @@ store_works R xt s p =
     (λ x e. R.stores xt x s p e)
 
 pub pushing_works : {S : Type 0} (R : Rules S) (item : ReturnItem) (r : List ReturnItem) (cells : List Cell) (to : To)
-    (s : State S) → R.Item s item → IsTo R s to → IsWork R s (pushing item r cells to)
+    (s : State S) → R.Item s item → IsTo R s to → Fits R s (act.Pushes item) to
+    → IsWork R s (pushing item r cells to)
 unfolding is_listed listed_numbers
-pushing_works R item r cells to s i t =
-    if_works R (nat_lt 256 (length (item ∷ r))) _ _ s (λ e. R.fails _ refl) (λ e. (i, t))
+pushing_works R item r cells to s i t f =
+    if_works R (nat_lt 256 (length (item ∷ r))) _ _ s (λ e. R.fails _ refl) (λ e. (i, t, f))
 
 pub returning_works : {S : Type 0} (R : Rules S) (r : Result Continuation Throw) (cells : List Cell) (s : State S)
     → R.Held s → R.Drops s → return_on_top s.flow.items ≡ r → ThrowsListed r → IsWork R s (returning r cells)
-returning_works R (Ok to) cells s p d e l = (d, R.returns to s p e)
+returning_works R (Ok to) cells s p d e l = (d, R.returns to s p e, inl e)
 returning_works R (Err t) cells s p d e l = R.fails t l
 
 -- ---- own words
@@ -179,7 +213,7 @@ own_works R None xt s e p = R.fails _ refl
 own_works R (Some (kind.Colon start)) xt s e p =
     if_works R (is_opened (open_xt s) xt) _ _ s (λ z. R.fails _ refl)
     (λ z. pushing_works R (Return s.flow.next) s.flow.items s.parts.stack (act.Next (continuation.Code start)) s
-    (R.return s p) (R.begins start xt s p e z))
+    (R.return s p) (R.begins start xt s p e z) refl)
 own_works R (Some k) xt s e p = leaving_works R (product_entry k s.parts.stack) s (products k s.parts.stack)
 
 -- ---- the return stack
@@ -189,14 +223,19 @@ found_works : {S : Type 0} (R : Rules S) (r : Result Cell Throw) (cells : List C
 found_works R r cells s l = leaving_works R (found r cells) s (finds r cells l)
 
 dropping_works : {S : Type 0} (R : Rules S) (r : Result (List Cell) Throw) (s : State S) → R.Drops s → ThrowsListed r
-    → IsWork R s (dropping r)
-dropping_works R (Ok cells) s d l = (d, tt)
-dropping_works R (Err t) s d l = R.fails t l
+    → IsCellOnTop s.flow.items → IsWork R s (dropping r)
+dropping_works R (Ok cells) s d l top = (d, tt, inl top)
+dropping_works R (Err t) s d l top = R.fails t l
+
+taking_works : {S : Type 0} (R : Rules S) (u : Result Cell Throw) (cells : List Cell) (s : State S) → R.Drops s
+    → user_on_top s.flow.items ≡ u → ThrowsListed u → IsWork R s (dropping (found u cells))
+taking_works R (Ok x) cells s d e l = dropping_works R (pushed x cells) s d (within_listed (x ∷ cells)) (x, e)
+taking_works R (Err t) cells s d e l = R.fails t l
 
 unlooping_works : {S : Type 0} (R : Rules S) (r : Result LoopParameters Throw) (cells : List Cell) (s : State S)
-    → R.Drops s → ThrowsListed r → IsWork R s (unlooping r cells)
-unlooping_works R (Ok l) cells s d t = (d, tt)
-unlooping_works R (Err t) cells s d l = R.fails t l
+    → R.Drops s → loop_on_top s.flow.items ≡ r → ThrowsListed r → IsWork R s (unlooping r cells)
+unlooping_works R (Ok l) cells s d e t = (d, tt, inr (l, e))
+unlooping_works R (Err t) cells s d e l = R.fails t l
 
 -- a word drops an item only where it is known as one that does
 returns_works : {S : Type 0} (R : Rules S) (w : ReturnsWord) (cells : List Cell) (s : State S) → R.Held s
@@ -205,13 +244,12 @@ unfolding returns_act is_listed listed_numbers
 returns_works R returns.ToReturn [] s p d = R.fails _ refl
 returns_works R returns.ToReturn (x ∷ cells) s p d =
     if_works R (has_due_top s.flow.items) _ _ s (λ e. R.fails _ refl)
-    (λ e. pushing_works R (User x) s.flow.items cells act.Behind s (R.user x s p) tt)
+    (λ e. pushing_works R (User x) s.flow.items cells act.Behind s (R.user x s p) tt e)
 returns_works R returns.FromReturn cells s p d =
-    dropping_works R (found (user_on_top s.flow.items) cells) s (d refl)
-    (finds (user_on_top s.flow.items) cells (user_listed s.flow.items))
+    taking_works R (user_on_top s.flow.items) cells s (d refl) refl (user_listed s.flow.items)
 returns_works R returns.FetchReturn cells s p d = found_works R _ cells s (user_listed s.flow.items)
 returns_works R returns.Unloop cells s p d =
-    unlooping_works R (loop_on_top s.flow.items) cells s (d refl) (loop_listed s.flow.items)
+    unlooping_works R (loop_on_top s.flow.items) cells s (d refl) refl (loop_listed s.flow.items)
 returns_works R returns.Index cells s p d =
     found_works R _ cells s (index_listed (slice_get (open_loops s.flow.items) 0))
 returns_works R returns.OuterIndex cells s p d =
