@@ -174,8 +174,10 @@ memory_stands g memory.FetchSignedWord (a ∷ s) m sound = signed_stands s m _ s
 memory_stands g memory.FetchByte (a ∷ s) m sound = fetched_stands s m _ sound
 memory_stands g memory.Store (a ∷ x ∷ s) m sound = stored_stands m s _ (write_stands g Four m a.0 x.0 sound)
 memory_stands g memory.StoreLong (a ∷ x ∷ s) m sound = stored_stands m s _ (write_stands g Four m a.0 x.0 sound)
-memory_stands g memory.StoreWord (a ∷ x ∷ s) m sound = stored_stands m s _ (write_stands g Two m a.0 (low_half x).0 sound)
-memory_stands g memory.StoreByte (a ∷ x ∷ s) m sound = stored_stands m s _ (write_stands g One m a.0 (low_byte x).0 sound)
+memory_stands g memory.StoreWord (a ∷ x ∷ s) m sound =
+    stored_stands m s _ (write_stands g Two m a.0 (low_half x).0 sound)
+memory_stands g memory.StoreByte (a ∷ x ∷ s) m sound =
+    stored_stands m s _ (write_stands g One m a.0 (low_byte x).0 sound)
 memory_stands g memory.FetchTwo (a ∷ s) m sound =
     thrown_unless m
     (counting (fault_of (read_fault m a.0 8 Four) ∷ fault_if (nat_lt 256 (length s + 2)) stack_overflow ∷ []))

@@ -1,6 +1,8 @@
 -- The law `images_stand`: words over pictured text, words that print and take blocks, and all ordinary words.
-use Rattle.std.proofs.Common.{◌≡◌, ℕ, zero, suc, ◌+◌, ◌/◌, ◌%◌, ◌≤◌, ◌<◌, Bool, true, false, List, [], ◌∷◌, ◌++◌, length}
-use Rattle.std.proofs.Common.{replicate, Option, Some, None, Result, Ok, Err, refl, subst, arith, nat_lt, cond, if◌then◌else◌}
+use Rattle.std.proofs.Common.{◌≡◌, ℕ, zero, suc, ◌+◌, ◌/◌, ◌%◌, ◌≤◌, ◌<◌, Bool, true, false, List, [], ◌∷◌, ◌++◌}
+use Rattle.std.proofs.Common.{length}
+use Rattle.std.proofs.Common.{replicate, Option, Some, None, Result, Ok, Err, refl, subst, arith, nat_lt, cond}
+use Rattle.std.proofs.Common.{if◌then◌else◌}
 use Rattle.std.specs.Prelude.{◌||◌}
 use Rattle.std.proofs.lemmas.Bool.{ltb-false}
 use Rattle.std.proofs.lemmas.List.{length-replicate}
@@ -50,7 +52,8 @@ use Rattle.of_eval.specs.Words.{printing_entry, right_entry, site_in, type_entry
 use Rattle.of_eval.specs.Words.{word_entry}
 use Rattle.of_eval_laws.specs.Sound.{AreBytes}
 use Rattle.of_eval_laws.proofs.FramedMemory.{DataStands, SpaceStands, low_small, memory_stands, text_stands}
-use Rattle.of_eval_laws.proofs.FramedSpace.{AddressStands, Given, Stands, below_stands, free_is, images_kept, kept_stands}
+use Rattle.of_eval_laws.proofs.FramedSpace.{AddressStands, Given, Stands, below_stands, free_is, images_kept}
+use Rattle.of_eval_laws.proofs.FramedSpace.{kept_stands}
 use Rattle.of_eval_laws.proofs.FramedSpace.{same}
 use Rattle.of_eval_laws.proofs.SoundSites.{properties_sound, tree_sound}
 use Rattle.of_eval_laws.proofs.SoundSpace.{byte_more, bytes_joined, bytes_same, heap_sound, no_bytes, taken_laid}

@@ -10,6 +10,8 @@
 -- SoundSpace, SoundSites: what writes leaves a data space sound, from bytes up to words over the device tree.
 -- FramedSpace, FramedMemory, FramedWriting: the law `images_stand`, and that the data space stays sound.
 -- ThrowsSettle: the law `throws_settle`.
+-- LeadingEnds, LeadingBack, LeadingActs, LeadingSteps: the law `stack_leads_back`, from what is worked off or caught
+-- and the end of an image up to a step.
 -- RunningBytes, RunningEnds, RunningWords, RunningTokens: what becomes of the images that run and of the data space,
 -- from bytes up to what comes next. SoundSteps: the law `space_stays_sound`. ImagesRun: the law `images_run`.
 -- GoingLemmas: the laws `items_go`, `definitions_run`, `catch_keeps`, `ends_go_back`, `loads_begin`.
@@ -47,6 +49,10 @@ pub mod FramedMemory
 pub mod FramedWriting
 pub mod Frames
 pub mod ThrowsSettle
+pub mod LeadingEnds
+pub mod LeadingBack
+pub mod LeadingActs
+pub mod LeadingSteps
 pub mod RunningBytes
 pub mod RunningEnds
 pub mod RunningWords

@@ -73,7 +73,7 @@ Begins m after = Laws → IsSound after × OneBegins m after
 abbrev running_rules : (S : Type 0) → Rules S
 running_rules S = record (keeping S (λ s. IsSound s.parts.memory) (λ cells s p. (p, p))) {
   Loads = λ s m. Begins s.parts.memory m;
-  loads = λ a n spread x s p e l. image_begins l s.parts.memory a n spread x p e;
+  loads = λ a n spread x s p shut e l. image_begins l s.parts.memory a n spread x p e;
 }
 
 -- and where an image ends, that is by `end0` or `end1`

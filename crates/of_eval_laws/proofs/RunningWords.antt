@@ -1,5 +1,6 @@
 -- The law `images_run`: what an ordinary word and an image that begins leave of the images that run.
-use Rattle.std.proofs.Common.{subst, ◌≡◌, ◌⊎◌, inl, ℕ, Bool, true, false, List, Option, Some, None, Result, Ok, Err, refl, if◌then◌else◌}
+use Rattle.std.proofs.Common.{subst, ◌≡◌, ◌⊎◌, inl, ℕ, Bool, true, false, List, Option, Some, None, Result, Ok, Err}
+use Rattle.std.proofs.Common.{refl, if◌then◌else◌}
 use Rattle.of_stacks.specs.declared.throws.Throw.{Throw}
 use Rattle.of_fcodes.specs.declared.words.Word.{Word}
 use Rattle.of_memory.specs.declared.fault.MemFault.{MemFault}

@@ -1,5 +1,6 @@
 -- The law `space_stays_sound`: a data space stays sound where bytes are written and where its regions grow and shrink.
-use Rattle.std.proofs.Common.{◌≡◌, ℕ, zero, suc, ◌+◌, ◌-◌, ◌/◌, ◌%◌, ◌^◌, ◌≤◌, ◌<◌, Bool, true, false, List, [], ◌∷◌, ◌++◌}
+use Rattle.std.proofs.Common.{◌≡◌, ℕ, zero, suc, ◌+◌, ◌-◌, ◌/◌, ◌%◌, ◌^◌, ◌≤◌, ◌<◌, Bool, true, false, List, [], ◌∷◌}
+use Rattle.std.proofs.Common.{◌++◌}
 use Rattle.std.proofs.Common.{length, take, drop, replicate, ◌⊎◌, inl, inr}
 use Rattle.std.proofs.Common.{refl, ap, subst, ◌∙◌, arith, nat_le, nat_lt, if◌then◌else◌}
 use Rattle.std.proofs.lemmas.Bool.{and_parts, leb-true, ltb-true, ltb-false}
@@ -96,11 +97,6 @@ written_sound m a ys s fits small = record {
   heap = s.heap;
   instances = s.instances;
 }
-
-pub state_sound : (m : DataSpace) (b : Bool) → IsSound m → IsSound (with_state m b)
-state_sound m b s =
-    written_sound m property_start (bytes_high_first 4 (flag b).0) s
-    (omega (arith, high_length 4 (flag b).0)) (high_bytes 4 (flag b).0)
 
 -- ---- the data region
 

@@ -37,7 +37,8 @@ due_sound : {S : Type 0} (l : Laws) (c : Calls S) (s : State S) → HasSoundSpac
     → HasSoundSpace (due c s.flow.next s).state
 due_sound l c s sound =
     let o = due c s.flow.next s in
-    left_sound (is_at_end s.flow.next s) s.parts.memory o.state.parts.memory o.ended (due_leaves l c s.flow.next s sound)
+    left_sound (is_at_end s.flow.next s) s.parts.memory o.state.parts.memory o.ended
+    (due_leaves l c s.flow.next s sound)
 
 -- ---- a load
 

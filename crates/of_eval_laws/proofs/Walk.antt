@@ -1,6 +1,6 @@
 -- One walk of the tables of items and tokens: what each comes to is what a law asks of it, by the rules of the law.
 use Rattle.std.proofs.Common.{◌≡◌, ◌==◌, ℕ, Bool, true, false, List, [], ◌∷◌, Option, Some, None, Result, Ok, Err}
-use Rattle.std.proofs.Common.{inl, inr, refl, ap, subst, if◌then◌else◌}
+use Rattle.std.proofs.Common.{inr, refl, ap, subst, if◌then◌else◌}
 use Rattle.std.specs.Prelude.{not, ◌&&◌}
 use Rattle.of_cells.specs.declared.cells.Cell.{Cell}
 use Rattle.of_cells.specs.Arithmetic.{plus}
@@ -41,7 +41,8 @@ use Rattle.of_eval.specs.Tokens.{leave_act, named, plain_act, storing, string_ad
 use Rattle.of_eval.specs.Tokens as typed
 use Rattle.of_eval_laws.specs.Listed.{plan_named, plan_of_item}
 use Rattle.of_eval_laws.proofs.ListedFaults.{loop_listed, numbered_listed, return_listed, within_listed}
-use Rattle.of_eval_laws.proofs.WalkWords.{AimsAt, Executes, Fits, IsMove, IsTurn, IsWork, Rules, if_works, leaving_works, pushed_works}
+use Rattle.of_eval_laws.proofs.WalkWords.{AimsAt, Executes, Fits, IsMove, IsTurn, IsWork, Rules, if_works}
+use Rattle.of_eval_laws.proofs.WalkWords.{leaving_works, pushed_works}
 use Rattle.of_eval_laws.proofs.WalkWords.{pushing_works, returning_works, store_works}
 
 -- What a law asks of acts of control and of tokens, beside what it asks of those of words.
@@ -176,8 +177,8 @@ abbrev pub IsPlace : {S : Type 0} → Rules S → State S → Option Place → T
 IsPlace R s None = Unit {0}
 IsPlace R s (Some to) = R.Aims s to.cell
 
-pub item_acts : {S : Type 0} (R : Rules S) (T : Turns R) (i : Item) (s : State S) → IsPlace R s (target_of i) → T.Stands s
-    → Executes R (plan_of_item i (plan_in s)) s → IsAct R T s (item_act i (front_of s))
+pub item_acts : {S : Type 0} (R : Rules S) (T : Turns R) (i : Item) (s : State S) → IsPlace R s (target_of i)
+    → T.Stands s → Executes R (plan_of_item i (plan_in s)) s → IsAct R T s (item_act i (front_of s))
 unfolding item_act
 item_acts R T (item.Operation xt) s l p h = h xt.0 refl
 item_acts R T (item.Call xt) s l p h = h xt.0 refl

@@ -2,7 +2,6 @@
 use Rattle.std.specs.Prelude.{ℕ, List, Option, Some, None}
 use Rattle.of_cells.specs.declared.cells.Cell.{Cell}
 use Rattle.of_code.specs.declared.item.Place.{Place}
-use Rattle.of_stacks.specs.declared.return_item.Continuation.TheVariants as continuation
 use Rattle.of_stacks.specs.declared.return_item.LoopParameters.{LoopParameters}
 use Rattle.of_stacks.specs.declared.return_item.ReturnItem.TheVariants.{Loop}
 use Rattle.of_eval.specs.Executing.{guarded}
@@ -42,7 +41,7 @@ keeping S Held stays = record {
   sets = λ x s p e. tt;
   announces = λ k name w s p e. tt;
   opens = λ r s p e. tt;
-  loads = λ a n spread x s p e. tt;
+  loads = λ a n spread x s p shut e. tt;
   takes = λ cells s p. (stays cells s p).0;
   guards = λ cells s p. (stays cells s p).1;
   drops_taken = λ cells s d. tt;

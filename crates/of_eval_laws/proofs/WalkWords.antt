@@ -1,5 +1,6 @@
 -- One walk of the tables of words: what a word comes to is what a law asks of it, by the rules of the law.
-use Rattle.std.proofs.Common.{◌⊎◌, inl, inr, ◌≡◌, ◌==◌, ℕ, nat_lt, Bool, true, false, List, [], ◌∷◌, length, Option, Some, None}
+use Rattle.std.proofs.Common.{◌⊎◌, inl, inr, ◌≡◌, ◌==◌, ℕ, nat_lt, Bool, true, false, List, [], ◌∷◌, length, Option}
+use Rattle.std.proofs.Common.{Some, None}
 use Rattle.std.proofs.Common.{Result, Ok, Err, is_none, is_some, refl, ap, ◌∙◌, if◌then◌else◌}
 use Rattle.std.specs.Prelude.{not, slice_get}
 use Rattle.of_cells.specs.declared.cells.Cell.{Cell}
@@ -93,9 +94,9 @@ pub record Rules (S : Type 0) : Type 1 where
       Known s w
   -- `compile,` appends where a definition is open
   pub opens : Runs → (s : State S) → Held s → is_none s.words.defining ≡ false → Appends s
-  -- an image was copied
+  -- an image was copied, where no definition is open
   pub loads :
-      (a n spread : ℕ) (x : ℕ × DataSpace) (s : State S) → Held s →
+      (a n spread : ℕ) (x : ℕ × DataSpace) (s : State S) → Held s → is_some s.words.defining ≡ false →
       image_pushed_from s.parts.memory a n spread ≡ Ok x → Loads s x.1
   -- `execute` and `catch` leave the state so
   pub takes : (cells : List Cell) (s : State S) → Held s → Held (with_stack cells s)
@@ -303,22 +304,22 @@ loading_works R size (Ok x) cells s h = h x refl
 loading_works R size (Err fault) cells s h = R.faults fault
 
 copying_works : {S : Type 0} (R : Rules S) (a : ℕ) (cells : List Cell) (s : State S) → R.Held s
-    → IsWork R s (copying s.parts.memory a cells)
-copying_works R a cells s p =
+    → is_some s.words.defining ≡ false → IsWork R s (copying s.parts.memory a cells)
+copying_works R a cells s p shut =
     let m = s.parts.memory in
     loading_works R (first_size (start_at m a ∷ []))
     (image_pushed_from m a (length_at m a) (spread_of (start_at m a))) cells s
-    (λ x e. R.loads a (length_at m a) (spread_of (start_at m a)) x s p e)
+    (λ x e. R.loads a (length_at m a) (spread_of (start_at m a)) x s p shut e)
 
 load_works : {S : Type 0} (R : Rules S) (cells : List Cell) (s : State S) → R.Held s
-    → IsWork R s (load_act cells (front_of s))
+    → is_some s.words.defining ≡ false → IsWork R s (load_act cells (front_of s))
 unfolding is_listed listed_numbers
-load_works R [] s p = R.fails _ refl
-load_works R (fetch ∷ []) s p = R.fails _ refl
-load_works R (fetch ∷ a ∷ cells) s p =
+load_works R [] s p shut = R.fails _ refl
+load_works R (fetch ∷ []) s p shut = R.fails _ refl
+load_works R (fetch ∷ a ∷ cells) s p shut =
     unless_works R (counting (loading_faults s.parts.memory a fetch (length s.flow.items)))
     (copying s.parts.memory a.0 cells) s (loading_fault s.parts.memory a fetch (length s.flow.items))
-    (λ e. copying_works R a.0 cells s p)
+    (λ e. copying_works R a.0 cells s p shut)
 
 -- ---- all words
 
@@ -335,7 +336,7 @@ dictionary_works R r dictionary.State s p = pushed_works R _ s.parts.stack s
 dictionary_works R r dictionary.CompileComma s p = comma_works R r s.parts.stack s p
 dictionary_works R r dictionary.Behavior s p = leaving_works R _ s (behavior_listed s.words s.parts.stack)
 dictionary_works R r dictionary.ByteLoad s p =
-    if_works R (is_some s.words.defining) _ _ s (λ e. R.fails _ refl) (λ e. load_works R s.parts.stack s p)
+    if_works R (is_some s.words.defining) _ _ s (λ e. R.fails _ refl) (λ e. load_works R s.parts.stack s p e)
 dictionary_works R r w s p = R.fails _ refl
 
 written_works : {S : Type 0} (R : Rules S) → R.Runs → (w : Word) (s : State S) → R.Held s

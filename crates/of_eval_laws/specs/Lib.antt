@@ -9,3 +9,4 @@ pub mod Throws
 pub mod Going
 pub mod Asking
 pub mod Homes
+pub mod Returning

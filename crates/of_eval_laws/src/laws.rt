@@ -9,6 +9,7 @@ ghost use Rattle.of_eval_laws.specs.Homes.{NamesStayHome};
 ghost use Rattle.of_eval_laws.specs.Images.{ImagesStand};
 ghost use Rattle.of_eval_laws.specs.Listed.{StepsThrowListed, WordsThrowListed};
 ghost use Rattle.of_eval_laws.specs.Placed.{StatesStayPlaced};
+ghost use Rattle.of_eval_laws.specs.Returning.{StackLeadsBack};
 ghost use Rattle.of_eval_laws.specs.Running.{ImagesRun};
 ghost use Rattle.of_eval_laws.specs.Sound.{SpaceStaysSound};
 ghost use Rattle.of_eval_laws.specs.Throws.{ThrowsSettle};
@@ -68,6 +69,13 @@ pub fn frames_hold()
     ensures cells { FramesHold Coding }
     ensures bodies { FramesHold Definitions }
     ensures targets { TargetsCountLast }
+{}
+
+/// What runs inside an image goes back to it: the return stack leads there, and each step keeps it so.
+#[tactic(auto, using(crate::proofs::LeadingSteps::stack_leads_back))]
+pub fn stack_leads_back()
+    ensures cells { StackLeadsBack Coding }
+    ensures bodies { StackLeadsBack Definitions }
 {}
 
 /// An ordinary word keeps the images that run: it writes only where programs may.
