@@ -31,7 +31,7 @@ use Rattle.of_eval.specs.Defining.{by_making, closed_if, define_entry, definitio
 use Rattle.of_eval.specs.Defining.{semicolon_entry, string_kept, string_put, string_refused, word_defined}
 use Rattle.of_eval.specs.Doing.{acted, appended, executed, gone, input_at, worked}
 use Rattle.of_eval.specs.Doing as doing
-use Rattle.of_eval.specs.Executing.{execution, found, guarded, plan_in}
+use Rattle.of_eval.specs.Executing.{found, guarded, plan_in}
 use Rattle.of_eval.specs.Items.{item_act}
 use Rattle.of_eval.specs.Methods.{then_known}
 use Rattle.of_eval.specs.State.{Answered, Calls, Outcome, State, by_code, by_parts, with_items, with_stack}
@@ -149,9 +149,6 @@ acted_reads c (act.Copies a n) s h = kept_reads s.flow.reading _ (append_copied 
 acted_reads c (act.Makes d) s h = define_reads s.flow.reading c d s refl
 acted_reads c act.Closes s h = semicolon_reads s.flow.reading c s.words.defining s refl
 acted_reads c act.Ends s h = absurd h
-
-pub executed_reads : {S : Type 0} (c : Calls S) (xt : ℕ) (s : State S) → Reads s.flow.reading (executed c xt s)
-executed_reads c xt s = worked_reads c (execution xt (front_of s)) s
 
 -- ---- items
 

@@ -1,48 +1,24 @@
--- The law `frames_hold`: executing a word only pushes on the return stack, or drops one item.
-use Rattle.std.proofs.Common.{sym, ◌≡◌, ◌⊎◌, inl, inr, ℕ, Bool, true, false, List, [], ◌∷◌, drop, Result, Ok, Err}
-use Rattle.std.proofs.Common.{refl, subst}
+-- The law `frames_hold`: what executing a word leaves of control.
+use Rattle.std.proofs.Common.{◌≡◌, ◌⊎◌, inl, inr, ℕ, Bool, true, List, [], ◌∷◌, Result, Ok, Err, refl}
+use Rattle.std.proofs.Common.{ap}
 use Rattle.of_cells.specs.declared.cells.Cell.{Cell}
+use Rattle.of_stacks.specs.declared.return_item.Continuation.{Continuation}
+use Rattle.of_stacks.specs.declared.return_item.Continuation.TheVariants as continuation
 use Rattle.of_stacks.specs.declared.return_item.ReturnItem.{ReturnItem}
 use Rattle.of_stacks.specs.declared.return_item.ReturnItem.TheVariants.{Caller, Handler, Loop, Return, Source, User}
 use Rattle.of_stacks.specs.declared.throws.Throw.{Throw}
+use Rattle.of_stacks.specs.Returns.{has_due_top, return_on_top}
+use Rattle.of_eval.specs.declared.flow.Flow.{Flow}
 use Rattle.of_eval.specs.declared.parts.Parts.{Parts}
-use Rattle.of_eval.specs.Acts.{Move, WordAct, front_of}
+use Rattle.of_eval.specs.Acts.{Move, To, WordAct, front_of}
 use Rattle.of_eval.specs.Acts as act
 use Rattle.of_eval.specs.Doing.{appended, executed, worked}
-use Rattle.of_eval.specs.Doing as doing
-use Rattle.of_eval.specs.Executing.{execution, guarded, plan_in}
+use Rattle.of_eval.specs.Executing.{execution, frame_of, guarded, plan_in}
 use Rattle.of_eval.specs.State.{Calls, State, by_parts, with_stack}
 use Rattle.of_eval.specs.Words.{word_entry}
-use Rattle.of_eval_laws.specs.Frames.{PushedOn, drops_item, last_word}
+use Rattle.of_eval_laws.specs.Frames.{ExecutingLeaves, drops_item, last_word}
 use Rattle.of_eval_laws.proofs.WalkFree.{keeping}
-use Rattle.of_eval_laws.proofs.WalkWords.{IsMove, IsWork, Rules, execution_works}
-
--- ---- what was pushed
-
-none_pushed : (r : List ReturnItem) → PushedOn r r
-none_pushed [] = refl
-none_pushed (item ∷ r) = inl refl
-
--- items were only pushed, or one may have been dropped instead
-abbrev pub Left : Bool → List ReturnItem → List ReturnItem → Type 0
-Left false before after = PushedOn before after
-Left true before after = PushedOn before after ⊎ (after ≡ drop 1 before)
-
-pushed_left : (d : Bool) (before after : List ReturnItem) → PushedOn before after → Left d before after
-pushed_left false before after p = p
-pushed_left true before after p = inl p
-
-pub left_either : (d : Bool) (before after : List ReturnItem) → Left d before after
-    → PushedOn before after ⊎ (after ≡ drop 1 before)
-left_either false before after l = inl l
-left_either true before after l = l
-
-pub left_pushed : (d : Bool) (before after : List ReturnItem) → d ≡ false → Left d before after
-    → PushedOn before after
-left_pushed false before after e l = l
-left_pushed true before after e l = absurd cc
-
--- ---- the acts of words
+use Rattle.of_eval_laws.proofs.WalkWords.{IsCellOnTop, IsLoopOnTop, IsWork, Rules, execution_works}
 
 -- words push no loops
 abbrev NoLoop : ReturnItem → Type 0
@@ -53,58 +29,120 @@ NoLoop (Handler h) = Unit {0}
 NoLoop (Source r) = Unit {0}
 NoLoop (Caller d) = Unit {0}
 
--- what stands on the return stack was pushed on these items, and one may be dropped that leaves them so
-abbrev stacking : (S : Type 0) → Bool → List ReturnItem → Rules S
-stacking S d r = record (keeping S (λ s. PushedOn r s.flow.items) (λ cells s p. (p, inr p))) {
+-- an item may be dropped, or a handler is on top, which no word drops; no word of control runs
+abbrev stacking : (S : Type 0) → Bool → Rules S
+stacking S d = record (keeping S (λ s. Unit {0}) (λ cells s p. (tt, tt))) {
   Item = λ s i. NoLoop i;
-  Drops = λ s. Left d r (drop 1 s.flow.items);
+  Drops = λ s. (d ≡ true) ⊎ (has_due_top s.flow.items ≡ true);
+  Aims = λ s n. ⊥;
+  aims = λ n s a. tt;
   drops_taken = λ cells s h. h;
-  drops_guarded = λ cells s p. pushed_left d r s.flow.items p;
+  drops_guarded = λ cells s p. inr refl;
 }
 
-parts_stack : {S : Type 0} (m : Result Parts Throw) (s : State S) → (by_parts m s).state.flow ≡ s.flow
-parts_stack (Ok x) s = refl
-parts_stack (Err t) s = refl
+-- what is dropped isn't due
+no_due : (r : List ReturnItem) → has_due_top r ≡ true → IsCellOnTop r ⊎ IsLoopOnTop r → ⊥
+no_due [] e t = absurd cc
+no_due (User x ∷ r) e t = absurd cc
+no_due (Loop l ∷ r) e t = absurd cc
+no_due (Return to ∷ r) e t = absurd cc
+no_due (Source s ∷ r) e t = absurd cc
+no_due (Handler h ∷ r) e (inl (x, f)) = absurd cc
+no_due (Handler h ∷ r) e (inr (x, f)) = absurd cc
+no_due (Caller d ∷ r) e (inl (x, f)) = absurd cc
+no_due (Caller d ∷ r) e (inr (x, f)) = absurd cc
 
-appended_stack : {S : Type 0} (code : S) (ended : Result (Unit {0}) Throw) (cells : List Cell) (s : State S)
+no_return : (r : List ReturnItem) (to : Continuation) → has_due_top r ≡ true → return_on_top r ≡ Ok to → ⊥
+no_return [] to e f = absurd cc
+no_return (User x ∷ r) to e f = absurd cc
+no_return (Loop l ∷ r) to e f = absurd cc
+no_return (Return x ∷ r) to e f = absurd cc
+no_return (Source s ∷ r) to e f = absurd cc
+no_return (Handler h ∷ r) to e f = absurd cc
+no_return (Caller d ∷ r) to e f = absurd cc
+
+may_drop : (d : Bool) (r : List ReturnItem) → (d ≡ true) ⊎ (has_due_top r ≡ true)
+    → (has_due_top r ≡ true → ⊥) → d ≡ true
+may_drop d r (inl e) h = e
+may_drop d r (inr e) h = absurd (h e)
+
+-- without a `catch`
+abbrev Leaves : {S : Type 0} → Bool → State S → State S → Type 0
+Leaves d s u = ExecutingLeaves d s.flow u.flow
+
+stays : {S : Type 0} (d : Bool) (s u : State S) → u.flow ≡ s.flow → Leaves d s u
+stays d s u e = (
+  [],
+  tt,
+  inl (ap (λ (f : Flow). f.items) e, ap (λ (f : Flow). f.next) e, ap (λ (f : Flow). f.reading) e),
+)
+
+parts_flow : {S : Type 0} (m : Result Parts Throw) (s : State S) → (by_parts m s).state.flow ≡ s.flow
+parts_flow (Ok x) s = refl
+parts_flow (Err t) s = refl
+
+appended_flow : {S : Type 0} (code : S) (ended : Result (Unit {0}) Throw) (cells : List Cell) (s : State S)
     → (appended (record { code = code; ended = ended }) cells s).state.flow ≡ s.flow
-appended_stack code (Ok x) cells s = refl
-appended_stack code (Err t) cells s = refl
+appended_flow code (Ok x) cells s = refl
+appended_flow code (Err t) cells s = refl
 
-moved_left : {S : Type 0} (d : Bool) (r : List ReturnItem) (m : Move) (s : State S) → IsMove (stacking S d r) s m
-    → PushedOn r s.flow.items → Left d r (doing.moved m s.flow.items)
-moved_left d r act.Keeps s h p = pushed_left d r s.flow.items p
-moved_left d r (act.Pushes item) s h p = pushed_left d r (item ∷ s.flow.items) (inr p)
-moved_left d r act.Drops s h p = h
-moved_left d r (act.Turns l) s h p = absurd h.0
-
-worked_left : {S : Type 0} (c : Calls S) (d : Bool) (r : List ReturnItem) (a : WordAct) (s : State S)
-    → IsWork (stacking S d r) s a → PushedOn r s.flow.items → Left d r (worked c a s).state.flow.items
+moved_leaves : {S : Type 0} (d : Bool) (cells : List Cell) (m : Move) (to : To) (c : Calls S) (s : State S)
+    → IsWork (stacking S d) s (act.Moves cells m to) → Leaves d s (worked c (act.Moves cells m to) s).state
 unfolding worked
-worked_left c d r (act.Fails t) s h p = pushed_left d r s.flow.items p
-worked_left c d r (act.Raises t cells) s h p = pushed_left d r s.flow.items p
-worked_left c d r (act.Leaves cells) s h p = pushed_left d r s.flow.items p
-worked_left c d r (act.Works w) s h p =
-    subst (λ f. Left d r f.items) (sym (parts_stack (word_entry w s.parts) s)) (pushed_left d r s.flow.items p)
-worked_left c d r (act.Moves cells move act.Behind) s h p = moved_left d r move s h.0 p
-worked_left c d r (act.Moves cells move (act.Next to)) s h p = moved_left d r move s h.0 p
-worked_left c d r (act.Knows w cells) s h p = pushed_left d r s.flow.items p
-worked_left c d r (act.Appends e cells) s h p =
-    subst (λ f. Left d r f.items) (sym (appended_stack (c.element e s.code).code (c.element e s.code).ended cells s))
-    (pushed_left d r s.flow.items p)
-worked_left c d r (act.Loads size m cells) s h p =
-    pushed_left d r (Source s.flow.reading ∷ Return s.flow.next ∷ s.flow.items) (inr (inr p))
-worked_left c d r (act.Takes cells a) s h p = worked_left c d r a (with_stack cells s) h p
-worked_left c d r (act.Guards cells a) s h p = worked_left c d r a (guarded cells s) h (inr p)
+moved_leaves d cells act.Keeps act.Behind c s h = ([], tt, inl (refl, refl, refl))
+moved_leaves d cells act.Keeps (act.Next continuation.Source) c s h = absurd h.2.0
+moved_leaves d cells act.Keeps (act.Next (continuation.Code n)) c s h = absurd h.2.0
+moved_leaves d cells (act.Pushes (User x)) act.Behind c s h = ([], tt, inr (inl (x, refl, refl, refl)))
+moved_leaves d cells (act.Pushes (Loop l)) act.Behind c s h = absurd h.0
+moved_leaves d cells (act.Pushes (Return to)) act.Behind c s h = absurd h.2
+moved_leaves d cells (act.Pushes (Handler f)) act.Behind c s h = absurd h.2
+moved_leaves d cells (act.Pushes (Source x)) act.Behind c s h = absurd h.2
+moved_leaves d cells (act.Pushes (Caller x)) act.Behind c s h = absurd h.2
+moved_leaves d cells (act.Pushes (Return to)) (act.Next (continuation.Code n)) c s h =
+    ([], tt, inr (inr (inl (ap (λ (x : Continuation). Return x ∷ s.flow.items) h.2, refl, refl))))
+moved_leaves d cells (act.Pushes (Return to)) (act.Next continuation.Source) c s h = absurd h.2.1
+moved_leaves d cells (act.Pushes (User x)) (act.Next to) c s h = absurd h.2.1
+moved_leaves d cells (act.Pushes (Loop l)) (act.Next to) c s h = absurd h.2.1
+moved_leaves d cells (act.Pushes (Handler f)) (act.Next to) c s h = absurd h.2.1
+moved_leaves d cells (act.Pushes (Source x)) (act.Next to) c s h = absurd h.2.1
+moved_leaves d cells (act.Pushes (Caller x)) (act.Next to) c s h = absurd h.2.1
+moved_leaves d cells act.Drops act.Behind c s (drops, t, top) =
+    let may = may_drop d s.flow.items drops (λ e. no_due s.flow.items e top) in
+    ([], tt, inr (inr (inr (inr (may, (refl, inl refl, refl))))))
+moved_leaves d cells act.Drops (act.Next to) c s (drops, t, inl e) =
+    let may = may_drop d s.flow.items drops (λ f. no_return s.flow.items to f e) in
+    ([], tt, inr (inr (inr (inr (may, (refl, inr e, refl))))))
+moved_leaves d cells act.Drops (act.Next continuation.Source) c s (drops, t, inr f) = absurd f.0
+moved_leaves d cells act.Drops (act.Next (continuation.Code n)) c s (drops, t, inr f) = absurd f.0
+moved_leaves d cells (act.Turns l) act.Behind c s h = absurd h.2
+moved_leaves d cells (act.Turns l) (act.Next continuation.Source) c s h = absurd h.2.0
+moved_leaves d cells (act.Turns l) (act.Next (continuation.Code n)) c s h = absurd h.2.0
 
-drop_left : (d : Bool) (r : List ReturnItem) → d ≡ true → Left d r (drop 1 r)
-drop_left true r e = inr refl
-drop_left false r e = absurd cc
+-- and with one more
+guards : {S : Type 0} (d : Bool) (cells : List Cell) (s u : State S) → Leaves d (guarded cells s) u → Leaves d s u
+guards d cells s u (handlers, all, h) = (frame_of cells s ∷ handlers, (refl, all), h)
 
-pub executed_left : {S : Type 0} (c : Calls S) (xt : ℕ) (s : State S)
-    → Left (drops_item (last_word (plan_in s xt))) s.flow.items (executed c xt s).state.flow.items
-executed_left {S} c xt s =
+worked_leaves : {S : Type 0} (d : Bool) (c : Calls S) (a : WordAct) (s : State S) → IsWork (stacking S d) s a
+    → Leaves d s (worked c a s).state
+unfolding worked
+worked_leaves d c (act.Fails t) s h = stays d s s refl
+worked_leaves d c (act.Raises t cells) s h = stays d s (with_stack cells s) refl
+worked_leaves d c (act.Leaves cells) s h = stays d s (with_stack cells s) refl
+worked_leaves d c (act.Works w) s h =
+    stays d s (by_parts (word_entry w s.parts) s).state (parts_flow (word_entry w s.parts) s)
+worked_leaves d c (act.Moves cells move to) s h = moved_leaves d cells move to c s h
+worked_leaves d c (act.Knows w cells) s h = stays d s (worked c (act.Knows w cells) s).state refl
+worked_leaves d c (act.Appends e cells) s h =
+    stays d s (appended (c.element e s.code) cells s).state
+    (appended_flow (c.element e s.code).code (c.element e s.code).ended cells s)
+worked_leaves d c (act.Loads size m cells) s h = ([], tt, inr (inr (inr (inl (refl, refl, tt)))))
+worked_leaves d c (act.Takes cells a) s h = worked_leaves d c a (with_stack cells s) h
+worked_leaves d c (act.Guards cells a) s h =
+    guards d cells s (worked c a (guarded cells s)).state (worked_leaves d c a (guarded cells s) h)
+
+pub executed_leaves : {S : Type 0} (c : Calls S) (xt : ℕ) (s : State S)
+    → Leaves (drops_item (last_word (plan_in s xt))) s (executed c xt s).state
+executed_leaves {S} c xt s =
     let d = drops_item (last_word (plan_in s xt)) in
-    let r = s.flow.items in
-    worked_left c d r (execution xt (front_of s)) s
-    (execution_works (stacking S d r) tt xt s (none_pushed r) (λ e. drop_left d r e) (λ x e. tt)) (none_pushed r)
+    worked_leaves d c (execution xt (front_of s)) s
+    (execution_works (stacking S d) tt xt s tt (λ e. inl e) (λ x e. tt))

@@ -11,13 +11,12 @@ use Rattle.std.specs.Int.{byte_at, bytes_high_first}
 use Rattle.std.specs.List.{list_all, remove}
 use Rattle.std.specs.Prelude.{◌||◌, slice_index}
 use Rattle.of_memory.specs.Access.{every}
-use Rattle.of_cells.specs.Numbers.{flag}
 use Rattle.of_memory.specs.declared.blocks.Block.{Block}
 use Rattle.of_memory.specs.Blocks.{AreLaid, IsFree, meets_none, rounded, with_block}
 use Rattle.of_memory.specs.DataSpace.{AreStacked, DataSpace, IsSound, free_after, fresh, splice, written, zeros_with}
-use Rattle.of_memory.specs.Growth.{aligned, image_popped, with_state, with_zeros, without_image}
+use Rattle.of_memory.specs.Growth.{aligned, image_popped, with_zeros, without_image}
 use Rattle.of_memory.specs.Regions.{byte_count, data_limit, data_start, first_property, heap_limit, heap_start}
-use Rattle.of_memory.specs.Regions.{image_count, image_limit, image_start, place_of, property_limit, property_start}
+use Rattle.of_memory.specs.Regions.{image_count, image_limit, image_start, place_of, property_limit}
 use Rattle.of_memory.specs.Regions.{scratch_start}
 use Rattle.of_eval_laws.specs.Sound.{AreBytes}
 

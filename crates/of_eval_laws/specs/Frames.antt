@@ -1,16 +1,19 @@
 -- What parts of a step leave as it was: what is read, with which size of offsets, and the return stack (IEEE 1275-1994,
 -- 5.2.2, 5.3.3.1; Forth 2012, 3.2.3.3).
-use Rattle.std.specs.Prelude.{◌≡◌, ◌⊎◌, ℕ, Bool, true, false, List, [], ◌∷◌, drop, Option, Some, None}
+use Rattle.std.specs.Prelude.{◌≡◌, ◌⊎◌, ℕ, Bool, true, false, List, [], ◌∷◌, drop, Option, Some, None, Ok}
 use Rattle.of_cells.specs.declared.cells.Cell.{Cell}
 use Rattle.of_code.specs.declared.item.Item.{Item}
+use Rattle.of_stacks.specs.declared.return_item.Continuation.{Continuation}
+use Rattle.of_stacks.specs.declared.return_item.Continuation.TheVariants as continuation
+use Rattle.of_stacks.specs.declared.return_item.ExceptionFrame.{ExceptionFrame}
 use Rattle.of_stacks.specs.declared.return_item.Input.{Input}
 use Rattle.of_stacks.specs.declared.return_item.Input.TheVariants as input
 use Rattle.of_stacks.specs.declared.return_item.LoopExit.{LoopExit}
 use Rattle.of_stacks.specs.declared.return_item.Reading.{Reading}
 use Rattle.of_stacks.specs.declared.return_item.ReturnItem.{ReturnItem}
-use Rattle.of_stacks.specs.declared.return_item.ReturnItem.TheVariants.{Source}
+use Rattle.of_stacks.specs.declared.return_item.ReturnItem.TheVariants.{Handler, Return, Source, User}
 use Rattle.of_stacks.specs.declared.throws.Throw.{Throw}
-use Rattle.of_stacks.specs.Returns.{top_item}
+use Rattle.of_stacks.specs.Returns.{return_on_top, top_item}
 use Rattle.of_stacks.specs.Throws.{image_ended}
 use Rattle.of_fcodes.specs.declared.words.ReturnsWord.TheVariants as returns
 use Rattle.of_fcodes.specs.declared.words.StreamWord.TheVariants as stream
@@ -30,6 +33,7 @@ use Rattle.of_eval.specs.Executing.{Catch, Execute, Own, Plan, Stops, Written, p
 use Rattle.of_eval.specs.Items.{Target, control_act}
 use Rattle.of_eval.specs.State.{Calls, State}
 use Rattle.of_eval.specs.Steps.{item_done, token_due}
+use Rattle.of_eval_laws.specs.Returning.{IsImage, is_code}
 
 -- ---- the target of a word of control
 
@@ -95,10 +99,53 @@ ends_image w = false
 
 -- ---- the return stack
 
--- more items, or none, were pushed on these
-abbrev pub PushedOn : List ReturnItem → List ReturnItem → Type 0
-PushedOn before [] = before ≡ []
-PushedOn before (item ∷ r) = (before ≡ item ∷ r) ⊎ PushedOn before r
+-- these items with what each `catch` kept pushed on them, one after another
+abbrev pub caught_on : List ExceptionFrame → List ReturnItem → List ReturnItem
+caught_on [] r = r
+caught_on (h ∷ handlers) r = caught_on handlers (Handler h ∷ r)
+
+-- control goes on there behind each
+abbrev pub AllResume : Continuation → List ExceptionFrame → Type 0
+AllResume next [] = Unit {0}
+AllResume next (h ∷ handlers) = (h.resume ≡ next) × AllResume next handlers
+
+-- nothing of control changes
+abbrev pub Stays : Flow → Flow → Type 0
+Stays f after = (after.items ≡ f.items) × (after.next ≡ f.next) × (after.reading ≡ f.reading)
+
+-- a cell of the program is pushed
+abbrev pub PushesCell : Flow → Flow → Type 0
+PushesCell f after =
+    (x : Cell) × (after.items ≡ User x ∷ f.items) × (after.next ≡ f.next) × (after.reading ≡ f.reading)
+
+-- a definition begins, and control goes on behind the word when it has ended
+abbrev pub BeginsDefinition : Flow → Flow → Type 0
+BeginsDefinition f after =
+    (after.items ≡ Return f.next ∷ f.items) × (is_code after.next ≡ true) × (after.reading ≡ f.reading)
+
+-- an image begins; when it has ended, control goes on behind the word, in what was read
+abbrev pub BeginsImage : Flow → Flow → Type 0
+BeginsImage f after =
+    (after.items ≡ Source f.reading ∷ Return f.next ∷ f.items) × (after.next ≡ continuation.Source)
+    × IsImage after.reading.input
+
+-- the item on top is dropped; control goes on behind the word, or where that says, if it is a return
+abbrev pub DropsItem : Flow → Flow → Type 0
+DropsItem f after =
+    (after.items ≡ drop 1 f.items) × ((after.next ≡ f.next) ⊎ (return_on_top f.items ≡ Ok after.next))
+    × (after.reading ≡ f.reading)
+
+-- what a word leaves of control, which may drop an item or not
+abbrev pub WordLeaves : Bool → Flow → Flow → Type 0
+WordLeaves drops f after =
+    Stays f after
+    ⊎ (PushesCell f after ⊎ (BeginsDefinition f after ⊎ (BeginsImage f after ⊎ ((drops ≡ true) × DropsItem f after))))
+
+-- each `catch` pushes a handler, and on these the word that runs at last leaves that
+abbrev pub ExecutingLeaves : Bool → Flow → Flow → Type 0
+ExecutingLeaves drops f after =
+    (handlers : List ExceptionFrame) × AllResume f.next handlers
+    × WordLeaves drops (record f { items = caught_on handlers f.items }) after
 
 -- the written word that runs at last, if one does; what `catch` runs, runs within it
 abbrev pub last_word : Plan → Option Word
@@ -119,10 +166,12 @@ drops_item w = false
 
 -- What parts of a step leave as it was, over any code of definitions.
 pub record FramesHold (S : Type 0) : Type 0 where
-  -- Executing a word goes on in what is read, or begins an image inside it.
-  pub words_read_on :
-      (c : Calls S) (xt : ℕ) (s : State S) → KeepsReading s.flow.reading (executed c xt s).state.flow
-  -- So does an item of a definition.
+  -- Executing a word leaves the items and what is read as they were, but for handlers and one item on top, or begins an
+  -- image; it drops one item only where the word that runs at last drops one.
+  pub words :
+      (c : Calls S) (xt : ℕ) (s : State S) →
+      ExecutingLeaves (drops_item (last_word (plan_in s xt))) s.flow (executed c xt s).state.flow
+  -- An item of a definition goes on in what is read, or begins an image inside it.
   pub items_read_on :
       (c : Calls S) (i : Item) (s : State S) → KeepsReading s.flow.reading (item_done c i s).state.flow
   -- The token at which the reading of an image stands, interpreted or compiled, keeps the size of offsets that is read
@@ -134,12 +183,3 @@ pub record FramesHold (S : Type 0) : Type 0 where
       KeepsSize (size_behind x.code.0 size) (token_due c (input.Image size position) s).state.flow
   -- And that is the size that it was read with, unless it is `offset16`.
   pub size_kept : (code : ℕ) (size : OffsetSize) → (code ≡ 0xcc → ⊥) → size_behind code size ≡ size
-  -- Executing a word only pushes on the return stack, unless the word that runs at last drops an item.
-  pub words_only_push :
-      (c : Calls S) (xt : ℕ) (s : State S) → drops_item (last_word (plan_in s xt)) ≡ false →
-      PushedOn s.flow.items (executed c xt s).state.flow.items
-  -- And such a word drops one item, the top.
-  pub words_drop_one :
-      (c : Calls S) (xt : ℕ) (s : State S) →
-      PushedOn s.flow.items (executed c xt s).state.flow.items
-      ⊎ ((executed c xt s).state.flow.items ≡ drop 1 s.flow.items)

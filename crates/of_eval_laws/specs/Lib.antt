@@ -1,6 +1,7 @@
 pub mod Board
 pub mod Listed
 pub mod Placed
+pub mod Returning
 pub mod Frames
 pub mod Images
 pub mod Sound
@@ -9,4 +10,3 @@ pub mod Throws
 pub mod Going
 pub mod Asking
 pub mod Homes
-pub mod Returning

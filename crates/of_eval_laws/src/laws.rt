@@ -62,8 +62,9 @@ pub fn mismatch_is_no_body()
     ensures { MismatchIsNoBody }
 {}
 
-/// Parts of a step leave as it was what is read, the size of its offsets, and the items of the return stack, and the
-/// target of a word of control counts only where control goes there, after all else.
+/// Parts of a step leave as it was what is read, the size of its offsets, and the items of the return stack, but for
+/// what executing a word pushes or drops, which is said exactly, and the target of a word of control counts only where
+/// control goes there, after all else.
 #[tactic(auto, using(crate::proofs::Frames::targets, crate::proofs::Frames::frames_hold))]
 pub fn frames_hold()
     ensures cells { FramesHold Coding }
@@ -71,7 +72,8 @@ pub fn frames_hold()
     ensures targets { TargetsCountLast }
 {}
 
-/// What runs inside an image goes back to it: the return stack leads there, and each step keeps it so.
+/// What runs inside an image that runs goes back to it: the return stack leads there, what executing a word pushes
+/// leads back, and each step keeps it so, until control is at that image again.
 #[tactic(auto, using(crate::proofs::LeadingSteps::stack_leads_back))]
 pub fn stack_leads_back()
     ensures cells { StackLeadsBack Coding }
