@@ -104,8 +104,8 @@ module _ (image : List ℕ) (outer : Reading) where
   looped now code due after (Caller d ∷ r) (l, e) h = absurd cc
 
   pub turned : (now : Reading) (code : Bool) (due after : Option Continuation) (l : LoopParameters)
-      (r : List ReturnItem) → IsLoopOnTop r → (code ≡ false → IsPosition l.exit × (is_outer r ≡ false)) → Back now code due r
-      → BackAs now code after r (Loop l ∷ drop 1 r)
+      (r : List ReturnItem) → IsLoopOnTop r → (code ≡ false → IsPosition l.exit × (is_outer r ≡ false))
+      → Back now code due r → BackAs now code after r (Loop l ∷ drop 1 r)
   unfolding latest_source
   turned now code due after l [] (x, e) p h = absurd cc
   turned now code due after l (Loop x ∷ r) t p h =

@@ -13,7 +13,7 @@ use Rattle.of_stacks.specs.declared.return_item.Input.TheVariants as input
 use Rattle.of_stacks.specs.declared.return_item.Reading.{Reading}
 use Rattle.of_stacks.specs.declared.return_item.ReturnItem.{ReturnItem}
 use Rattle.of_stacks.specs.declared.return_item.ReturnItem.TheVariants.{Return, Loop, User, Handler, Source, Caller}
-use Rattle.of_stacks.specs.Unwinding.{latest_source}
+use Rattle.of_stacks.specs.Unwinding.{latest_handler, latest_source}
 use Rattle.of_fcodes.specs.Lookup.{word_numbered}
 use Rattle.of_stream.specs.declared.stream.OffsetSize.{OffsetSize}
 use Rattle.of_stream.specs.Decoding.{Token, token_from}
@@ -35,6 +35,7 @@ use Rattle.of_eval.specs.Defining.{word_defined}
 use Rattle.of_eval.specs.Doing.{acted, executed, input_at, moved}
 use Rattle.of_eval.specs.Executing.{execution, plan_in}
 use Rattle.of_eval.specs.Items.{item_act}
+use Rattle.of_eval.specs.Loading.{image_begun}
 use Rattle.of_eval.specs.Methods.{then_known}
 use Rattle.of_eval.specs.Settling.{settled, thrown_in}
 use Rattle.of_eval.specs.State.{Answered, Calls, Outcome, State, by_code, with_next}
@@ -45,7 +46,7 @@ use Rattle.of_eval_laws.specs.Returning.{IsImage, IsRead, Leads, LeadsOn, StackL
 use Rattle.of_eval_laws.specs.Returning.{is_code, is_outer, is_read_on, reads_nothing}
 use Rattle.of_eval_laws.proofs.LeadingActs.{Back, BackAs, IsInner, Rests, Runs, leading, leading_turns, looped, no}
 use Rattle.of_eval_laws.proofs.LeadingActs.{turned}
-use Rattle.of_eval_laws.proofs.LeadingActs.{worked_leads}
+use Rattle.of_eval_laws.proofs.LeadingActs.{none_open, worked_leads}
 use Rattle.of_eval_laws.proofs.LeadingBack.{InImage, ended_due}
 use Rattle.of_eval_laws.proofs.LeadingEnds.{IsSettled, cuts, due_too, works}
 use Rattle.of_eval_laws.proofs.MethodLemmas.{known_flow}
@@ -342,8 +343,22 @@ module _ (image : List ℕ) (outer : Reading) where
 
 -- ---- the law
 
+nothing_inside : (i : Input) → i ≡ input.Nothing → reads_nothing i ≡ true
+nothing_inside i e = ap reads_nothing e
+
+begun_leads : {S : Type 0} (image : List ℕ) (node : Phandle) (m : DataSpace) (s : State S)
+    → s.flow.reading.input ≡ input.Nothing → s.words.defining ≡ None
+    → (is_back (image_begun image node m s) ≡ true)
+    × LeadsOn image (image_begun image node m s).flow.reading (image_begun image node m s)
+unfolding latest_source latest_handler
+begun_leads image node m s e shut = (
+  nothing_inside s.flow.reading.input e,
+  (((tt, none_open s shut), (refl, inl (e, refl, (refl, refl)))), (λ o. shut)),
+)
+
 pub stack_leads_back : (S : Type 0) → StackLeadsBack S
 stack_leads_back S = record {
+  begun = λ image node m s e shut. begun_leads image node m s e shut;
   words = λ image outer c xt s h. word_leads image outer c xt s (h, refl);
   items = λ image outer c i s e h. item_leads image outer c i s e h;
   settled = λ image outer c thrown s h. settled_leads image outer c thrown s h;

@@ -14,8 +14,11 @@ use Rattle.of_stacks.specs.declared.return_item.ReturnItem.{ReturnItem}
 use Rattle.of_stacks.specs.declared.return_item.ReturnItem.TheVariants.{Return, Loop, User, Handler, Source, Caller}
 use Rattle.of_stacks.specs.Unwinding.{latest_handler, latest_source}
 use Rattle.of_stream.specs.Targets.{within_tokens}
+use Rattle.of_memory.specs.DataSpace.{DataSpace}
+use Rattle.of_nodes.specs.declared.phandles.Phandle.{Phandle}
 use Rattle.of_eval.specs.declared.flow.Flow.{Flow}
 use Rattle.of_eval.specs.Doing.{executed}
+use Rattle.of_eval.specs.Loading.{image_begun}
 use Rattle.of_eval.specs.Settling.{settled}
 use Rattle.of_eval.specs.State.{Calls, State}
 use Rattle.of_eval.specs.Steps.{item_done, stepped}
@@ -118,6 +121,12 @@ module _ (image : List ℕ) (outer : Reading) where
 
 -- The return stack leads back to the outermost image, whatever runs inside it, over any code of definitions.
 pub record StackLeadsBack (S : Type 0) : Type 0 where
+  -- An image that begins where nothing is read and no definition is open is the outermost.
+  pub begun :
+      (image : List ℕ) (node : Phandle) (m : DataSpace) (s : State S) → s.flow.reading.input ≡ input.Nothing →
+      s.words.defining ≡ None →
+      let b = image_begun image node m s in
+      (is_back b ≡ true) × LeadsOn image b.flow.reading b
   -- What executing a word pushes leads back.
   pub words :
       (image : List ℕ) (outer : Reading) (c : Calls S) (xt : ℕ) (s : State S) → Leads image outer s →
