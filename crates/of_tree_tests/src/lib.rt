@@ -1,4 +1,4 @@
-//! Tests of the device tree, of property values and of the words over both, by their public calls.
+//! Tests of the device tree, of property values, of instances and of the words over them, by their public calls.
 #![tactic(auto)]
 
 #[cfg(test)]
@@ -7,6 +7,8 @@ mod active;
 mod calls;
 #[cfg(test)]
 mod faults;
+#[cfg(test)]
+mod instances;
 #[cfg(test)]
 mod nodes;
 #[cfg(test)]

@@ -1,0 +1,10 @@
+pub mod InstanceOutcomes
+pub mod Blocks
+pub mod Slots
+pub mod Table
+pub mod Instances
+pub mod Rooms
+pub mod OwnedBlocks
+pub mod OwnSlots
+pub mod Ihandles
+pub mod Beginnings
