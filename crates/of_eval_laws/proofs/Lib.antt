@@ -14,6 +14,7 @@
 -- and the end of an image up to a step.
 -- RunningBytes, RunningEnds, RunningWords, RunningTokens: what becomes of the images that run and of the data space,
 -- from bytes up to what comes next. SoundSteps: the law `space_stays_sound`. ImagesRun: the law `images_run`.
+-- ReadingsEnds, ReadingsActs, ImagesReadings: the law `images_are_readings`, from the end of a step up to steps.
 -- GoingLemmas: the laws `items_go`, `definitions_run`, `catch_keeps`, `ends_go_back`, `loads_begin`.
 -- AskingLemmas: the law `memory_is_asked`.
 -- HomeLemmas: the law `names_stay_home`.
@@ -59,3 +60,6 @@ pub mod RunningWords
 pub mod RunningTokens
 pub mod SoundSteps
 pub mod ImagesRun
+pub mod ReadingsEnds
+pub mod ReadingsActs
+pub mod ImagesReadings

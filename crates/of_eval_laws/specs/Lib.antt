@@ -7,6 +7,7 @@ pub mod Images
 pub mod Sound
 pub mod Running
 pub mod Throws
+pub mod Readings
 pub mod Going
 pub mod Asking
 pub mod Homes

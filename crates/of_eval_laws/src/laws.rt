@@ -9,6 +9,7 @@ ghost use Rattle.of_eval_laws.specs.Homes.{NamesStayHome};
 ghost use Rattle.of_eval_laws.specs.Images.{ImagesStand};
 ghost use Rattle.of_eval_laws.specs.Listed.{StepsThrowListed, WordsThrowListed};
 ghost use Rattle.of_eval_laws.specs.Placed.{StatesStayPlaced};
+ghost use Rattle.of_eval_laws.specs.Readings.{ImagesAreReadings};
 ghost use Rattle.of_eval_laws.specs.Returning.{StackLeadsBack};
 ghost use Rattle.of_eval_laws.specs.Running.{ImagesRun};
 ghost use Rattle.of_eval_laws.specs.Sound.{SpaceStaysSound};
@@ -116,6 +117,20 @@ pub fn space_stays_sound()
 pub fn images_run()
     ensures cells { ImagesRun Coding }
     ensures bodies { ImagesRun Definitions }
+{
+    images_stay();
+    latest_is_pushed();
+    parts_are_good();
+    ranges_are_placed();
+    writes_join();
+}
+
+/// The images that stand in the image region are as many as the images that are being read, at first and whatever is
+/// done or thrown: one begins to stand where it begins to be read, and is given back where it is read no more, so none
+/// stands where nothing runs. All it asks beside a sound data space is that it was so before, and it gives that back.
+pub fn images_are_readings()
+    ensures cells { ImagesAreReadings Coding }
+    ensures bodies { ImagesAreReadings Definitions }
 {
     images_stay();
     latest_is_pushed();

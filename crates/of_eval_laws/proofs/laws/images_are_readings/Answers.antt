@@ -1,0 +1,30 @@
+use Rattle.of_compile.specs.Board.{Definitions}
+use Rattle.of_compile.specs.Coding.{Coding}
+use Rattle.of_eval_laws.proofs.ImagesReadings.{images_are_readings}
+use Rattle.of_eval_laws.proofs.laws.images_are_readings.Goals as goal
+
+pub returns-clause-cells : goal.returns-clause-cells
+returns-clause-cells c =
+    images_are_readings (record {
+      given = record {
+        parts = c.parts_are_good.ensures;
+        ranges = c.ranges_are_placed.ensures;
+        joins = c.writes_join.ensures;
+      };
+      pushes = c.latest_is_pushed.ensures;
+      tree = c.images_stay.ensures;
+    })
+    Coding
+
+pub returns-clause-bodies : goal.returns-clause-bodies
+returns-clause-bodies c =
+    images_are_readings (record {
+      given = record {
+        parts = c.parts_are_good.ensures;
+        ranges = c.ranges_are_placed.ensures;
+        joins = c.writes_join.ensures;
+      };
+      pushes = c.latest_is_pushed.ensures;
+      tree = c.images_stay.ensures;
+    })
+    Definitions
