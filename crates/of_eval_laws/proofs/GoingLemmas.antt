@@ -39,15 +39,15 @@ use Rattle.of_eval_laws.specs.Board.{board_calls}
 use Rattle.of_eval_laws.specs.Going.{CatchKeeps, DefinitionsRun, EndsGoBack, Is, ItemsGo, ItemsThrow, LoadsBegin}
 use Rattle.of_eval_laws.specs.Going.{Makes, Throws, gone, has_opened, on}
 
-if_is : {A : Type 0} (b : Bool) (x y : A) → b ≡ true → (if b then x else y) ≡ x
+pub if_is : {A : Type 0} (b : Bool) (x y : A) → b ≡ true → (if b then x else y) ≡ x
 if_is true x y e = refl
 if_is false x y e = absurd cc
 
-if_not : {A : Type 0} (b : Bool) (x y : A) → b ≡ false → (if b then x else y) ≡ y
+pub if_not : {A : Type 0} (b : Bool) (x y : A) → b ≡ false → (if b then x else y) ≡ y
 if_not false x y e = refl
 if_not true x y e = absurd cc
 
-other : (x y : ℕ) → (x ≡ y → ⊥) → (x == y) ≡ false
+pub other : (x y : ℕ) → (x ≡ y → ⊥) → (x == y) ≡ false
 other x y h = grind (arith, h)
 
 -- ---- items

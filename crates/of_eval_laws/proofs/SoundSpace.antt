@@ -1,5 +1,6 @@
 -- The law `space_stays_sound`: a data space stays sound where bytes are written and where its regions grow and shrink.
-use Rattle.std.proofs.Common.{◌≡◌, ℕ, zero, suc, ◌+◌, ◌-◌, ◌/◌, ◌%◌, ◌^◌, ◌≤◌, ◌<◌, Bool, true, false, List, [], ◌∷◌}
+use Rattle.std.proofs.Common.{◌≡◌, ℕ, zero, suc, ◌+◌, ◌-◌, ◌/◌, ◌%◌}
+use Rattle.std.proofs.Common.{◌^◌, ◌≤◌, ◌<◌, Bool, true, false, List, [], ◌∷◌}
 use Rattle.std.proofs.Common.{◌++◌}
 use Rattle.std.proofs.Common.{length, take, drop, replicate, ◌⊎◌, inl, inr}
 use Rattle.std.proofs.Common.{refl, ap, subst, ◌∙◌, arith, nat_le, nat_lt, if◌then◌else◌}

@@ -9,5 +9,6 @@ pub mod Running
 pub mod Throws
 pub mod Readings
 pub mod Going
+pub mod Tokens
 pub mod Asking
 pub mod Homes

@@ -14,6 +14,7 @@ ghost use Rattle.of_eval_laws.specs.Returning.{StackLeadsBack};
 ghost use Rattle.of_eval_laws.specs.Running.{ImagesRun};
 ghost use Rattle.of_eval_laws.specs.Sound.{SpaceStaysSound};
 ghost use Rattle.of_eval_laws.specs.Throws.{ThrowsSettle};
+ghost use Rattle.of_eval_laws.specs.Tokens.{ThrowTakes, TokensAreTyped, TokensCompile, TokensGo};
 
 use of_compile::{board_is_flat, compiles_reading, runs_by_structure};
 use of_instances::{images_stay, tree_words_throw_listed};
@@ -147,6 +148,29 @@ pub fn items_go()
     ensures bodies { ItemsGo Definitions }
     ensures cells_throw { ItemsThrow Coding }
     ensures bodies_throw { ItemsThrow Definitions }
+{}
+
+/// Each FCode of the stream is the token that the standard gives its number.
+#[tactic(auto, using(crate::proofs::TokenLemmas::tokens_are_typed))]
+pub fn tokens_are_typed()
+    ensures { TokensAreTyped }
+{}
+
+/// A token of control leaves both stacks, and the image is read on at its target, as an item of the same word goes on
+/// at its own; while words are compiled it leaves the element of its word.
+#[tactic(auto, using(crate::proofs::TokenLemmas::tokens_go, crate::proofs::TokenLemmas::tokens_compile))]
+pub fn tokens_go()
+    ensures cells { TokensGo Coding }
+    ensures bodies { TokensGo Definitions }
+    ensures cells_compile { TokensCompile Coding }
+    ensures bodies_compile { TokensCompile Definitions }
+{}
+
+/// `throw` takes the number that it throws.
+#[tactic(auto, using(crate::proofs::TokenLemmas::throw_takes))]
+pub fn throw_takes()
+    ensures cells { ThrowTakes Coding }
+    ensures bodies { ThrowTakes Definitions }
 {}
 
 /// A definition runs as its structure reads: at each point that is reached in its body the item is done that the
