@@ -3,9 +3,10 @@ ghost use Rattle.std.specs.Prelude.{◌≤◌};
 
 use crate::running::{bytes_of, made_by, number_left, shown};
 use of_eval_laws::{
-    catch_keeps, definitions_run, ends_go_back, frames_hold, images_run, images_stand, items_go,
-    loads_begin, mismatch_is_no_body, states_stay_placed, steps_agree, steps_throw_listed,
-    throws_settle, words_throw_listed,
+    catch_keeps, definitions_run, ends_go_back, frames_hold, images_are_readings, images_run,
+    images_stand, items_go, loads_begin, memory_is_asked, mismatch_is_no_body, names_stay_home,
+    space_stays_sound, stack_leads_back, states_stay_placed, steps_agree, steps_throw_listed,
+    throw_takes, throws_settle, tokens_are_typed, tokens_go, words_throw_listed,
 };
 use of_nodes::Phandle;
 use std::alloc::Global;
@@ -222,4 +223,12 @@ fn laws() {
     catch_keeps();
     ends_go_back();
     loads_begin();
+    memory_is_asked();
+    names_stay_home();
+    space_stays_sound();
+    stack_leads_back();
+    images_are_readings();
+    tokens_are_typed();
+    tokens_go();
+    throw_takes();
 }
