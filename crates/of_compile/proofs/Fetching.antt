@@ -21,7 +21,7 @@ use Rattle.of_compile.proofs.LaidReading.{code_sizes}
 use Rattle.of_control.specs.Running.{Point, Taken, Performs, Jumps, Enters, Repeats, Leaves, Tests, EndsArm}
 use Rattle.of_control.specs.Running.{DropsSelector, Returns, number, numbered, step_at}
 use Rattle.of_control.specs.RunningLaw.{RunsByPlaces}
-use Rattle.of_compile.specs.Board.{is_return, number_at, taken_item}
+use Rattle.of_compile.specs.Structured.{is_return, number_at, taken_item}
 
 -- ---- the item that begins at a cell
 

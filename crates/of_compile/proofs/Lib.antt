@@ -9,7 +9,7 @@ mod LaidReading
 mod Keeping
 mod LawLemmas
 mod Fetching
-mod BoardLemmas
+mod StructuredLemmas
 mod PlaceLemmas
 mod RunLemmas
 mod Pins

@@ -26,14 +26,14 @@ use Rattle.of_compile.specs.declared.element.PlainItem.TheVariants as P
 use Rattle.of_compile.specs.Coding.{place_of}
 use Rattle.of_compile.specs.Layout.{code_item, item_cells, item_place, laid_body, laid_items, total}
 use Rattle.of_compile.specs.Law.{CompilesReading}
-use Rattle.of_compile.specs.Board.{Definition, Definitions, Spot, begun, begun_place, code_of, flat_of, laid_all}
-use Rattle.of_compile.specs.Board.{number_at, spot_in, spot_of, spot_place, starts_of, taken_at}
-use Rattle.of_compile.specs.BoardLaw.{BoardIsFlat}
+use Rattle.of_compile.specs.Structured.{Definition, Definitions, Spot, begun, begun_place, code_of, flat_of, laid_all}
+use Rattle.of_compile.specs.Structured.{number_at, spot_in, spot_of, spot_place, starts_of, taken_at}
+use Rattle.of_compile.specs.StructuredLaw.{StructuresAreFlat}
 use Rattle.of_compile.specs.PlacesLaw.{PlacesAreNumbered, spot_items}
 use Rattle.of_compile.proofs.Cells.{laid, laid_items-append}
 use Rattle.of_compile.proofs.LaidReading.{code_sizes}
 use Rattle.of_compile.proofs.Fetching.{is_number, placed, split_lt}
-use Rattle.of_compile.proofs.BoardLemmas.{body_length, total-take}
+use Rattle.of_compile.proofs.StructuredLemmas.{body_length, total-take}
 
 abbrev nothing : List (Option Item)
 nothing = None ∷ None ∷ []
@@ -213,11 +213,11 @@ from_place cells None = refl
 from_place cells (Some s) = refl
 
 counts :
-    CompilesReading → BoardIsFlat → (d : Definitions) (xt : Cell) →
+    CompilesReading → StructuresAreFlat → (d : Definitions) (xt : Cell) →
     item_count_in (flat_of d).code xt ≡ option_map spot_items (begun d.finished xt)
-counts law board d xt =
+counts law structured d xt =
     let cells = (flat_of d).code.cells in
-    ap (option_map (λ (p : Place). items_to_return (drop p.cell cells))) (board.starts d xt)
+    ap (option_map (λ (p : Place). items_to_return (drop p.cell cells))) (structured.starts d xt)
     ∙ from_place cells (begun d.finished xt)
     ∙ ap (λ c. option_map (spot_count c) (begun d.finished xt)) (open_follow law d)
     ∙ begun_all d.finished xt (open_cells d)
@@ -448,14 +448,14 @@ none_if true o e = e
 none_if false o e = refl
 
 others_by :
-    CompilesReading → BoardIsFlat → (d : Definitions) (p : Place) (b : Bool) →
+    CompilesReading → StructuresAreFlat → (d : Definitions) (p : Place) (b : Bool) →
     nat_lt p.cell (length (laid_all d.finished)) ≡ b → spot_in d.finished p.cell ≡ None →
     item_place_in (flat_of d).code p ≡ None
-others_by law board d p true l e =
+others_by law structured d p true l e =
     let c = (flat_of d).code in
-    let none = board.items d p (ltb-true p.cell (length (laid_all d.finished)) l) ∙ ap (taken_at p) e in
+    let none = structured.items d p (ltb-true p.cell (length (laid_all d.finished)) l) ∙ ap (taken_at p) e in
     ap (λ b. if b then option_map (item_from c p) (word_in c p) else None) (no_item p (item_in c p) none)
-others_by law board d p false l e =
+others_by law structured d p false l e =
     let c = (flat_of d).code in
     let kept = law.kept (code_of d.finished) d.elements refl in
     let none : word_in c p ≡ None =
@@ -463,10 +463,10 @@ others_by law board d p false l e =
     ∙ ap (λ b. if b then find (λ (s : Start). nat_le s.place.cell p.cell) (starts_of d.finished) else None) l in
     none_if (is_some (item_in c p)) (option_map (item_from c p) (word_in c p)) (ap (option_map (item_from c p)) none)
 
-pub places_are_numbered : CompilesReading → BoardIsFlat → PlacesAreNumbered
-places_are_numbered law board = record {
+pub places_are_numbered : CompilesReading → StructuresAreFlat → PlacesAreNumbered
+places_are_numbered law structured = record {
   items = items law;
   numbers = numbers law;
-  others = λ d p e. others_by law board d p (nat_lt p.cell (length (laid_all d.finished))) refl e;
-  counts = counts law board;
+  others = λ d p e. others_by law structured d p (nat_lt p.cell (length (laid_all d.finished))) refl e;
+  counts = counts law structured;
 }

@@ -15,10 +15,11 @@ use Rattle.of_compile.specs.declared.element.PlainItem.{PlainItem}
 use Rattle.of_compile.specs.Coding.{past}
 use Rattle.of_compile.specs.Layout.{code_item, item_cells, item_place, total}
 use Rattle.of_compile.specs.Elements.{nowhere}
-use Rattle.of_compile.specs.Board.{Definition, Definitions, Spot, fetched, is_return, laid_all, number_at, point_place}
-use Rattle.of_compile.specs.Board.{spot_in, spot_of, taken_at, taken_item}
+use Rattle.of_compile.specs.Structured.{Definition, Definitions, Spot, fetched, is_return, laid_all, number_at}
+use Rattle.of_compile.specs.Structured.{point_place}
+use Rattle.of_compile.specs.Structured.{spot_in, spot_of, taken_at, taken_item}
 use Rattle.of_compile.specs.RunsLaw.{IsReached, RunsByStructure}
-use Rattle.of_compile.proofs.BoardLemmas.{lt_other, lt_this, spot_below, total-take}
+use Rattle.of_compile.proofs.StructuredLemmas.{lt_other, lt_this, spot_below, total-take}
 use Rattle.of_compile.proofs.Fetching.{split_lt}
 
 -- ---- the item of a number

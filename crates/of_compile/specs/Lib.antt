@@ -2,8 +2,8 @@ pub mod Elements
 pub mod Coding
 pub mod Layout
 pub mod Law
-pub mod Board
-pub mod BoardLaw
+pub mod Structured
+pub mod StructuredLaw
 pub mod PlacesLaw
 pub mod RunsLaw
 pub mod Tokens

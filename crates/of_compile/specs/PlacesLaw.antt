@@ -6,7 +6,7 @@ use Rattle.of_code.specs.declared.item.Place.{Place}
 use Rattle.of_code.specs.Numbering.{item_count_in, item_place_in}
 use Rattle.of_control.specs.Body.{items_of}
 use Rattle.of_compile.specs.Layout.{item_place}
-use Rattle.of_compile.specs.Board.{Definition, Definitions, Spot, begun, flat_of, laid_all, spot_in}
+use Rattle.of_compile.specs.Structured.{Definition, Definitions, Spot, begun, flat_of, laid_all, spot_in}
 
 -- how many items the word has that has this spot, its return counted
 abbrev pub spot_items : Spot → ℕ

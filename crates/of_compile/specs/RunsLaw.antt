@@ -5,7 +5,7 @@ use Rattle.of_control.specs.Running.{Point, number, step_from}
 use Rattle.of_control.specs.RunningLaw.{IsRun}
 use Rattle.of_compile.specs.declared.element.PlainItem.{PlainItem}
 use Rattle.of_compile.specs.Coding.{past}
-use Rattle.of_compile.specs.Board.{Definitions, Spot, fetched, is_return, point_place, spot_in, taken_item}
+use Rattle.of_compile.specs.Structured.{Definitions, Spot, fetched, is_return, point_place, spot_in, taken_item}
 
 -- where a point of a body is reached by structure alone, in a finished word in which the cell c lies
 pub record IsReached (d : Definitions) (c : ℕ) (s : Spot) (q : Point PlainItem) (qs : List (Point PlainItem))

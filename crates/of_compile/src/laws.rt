@@ -1,5 +1,5 @@
 //! What holds of all definitions.
-ghost use Rattle.of_compile.specs.BoardLaw.{BoardIsFlat};
+ghost use Rattle.of_compile.specs.StructuredLaw.{StructuresAreFlat};
 ghost use Rattle.of_compile.specs.Law.{CompilesReading};
 ghost use Rattle.of_compile.specs.LifeLaw.{DefinitionsComeAndGo};
 ghost use Rattle.of_compile.specs.PlacesLaw.{PlacesAreNumbered};
@@ -24,8 +24,8 @@ pub fn compiles_reading()
 
 /// Compiling an element, ending or abandoning a definition and fetching an item of a finished word do to the code what
 /// they do to the definitions by structure: bodies for finished words, elements for the open definition.
-pub fn board_is_flat()
-    ensures { BoardIsFlat }
+pub fn structures_are_flat()
+    ensures { StructuresAreFlat }
 {
     compiles_reading();
     closed_is_read::<PlainItem, 32>();
@@ -39,7 +39,7 @@ pub fn places_are_numbered()
     ensures { PlacesAreNumbered }
 {
     compiles_reading();
-    board_is_flat();
+    structures_are_flat();
 }
 
 /// What is fetched at the place of a point that is reached in the body of a finished word is what the body's structure

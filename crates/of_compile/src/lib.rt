@@ -18,8 +18,8 @@ pub use defining::DefiningWord;
 pub use definitions::{abandon_definition, compile_call, end_definition};
 pub use element::{Element, PlainItem};
 pub use laws::{
-    board_is_flat, compiles_reading, definitions_come_and_go, places_are_numbered,
-    runs_by_structure,
+    compiles_reading, definitions_come_and_go, places_are_numbered, runs_by_structure,
+    structures_are_flat,
 };
 pub use tokens::{CompiledOperand, called, text_elements, token_element};
 pub use words::{Pending, TokenMaker, Words};

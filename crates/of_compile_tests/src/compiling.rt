@@ -5,7 +5,7 @@ ghost use Rattle.std.specs.Prelude.{◌≤◌};
 use of_cells::Cell;
 use of_code::{CodeStore, Item, ListCode, Place};
 use of_compile::{
-    Coding, Element, PlainItem, board_is_flat, compiles_reading, definitions_come_and_go,
+    Coding, Element, PlainItem, structures_are_flat, compiles_reading, definitions_come_and_go,
     places_are_numbered, runs_by_structure,
 };
 use of_stacks::Throw;
@@ -490,7 +490,7 @@ fn is_storable(rt: HostRuntime) {
 #[test]
 fn laws() {
     compiles_reading();
-    board_is_flat();
+    structures_are_flat();
     definitions_come_and_go();
     places_are_numbered();
     runs_by_structure();

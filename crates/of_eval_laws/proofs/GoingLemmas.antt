@@ -35,7 +35,7 @@ use Rattle.of_eval.specs.Items.{turning}
 use Rattle.of_eval.specs.Settling.{ended, going_back, is_same, or_nothing, reading_on, source_ended}
 use Rattle.of_eval.specs.State.{Calls, Outcome, State, done, failed, with_items, with_next, with_stack}
 use Rattle.of_eval.specs.Steps.{item_done, item_due}
-use Rattle.of_eval_laws.specs.Board.{board_calls}
+use Rattle.of_eval_laws.specs.Structured.{structured_calls}
 use Rattle.of_eval_laws.specs.Going.{CatchKeeps, DefinitionsRun, EndsGoBack, Is, ItemsGo, ItemsThrow, LoadsBegin}
 use Rattle.of_eval_laws.specs.Going.{Makes, Throws, gone, has_opened, on}
 
@@ -269,7 +269,7 @@ items_throw = record {
 
 pub definitions_run : RunsByStructure → DefinitionsRun
 definitions_run law = record {
-  points = λ s cell w q qs h. ap (λ x. item_due board_calls x s) (law.steps s.code cell w q qs h);
+  points = λ s cell w q qs h. ap (λ x. item_due structured_calls x s) (law.steps s.code cell w q qs h);
 }
 
 -- ---- `execute` and `catch`

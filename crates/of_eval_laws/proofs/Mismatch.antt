@@ -9,9 +9,9 @@ use Rattle.of_dict.specs.Words.{xt_of}
 use Rattle.of_control.specs.Body.{Body}
 use Rattle.of_control.specs.Reading.{body_in}
 use Rattle.of_compile.specs.declared.element.PlainItem.{PlainItem}
-use Rattle.of_compile.specs.Board.{Definitions, Told, finished_told, has_room, refused, told}
+use Rattle.of_compile.specs.Structured.{Definitions, Told, finished_told, has_room, refused, told}
 use Rattle.of_eval.specs.Defining.{definition_ended}
-use Rattle.of_eval_laws.specs.Board.{MismatchIsNoBody, board_calls}
+use Rattle.of_eval_laws.specs.Structured.{MismatchIsNoBody, structured_calls}
 use Rattle.of_eval_laws.proofs.MethodLemmas.{known_code}
 
 -- the number of what was thrown, without its sign
@@ -54,7 +54,7 @@ pub mismatch_is_no_body : MismatchIsNoBody
 mismatch_is_no_body = record {
   mismatch = λ n s. ended_is (body_in 32 s.code.elements) (record { 0 = xt_of n }) s.code;
   finished = λ n s b e room.
-      let o = definition_ended board_calls (Some n) s in
+      let o = definition_ended structured_calls (Some n) s in
       let is = finished_is (body_in 32 s.code.elements) (record { 0 = xt_of n }) b s.code e room in
       (is.0, ap (λ d. d.finished) (known_code o.ended s.flow.home n o.state) ∙ is.1);
 }

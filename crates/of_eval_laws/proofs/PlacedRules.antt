@@ -17,13 +17,13 @@ use Rattle.of_dict.specs.declared.word.Kind.{Kind}
 use Rattle.of_dict.specs.declared.word.Kind.TheVariants as kind
 use Rattle.of_dict.specs.declared.word.Slot.TheVariants as slot
 use Rattle.of_dict.specs.Words.{kind_in, word_at, xt_of}
-use Rattle.of_compile.specs.Board.{Definitions}
+use Rattle.of_compile.specs.Structured.{Definitions}
 use Rattle.of_compile.specs.DictionaryWords.{kind_at, set_token_entry, store_entry, stored_kind, token_set, with_kind}
 use Rattle.of_compile.specs.DictionaryWords.{with_stored}
 use Rattle.of_compile.specs.Words.{WordsState, number_faults, own_number}
 use Rattle.of_eval.specs.Executing.{is_opened}
 use Rattle.of_eval.specs.State.{State, open_xt, with_words}
-use Rattle.of_eval_laws.specs.Board.{IsPlacedIn}
+use Rattle.of_eval_laws.specs.Structured.{IsPlacedIn}
 use Rattle.of_eval_laws.specs.Placed.{AllPlaced, AreItemsIn, IsExitIn, IsItemIn, code_start, finished_end}
 use Rattle.of_eval_laws.proofs.Placed.{kind_placed, own_is}
 use Rattle.of_eval_laws.proofs.PlacedEnds.{guarded_placed}

@@ -34,7 +34,7 @@ use Rattle.of_control.specs.Openers.{is_all_closed}
 use Rattle.of_control.specs.Reading.{body_in}
 use Rattle.of_compile.specs.declared.defining.DefiningWord.{DefiningWord}
 use Rattle.of_compile.specs.declared.element.PlainItem.{PlainItem}
-use Rattle.of_compile.specs.Board.{Definitions, finished_told, has_room as has_room_in, refused, told}
+use Rattle.of_compile.specs.Structured.{Definitions, finished_told, has_room as has_room_in, refused, told}
 use Rattle.of_compile.specs.Coding.{Coding, Outcome as CodingOutcome, compiled as compiled_in, compiling, finishing}
 use Rattle.of_compile.specs.Coding.{fits}
 use Rattle.of_compile.specs.Defining.{Making, making}
@@ -53,7 +53,7 @@ use Rattle.of_eval.specs.State.{Answered, Calls, Outcome, State, by_parts, flat_
 use Rattle.of_eval.specs.Steps.{due, found_token, item_done, item_due, read_on, token_due}
 use Rattle.of_eval.specs.Tokens.{act_of, spot_in, typed_of}
 use Rattle.of_eval.specs.Words.{word_entry}
-use Rattle.of_eval_laws.specs.Board.{board_calls}
+use Rattle.of_eval_laws.specs.Structured.{structured_calls}
 use Rattle.of_eval_laws.specs.Listed.{Raises, StepsThrowListed, WordsThrowListed, cell_next, cell_of, closes}
 use Rattle.of_eval_laws.specs.Listed.{closes_next, plan_fetched, plan_of_item, plan_read, plan_with, token_of}
 use Rattle.of_eval_laws.specs.Listed.{token_read}
@@ -317,8 +317,8 @@ bodies xt d (Some b) =
     told_ends (has_room_in (Some ItemReturn) d)
     (record { finished = record { xt = xt; body = b } ∷ d.finished; elements = [] }) d
 
-board_listed : CallsThrowListed Definitions board_calls
-board_listed = record {
+structured_listed : CallsThrowListed Definitions structured_calls
+structured_listed = record {
   element = λ e d. tells (has_room_in (own_item e) d) (record d { elements = e ∷ d.elements }) d;
   semicolon = λ xt d. bodies xt d (body_in 32 d.elements);
 }
@@ -330,6 +330,7 @@ mismatch_unlisted = refl
 pub steps_throw_listed : WordsThrowListed → ThrowListedNumbers → StepsThrowListed
 steps_throw_listed words law = record {
   flat = λ s. dues flat_calls (record { calls = calls_listed; words = words; faults = law }) s.flow.next s;
-  board = λ s. dues board_calls (record { calls = board_listed; words = words; faults = law }) s.flow.next s;
+  structured = λ s.
+      dues structured_calls (record { calls = structured_listed; words = words; faults = law }) s.flow.next s;
   mismatch = mismatch_unlisted;
 }

@@ -1,11 +1,11 @@
 -- A part of a step does on the cells of definitions what it does on their structure: what it leaves of the state.
 use Rattle.std.proofs.Common.{◌≡◌, Bool, true, false, Result, Ok, Err, refl, if◌then◌else◌}
 use Rattle.of_stacks.specs.declared.throws.Throw.{Throw}
-use Rattle.of_compile.specs.Board.{Definitions}
+use Rattle.of_compile.specs.Structured.{Definitions}
 use Rattle.of_compile.specs.Coding.{Coding}
 use Rattle.of_eval.specs.declared.parts.Parts.{Parts}
 use Rattle.of_eval.specs.State.{Outcome, State, by_parts}
-use Rattle.of_eval_laws.specs.Board.{flat_outcome, flat_state}
+use Rattle.of_eval_laws.specs.Structured.{flat_outcome, flat_state}
 
 pub state_if : (b : Bool) (p q : State Coding) (x y : State Definitions) → p ≡ flat_state x → q ≡ flat_state y
     → (if b then p else q) ≡ flat_state (if b then x else y)

@@ -31,7 +31,7 @@ use Rattle.of_memory.specs.DataSpace.{DataSpace}
 use Rattle.of_nodes.specs.declared.phandles.Phandle.{Phandle}
 use Rattle.of_control.specs.Running.{Point, step_from}
 use Rattle.of_compile.specs.declared.element.PlainItem.{PlainItem}
-use Rattle.of_compile.specs.Board.{Definitions, Spot, is_return, point_place, taken_item}
+use Rattle.of_compile.specs.Structured.{Definitions, Spot, is_return, point_place, taken_item}
 use Rattle.of_compile.specs.Coding.{past}
 use Rattle.of_compile.specs.RunsLaw.{IsReached}
 use Rattle.of_compile.specs.Words.{WordsState, is_word}
@@ -42,7 +42,7 @@ use Rattle.of_eval.specs.Loading.{begun, load_caller}
 use Rattle.of_eval.specs.Settling.{ended, is_same}
 use Rattle.of_eval.specs.State.{Calls, State, done, failed, given_up, open_xt, with_items, with_next, with_stack}
 use Rattle.of_eval.specs.Steps.{due, item_done}
-use Rattle.of_eval_laws.specs.Board.{board_calls}
+use Rattle.of_eval_laws.specs.Structured.{structured_calls}
 
 -- a state with these cells on the data stack and these items on the return stack
 abbrev pub on : {S : Type 0} → List Cell → List ReturnItem → State S → State S
@@ -164,8 +164,8 @@ pub record DefinitionsRun : Type 0 where
       (s : State Definitions) (cell : ℕ) (w : Spot) (q : Point PlainItem) (qs : List (Point PlainItem)) →
       IsReached s.code cell w q qs →
       let t = step_from w.body q in
-      due board_calls (continuation.Code (point_place w q).cell) s
-      ≡ item_done board_calls (taken_item (point_place w) t.taken)
+      due structured_calls (continuation.Code (point_place w q).cell) s
+      ≡ item_done structured_calls (taken_item (point_place w) t.taken)
       (gone (if is_return t.taken then past (point_place w q) 1 else point_place w t.next) s)
 
 -- ---- `execute` and `catch`

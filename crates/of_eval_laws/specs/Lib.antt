@@ -1,4 +1,4 @@
-pub mod Board
+pub mod Structured
 pub mod Listed
 pub mod Placed
 pub mod Returning

@@ -22,14 +22,14 @@ use Rattle.of_fcodes.specs.Lookup.{word_numbered}
 use Rattle.of_fcodes.specs.Tokens.{entry_in}
 use Rattle.of_stream.specs.Decoding.{Argument, Nothing, Token, token_from}
 use Rattle.of_memory.specs.Images.{latest_image}
-use Rattle.of_compile.specs.Board.{Definitions}
+use Rattle.of_compile.specs.Structured.{Definitions}
 use Rattle.of_compile.specs.Coding.{Coding}
 use Rattle.of_eval.specs.declared.parts.Parts.{Parts}
 use Rattle.of_eval.specs.Executing.{Catch, Execute, Plan, Written, plan_in}
 use Rattle.of_eval.specs.State.{Calls, State, flat_calls}
 use Rattle.of_eval.specs.Steps.{due}
 use Rattle.of_eval.specs.Words.{word_entry}
-use Rattle.of_eval_laws.specs.Board.{board_calls}
+use Rattle.of_eval_laws.specs.Structured.{structured_calls}
 
 -- the throws of the table are listed
 pub record WordsThrowListed : Type 0 where
@@ -131,8 +131,9 @@ pub record StepsThrowListed : Type 0 where
       (s : State Coding) →
       Raises (cell_next flat_calls s.flow.next s) (closes_next s.flow.next s) (due flat_calls s.flow.next s).ended
   -- where they are structured bodies
-  pub board :
+  pub structured :
       (s : State Definitions) →
-      Raises (cell_next board_calls s.flow.next s) (closes_next s.flow.next s) (due board_calls s.flow.next s).ended
+      Raises (cell_next structured_calls s.flow.next s) (closes_next s.flow.next s)
+      (due structured_calls s.flow.next s).ended
   -- -22 is no listed number
   pub mismatch : is_listed control_mismatch ≡ false

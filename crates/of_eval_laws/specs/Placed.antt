@@ -11,12 +11,12 @@ use Rattle.of_dict.specs.declared.word.Kind.{Kind}
 use Rattle.of_dict.specs.declared.word.Kind.TheVariants as kind
 use Rattle.of_dict.specs.declared.word.Word.{Word}
 use Rattle.of_dict.specs.Words.{kind_in, word_at}
-use Rattle.of_compile.specs.Board.{Definitions, laid_all}
+use Rattle.of_compile.specs.Structured.{Definitions, laid_all}
 use Rattle.of_compile.specs.Words.{IsNewestOpen}
 use Rattle.of_eval.specs.State.{State}
 use Rattle.of_eval.specs.Steps.{stepped}
 use Rattle.of_eval.specs.Loading.{first_state, image_begun}
-use Rattle.of_eval_laws.specs.Board.{IsPlaced, IsPlacedIn, board_calls, no_definitions}
+use Rattle.of_eval_laws.specs.Structured.{IsPlaced, IsPlacedIn, structured_calls, no_definitions}
 
 -- the code cell at which the finished definitions end
 abbrev pub finished_end : Definitions → ℕ
@@ -88,6 +88,6 @@ pub record StatesStayPlaced : Type 0 where
   pub begun : (image : List ℕ) (node : Phandle) (m : DataSpace) (s : State Definitions) → AllPlaced s
       → AllPlaced (image_begun image node m s)
   -- a step
-  pub step : (s : State Definitions) → AllPlaced s → AllPlaced (stepped board_calls s)
+  pub step : (s : State Definitions) → AllPlaced s → AllPlaced (stepped structured_calls s)
   -- control goes on in what is read or in a finished definition
   pub next : (s : State Definitions) → AllPlaced s → IsPlaced s

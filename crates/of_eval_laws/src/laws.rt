@@ -1,8 +1,8 @@
 // A law has no parameters and does nothing: its contract is the law.
-ghost use Rattle.of_compile.specs.Board.{Definitions};
+ghost use Rattle.of_compile.specs.Structured.{Definitions};
 ghost use Rattle.of_compile.specs.Coding.{Coding};
 ghost use Rattle.of_eval_laws.specs.Asking.{MemoryIsAsked};
-ghost use Rattle.of_eval_laws.specs.Board.{MismatchIsNoBody, StepsAgree};
+ghost use Rattle.of_eval_laws.specs.Structured.{MismatchIsNoBody, StepsAgree};
 ghost use Rattle.of_eval_laws.specs.Frames.{FramesHold, TargetsCountLast};
 ghost use Rattle.of_eval_laws.specs.Going.{CatchKeeps, DefinitionsRun, EndsGoBack, ItemsGo, ItemsThrow, LoadsBegin};
 ghost use Rattle.of_eval_laws.specs.Homes.{NamesStayHome};
@@ -16,7 +16,7 @@ ghost use Rattle.of_eval_laws.specs.Sound.{SpaceStaysSound};
 ghost use Rattle.of_eval_laws.specs.Throws.{ThrowsSettle};
 ghost use Rattle.of_eval_laws.specs.Tokens.{ThrowTakes, TokensAreTyped, TokensCompile, TokensGo};
 
-use of_compile::{board_is_flat, compiles_reading, runs_by_structure};
+use of_compile::{compiles_reading, runs_by_structure, structures_are_flat};
 use of_instances::{images_stay, tree_words_throw_listed};
 use of_memory::{latest_is_pushed, parts_are_good, ranges_are_placed, writes_join};
 use of_prims::prims_throw_listed;
@@ -45,7 +45,7 @@ pub fn steps_throw_listed()
 pub fn steps_agree()
     ensures { StepsAgree }
 {
-    board_is_flat();
+    structures_are_flat();
     compiles_reading();
 }
 
@@ -54,7 +54,7 @@ pub fn steps_agree()
 pub fn states_stay_placed()
     ensures { StatesStayPlaced }
 {
-    board_is_flat();
+    structures_are_flat();
 }
 
 /// `b(;)` throws -22 exactly where the elements of the open definition have no body. Where they have one, and there is

@@ -7,12 +7,12 @@ use Rattle.of_memory.specs.DataSpace.{DataSpace}
 use Rattle.of_memory.specs.Growth.{image_pushed}
 use Rattle.of_memory.specs.declared.fault.MemFault.{MemFault}
 use Rattle.of_nodes.specs.declared.phandles.Phandle.{Phandle}
-use Rattle.of_compile.specs.Board.{Definitions}
+use Rattle.of_compile.specs.Structured.{Definitions}
 use Rattle.of_compile.specs.Coding.{Coding}
 use Rattle.of_eval.specs.State.{State, flat_calls}
 use Rattle.of_eval.specs.Steps.{stepped, steps_from}
 use Rattle.of_eval.specs.Loading.{begun}
-use Rattle.of_eval_laws.specs.Board.{StepsAgree, board_calls, flat_state, no_definitions}
+use Rattle.of_eval_laws.specs.Structured.{StepsAgree, structured_calls, flat_state, no_definitions}
 use Rattle.of_eval_laws.specs.Placed.{AllPlaced, StatesStayPlaced}
 use Rattle.of_machine.specs.declared.answers.Refusal.{Refusal}
 use Rattle.of_machine.specs.Events.{CallsAgree, Event, Load, Step, after_events, done_by, loaded_unless}
@@ -58,42 +58,42 @@ unless_placed None m image path stay placed = loaded_placed (node_at m path) ima
 
 turned : (b : Bool) (m : MachineState Definitions) → StepsAgree → StatesStayPlaced → AllPlaced m.eval
     → (if b then moved flat_calls (flat_machine m) else flat_machine m)
-    ≡ flat_machine (if b then moved board_calls m else m)
+    ≡ flat_machine (if b then moved structured_calls m else m)
 turned true m agree stay placed =
     ap (λ (s : State Coding). record { eval = s; steps = m.steps + 1 }) (agree m.eval (stay.next m.eval placed))
 turned false m agree stay placed = refl
 
 stays : (b : Bool) (m : MachineState Definitions) → StatesStayPlaced → AllPlaced m.eval
-    → AllPlaced (if b then moved board_calls m else m).eval
+    → AllPlaced (if b then moved structured_calls m else m).eval
 stays true m stay placed = stay.step m.eval placed
 stays false m stay placed = placed
 
 -- ---- events
 
 event_flat : (e : Event) (m : MachineState Definitions) → StepsAgree → StatesStayPlaced → AllPlaced m.eval
-    → done_by flat_calls e (flat_machine m) ≡ flat_machine (done_by board_calls e m)
+    → done_by flat_calls e (flat_machine m) ≡ flat_machine (done_by structured_calls e m)
 event_flat (Load image path) m agree stay placed = unless_flat (load_refusal m image path) m image path
 event_flat Step m agree stay placed = turned (can_step m) m agree stay placed
 
 event_placed : (e : Event) (m : MachineState Definitions) → StatesStayPlaced → AllPlaced m.eval
-    → AllPlaced (done_by board_calls e m).eval
+    → AllPlaced (done_by structured_calls e m).eval
 event_placed (Load image path) m stay placed = unless_placed (load_refusal m image path) m image path stay placed
 event_placed Step m stay placed = stays (can_step m) m stay placed
 
 all_placed : (es : List Event) (m : MachineState Definitions) → StatesStayPlaced → AllPlaced m.eval
-    → AllPlaced (after_events board_calls es m).eval
+    → AllPlaced (after_events structured_calls es m).eval
 unfolding after_events
 all_placed [] m stay placed = placed
 all_placed (e ∷ es) m stay placed =
-    event_placed e (after_events board_calls es m) stay (all_placed es m stay placed)
+    event_placed e (after_events structured_calls es m) stay (all_placed es m stay placed)
 
 events_agree : (es : List Event) (m : MachineState Definitions) → StepsAgree → StatesStayPlaced → AllPlaced m.eval
-    → after_events flat_calls es (flat_machine m) ≡ flat_machine (after_events board_calls es m)
+    → after_events flat_calls es (flat_machine m) ≡ flat_machine (after_events structured_calls es m)
 unfolding after_events
 events_agree [] m agree stay placed = refl
 events_agree (e ∷ es) m agree stay placed =
     ap (done_by flat_calls e) (events_agree es m agree stay placed)
-    ∙ event_flat e (after_events board_calls es m) agree stay (all_placed es m stay placed)
+    ∙ event_flat e (after_events structured_calls es m) agree stay (all_placed es m stay placed)
 
 -- ---- so many steps
 

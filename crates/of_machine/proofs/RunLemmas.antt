@@ -7,12 +7,12 @@ use Rattle.std.proofs.lemmas.Bool.Decides.{nat_tests}
 use Rattle.of_memory.specs.DataSpace.{DataSpace}
 use Rattle.of_memory.specs.Growth.{image_fits, image_pushed}
 use Rattle.of_stream.specs.Image.{header_fault}
-use Rattle.of_compile.specs.Board.{Definitions, flat_of}
+use Rattle.of_compile.specs.Structured.{Definitions, flat_of}
 use Rattle.of_compile.specs.Coding.{Coding}
 use Rattle.of_eval.specs.State.{State, flat_calls}
 use Rattle.of_eval.specs.Steps.{stepped, steps_from}
 use Rattle.of_eval.specs.Loading.{first_parts, first_state}
-use Rattle.of_eval_laws.specs.Board.{StepsAgree, board_calls, no_definitions}
+use Rattle.of_eval_laws.specs.Structured.{StepsAgree, structured_calls, no_definitions}
 use Rattle.of_eval_laws.specs.Placed.{AllPlaced, StatesStayPlaced}
 use Rattle.of_machine.specs.declared.answers.Refusal.{Refusal}
 use Rattle.of_machine.specs.declared.answers.Refusal.TheVariants.{ImageTooLong}
@@ -103,31 +103,32 @@ flat_feed f = record { machine = flat_machine f.machine; lines = f.lines; answer
 
 turned : (b : Bool) (f : Feed Definitions) → StepsAgree → StatesStayPlaced → AllPlaced f.machine.eval →
     (if b then record (flat_feed f) { machine = moved flat_calls (flat_machine f.machine) } else flat_feed f)
-    ≡ flat_feed (if b then record f { machine = moved board_calls f.machine } else f)
+    ≡ flat_feed (if b then record f { machine = moved structured_calls f.machine } else f)
 turned true f agree stay placed =
     ap (λ (s : State Coding). record (flat_feed f) { machine = record { eval = s; steps = f.machine.steps + 1 } })
     (agree f.machine.eval (stay.next f.machine.eval placed))
 turned false f agree stay placed = refl
 
 stays : (b : Bool) (f : Feed Definitions) → StatesStayPlaced → AllPlaced f.machine.eval →
-    AllPlaced (if b then record f { machine = moved board_calls f.machine } else f).machine.eval
+    AllPlaced (if b then record f { machine = moved structured_calls f.machine } else f).machine.eval
 stays true f stay placed = stay.step f.machine.eval placed
 stays false f stay placed = placed
 
 all_placed : (n : ℕ) (f : Feed Definitions) → StatesStayPlaced → AllPlaced f.machine.eval
-    → AllPlaced (after board_calls n f).machine.eval
+    → AllPlaced (after structured_calls n f).machine.eval
 unfolding after next
 all_placed zero f stay placed = placed
 all_placed (suc n) f stay placed =
-    stays (can_step (after board_calls n f).machine) (after board_calls n f) stay (all_placed n f stay placed)
+    stays (can_step (after structured_calls n f).machine) (after structured_calls n f) stay (all_placed n f stay placed)
 
 feeds_agree : (n : ℕ) (f : Feed Definitions) → StepsAgree → StatesStayPlaced → AllPlaced f.machine.eval
-    → after flat_calls n (flat_feed f) ≡ flat_feed (after board_calls n f)
+    → after flat_calls n (flat_feed f) ≡ flat_feed (after structured_calls n f)
 unfolding after next
 feeds_agree zero f agree stay placed = refl
 feeds_agree (suc n) f agree stay placed =
     ap (next flat_calls) (feeds_agree n f agree stay placed)
-    ∙ turned (can_step (after board_calls n f).machine) (after board_calls n f) agree stay (all_placed n f stay placed)
+    ∙ turned (can_step (after structured_calls n f).machine) (after structured_calls n f) agree stay
+    (all_placed n f stay placed)
 
 pub runs_agree : StepsAgree → StatesStayPlaced → RunsAgree
 runs_agree agree stay image lines answers calls n =

@@ -1,9 +1,9 @@
 -- A machine by what is done to it: each call is an event, and one that is refused changes nothing.
 use Rattle.std.specs.Prelude.{◌≡◌, ℕ, ◌-◌, ◌^◌, ◌<◌, List, [], ◌∷◌, Option, Some, None, replicate, if◌then◌else◌}
-use Rattle.of_compile.specs.Board.{flat_of}
+use Rattle.of_compile.specs.Structured.{flat_of}
 use Rattle.of_compile.specs.Coding.{Coding}
 use Rattle.of_eval.specs.State.{Calls, flat_calls}
-use Rattle.of_eval_laws.specs.Board.{board_calls, no_definitions}
+use Rattle.of_eval_laws.specs.Structured.{structured_calls, no_definitions}
 use Rattle.of_machine.specs.declared.answers.Refusal.{Refusal}
 use Rattle.of_machine.specs.States.{HasMoved, MachineState, can_step, flat_machine, idle, load_refusal, loaded_for}
 use Rattle.of_machine.specs.States.{moved, node_at}
@@ -36,7 +36,7 @@ pub record CallsAgree : Type 0 where
   pub events :
       (es : List Event) →
       after_events flat_calls es (idle (flat_of no_definitions))
-      ≡ flat_machine (after_events board_calls es (idle no_definitions))
+      ≡ flat_machine (after_events structured_calls es (idle no_definitions))
   -- A machine that has moved by so many steps is where so many events of a step lead.
   pub steps :
       (old new : MachineState Coding) → HasMoved old new → new.steps < 2 ^ 64 →

@@ -1,9 +1,9 @@
 -- Runs: a machine with what is still to be handed in to it, turn by turn.
 use Rattle.std.specs.Prelude.{◌≡◌, ℕ, zero, suc, ◌≤◌, List, true, false, if◌then◌else◌}
 use Rattle.of_compile.specs.Coding.{Coding}
-use Rattle.of_compile.specs.Board.{Definitions, flat_of}
+use Rattle.of_compile.specs.Structured.{Definitions, flat_of}
 use Rattle.of_eval.specs.State.{Calls, flat_calls}
-use Rattle.of_eval_laws.specs.Board.{board_calls, no_definitions}
+use Rattle.of_eval_laws.specs.Structured.{structured_calls, no_definitions}
 use Rattle.of_machine.specs.declared.answers.Answer.{Answer}
 use Rattle.of_machine.specs.declared.answers.ClientCall.{ClientCall}
 use Rattle.of_machine.specs.declared.answers.End.{End}
@@ -35,7 +35,8 @@ after c (suc n) f = next c (after c n f)
 -- The abstract machine, whose definitions are structured bodies: its state after n steps of the image's run, or the
 -- last state that there is.
 abbrev pub States : List ℕ → List (List ℕ) → List Answer → List (ℕ × ClientCall) → ℕ → MachineState Definitions
-States image lines answers calls n = (after board_calls n (beginning no_definitions image lines answers calls)).machine
+States image lines answers calls n =
+    (after structured_calls n (beginning no_definitions image lines answers calls)).machine
 
 -- What a run of at most `limit` steps answers: the machine is the abstract machine after its steps, with the
 -- definitions laid out as cells. It is done where nothing runs after at most that many steps; otherwise the limit was

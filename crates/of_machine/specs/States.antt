@@ -9,11 +9,11 @@ use Rattle.of_nodes.specs.declared.phandles.Phandle.{Phandle}
 use Rattle.of_nodes.specs.Lookup.{found}
 use Rattle.of_nodes.specs.Nodes.{phandle_of}
 use Rattle.of_compile.specs.Coding.{Coding}
-use Rattle.of_compile.specs.Board.{Definitions}
+use Rattle.of_compile.specs.Structured.{Definitions}
 use Rattle.of_eval.specs.State.{Calls, State, flat_calls}
 use Rattle.of_eval.specs.Steps.{due_grows, stepped, steps_from}
 use Rattle.of_eval.specs.Loading.{begun, first_state}
-use Rattle.of_eval_laws.specs.Board.{flat_state}
+use Rattle.of_eval_laws.specs.Structured.{flat_state}
 use Rattle.of_machine.specs.declared.answers.Progress.{Progress}
 use Rattle.of_machine.specs.declared.answers.Progress.TheVariants.{Done, Ended}
 use Rattle.of_machine.specs.declared.answers.Refusal.{Refusal}

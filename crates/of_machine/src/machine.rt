@@ -1,5 +1,5 @@
 ghost use Rattle.std.specs.Prelude.{◌≡◌, length, ◌≤◌, ◌+◌, ◌⊎◌, [], false, true, IfOk, IfErr, OnOk, OnErr, None, Some};
-ghost use Rattle.of_eval_laws.specs.Board.{no_definitions};
+ghost use Rattle.of_eval_laws.specs.Structured.{no_definitions};
 ghost use Rattle.of_machine.specs.States.{MayGrow, Refuses, Steps, flat_machine, idle, image_refusal, loaded};
 ghost use Rattle.of_eval.specs.State.{flat_calls};
 ghost use Rattle.of_machine.specs.Events.{Load, Step, done_by};

@@ -99,8 +99,8 @@ pub enum Due {
         /// The instance to be released.
         instance: Cell,
     },
-    /// The load of an image, when that ends: active package, current instance and open
-    /// `new-device`s as before, and the image's instance is released.
+    /// The load of an image, when that ends: active package and current instance as before, the
+    /// `new-device`s that were opened since are open no more, and the image's instance is released.
     Load {
         /// The active package before, if there was one.
         active: Option<Cell>,
@@ -108,7 +108,7 @@ pub enum Due {
         my_self: Cell,
         /// The instance of the image's node.
         instance: Cell,
-        /// How many `new-device`s were open before.
+        /// How many `new-device`s were ever opened before.
         new_devices: usize,
     },
 }

@@ -1,4 +1,4 @@
-use Rattle.of_compile.specs.Board.{Definitions}
+use Rattle.of_compile.specs.Structured.{Definitions}
 use Rattle.of_compile.specs.Coding.{Coding}
 use Rattle.of_eval_laws.proofs.ImagesRun.{images_run}
 use Rattle.of_eval_laws.proofs.laws.images_run.Goals as goal

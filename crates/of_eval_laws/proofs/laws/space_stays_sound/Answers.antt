@@ -1,4 +1,4 @@
-use Rattle.of_compile.specs.Board.{Definitions}
+use Rattle.of_compile.specs.Structured.{Definitions}
 use Rattle.of_compile.specs.Coding.{Coding}
 use Rattle.of_eval_laws.proofs.SoundSteps.{space_stays_sound}
 use Rattle.of_eval_laws.proofs.laws.space_stays_sound.Goals as goal

@@ -1,6 +1,6 @@
 use Rattle.std.proofs.Common.{rules, ◌≡◌, [], subst, sym}
 use Rattle.std.specs.Prelude.{if◌then◌else◌}
-use Rattle.of_eval_laws.specs.Board.{no_definitions}
+use Rattle.of_eval_laws.specs.Structured.{no_definitions}
 use Rattle.of_machine.specs.declared.answers.End.TheVariants.{LimitReached, Done}
 use Rattle.of_machine.specs.States.{flat_machine, idle, is_running, loaded, slot}
 use Rattle.of_machine.specs.Runs.{RunsTo}

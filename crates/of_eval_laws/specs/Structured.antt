@@ -9,8 +9,8 @@ use Rattle.of_dict.specs.Words.{xt_of}
 use Rattle.of_control.specs.Body.{Body}
 use Rattle.of_control.specs.Reading.{body_in}
 use Rattle.of_compile.specs.declared.element.PlainItem.{PlainItem}
-use Rattle.of_compile.specs.Board.{Definitions, Told, abandoned_told, element_told, fetched, flat_of, has_room}
-use Rattle.of_compile.specs.Board.{laid_all, semicolon_told}
+use Rattle.of_compile.specs.Structured.{Definitions, Told, abandoned_told, element_told, fetched, flat_of, has_room}
+use Rattle.of_compile.specs.Structured.{laid_all, semicolon_told}
 use Rattle.of_compile.specs.Coding.{Coding}
 use Rattle.of_compile.specs.Elements.{element_cells}
 use Rattle.of_eval.specs.Defining.{semicolon_entry}
@@ -25,8 +25,8 @@ abbrev pub told_answer : Told → Answered Definitions
 told_answer t = record { code = t.definitions; ended = t.ended }
 
 -- what is asked of definitions, by their structure: `b(;)` gives a word the body of the open definition's elements
-abbrev pub board_calls : Calls Definitions
-board_calls = record {
+abbrev pub structured_calls : Calls Definitions
+structured_calls = record {
   fetch = fetched;
   ends_at = λ d. length (laid_all d.finished) + element_cells d.elements;
   element = λ e d. told_answer (element_told e d);
@@ -52,19 +52,19 @@ IsPlaced s = IsPlacedIn (length (laid_all s.code.finished)) s.flow.next
 -- a step of structured definitions is, laid out, the step of their cells
 abbrev pub StepsAgree : Type 0
 StepsAgree =
-    (s : State Definitions) → IsPlaced s → stepped flat_calls (flat_state s) ≡ flat_state (stepped board_calls s)
+    (s : State Definitions) → IsPlaced s → stepped flat_calls (flat_state s) ≡ flat_state (stepped structured_calls s)
 
 -- what `b(;)` makes of the open definition, the word n, by its elements
 pub record MismatchIsNoBody : Type 0 where
   -- it throws -22 exactly where they have no body
   pub mismatch :
       (n : ℕ) (s : State Definitions) →
-      ((semicolon_entry board_calls (Some n) s).ended ≡ Err control_mismatch) ↔ (body_in 32 s.code.elements ≡ None)
+      ((semicolon_entry structured_calls (Some n) s).ended ≡ Err control_mismatch) ↔ (body_in 32 s.code.elements ≡ None)
   -- where they have one, and there is room for a return, that is the body of the latest finished word
   pub finished :
       (n : ℕ) (s : State Definitions) (b : Body PlainItem) →
       body_in 32 s.code.elements ≡ Some b →
       has_room (Some item.Return) s.code ≡ true →
-      ((semicolon_entry board_calls (Some n) s).ended ≡ Ok tt)
-      × ((semicolon_entry board_calls (Some n) s).state.code.finished
+      ((semicolon_entry structured_calls (Some n) s).ended ≡ Ok tt)
+      × ((semicolon_entry structured_calls (Some n) s).state.code.finished
       ≡ record { xt = record { 0 = xt_of n }; body = b } ∷ s.code.finished)

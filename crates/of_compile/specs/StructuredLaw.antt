@@ -7,11 +7,11 @@ use Rattle.of_control.specs.Element.{Element}
 use Rattle.of_control.specs.Running.{Point}
 use Rattle.of_compile.specs.declared.element.PlainItem.{PlainItem}
 use Rattle.of_compile.specs.Coding.{abandoning, compiling, finishing}
-use Rattle.of_compile.specs.Board.{Definitions, Spot, abandoned_told, begun, begun_place, element_told, fetched}
-use Rattle.of_compile.specs.Board.{flat_of, flat_told, laid_all, point_place, semicolon_told, spot_in, spot_place}
+use Rattle.of_compile.specs.Structured.{Definitions, Spot, abandoned_told, begun, begun_place, element_told, fetched}
+use Rattle.of_compile.specs.Structured.{flat_of, flat_told, laid_all, point_place, semicolon_told, spot_in, spot_place}
 
 -- each action on the code of definitions leaves the code of what the same action on the definitions leaves
-pub record BoardIsFlat : Type 0 where
+pub record StructuresAreFlat : Type 0 where
   -- a compiled token
   pub element : (e : Element PlainItem) (d : Definitions) → compiling e (flat_of d) ≡ flat_told (element_told e d)
   -- `b(;)`

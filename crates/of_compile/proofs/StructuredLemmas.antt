@@ -28,11 +28,13 @@ use Rattle.of_compile.proofs.Cells.{laid_items-append, length-laid_items}
 use Rattle.of_compile.proofs.LaidReading.{code_sizes}
 use Rattle.of_control.specs.Running.{Point, number, step_at}
 use Rattle.of_control.specs.RunningLaw.{RunsByPlaces}
-use Rattle.of_compile.specs.Board.{Definition, Definitions, Spot, code_of, element_told, fetched, begun, begun_place}
-use Rattle.of_compile.specs.Board.{finished_cells, is_return, finished_told, flat_of, flat_told, has_room, laid_all}
-use Rattle.of_compile.specs.Board.{number_at, point_place, refused, semicolon_told, spot_in, spot_of, spot_place}
-use Rattle.of_compile.specs.Board.{starts_of, taken_at, taken_item, told}
-use Rattle.of_compile.specs.BoardLaw.{BoardIsFlat}
+use Rattle.of_compile.specs.Structured.{Definition, Definitions, Spot, code_of, element_told, fetched, begun}
+use Rattle.of_compile.specs.Structured.{begun_place}
+use Rattle.of_compile.specs.Structured.{finished_cells, is_return, finished_told, flat_of, flat_told, has_room}
+use Rattle.of_compile.specs.Structured.{laid_all}
+use Rattle.of_compile.specs.Structured.{number_at, point_place, refused, semicolon_told, spot_in, spot_of, spot_place}
+use Rattle.of_compile.specs.Structured.{starts_of, taken_at, taken_item, told}
+use Rattle.of_compile.specs.StructuredLaw.{StructuresAreFlat}
 use Rattle.of_compile.proofs.Fetching.{at_number, get_past, is_number, item_at_cell, next_is, placed, split_lt}
 use Rattle.of_compile.proofs.Fetching.{taken_is}
 
@@ -376,8 +378,8 @@ begins ds xt s e =
     let upto = total-take s.number (map item_cells (items_of s.body)) in
     omega (arith, below, upto)
 
-pub board_is_flat : CompilesReading → ClosedIsRead PlainItem 32 → RunsByPlaces PlainItem → BoardIsFlat
-board_is_flat law found runs = record {
+pub structures_are_flat : CompilesReading → ClosedIsRead PlainItem 32 → RunsByPlaces PlainItem → StructuresAreFlat
+structures_are_flat law found runs = record {
   element = element law;
   semicolon = semicolon law found;
   abandoned =
