@@ -9,7 +9,11 @@ use Rattle.std.proofs.lemmas.Bool.Decides.{nat_tests}
 use Rattle.std.proofs.lemmas.List.{append-nil}
 use Rattle.std.proofs.lemmas.List.Elements.{All-nil, All-cons, All-head, All-tail}
 use Rattle.of_stream.specs.declared.stream.OffsetSize.{OffsetSize}
+use Rattle.of_source.specs.declared.keyword.Keyword.TheVariants as keyword
+use Rattle.of_source.specs.declared.keyword.Lone.{Lone}
+use Rattle.of_source.specs.declared.keyword.Lone.TheVariants as lone
 use Rattle.of_source.specs.declared.nesting.Part.{Part}
+use Rattle.of_source.specs.Effects.{effect_of}
 use Rattle.of_source.specs.declared.nesting.Part.TheVariants as part
 use Rattle.of_source.specs.Completion.{AreFree, PrefixesGoOn, begun_text, closing_word, closing_words, completion}
 use Rattle.of_source.specs.Completion.{on_lines, thens}
@@ -27,8 +31,8 @@ use Rattle.of_source.specs.Phrases.{each_written, end_written, items_in, items_o
 use Rattle.of_source.specs.Phrases as phrase
 use Rattle.of_source.specs.Shapes.{Shape, nothing, floor_of, is_even, closing, opens, pushed, run, shape_of, when}
 use Rattle.of_source.specs.Steps.{known_with}
-use Rattle.of_source.specs.Written.{AreBlanks, AreSaid, EndsWord, IsBegun, IsFollowed, IsKeyword}
-use Rattle.of_source.specs.Written.{IsPlaced, IsSaid, IsWord, own_of}
+use Rattle.of_source.specs.Written.{AreBlanks, AreSaid, EndsWord, IsBegun}
+use Rattle.of_source.specs.Written.{IsPlaced, IsSaid, IsWord}
 use Rattle.of_source.proofs.FaultsBack.{opened_first, opened_runs}
 use Rattle.of_source.proofs.FollowedLemmas.{said_on, begun_on}
 use Rattle.of_source.proofs.Kept.{run-append}
@@ -110,14 +114,11 @@ run_stacked (i ∷ is) o p h s = first_stacked i is o p (λ q. run_stacked is q 
 
 -- ---- one word more
 
--- a word closes, whatever stands before and behind it
-record IsClosing (w : List ℕ) (p : Phrase) : Type 0 where
+-- a word closes, whatever stands before it
+record IsClosing (w : List ℕ) (key : Lone) : Type 0 where
   spelled : IsWord w
-  takes : taken p ≡ []
-  own : own_of p ≡ None
-  means : IsKeyword w p
-  placed : (k : Known) → IsPlaced k w p
-  followed : (more : List ℕ) → IsFollowed p more
+  means : keyword_named w ≡ Some (keyword.Lone key)
+  placed : (k : Known) → IsPlaced k w (phrase.Alone key)
 
 no_blanks : (w : List ℕ) → list_all (λ b. nat_lt 0x20 b) w ≡ true → All (λ b. 0x20 < b) w
 no_blanks [] h = All-nil (λ b. 0x20 < b)
@@ -129,67 +130,31 @@ no_blanks (b ∷ w) h =
     both true y h = (refl, h)
     both false y h = absurd cc
 
-then_closing : IsClosing (codes "then") phrase.Then
+then_closing : IsClosing (codes "then") lone.Then
 unfolding keyword_named text_rows control_rows
-then_closing = record {
-  spelled = (omega arith, no_blanks (codes "then") refl);
-  takes = refl;
-  own = refl;
-  means = refl;
-  placed = λ k. tt;
-  followed = λ more. tt;
-}
+then_closing =
+    record { spelled = (omega arith, no_blanks (codes "then") refl); means = refl; placed = λ k. tt }
 
--- the phrase that closes a part
-abbrev closer : Part → Phrase
-closer part.Definition = phrase.Semicolon
-closer part.Begin = phrase.Back false
-closer part.Do = phrase.Loop false
-closer part.Case = phrase.EndCase
-closer part.Of = phrase.EndOf
+-- the keyword that closes a part
+abbrev closer : Part → Lone
+closer part.Definition = lone.Semicolon
+closer part.Begin = lone.Back false
+closer part.Do = lone.Loop false
+closer part.Case = lone.EndCase
+closer part.Of = lone.EndOf
 
 part_closing : (k : Part) → IsClosing (closing_word k) (closer k)
 unfolding keyword_named text_rows control_rows
-part_closing part.Definition = record {
-  spelled = (omega arith, no_blanks (codes ";") refl);
-  takes = refl;
-  own = refl;
-  means = refl;
-  placed = λ k. tt;
-  followed = λ more. tt;
-}
-part_closing part.Begin = record {
-  spelled = (omega arith, no_blanks (codes "again") refl);
-  takes = refl;
-  own = refl;
-  means = refl;
-  placed = λ k. tt;
-  followed = λ more. tt;
-}
-part_closing part.Do = record {
-  spelled = (omega arith, no_blanks (codes "loop") refl);
-  takes = refl;
-  own = refl;
-  means = refl;
-  placed = λ k. tt;
-  followed = λ more. tt;
-}
-part_closing part.Case = record {
-  spelled = (omega arith, no_blanks (codes "endcase") refl);
-  takes = refl;
-  own = refl;
-  means = refl;
-  placed = λ k. tt;
-  followed = λ more. tt;
-}
-part_closing part.Of = record {
-  spelled = (omega arith, no_blanks (codes "endof") refl);
-  takes = refl;
-  own = refl;
-  means = refl;
-  placed = λ k. tt;
-  followed = λ more. tt;
-}
+part_closing part.Definition =
+    record { spelled = (omega arith, no_blanks (codes ";") refl); means = refl; placed = λ k. tt }
+part_closing part.Begin =
+    record { spelled = (omega arith, no_blanks (codes "again") refl); means = refl; placed = λ k. tt }
+part_closing part.Do =
+    record { spelled = (omega arith, no_blanks (codes "loop") refl); means = refl; placed = λ k. tt }
+part_closing part.Case =
+    record { spelled = (omega arith, no_blanks (codes "endcase") refl); means = refl; placed = λ k. tt }
+part_closing part.Of =
+    record { spelled = (omega arith, no_blanks (codes "endof") refl); means = refl; placed = λ k. tt }
 
 -- the end of a source on a line of its own
 abbrev last_line : Ending
@@ -209,32 +174,29 @@ record Finishes (words : List (List ℕ)) (k : Known) : Type 0 where
   said : AreSaid phrases last_line k
   runs : run (all_behind phrases k).items nothing ≡ Some nothing
 
--- what is known behind a word on a line of its own
-abbrev behind_line : List ℕ → Phrase → Known → Known
-behind_line w p k = behind w p (moved (10 ∷ []) k)
+-- what is known behind a keyword on a line of its own
+abbrev behind_line : List ℕ → Lone → Known → Known
+behind_line w key k = behind w (phrase.Alone key) (moved (10 ∷ []) k)
 
-word_more : (w : List ℕ) (p : Phrase) (words : List (List ℕ)) (k : Known) → IsClosing w p → own_in k.names w ≡ None
-    → Finishes words (behind_line w p k) → Finishes (w ∷ words) k
-word_more w p words k c n f =
-    let more = all_written f.phrases last_line in
-    let e : taken p ++ more ≡ on_lines words = ap (λ t. t ++ more) c.takes ∙ f.text in
+word_more : (w : List ℕ) (key : Lone) (words : List (List ℕ)) (k : Known) → IsClosing w key
+    → own_in k.names w ≡ None → Finishes words (behind_line w key k) → Finishes (w ∷ words) k
+word_more w key words k c n f = record {
+  phrases = record { blanks = 10 ∷ []; word = w; phrase = phrase.Alone key } ∷ f.phrases;
+  text = ap (λ t. 10 ∷ w ++ t) f.text;
+  said = (
     record {
-      phrases = record { blanks = 10 ∷ []; word = w; phrase = p } ∷ f.phrases;
-      text = ap (λ t. 10 ∷ w ++ t) e;
-      said = (
-        record {
-          blanks = line_end_blank;
-          spelled = c.spelled;
-          ends = subst EndsWord (sym e) (ends_line words);
-          own = n ∙ sym c.own;
-          means = c.means;
-          placed = c.placed (moved (10 ∷ []) k);
-          followed = c.followed more;
-        },
-        f.said,
-      );
-      runs = f.runs;
-    }
+      blanks = line_end_blank;
+      spelled = c.spelled;
+      ends = subst EndsWord (sym f.text) (ends_line words);
+      own = n;
+      means = c.means;
+      placed = c.placed (moved (10 ∷ []) k);
+      followed = tt;
+    },
+    f.said,
+  );
+  runs = f.runs;
+}
 
 end_now : (k : Known) → own_in k.names (codes "fcode-end") ≡ None → run k.items nothing ≡ Some nothing
     → Finishes (codes "fcode-end" ∷ []) k
@@ -289,7 +251,7 @@ then_run n m ps l =
 
 then_more : (n m : ℕ) (ps : List (Part × ℕ)) (k : Known) → floor_of ps ≤ m
     → run k.items nothing ≡ Some (shape (suc n + m) ps)
-    → run (behind_line (codes "then") phrase.Then k).items nothing ≡ Some (shape (n + m) ps)
+    → run (behind_line (codes "then") lone.Then k).items nothing ≡ Some (shape (n + m) ps)
 then_more n m ps k l r =
     run-append k.items (item.Then ∷ []) nothing ∙ ap (option_and_then (run (item.Then ∷ []))) r ∙ then_run n m ps l
 
@@ -302,32 +264,25 @@ thens_finish : (n m : ℕ) (ps : List (Part × ℕ)) (words : List (List ℕ)) (
 thens_finish zero m ps words k names e a r l next =
     let z : 0 + m ≡ m = omega arith in next k e (subst (λ c. run k.items nothing ≡ Some (shape c ps)) z r)
 thens_finish (suc n) m ps words k names e a r l next =
-    word_more (codes "then") phrase.Then (thens n words) k then_closing
+    word_more (codes "then") lone.Then (thens n words) k then_closing
     (free_at k names (codes "then") e (All-head (Free names) (codes "then") (thens n words) a))
-    (thens_finish n m ps words (behind_line (codes "then") phrase.Then k) names e
+    (thens_finish n m ps words (behind_line (codes "then") lone.Then k) names e
     (All-tail (Free names) (codes "then") (thens n words) a) (then_more n m ps k l r) l next)
 
 -- ---- parts
 
-closer_run : (k : Part) (l : Known) (b : ℕ) (ps : List (Part × ℕ))
-    → run (items_of (closer k) l) (shape b ((k, b) ∷ ps)) ≡ Some (shape b ps)
-closer_run part.Definition l b ps = ap (option_and_then (run [])) (closed_part part.Definition b b ps refl)
-closer_run part.Begin l b ps = ap (option_and_then (run [])) (closed_part part.Begin b b ps refl)
-closer_run part.Do l b ps = ap (option_and_then (run [])) (closed_part part.Do b b ps refl)
-closer_run part.Case l b ps = ap (option_and_then (run [])) (closed_part part.Case b b ps refl)
-closer_run part.Of l b ps = ap (option_and_then (run [])) (closed_part part.Of b b ps refl)
+closer_run : (k : Part) (at b : ℕ) (one : Option Own) (ps : List (Part × ℕ))
+    → run ((effect_of (closer k)).gives at one) (shape b ((k, b) ∷ ps)) ≡ Some (shape b ps)
+closer_run part.Definition at b one ps = ap (option_and_then (run [])) (closed_part part.Definition b b ps refl)
+closer_run part.Begin at b one ps = ap (option_and_then (run [])) (closed_part part.Begin b b ps refl)
+closer_run part.Do at b one ps = ap (option_and_then (run [])) (closed_part part.Do b b ps refl)
+closer_run part.Case at b one ps = ap (option_and_then (run [])) (closed_part part.Case b b ps refl)
+closer_run part.Of at b one ps = ap (option_and_then (run [])) (closed_part part.Of b b ps refl)
 
--- the items and names behind a closer
-closer_items : (k : Part) (w : List ℕ) (l : Known)
-    → (behind w (closer k) l).items ≡ l.items ++ items_of (closer k) l
-closer_items part.Definition w l = refl
-closer_items part.Begin w l = refl
-closer_items part.Do w l = refl
-closer_items part.Case w l = refl
-closer_items part.Of w l = refl
-
+-- the names behind a closer
 closer_names : (k : Part) (w : List ℕ) (l : Known)
-    → known_with (behind w (closer k) l).open_one (behind w (closer k) l).names ≡ known_with l.open_one l.names
+    → known_with (behind w (phrase.Alone (closer k)) l).open_one (behind w (phrase.Alone (closer k)) l).names
+    ≡ known_with l.open_one l.names
 closer_names part.Definition w l = refl
 closer_names part.Begin w l = refl
 closer_names part.Do w l = refl
@@ -338,10 +293,9 @@ part_more : (k : Part) (b : ℕ) (ps : List (Part × ℕ)) (l : Known)
     → run l.items nothing ≡ Some (shape b ((k, b) ∷ ps))
     → run (behind_line (closing_word k) (closer k) l).items nothing ≡ Some (shape b ps)
 part_more k b ps l r =
-    let here = moved (10 ∷ []) l in
-    let is = items_of (closer k) here in
-    ap (λ js. run js nothing) (closer_items k (closing_word k) here)
-    ∙ run-append l.items is nothing ∙ ap (option_and_then (run is)) r ∙ closer_run k here b ps
+    let at = (moved (10 ∷ []) l).at in
+    let is = (effect_of (closer k)).gives at l.open_one in
+    run-append l.items is nothing ∙ ap (option_and_then (run is)) r ∙ closer_run k at b l.open_one ps
 
 all_finish : (ps : List (Part × ℕ)) (count : ℕ) (k : Known) (names : List Own)
     → known_with k.open_one k.names ≡ names → Stacked count ps → All (Free names) (closing_words count ps)

@@ -10,6 +10,7 @@ use Rattle.std.specs.Str.{str_eq_ignore_ascii_case}
 use Rattle.of_fcodes.specs.declared.codes.FCode.{FCode}
 use Rattle.of_stream.specs.Decoding.{Argument, Code}
 use Rattle.of_source.specs.declared.keyword.Keyword.TheVariants as keyword
+use Rattle.of_source.specs.declared.keyword.Lone.TheVariants as lone
 use Rattle.of_source.specs.declared.keyword.Maker.{Maker}
 use Rattle.of_source.specs.declared.nesting.Part.{Part}
 use Rattle.of_source.specs.declared.nesting.Part.TheVariants as part
@@ -23,7 +24,8 @@ use Rattle.of_source.specs.Nest.{IsNested}
 use Rattle.of_source.specs.Nesting.{is_same}
 use Rattle.of_source.specs.Parsing.{parsed}
 use Rattle.of_source.specs.Phrases.{Phrase, Spelled, Ending, Known, all_behind, behind, begun_with, items_in, items_of}
-use Rattle.of_source.specs.Phrases.{moved, recursion, string_items}
+use Rattle.of_source.specs.Phrases.{moved, string_items}
+use Rattle.of_source.specs.Effects.{recursion}
 use Rattle.of_source.specs.Phrases as phrase
 use Rattle.of_source.specs.Shapes.{Shape, nothing, around_of, around_part, closing, is_even, opens, pushed, run, when}
 use Rattle.of_source.specs.Steps.{code_named, known_with, named_code, number_token}
@@ -413,11 +415,11 @@ phrase_keeps (phrase.NumberIn base blanks digits x) k word o q e m w r f h =
 phrase_keeps (phrase.Character blanks b bytes) k word o q e m w r f h =
     one_stays k (item.Plain (number_token (record { 0 = b }))) o tt r (number_among _ (record { 0 = b }))
     (number_bytes (record { 0 = b })) h
-phrase_keeps (phrase.Short t) k word o q e m w r f h =
+phrase_keeps (phrase.Alone (lone.One t)) k word o q e m w r f h =
     one_stays k (item.Plain (call t)) o tt r (board t _ (one_low word t m), tt)
-    (bare_bytes t (bare_good t (keyword_good word (keyword.One t) m))) h
-phrase_keeps (phrase.Pair t u) k word o q e m w r f h =
-    let b = two_good t u (keyword_good word (keyword.Two t u) m) in
+    (bare_bytes t (bare_good t (keyword_good word (keyword.Lone (lone.One t)) m))) h
+phrase_keeps (phrase.Alone (lone.Two t u)) k word o q e m w r f h =
+    let b = two_good t u (keyword_good word (keyword.Lone (lone.Two t u)) m) in
     let l = two_low word t u m in
     two_stay k (item.Plain (call t)) (item.Plain (call u)) o tt tt r (board t _ l.0, tt) (board u _ l.1, tt)
     (bare_bytes t b.0) (bare_bytes u b.1) h
@@ -432,33 +434,23 @@ phrase_keeps (phrase.Naming t blanks name c) k word o q e m w r f h =
     (λ l. one_more (item.Plain (naming t c))
     (naming_bytes t c (keyword_good word (keyword.Naming t) m)
     (named_bare name (definitions k.items) k.names c h.known l w.2))) h
-phrase_keeps (phrase.Headers x) k word o q e m w r f h = none_stay k o r h
-phrase_keeps (phrase.Base base) k word o q e m w r f h = none_stay k o r h
+phrase_keeps (phrase.Alone (lone.Headers x)) k word o q e m w r f h = none_stay k o r h
+phrase_keeps (phrase.Alone (lone.Radix base)) k word o q e m w r f h = none_stay k o r h
 phrase_keeps (phrase.Defining t blanks name) k word o q e m w r f h =
     makes_one k.maker name t k.names k.open_one k.items o q w.1.1
     (bare_good t (keyword_good word (keyword.Defining t) m)) r f h
 phrase_keeps (phrase.Colon blanks name) k word o q e m w r f h =
     begins_one k.maker name k.names k.open_one k.items o q w.1.1 r f h
-phrase_keeps phrase.Semicolon k word o q e m w r f h = ends_one k.names k.open_one k.items h
-phrase_keeps phrase.Recurse k word o q e m w r f h =
+phrase_keeps (phrase.Alone lone.Semicolon) k word o q e m w r f h = ends_one k.names k.open_one k.items h
+phrase_keeps (phrase.Alone lone.Recurse) k word o q e m w r f h =
     stays k.names k.open_one k.items (recursion k.open_one) o (recursion_inner k.open_one) r
     (recursion_among k.open_one (definitions k.items) h.latest)
     (recursion_bytes k.open_one (definitions k.items) h.latest) h
-phrase_keeps phrase.Offset16 k word o q e m w r f h = one_stays k (item.Plain (bare 0x0cc)) o tt r (omega arith, tt)
-    offset16_bytes h
-phrase_keeps phrase.If k word o q e m w r f h = one_stays k (item.If k.at) o tt r tt tt h
-phrase_keeps phrase.Else k word o q e m w r f h = one_stays k (item.Else k.at) o tt r tt tt h
-phrase_keeps phrase.Then k word o q e m w r f h = one_stays k item.Then o tt r tt tt h
-phrase_keeps phrase.Begin k word o q e m w r f h = one_stays k item.Begin o tt r tt tt h
-phrase_keeps (phrase.Back z) k word o q e m w r f h = one_stays k (item.Back z k.at) o tt r tt tt h
-phrase_keeps phrase.Repeat k word o q e m w r f h = two_stay k (item.Back false k.at) item.Then o tt tt r tt tt tt tt h
-phrase_keeps (phrase.Do x) k word o q e m w r f h = one_stays k (item.Do x k.at) o tt r tt tt h
-phrase_keeps (phrase.Loop x) k word o q e m w r f h = one_stays k (item.Loop x k.at) o tt r tt tt h
-phrase_keeps phrase.Leave k word o q e m w r f h = one_stays k item.Leave o tt r tt tt h
-phrase_keeps phrase.Case k word o q e m w r f h = one_stays k item.Case o tt r tt tt h
-phrase_keeps phrase.Of k word o q e m w r f h = one_stays k (item.Of k.at) o tt r tt tt h
-phrase_keeps phrase.EndOf k word o q e m w r f h = one_stays k (item.EndOf k.at) o tt r tt tt h
-phrase_keeps phrase.EndCase k word o q e m w r f h = one_stays k item.EndCase o tt r tt tt h
+phrase_keeps (phrase.Alone lone.Offset16) k word o q e m w r f h =
+    one_stays k (item.Plain (bare 0x0cc)) o tt r (omega arith, tt) offset16_bytes h
+phrase_keeps (phrase.Alone lone.Repeat) k word o q e m w r f h =
+    two_stay k (item.Back false k.at) item.Then o tt tt r tt tt tt tt h
+phrase_keeps _ k word o q e m w r f h = one_stays k _ o tt r tt tt h
 
 all_keep : (ps : List Spelled) (e : Ending) (k : Known) → AreSaid ps e k
     → run (all_behind ps k).items nothing ≡ Some nothing → Holds k → Holds (all_behind ps k)

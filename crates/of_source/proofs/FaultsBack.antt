@@ -1,8 +1,8 @@
 -- A text with a fault of these is refused for it.
-use Rattle.std.proofs.Common.{◌≡◌, ◌≢◌, ℕ, zero, suc, ◌+◌, ◌<◌, ◌≤◌, Bool, true, false, not, ◌||◌, List, [], ◌∷◌, ◌++◌}
-use Rattle.std.proofs.Common.{length, codes, Option, Some, None, Result, Err, nat_lt, if◌then◌else◌, refl, sym, ap}
-use Rattle.std.proofs.Common.{subst, ◌∙◌, arith}
-use Rattle.std.specs.Prelude.{option_and_then}
+use Rattle.std.proofs.Common.{◌≡◌, ◌≢◌, ℕ, zero, suc, ◌+◌, ◌<◌, ◌≤◌, Bool, true, false, not, ◌||◌}
+use Rattle.std.proofs.Common.{List, [], ◌∷◌, ◌++◌, length, codes, Option, Some, None, Result, Err, nat_lt}
+use Rattle.std.proofs.Common.{if◌then◌else◌, refl, sym, ap, subst, ◌∙◌, arith}
+use Rattle.std.specs.Prelude.{option_and_then, is_some}
 use Rattle.std.proofs.lemmas.Bool.Decides.{nat_tests}
 use Rattle.std.proofs.lemmas.List.{length-append}
 use Rattle.of_cells.specs.declared.cells.Cell.{Cell}
@@ -19,36 +19,35 @@ use Rattle.of_source.specs.declared.nesting.Part.TheVariants as part
 use Rattle.of_source.specs.declared.number.Number.{Number}
 use Rattle.of_source.specs.declared.number.Number.TheVariants.{Value, OutOfRange, NoNumber}
 use Rattle.of_source.specs.Keywords.{keyword_named}
-use Rattle.of_source.specs.Names.{Own, own_in}
+use Rattle.of_source.specs.Names.{own_in}
 use Rattle.of_source.specs.Numbers.{number_in}
 use Rattle.of_source.specs.Radix.{base_of}
-use Rattle.of_source.specs.Items.{Item, Source, making, own_code}
-use Rattle.of_source.specs.Items as item
-use Rattle.of_source.specs.Nesting.{Nesting, nothing_open, with_branch, with_part, without_branch, without_begin}
-use Rattle.of_source.specs.Nesting.{without_part, then_without_branch, then_with_branch, opened_if, in_definition}
-use Rattle.of_source.specs.Nesting.{in_loop, on_case, is_straight, is_closed, first_open}
-use Rattle.of_source.specs.Shapes.{Shape, nothing, run, shape_of}
+use Rattle.of_source.specs.Items.{Source}
+use Rattle.of_source.specs.Nesting.{Nesting, nothing_open, with_part}
+use Rattle.of_source.specs.Nesting.{opened_if, in_definition}
+use Rattle.of_source.specs.Nesting.{is_straight, is_closed, first_open}
+use Rattle.of_source.specs.Shapes.{nothing, run, shape_of}
 use Rattle.of_source.specs.Scan.{Rest, rest_at, start_of, next_word, last_place, Found, plain_string}
 use Rattle.of_source.specs.Steps.{State, Step, Goes, Ends, Fails, beginning, ended, with_next, with_name, name_found}
-use Rattle.of_source.specs.Steps.{with_string, with_code, if_open, if_ends, number_or_bad, comment_step, code_named}
-use Rattle.of_source.specs.Steps.{recurse_step, keyword_step, number_word_step, ordinary_step, word_step}
+use Rattle.of_source.specs.Steps.{with_string, with_code, effect_step, number_or_bad, comment_step, code_named}
+use Rattle.of_source.specs.Steps.{keyword_step, number_word_step, ordinary_step, word_step}
 use Rattle.of_source.specs.Steps.{next_step}
 use Rattle.of_source.specs.Parsing.{Beyond, Word, Nothing, Bad, is_word, beyond, beyond_word, skipped_comment, trailed}
 use Rattle.of_source.specs.Parsing.{begun, misplaced, parsed}
 use Rattle.of_source.specs.Order.{behind_word, behind_words, outcome_at, IsDecided}
 use Rattle.of_source.specs.Phrases.{Phrase, Spelled, Beginning, Known, written, each_written, version_word, taken}
-use Rattle.of_source.specs.Phrases.{items_of, moved, named, behind, all_behind, place_behind, begun_with, recursion}
+use Rattle.of_source.specs.Phrases.{items_of, moved, named, behind, all_behind, place_behind, begun_with}
+use Rattle.of_source.specs.Effects.{effect_of}
 use Rattle.of_source.specs.Phrases as phrase
-use Rattle.of_source.specs.Written.{AreBlanks, own_of, keyword_of, IsKeyword, IsSaid, AreRemarks}
+use Rattle.of_source.specs.Written.{AreBlanks, own_of, IsKeyword, IsSaid, AreRemarks}
 use Rattle.of_source.specs.Written.{IsBegun}
-use Rattle.of_source.specs.Faults.{opened, all_opened, IsCloser, HasWord, MakesName, TakesWord, before_name}
+use Rattle.of_source.specs.Faults.{opened, all_opened, HasWord, MakesName, TakesWord, before_name}
 use Rattle.of_source.specs.Faults.{string_behind, IsWrong, no_opener, left_open, no_word, no_name, no_digits}
 use Rattle.of_source.specs.Faults.{bad_digits, long_name, long_string, no_end, no_code, not_outside, not_inside}
 use Rattle.of_source.specs.Faults.{not_straight, out_of_range, no_meaning, IsAstray, open_comment, another, IsFailure}
 use Rattle.of_source.specs.Faults.{cut, wrong, late, AllSaid, begins_source, IsFault, no_source, no_beginning, failure}
-use Rattle.of_source.proofs.Kept.{Inv, Kept, kept, run-append, definition_opens, defining_stands, pushes, one_more}
-use Rattle.of_source.proofs.Kept.{else_closed}
-use Rattle.of_source.proofs.Kept.{then_closed, begin_at, part_at, repeat_at, leave_at, of_at}
+use Rattle.of_source.proofs.Kept.{Inv, Kept, kept, run-append, definition_opens, defining_stands, shape_same}
+use Rattle.of_source.proofs.Kept.{effect_runs}
 use Rattle.of_source.proofs.Deciding.{first_word_decides, decided-version1, decided-version2}
 use Rattle.of_source.proofs.ReadingBack.{ends_part, word_after, start_after, no_word_after}
 use Rattle.of_source.proofs.PhraseSteps.{state_at, keyed}
@@ -62,20 +61,7 @@ use Rattle.of_source.proofs.WrittenLemmas.{headed, head_at, head_longer, version
 abbrev opened_by : Option Keyword → ℕ → Nesting → Option Nesting
 opened_by (Some (keyword.Defining t)) at n = opened_if (not (in_definition n.parts)) n
 opened_by (Some keyword.Colon) at n = opened_if (not (in_definition n.parts)) (with_part part.Definition at n)
-opened_by (Some keyword.Semicolon) at n = without_part part.Definition n
-opened_by (Some keyword.If) at n = Some (with_branch at n)
-opened_by (Some keyword.Else) at n = then_with_branch at (without_branch n)
-opened_by (Some keyword.Then) at n = without_branch n
-opened_by (Some keyword.Begin) at n = Some (with_part part.Begin at n)
-opened_by (Some (keyword.Back z)) at n = without_begin n
-opened_by (Some keyword.Repeat) at n = then_without_branch (without_begin n)
-opened_by (Some (keyword.Do q)) at n = Some (with_part part.Do at n)
-opened_by (Some (keyword.Loop q)) at n = without_part part.Do n
-opened_by (Some keyword.Leave) at n = opened_if (in_loop n.parts) n
-opened_by (Some keyword.Case) at n = Some (with_part part.Case at n)
-opened_by (Some keyword.Of) at n = opened_if (on_case n) (with_part part.Of at n)
-opened_by (Some keyword.EndOf) at n = without_part part.Of n
-opened_by (Some keyword.EndCase) at n = without_part part.Case n
+opened_by (Some (keyword.Lone w)) at n = (effect_of w).opens at n
 opened_by _ at n = Some n
 
 -- an own name opens nothing
@@ -83,83 +69,21 @@ abbrev opened_as : Option ℕ → Option Keyword → ℕ → Nesting → Option 
 opened_as (Some j) key at n = Some n
 opened_as None key at n = opened_by key at n
 
+-- the word of a phrase that is no own name
+listed_opens : (word : List ℕ) (o : Option ℕ) (key : Option Keyword) (at : ℕ) (n : Nesting) → o ≡ None
+    → keyword_named word ≡ key → opened_by key at n ≡ opened_as o (keyword_named word) at n
+listed_opens word o key at n e m =
+    ap (λ c. opened_by c at n) (sym m) ∙ ap (λ c. opened_as c (keyword_named word) at n) (sym e)
+
 opened_word : (p : Phrase) (word : List ℕ) (o : Option ℕ) (at : ℕ) (n : Nesting) → o ≡ own_of p → IsKeyword word p
     → opened p at n ≡ opened_as o (keyword_named word) at n
 opened_word (phrase.OwnWord j) word o at n e m = ap (λ c. opened_as c (keyword_named word) at n) (sym e)
-opened_word (phrase.BoardWord c) word o at n e m =
-    ap (λ c. opened_by c at n) (sym m) ∙ ap (λ c. opened_as c (keyword_named word) at n) (sym e)
-opened_word (phrase.Number x) word o at n e m =
-    ap (λ c. opened_by c at n) (sym m) ∙ ap (λ c. opened_as c (keyword_named word) at n) (sym e)
-opened_word (phrase.NumberIn base blanks digits x) word o at n e m =
-    ap (λ c. opened_by c at n) (sym m) ∙ ap (λ c. opened_as c (keyword_named word) at n) (sym e)
-opened_word (phrase.Character blanks b bytes) word o at n e m =
-    ap (λ c. opened_by c at n) (sym m) ∙ ap (λ c. opened_as c (keyword_named word) at n) (sym e)
-opened_word (phrase.Short t) word o at n e m =
-    ap (λ c. opened_by c at n) (sym m) ∙ ap (λ c. opened_as c (keyword_named word) at n) (sym e)
-opened_word (phrase.Pair t u) word o at n e m =
-    ap (λ c. opened_by c at n) (sym m) ∙ ap (λ c. opened_as c (keyword_named word) at n) (sym e)
-opened_word (phrase.Text false b bytes) word o at n e m =
-    ap (λ c. opened_by c at n) (sym m) ∙ ap (λ c. opened_as c (keyword_named word) at n) (sym e)
-opened_word (phrase.Text true b bytes) word o at n e m =
-    ap (λ c. opened_by c at n) (sym m) ∙ ap (λ c. opened_as c (keyword_named word) at n) (sym e)
-opened_word (phrase.Quoted b ps bytes) word o at n e m =
-    ap (λ c. opened_by c at n) (sym m) ∙ ap (λ c. opened_as c (keyword_named word) at n) (sym e)
-opened_word (phrase.Comment b bytes) word o at n e m =
-    ap (λ c. opened_by c at n) (sym m) ∙ ap (λ c. opened_as c (keyword_named word) at n) (sym e)
-opened_word (phrase.LineComment bytes) word o at n e m =
-    ap (λ c. opened_by c at n) (sym m) ∙ ap (λ c. opened_as c (keyword_named word) at n) (sym e)
-opened_word (phrase.Naming t blanks name c) word o at n e m =
-    ap (λ c. opened_by c at n) (sym m) ∙ ap (λ c. opened_as c (keyword_named word) at n) (sym e)
-opened_word (phrase.Headers x) word o at n e m =
-    ap (λ c. opened_by c at n) (sym m) ∙ ap (λ c. opened_as c (keyword_named word) at n) (sym e)
-opened_word (phrase.Base x) word o at n e m =
-    ap (λ c. opened_by c at n) (sym m) ∙ ap (λ c. opened_as c (keyword_named word) at n) (sym e)
-opened_word (phrase.Defining t blanks name) word o at n e m =
-    ap (λ c. opened_by c at n) (sym m) ∙ ap (λ c. opened_as c (keyword_named word) at n) (sym e)
-opened_word (phrase.Colon blanks name) word o at n e m =
-    ap (λ c. opened_by c at n) (sym m) ∙ ap (λ c. opened_as c (keyword_named word) at n) (sym e)
-opened_word phrase.Semicolon word o at n e m =
-    ap (λ c. opened_by c at n) (sym m) ∙ ap (λ c. opened_as c (keyword_named word) at n) (sym e)
-opened_word phrase.Recurse word o at n e m =
-    ap (λ c. opened_by c at n) (sym m) ∙ ap (λ c. opened_as c (keyword_named word) at n) (sym e)
-opened_word phrase.Offset16 word o at n e m =
-    ap (λ c. opened_by c at n) (sym m) ∙ ap (λ c. opened_as c (keyword_named word) at n) (sym e)
-opened_word phrase.If word o at n e m =
-    ap (λ c. opened_by c at n) (sym m) ∙ ap (λ c. opened_as c (keyword_named word) at n) (sym e)
-opened_word phrase.Else word o at n e m =
-    ap (λ c. opened_by c at n) (sym m) ∙ ap (λ c. opened_as c (keyword_named word) at n) (sym e)
-opened_word phrase.Then word o at n e m =
-    ap (λ c. opened_by c at n) (sym m) ∙ ap (λ c. opened_as c (keyword_named word) at n) (sym e)
-opened_word phrase.Begin word o at n e m =
-    ap (λ c. opened_by c at n) (sym m) ∙ ap (λ c. opened_as c (keyword_named word) at n) (sym e)
-opened_word (phrase.Back z) word o at n e m =
-    ap (λ c. opened_by c at n) (sym m) ∙ ap (λ c. opened_as c (keyword_named word) at n) (sym e)
-opened_word phrase.Repeat word o at n e m =
-    ap (λ c. opened_by c at n) (sym m) ∙ ap (λ c. opened_as c (keyword_named word) at n) (sym e)
-opened_word (phrase.Do q) word o at n e m =
-    ap (λ c. opened_by c at n) (sym m) ∙ ap (λ c. opened_as c (keyword_named word) at n) (sym e)
-opened_word (phrase.Loop q) word o at n e m =
-    ap (λ c. opened_by c at n) (sym m) ∙ ap (λ c. opened_as c (keyword_named word) at n) (sym e)
-opened_word phrase.Leave word o at n e m =
-    ap (λ c. opened_by c at n) (sym m) ∙ ap (λ c. opened_as c (keyword_named word) at n) (sym e)
-opened_word phrase.Case word o at n e m =
-    ap (λ c. opened_by c at n) (sym m) ∙ ap (λ c. opened_as c (keyword_named word) at n) (sym e)
-opened_word phrase.Of word o at n e m =
-    ap (λ c. opened_by c at n) (sym m) ∙ ap (λ c. opened_as c (keyword_named word) at n) (sym e)
-opened_word phrase.EndOf word o at n e m =
-    ap (λ c. opened_by c at n) (sym m) ∙ ap (λ c. opened_as c (keyword_named word) at n) (sym e)
-opened_word phrase.EndCase word o at n e m =
-    ap (λ c. opened_by c at n) (sym m) ∙ ap (λ c. opened_as c (keyword_named word) at n) (sym e)
+opened_word (phrase.Text false b bytes) word o at n e m = listed_opens word o _ at n e m
+opened_word (phrase.Text true b bytes) word o at n e m = listed_opens word o _ at n e m
+opened_word _ word o at n e m = listed_opens word o _ at n e m
 
 same_open : (n m : Nesting) → Some n ≡ Some m → n ≡ m
 same_open n m h = cc
-
-shape_same : (n m : Nesting) → Some n ≡ Some m → Some (shape_of n) ≡ Some (shape_of m)
-shape_same n m h = ap (λ (x : Nesting). Some (shape_of x)) (same_open n m h)
-
-recursion_runs : (o : Option Own) (s : Shape) → run (recursion o) s ≡ Some s
-recursion_runs None s = refl
-recursion_runs (Some d) s = refl
 
 open_when : (b : Bool) (x m : Nesting) → opened_if b x ≡ Some m → (b ≡ true) × (x ≡ m)
 open_when true x m h = (refl, same_open x m h)
@@ -172,21 +96,6 @@ not_so false h = refl
 -- the items of a phrase leave open what it leaves open
 pub opened_runs : (p : Phrase) (k : Known) (n m : Nesting) → opened p k.at n ≡ Some m
     → run (items_of p k) (shape_of n) ≡ Some (shape_of m)
-opened_runs (phrase.OwnWord j) k n m h = shape_same n m h
-opened_runs (phrase.BoardWord c) k n m h = shape_same n m h
-opened_runs (phrase.Number x) k n m h = shape_same n m h
-opened_runs (phrase.NumberIn base blanks digits x) k n m h = shape_same n m h
-opened_runs (phrase.Character blanks b bytes) k n m h = shape_same n m h
-opened_runs (phrase.Short t) k n m h = shape_same n m h
-opened_runs (phrase.Pair t u) k n m h = shape_same n m h
-opened_runs (phrase.Text false b bytes) k n m h = shape_same n m h
-opened_runs (phrase.Text true b bytes) k n m h = shape_same n m h
-opened_runs (phrase.Quoted b ps bytes) k n m h = shape_same n m h
-opened_runs (phrase.Comment b bytes) k n m h = shape_same n m h
-opened_runs (phrase.LineComment bytes) k n m h = shape_same n m h
-opened_runs (phrase.Naming t blanks name c) k n m h = shape_same n m h
-opened_runs (phrase.Headers x) k n m h = shape_same n m h
-opened_runs (phrase.Base x) k n m h = shape_same n m h
 opened_runs (phrase.Defining t blanks name) k n m h =
     let w = open_when (not (in_definition n.parts)) n m h in
     defining_stands n (named name k) t (not_so (in_definition n.parts) w.0)
@@ -195,26 +104,10 @@ opened_runs (phrase.Colon blanks name) k n m h =
     let w = open_when (not (in_definition n.parts)) (with_part part.Definition k.at n) m h in
     definition_opens k.at n (named name k) (not_so (in_definition n.parts) w.0)
     ∙ ap (λ (y : Nesting). Some (shape_of y)) w.1
-opened_runs phrase.Semicolon k n m h =
-    ap (option_and_then (run [])) (part_at part.Definition n.branches n.parts m (λ b c. refl) h)
-opened_runs phrase.Recurse k n m h = recursion_runs k.open_one (shape_of n) ∙ shape_same n m h
-opened_runs phrase.Offset16 k n m h = shape_same n m h
-opened_runs phrase.If k n m h = pushes (item.If k.at) n (with_branch k.at n) m (one_more k.at n) h
-opened_runs phrase.Else k n m h = else_closed k.at n m (without_branch n) refl h
-opened_runs phrase.Then k n m h = then_closed n m h
-opened_runs phrase.Begin k n m h = pushes item.Begin n (with_part part.Begin k.at n) m refl h
-opened_runs (phrase.Back z) k n m h = ap (option_and_then (run [])) (begin_at n.branches n.parts m h)
-opened_runs phrase.Repeat k n m h = repeat_at k.at n m (without_begin n) refl h
-opened_runs (phrase.Do q) k n m h = pushes (item.Do q k.at) n (with_part part.Do k.at n) m refl h
-opened_runs (phrase.Loop q) k n m h =
-    ap (option_and_then (run [])) (part_at part.Do n.branches n.parts m (λ b c. refl) h)
-opened_runs phrase.Leave k n m h = leave_at n m h
-opened_runs phrase.Case k n m h = pushes item.Case n (with_part part.Case k.at n) m refl h
-opened_runs phrase.Of k n m h = of_at k.at n m h
-opened_runs phrase.EndOf k n m h =
-    ap (option_and_then (run [])) (part_at part.Of n.branches n.parts m (λ b c. refl) h)
-opened_runs phrase.EndCase k n m h =
-    ap (option_and_then (run [])) (part_at part.Case n.branches n.parts m (λ b c. refl) h)
+opened_runs (phrase.Alone w) k n m h = effect_runs w k.at k.open_one n m h
+opened_runs (phrase.Text false b bytes) k n m h = shape_same n m h
+opened_runs (phrase.Text true b bytes) k n m h = shape_same n m h
+opened_runs _ k n m h = shape_same n m h
 
 -- ---- a phrase that fits
 
@@ -259,27 +152,6 @@ fits last at p k n m more h r e =
 by_key : (last : ℕ) (word : List ℕ) (s : State) (key : Keyword) (f : SourceFault) → own_in s.known word ≡ None
     → keyword_named word ≡ Some key → keyword_step last key s ≡ Fails f → word_step last word s ≡ Fails f
 by_key last word s key f o m e = keyed last word s (Some key) o m ∙ e
-
-closer_fails : (last : ℕ) (p : Phrase) (word : List ℕ) (s : State) → IsCloser p → own_in s.known word ≡ None
-    → keyword_named word ≡ keyword_of p → opened p s.at s.nesting ≡ None → word_step last word s ≡ Fails (Unclosed s.at)
-closer_fails last phrase.Semicolon word s c o m e = by_key last word s _ _ o m (ap (λ x. if_ends x s) e)
-closer_fails last phrase.Else word s c o m e =
-    by_key last word s _ _ o m (ap (λ x. if_open x (item.Else s.at ∷ []) s) e)
-closer_fails last phrase.Then word s c o m e = by_key last word s _ _ o m (ap (λ x. if_open x (item.Then ∷ []) s) e)
-closer_fails last (phrase.Back z) word s c o m e =
-    by_key last word s _ _ o m (ap (λ x. if_open x (item.Back z s.at ∷ []) s) e)
-closer_fails last phrase.Repeat word s c o m e =
-    by_key last word s _ _ o m (ap (λ x. if_open x (item.Back false s.at ∷ item.Then ∷ []) s) e)
-closer_fails last (phrase.Loop q) word s c o m e =
-    by_key last word s _ _ o m (ap (λ x. if_open x (item.Loop q s.at ∷ []) s) e)
-closer_fails last phrase.Leave word s c o m e = by_key last word s _ _ o m (ap (λ x. if_open x (item.Leave ∷ []) s) e)
-closer_fails last phrase.Of word s c o m e =
-    by_key last word s _ _ o m (ap (λ x. if_open x (item.Of s.at ∷ []) s) e)
-closer_fails last phrase.EndOf word s c o m e =
-    by_key last word s _ _ o m (ap (λ x. if_open x (item.EndOf s.at ∷ []) s) e)
-closer_fails last phrase.EndCase word s c o m e =
-    by_key last word s _ _ o m (ap (λ x. if_open x (item.EndCase ∷ []) s) e)
-closer_fails last _ word s c o m e = absurd c
 
 else_of : (b : Bool) (x y : Step) → b ≡ false → (if b then x else y) ≡ y
 else_of b x y e = rw e refl
@@ -407,7 +279,8 @@ no_end_fails last _ word s o m e = absurd cc
 wrong_back : (last : ℕ) (k : Known) (n : Nesting) (word : List ℕ) (r : Rest) {f : SourceFault}
     → own_in k.names word ≡ None → IsWrong last k n word r f
     → word_step last word (state_at k.at r k n) ≡ Fails f
-wrong_back last k n word r o (no_opener p c m d) = closer_fails last p word (state_at k.at r k n) c o m d
+wrong_back last k n word r o (no_opener w m d) =
+    let s = state_at k.at r k n in by_key last word s _ _ o m (ap (λ x. effect_step (effect_of w) x s) d)
 wrong_back last k n word r o (left_open m d) =
     by_key last word (state_at k.at r k n) _ _ o m (else_of (is_closed n) _ _ d)
 wrong_back last k n word r o (no_word key m t b) = word_fails last key word (state_at k.at r k n) t o m b
@@ -429,7 +302,7 @@ wrong_back last k n word r o (no_code t w m c) =
     ∙ ap (λ a. Fails (Unknown a)) (start_there r w))
 wrong_back last k n word r o (not_outside key m t e) = inside_fails last key word (state_at k.at r k n) t o m e
 wrong_back last k n word r o (not_inside m e) =
-    by_key last word (state_at k.at r k n) _ _ o m (ap (recurse_step (state_at k.at r k n)) e)
+    by_key last word (state_at k.at r k n) _ _ o m (else_of (is_some k.open_one) _ _ (ap is_some e))
 wrong_back last k n word r o (not_straight m e) =
     by_key last word (state_at k.at r k n) _ _ o m (else_of (is_straight n) _ _ e)
 wrong_back last k n word r o (out_of_range m c v) =

@@ -27,13 +27,17 @@ use Rattle.of_stream.specs.declared.stream.OffsetSize.TheVariants as size
 use Rattle.of_source.specs.Nest.{Around, IsNested}
 use Rattle.of_source.proofs.ShapeLemmas.{nested}
 use Rattle.of_source.specs.Nesting.{Nesting, is_same, floor, is_in, without_branch, without_begin, without_part}
-use Rattle.of_source.specs.Nesting.{with_branch, with_part, in_definition, in_loop, on_case, is_straight, is_closed}
+use Rattle.of_source.specs.Nesting.{with_branch, with_part, in_definition, in_loop, on_case, is_closed}
 use Rattle.of_source.specs.Shapes.{Shape, nothing, floor_of, around_part, around_of, is_even, closing, opens, run}
 use Rattle.of_source.specs.Shapes.{shape_of}
+use Rattle.of_source.specs.declared.keyword.Lone.{Lone}
+use Rattle.of_source.specs.declared.keyword.Lone.TheVariants as lone
 use Rattle.of_source.specs.Names.{Own, own_in}
+use Rattle.of_source.specs.Effects.{Effect, effect_of, Change, Same, Makes, Counts, Defines, recursion}
+use Rattle.of_source.specs.Steps.{effect_step, may_stand, changed}
 use Rattle.of_source.specs.Steps.{State, Step, Goes, Ends, Fails, giving, opening, reading_on, at_next, with_next}
-use Rattle.of_source.specs.Steps.{with_name, name_found, with_string, if_open, if_ends, number_or_bad}
-use Rattle.of_source.specs.Steps.{number_word_step, number_items, number_token, comment_step, with_code, recurse_step}
+use Rattle.of_source.specs.Steps.{with_name, name_found, with_string, number_or_bad}
+use Rattle.of_source.specs.Steps.{number_word_step, number_items, number_token, comment_step, with_code}
 use Rattle.of_source.specs.Steps.{text_step, keyword_step, ordinary_step, listed_step, own_step, word_step, next_step}
 use Rattle.of_source.specs.Nesting.{then_without_branch, then_with_branch, opened_if}
 use Rattle.of_source.specs.Steps.{code_named, made}
@@ -98,17 +102,6 @@ pub kept_string : (s : State) (o : Found) (go : List ℕ → State → Step)
     → ((bytes : List ℕ) (r : Rest) → Kept (go bytes (reading_on r s))) → Kept (with_string s o go)
 kept_string s None go k = tt
 kept_string s (Some r) go k = kept_unless (nat_lt 255 (length r.0)) _ _ (λ e. k r.0 (left_of s.rest r.1))
-
-pub kept_open : (o : Option Nesting) (more : List Item) (s : State) → Inv s
-    → ((n : Nesting) → o ≡ Some n → run more (shape_of s.nesting) ≡ Some (shape_of n)) → Kept (if_open o more s)
-kept_open None more s h k = tt
-kept_open (Some n) more s h k = given more s n h (k n refl)
-
-pub kept_ends : (o : Option Nesting) (s : State) → Inv s
-    → ((n : Nesting) → o ≡ Some n → run (item.Semicolon ∷ []) (shape_of s.nesting) ≡ Some (shape_of n))
-    → Kept (if_ends o s)
-kept_ends None s h k = tt
-kept_ends (Some n) s h k = given (item.Semicolon ∷ []) s n h (k n refl)
 
 -- ---- what is open, by its shape
 
@@ -264,7 +257,52 @@ pub pushes : (i : Item) (m x n : Nesting) → run (i ∷ []) (shape_of m) ≡ So
     → run (i ∷ []) (shape_of m) ≡ Some (shape_of n)
 pushes i m x n e h = e ∙ ap (λ (y : Nesting). Some (shape_of y)) (some_is x n h)
 
+pub shape_same : (m n : Nesting) → Some m ≡ Some n → Some (shape_of m) ≡ Some (shape_of n)
+shape_same m n h = ap (λ (x : Nesting). Some (shape_of x)) (some_is m n h)
+
+recursion_runs : (o : Option Own) (s : Shape) → run (recursion o) s ≡ Some s
+recursion_runs None s = refl
+recursion_runs (Some d) s = refl
+
+-- the items of a keyword that takes nothing leave open what it leaves open
+pub effect_runs : (w : Lone) (at : ℕ) (one : Option Own) (m n : Nesting) → (effect_of w).opens at m ≡ Some n
+    → run ((effect_of w).gives at one) (shape_of m) ≡ Some (shape_of n)
+effect_runs lone.Recurse at one m n h = recursion_runs one (shape_of m) ∙ shape_same m n h
+effect_runs lone.Semicolon at one m n h =
+    ap (option_and_then (run [])) (part_at part.Definition m.branches m.parts n (λ b c. refl) h)
+effect_runs lone.If at one m n h = pushes (item.If at) m (with_branch at m) n (one_more at m) h
+effect_runs lone.Else at one m n h = else_closed at m n (without_branch m) refl h
+effect_runs lone.Then at one m n h = then_closed m n h
+effect_runs lone.Begin at one m n h = pushes item.Begin m (with_part part.Begin at m) n refl h
+effect_runs (lone.Back z) at one m n h = ap (option_and_then (run [])) (begin_at m.branches m.parts n h)
+effect_runs lone.Repeat at one m n h = repeat_at at m n (without_begin m) refl h
+effect_runs (lone.Do q) at one m n h = pushes (item.Do q at) m (with_part part.Do at m) n refl h
+effect_runs (lone.Loop q) at one m n h =
+    ap (option_and_then (run [])) (part_at part.Do m.branches m.parts n (λ b c. refl) h)
+effect_runs lone.Leave at one m n h = leave_at m n h
+effect_runs lone.Case at one m n h = pushes item.Case m (with_part part.Case at m) n refl h
+effect_runs lone.Of at one m n h = of_at at m n h
+effect_runs lone.EndOf at one m n h =
+    ap (option_and_then (run [])) (part_at part.Of m.branches m.parts n (λ b c. refl) h)
+effect_runs lone.EndCase at one m n h =
+    ap (option_and_then (run [])) (part_at part.Case m.branches m.parts n (λ b c. refl) h)
+effect_runs _ at one m n h = shape_same m n h
+
 -- ---- words
+
+kept_change : (c : Change) (s : State) → Inv s → Inv (changed c s)
+kept_change Same s h = h
+kept_change (Makes m) s h = h
+kept_change (Counts base) s h = h
+kept_change Defines s h = h
+
+kept_effect : (e : Effect) (o : Option Nesting) (s : State) → Inv s
+    → ((n : Nesting) → o ≡ Some n → run (e.gives s.at s.open_one) (shape_of s.nesting) ≡ Some (shape_of n))
+    → Kept (effect_step e o s)
+kept_effect e None s h k = tt
+kept_effect e (Some n) s h k =
+    kept_if (may_stand e.stands s) _ _
+    (λ b. kept_change e.changes _ (given (e.gives s.at s.open_one) s n h (k n refl)))
 
 kept_comment : (s : State) (o : Found) → Inv s → Kept (comment_step s o)
 kept_comment s None h = tt
@@ -280,10 +318,6 @@ kept_code : (at : ℕ) (o : Option FCode) (t : FCode) (s : State) → Inv s
     → Kept (with_code at o (λ c. Goes (giving (item.Plain (naming t c) ∷ []) s)))
 kept_code at None t s h = tt
 kept_code at (Some c) t s h = plain (naming t c) s h
-
-kept_recurse : (s : State) (o : Option Own) → Inv s → Kept (recurse_step s o)
-kept_recurse s None h = tt
-kept_recurse s (Some d) h = plain (call (own_code d.number)) s h
 
 kept_text : (q : Quote) (s : State) → Inv s → Kept (text_step q s)
 kept_text quote.Bytes s h =
@@ -321,8 +355,6 @@ kept_keyword last keyword.Finish s h =
     kept_finish (is_closed s.nesting) s _ h (closed_shape s.nesting.branches s.nesting.parts)
 kept_keyword last keyword.Comment s h = kept_comment s (plain_string 41 s.rest.text) h
 kept_keyword last keyword.LineComment s h = h
-kept_keyword last (keyword.Headers m) s h = h
-kept_keyword last (keyword.Radix base) s h = h
 kept_keyword last (keyword.NumberIn base) s h =
     kept_next _ (next_word s.rest) _ (λ word r. kept_bad s.at (number_in (base_of base) word) (reading_on r s) h)
 kept_keyword last keyword.Character s h = kept_next _ (next_word s.rest) _ (λ word r. plain _ (reading_on r s) h)
@@ -332,54 +364,14 @@ kept_keyword last keyword.Colon s h =
     kept_unless (in_definition s.nesting.parts) _ _
     (λ e. kept_name last (opening n s) (next_word s.rest) _
     (λ name r. given _ (reading_on r s) n h (definition_opens s.at s.nesting (made name s) e)))
-kept_keyword last keyword.Semicolon s h =
-    kept_ends (without_part part.Definition s.nesting) s h
-    (λ n e. ap (option_and_then (run []))
-    (part_at part.Definition s.nesting.branches s.nesting.parts n (λ b c. refl) e))
 kept_keyword last (keyword.Defining t) s h =
     kept_unless (in_definition s.nesting.parts) _ _
     (λ e. kept_name last s (next_word s.rest) _
     (λ name r. given _ (reading_on r s) s.nesting h (defining_stands s.nesting (made name s) t e)))
-kept_keyword last keyword.Recurse s h = kept_recurse s s.open_one h
 kept_keyword last (keyword.Naming t) s h =
     kept_next _ (next_word s.rest) _ (λ name r. kept_code _ (code_named s.known name) t (reading_on r s) h)
-kept_keyword last keyword.Offset16 s h = kept_if (is_straight s.nesting) _ _ (λ e. plain (bare 0x0cc) s h)
-kept_keyword last (keyword.One t) s h = plain (call t) s h
-kept_keyword last (keyword.Two t u) s h = plain_two (call t) (call u) s h
-kept_keyword last keyword.If s h =
-    kept_open _ (item.If s.at ∷ []) s h
-    (λ n e. pushes (item.If s.at) s.nesting (with_branch s.at s.nesting) n
-    (one_more s.at s.nesting) e)
-kept_keyword last keyword.Else s h =
-    kept_open _ (item.Else s.at ∷ []) s h
-    (λ n e. else_closed s.at s.nesting n (without_branch s.nesting) refl e)
-kept_keyword last keyword.Then s h = kept_open _ (item.Then ∷ []) s h (λ n e. then_closed s.nesting n e)
-kept_keyword last keyword.Begin s h =
-    kept_open _ (item.Begin ∷ []) s h
-    (λ n e. pushes item.Begin s.nesting (with_part part.Begin s.at s.nesting) n refl e)
-kept_keyword last (keyword.Back z) s h =
-    kept_open _ (item.Back z s.at ∷ []) s h
-    (λ n e. ap (option_and_then (run [])) (begin_at s.nesting.branches s.nesting.parts n e))
-kept_keyword last keyword.Repeat s h =
-    kept_open _ (item.Back false s.at ∷ item.Then ∷ []) s h
-    (λ n e. repeat_at s.at s.nesting n (without_begin s.nesting) refl e)
-kept_keyword last (keyword.Do q) s h =
-    kept_open _ (item.Do q s.at ∷ []) s h
-    (λ n e. pushes (item.Do q s.at) s.nesting (with_part part.Do s.at s.nesting) n refl e)
-kept_keyword last (keyword.Loop q) s h =
-    kept_open _ (item.Loop q s.at ∷ []) s h
-    (λ n e. ap (option_and_then (run [])) (part_at part.Do s.nesting.branches s.nesting.parts n (λ b c. refl) e))
-kept_keyword last keyword.Leave s h = kept_open _ (item.Leave ∷ []) s h (λ n e. leave_at s.nesting n e)
-kept_keyword last keyword.Case s h =
-    kept_open _ (item.Case ∷ []) s h
-    (λ n e. pushes item.Case s.nesting (with_part part.Case s.at s.nesting) n refl e)
-kept_keyword last keyword.Of s h = kept_open _ (item.Of s.at ∷ []) s h (λ n e. of_at s.at s.nesting n e)
-kept_keyword last keyword.EndOf s h =
-    kept_open _ (item.EndOf s.at ∷ []) s h
-    (λ n e. ap (option_and_then (run [])) (part_at part.Of s.nesting.branches s.nesting.parts n (λ b c. refl) e))
-kept_keyword last keyword.EndCase s h =
-    kept_open _ (item.EndCase ∷ []) s h
-    (λ n e. ap (option_and_then (run [])) (part_at part.Case s.nesting.branches s.nesting.parts n (λ b c. refl) e))
+kept_keyword last (keyword.Lone w) s h =
+    kept_effect (effect_of w) ((effect_of w).opens s.at s.nesting) s h (effect_runs w s.at s.open_one s.nesting)
 
 kept_number : (s : State) (n : Number) → Inv s → Kept (number_word_step s n)
 kept_number s (Value x) h = plain (number_token x) s h

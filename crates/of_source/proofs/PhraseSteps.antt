@@ -11,6 +11,8 @@ use Rattle.of_source.specs.declared.fault.SourceFault.{SourceFault}
 use Rattle.of_source.specs.declared.fault.SourceFault.TheVariants.{BadNumber}
 use Rattle.of_source.specs.declared.keyword.Keyword.{Keyword}
 use Rattle.of_source.specs.declared.keyword.Keyword.TheVariants as keyword
+use Rattle.of_source.specs.declared.keyword.Lone.{Lone}
+use Rattle.of_source.specs.declared.keyword.Lone.TheVariants as lone
 use Rattle.of_source.specs.declared.keyword.Quote.TheVariants as quote
 use Rattle.of_source.specs.declared.keyword.Radix.{Radix}
 use Rattle.of_source.specs.declared.nesting.Part.TheVariants as part
@@ -21,17 +23,19 @@ use Rattle.of_source.specs.Numbers.{number_in}
 use Rattle.of_source.specs.Radix.{base_of}
 use Rattle.of_source.specs.Items.{Item, call, string, naming, making, bare, own_code}
 use Rattle.of_source.specs.Items as item
-use Rattle.of_source.specs.Nesting.{Nesting, with_branch, with_part, without_branch, without_begin, without_part}
-use Rattle.of_source.specs.Nesting.{then_without_branch, then_with_branch, opened_if, in_definition, in_loop, on_case}
+use Rattle.of_source.specs.Nesting.{Nesting, with_part}
+use Rattle.of_source.specs.Nesting.{in_definition}
 use Rattle.of_source.specs.Nesting.{is_straight}
 use Rattle.of_source.specs.Shapes.{Shape, nothing, run, shape_of}
 use Rattle.of_source.specs.Scan.{Rest, rest_at, left_of, start_of, next_word, Found, group}
 use Rattle.of_source.specs.Steps.{State, Step, Goes, giving, reading_on, with_next}
-use Rattle.of_source.specs.Steps.{with_name, name_found, with_string, with_code, if_open, if_ends, ended}
-use Rattle.of_source.specs.Steps.{number_or_bad, number_items, comment_step, code_named, recurse_step}
+use Rattle.of_source.specs.Steps.{with_name, name_found, with_string, with_code, ended, opening, changed}
+use Rattle.of_source.specs.Steps.{effect_step, may_stand}
+use Rattle.of_source.specs.Steps.{number_or_bad, number_items, comment_step, code_named}
 use Rattle.of_source.specs.Steps.{keyword_step, number_word_step, ordinary_step, listed_step, own_step, word_step}
 use Rattle.of_source.specs.Phrases.{Phrase, Spelled, Known, taken, written, items_of, behind}
-use Rattle.of_source.specs.Phrases.{next_own, named, string_items}
+use Rattle.of_source.specs.Phrases.{next_own, named, string_items, known_by}
+use Rattle.of_source.specs.Effects.{effect_of, Change, Same, Makes, Counts, Defines}
 use Rattle.of_source.specs.Phrases as phrase
 use Rattle.of_source.specs.Strings.{Piece, pieces_bytes, IsWithin, ArePieces}
 use Rattle.of_source.specs.Written.{IsWord, AreBlanks, EndsLine, IsName, LeaveOpen, IsStraight, own_of}
@@ -237,23 +241,6 @@ colon_step_goes last blanks name at from k n more word b h e p = record {
       ∙ name_by last at from blanks name more k (with_part part.Definition at n) _ b h p;
 }
 
-pub semicolon_step_goes : (o : Option Nesting) (at : ℕ) (r : Rest) (k : Known) (n : Nesting) (word : List ℕ)
-    → is_some o ≡ true → GoesOn (if_ends o (state_at at r k n)) (behind word phrase.Semicolon k) r
-semicolon_step_goes None at r k n word h = absurd cc
-semicolon_step_goes (Some m) at r k n word h = record { at = at; nesting = m; goes = refl }
-
-pub recurse_goes : (d : Own) (o : Option Own) (at : ℕ) (r : Rest) (k : Known) (n : Nesting) → o ≡ Some d
-    → GoesOn (recurse_step (state_at at r k n) o) (with_items (phrase.recursion o) k) r
-recurse_goes d None at r k n h = absurd cc
-recurse_goes d (Some e) at r k n h = record { at = at; nesting = n; goes = refl }
-
--- ---- control structures
-
-opened : (o : Option Nesting) (is : List Item) (at : ℕ) (r : Rest) (k : Known) (n : Nesting) → is_some o ≡ true
-    → GoesOn (if_open o is (state_at at r k n)) (with_items is k) r
-opened None is at r k n h = absurd cc
-opened (Some m) is at r k n h = record { at = at; nesting = m; goes = refl }
-
 -- ---- one phrase
 
 own_goes : (last j : ℕ) (word : List ℕ) (at : ℕ) (r : Rest) (k : Known) (n : Nesting)
@@ -320,9 +307,48 @@ straight_there k n h l = straight_goes n (subst IsStraight (same (sym l.1 ∙ h)
     same : {o p : Shape} → Some o ≡ Some p → o ≡ p
     same h = cc
 
-offset16_goes : (last : ℕ) (at : ℕ) (r : Rest) (k : Known) (n : Nesting) → is_straight n ≡ true
-    → GoesOn (keyword_step last keyword.Offset16 (state_at at r k n)) (with_items (item.Plain (bare 0x0cc) ∷ []) k) r
-offset16_goes last at r k n h = record { at = at; nesting = n; goes = when_so (is_straight n) _ _ h }
+changed_at : (c : Change) (is : List Item) (at : ℕ) (r : Rest) (k : Known) (n m : Nesting) (to : ℕ)
+    → changed c (giving is (opening m (state_at at r k n)))
+    ≡ state_at at r (record (known_by c k) { at = to; items = k.items ++ is }) m
+changed_at Same is at r k n m to = refl
+changed_at (Makes x) is at r k n m to = refl
+changed_at (Counts base) is at r k n m to = refl
+changed_at Defines is at r k n m to = refl
+
+effect_goes : (w : Lone) (o : Option Nesting) (r : Rest) (k : Known) (n : Nesting) (word : List ℕ) → is_some o ≡ true
+    → may_stand (effect_of w).stands (state_at k.at r k n) ≡ true
+    → GoesOn (effect_step (effect_of w) o (state_at k.at r k n)) (behind word (phrase.Alone w) k) r
+effect_goes w None r k n word h b = absurd cc
+effect_goes w (Some m) r k n word h b = record {
+  at = k.at;
+  nesting = m;
+  goes =
+      when_so (may_stand (effect_of w).stands (state_at k.at r k n)) _ _ b
+      ∙ ap Goes (changed_at (effect_of w).changes ((effect_of w).gives k.at k.open_one) k.at r k n m
+      (k.at + length word + 0));
+}
+
+-- a keyword's phrase stands where the keyword may
+lone_stands : (w : Lone) (r : Rest) (k : Known) (n : Nesting) (word : List ℕ) → IsPlaced k word (phrase.Alone w)
+    → run k.items nothing ≡ Some (shape_of n) → may_stand (effect_of w).stands (state_at k.at r k n) ≡ true
+lone_stands lone.Recurse r k n word w h = ap is_some w.1
+lone_stands lone.Offset16 r k n word w h = straight_there k n h w
+lone_stands _ r k n word w h = refl
+
+-- where the items of a keyword may stand, it opens and closes what it should
+lone_opens : (w : Lone) (at : ℕ) (one : Option Own) (n : Nesting) → MayStand ((effect_of w).gives at one) n
+    → is_some ((effect_of w).opens at n) ≡ true
+lone_opens lone.Semicolon at one n m = semicolon_goes n m
+lone_opens lone.Else at one n m = else_goes at n m
+lone_opens lone.Then at one n m = then_goes n m
+lone_opens (lone.Back z) at one n m = back_goes z at n m
+lone_opens lone.Repeat at one n m = repeat_goes at n m
+lone_opens (lone.Loop q) at one n m = loop_goes q at n m
+lone_opens lone.Leave at one n m = leave_goes n m
+lone_opens lone.Of at one n m = of_goes at n m
+lone_opens lone.EndOf at one n m = end_of_goes at n m
+lone_opens lone.EndCase at one n m = end_case_goes n m
+lone_opens _ at one n m = refl
 
 line_comment_goes : (last : ℕ) (bytes : List ℕ) (at from : ℕ) (k : Known) (n : Nesting) (more : List ℕ)
     → All (λ b. b ≢ 10) bytes → EndsLine more
@@ -362,10 +388,6 @@ phrase_goes last from word (phrase.NumberIn base blanks digits x) k n more h e w
 phrase_goes last from word (phrase.Character blanks b bytes) k n more h e w r m f =
     by_keyword last from word _ (phrase.Character blanks b bytes) k n more h e
     (character_goes last b blanks bytes k.at from k n more w.0 w.1 (ends_part more f))
-phrase_goes last from word (phrase.Short t) k n more h e w r m f =
-    by_word last from word _ (phrase.Short t) k n more h e (record { at = k.at; nesting = n; goes = refl })
-phrase_goes last from word (phrase.Pair t u) k n more h e w r m f =
-    by_word last from word _ (phrase.Pair t u) k n more h e (record { at = k.at; nesting = n; goes = refl })
 phrase_goes last from word (phrase.Text false b bytes) k n more h e w r m f =
     by_keyword last from word _ (phrase.Text false b bytes) k n more h e
     (text_goes last b bytes k.at from k n more w.0 w.1 w.2)
@@ -384,12 +406,6 @@ phrase_goes last from word (phrase.LineComment bytes) k n more h e w r m f =
 phrase_goes last from word (phrase.Naming t blanks name c) k n more h e w r m f =
     by_keyword last from word _ (phrase.Naming t blanks name c) k n more h e
     (naming_goes last t blanks name c k.at from k n more w.0 w.1 w.2 (ends_part more f))
-phrase_goes last from word (phrase.Headers maker) k n more h e w r m f =
-    by_word last from word _ (phrase.Headers maker) k n more h e
-    (record { at = k.at; nesting = n; goes = no_items k.at (rest_at from more) (record k { maker = maker }) n })
-phrase_goes last from word (phrase.Base base) k n more h e w r m f =
-    by_word last from word _ (phrase.Base base) k n more h e
-    (record { at = k.at; nesting = n; goes = no_items k.at (rest_at from more) (record k { radix = base }) n })
 phrase_goes last from word (phrase.Defining t blanks name) k n more h e w r m f =
     by_keyword last from word _ (phrase.Defining t blanks name) k n more h e
     (defining_step_goes last t blanks name k.at from k n more word w.0 w.1 (defining_goes n (named name k) t m)
@@ -398,50 +414,7 @@ phrase_goes last from word (phrase.Colon blanks name) k n more h e w r m f =
     by_keyword last from word _ (phrase.Colon blanks name) k n more h e
     (colon_step_goes last blanks name k.at from k n more word w.0 w.1 (colon_goes n (named name k) m)
     (ends_part more f))
-phrase_goes last from word phrase.Semicolon k n more h e w r m f =
-    by_word last from word _ phrase.Semicolon k n more h e
-    (semicolon_step_goes (without_part part.Definition n) k.at (rest_at from more) k n word (semicolon_goes n m))
-phrase_goes last from word phrase.Recurse k n more h e w r m f =
-    by_word last from word _ phrase.Recurse k n more h e (recurse_goes w.0 k.open_one k.at (rest_at from more) k n w.1)
-phrase_goes last from word phrase.Offset16 k n more h e w r m f =
-    by_word last from word _ phrase.Offset16 k n more h e
-    (offset16_goes last k.at (rest_at from more) k n (straight_there k n r w))
-phrase_goes last from word phrase.If k n more h e w r m f =
-    by_word last from word _ phrase.If k n more h e
-    (opened (Some (with_branch k.at n)) _ k.at (rest_at from more) k n refl)
-phrase_goes last from word phrase.Else k n more h e w r m f =
-    by_word last from word _ phrase.Else k n more h e
-    (opened (then_with_branch k.at (without_branch n)) _ k.at (rest_at from more) k n (else_goes k.at n m))
-phrase_goes last from word phrase.Then k n more h e w r m f =
-    by_word last from word _ phrase.Then k n more h e
-    (opened (without_branch n) _ k.at (rest_at from more) k n (then_goes n m))
-phrase_goes last from word phrase.Begin k n more h e w r m f =
-    by_word last from word _ phrase.Begin k n more h e
-    (opened (Some (with_part part.Begin k.at n)) _ k.at (rest_at from more) k n refl)
-phrase_goes last from word (phrase.Back z) k n more h e w r m f =
-    by_word last from word _ (phrase.Back z) k n more h e
-    (opened (without_begin n) _ k.at (rest_at from more) k n (back_goes z k.at n m))
-phrase_goes last from word phrase.Repeat k n more h e w r m f =
-    by_word last from word _ phrase.Repeat k n more h e
-    (opened (then_without_branch (without_begin n)) _ k.at (rest_at from more) k n (repeat_goes k.at n m))
-phrase_goes last from word (phrase.Do q) k n more h e w r m f =
-    by_word last from word _ (phrase.Do q) k n more h e
-    (opened (Some (with_part part.Do k.at n)) _ k.at (rest_at from more) k n refl)
-phrase_goes last from word (phrase.Loop q) k n more h e w r m f =
-    by_word last from word _ (phrase.Loop q) k n more h e
-    (opened (without_part part.Do n) _ k.at (rest_at from more) k n (loop_goes q k.at n m))
-phrase_goes last from word phrase.Leave k n more h e w r m f =
-    by_word last from word _ phrase.Leave k n more h e
-    (opened (opened_if (in_loop n.parts) n) _ k.at (rest_at from more) k n (leave_goes n m))
-phrase_goes last from word phrase.Case k n more h e w r m f =
-    by_word last from word _ phrase.Case k n more h e
-    (opened (Some (with_part part.Case k.at n)) _ k.at (rest_at from more) k n refl)
-phrase_goes last from word phrase.Of k n more h e w r m f =
-    by_word last from word _ phrase.Of k n more h e
-    (opened (opened_if (on_case n) (with_part part.Of k.at n)) _ k.at (rest_at from more) k n (of_goes k.at n m))
-phrase_goes last from word phrase.EndOf k n more h e w r m f =
-    by_word last from word _ phrase.EndOf k n more h e
-    (opened (without_part part.Of n) _ k.at (rest_at from more) k n (end_of_goes k.at n m))
-phrase_goes last from word phrase.EndCase k n more h e w r m f =
-    by_word last from word _ phrase.EndCase k n more h e
-    (opened (without_part part.Case n) _ k.at (rest_at from more) k n (end_case_goes n m))
+phrase_goes last from word (phrase.Alone lw) k n more h e w r m f =
+    by_word last from word _ (phrase.Alone lw) k n more h e
+    (effect_goes lw _ (rest_at from more) k n word (lone_opens lw k.at k.open_one n m)
+    (lone_stands lw (rest_at from more) k n word w r))

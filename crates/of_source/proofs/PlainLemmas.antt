@@ -14,6 +14,8 @@ use Rattle.of_fcodes.specs.Rows.{seventh_rows}
 use Rattle.of_stream.specs.Decoding.{Token}
 use Rattle.of_source.specs.declared.keyword.Keyword.{Keyword}
 use Rattle.of_source.specs.declared.keyword.Keyword.TheVariants as keyword
+use Rattle.of_source.specs.declared.keyword.Lone.TheVariants as lone
+use Rattle.of_source.specs.Effects.{recursion}
 use Rattle.of_source.specs.Items.{Item, Source, bare, call, literal, naming, own_code, string}
 use Rattle.of_source.specs.Items as item
 use Rattle.of_source.specs.Keywords.{control_rows, fcode, is_ordinary, keyword_named}
@@ -130,8 +132,8 @@ named_is name c h = ordinary_is c.0 (named_ordinary name c h)
 abbrev is_fine : Keyword → Bool
 is_fine (keyword.Defining t) = is_kind t.0
 is_fine (keyword.Naming t) = nat_eq t.0 0x011 || nat_eq t.0 0x0c3
-is_fine (keyword.One t) = is_word t
-is_fine (keyword.Two t u) = is_word t && is_word u
+is_fine (keyword.Lone (lone.One t)) = is_word t
+is_fine (keyword.Lone (lone.Two t u)) = is_word t && is_word u
 is_fine _ = true
 
 text_fine : all_pass is_fine text_rows ≡ true
@@ -186,7 +188,7 @@ strings : (prints : Bool) (front : List Item) (bytes : List ℕ) → ArePlain fr
 strings false front bytes = one front (string bytes) (refl, refl)
 strings true front bytes = two front (string bytes) (bare 0x090) (refl, refl) type_is
 
-recursions : (o : Option Own) (front : List Item) → ArePlain front (phrase.recursion o)
+recursions : (o : Option Own) (front : List Item) → ArePlain front (recursion o)
 recursions None front = tt
 recursions (Some d) front = one front (call (own_code d.number)) (own_is d.number)
 
@@ -199,37 +201,20 @@ phrase_plain (phrase.Number x) k word m h = one k.items (number_token x) (number
 phrase_plain (phrase.NumberIn base blanks digits x) k word m h = one k.items (number_token x) (number_is x)
 phrase_plain (phrase.Character blanks b bytes) k word m h =
     one k.items (number_token (record { 0 = b })) (number_is (record { 0 = b }))
-phrase_plain (phrase.Short t) k word m h = one k.items (call t) (word_is t (fine word (keyword.One t) m))
-phrase_plain (phrase.Pair t u) k word m h =
-    let w = both (is_word t) (is_word u) (fine word (keyword.Two t u) m) in
-    two k.items (call t) (call u) (word_is t w.0) (word_is u w.1)
 phrase_plain (phrase.Text prints blank bytes) k word m h = strings prints k.items bytes
 phrase_plain (phrase.Quoted blank pieces bytes) k word m h =
     one k.items (string (pieces_bytes pieces ++ bytes)) (refl, refl)
-phrase_plain (phrase.Comment blank bytes) k word m h = tt
-phrase_plain (phrase.LineComment bytes) k word m h = tt
 phrase_plain (phrase.Naming t blanks name c) k word m h =
     one k.items (naming t c) (naming_is t c (fine word (keyword.Naming t) m))
-phrase_plain (phrase.Headers r) k word m h = tt
-phrase_plain (phrase.Base base) k word m h = tt
 phrase_plain (phrase.Defining t blanks name) k word m h = (fine word (keyword.Defining t) m, tt)
-phrase_plain (phrase.Colon blanks name) k word m h = tt
-phrase_plain phrase.Semicolon k word m h = tt
-phrase_plain phrase.Recurse k word m h = recursions k.open_one k.items
-phrase_plain phrase.Offset16 k word m h = (refl, λ e. h, tt)
-phrase_plain phrase.If k word m h = tt
-phrase_plain phrase.Else k word m h = tt
-phrase_plain phrase.Then k word m h = tt
-phrase_plain phrase.Begin k word m h = tt
-phrase_plain (phrase.Back z) k word m h = tt
-phrase_plain phrase.Repeat k word m h = tt
-phrase_plain (phrase.Do q) k word m h = tt
-phrase_plain (phrase.Loop q) k word m h = tt
-phrase_plain phrase.Leave k word m h = tt
-phrase_plain phrase.Case k word m h = tt
-phrase_plain phrase.Of k word m h = tt
-phrase_plain phrase.EndOf k word m h = tt
-phrase_plain phrase.EndCase k word m h = tt
+phrase_plain (phrase.Alone (lone.One t)) k word m h =
+    one k.items (call t) (word_is t (fine word (keyword.Lone (lone.One t)) m))
+phrase_plain (phrase.Alone (lone.Two t u)) k word m h =
+    let w = both (is_word t) (is_word u) (fine word (keyword.Lone (lone.Two t u)) m) in
+    two k.items (call t) (call u) (word_is t w.0) (word_is u w.1)
+phrase_plain (phrase.Alone lone.Recurse) k word m h = recursions k.open_one k.items
+phrase_plain (phrase.Alone lone.Offset16) k word m h = (refl, λ e. h, tt)
+phrase_plain _ k word m h = tt
 
 all_plain : (ps : List Spelled) (e : Ending) (k : Known) → AreSaid ps e k → ArePlain [] k.items
     → ArePlain [] (all_behind ps k).items

@@ -2,7 +2,7 @@
 use Rattle.std.proofs.Common.{◌≡◌, ℕ, ◌+◌, ◌<◌, ◌≤◌, Bool, true, false, List, [], ◌∷◌, ◌++◌, length}
 use Rattle.std.proofs.Common.{Option, Some, None, Ok, Err, nat_eq, nat_lt, if◌then◌else◌, refl, sym, ap, subst}
 use Rattle.std.proofs.Common.{◌∙◌, arith, append_assoc}
-use Rattle.std.specs.Prelude.{slice_index}
+use Rattle.std.specs.Prelude.{slice_index, is_some}
 use Rattle.std.specs.List.{list_all}
 use Rattle.std.proofs.lemmas.Bool.Decides.{nat_tests}
 use Rattle.std.proofs.lemmas.List.{append-nil, length-append}
@@ -12,6 +12,8 @@ use Rattle.of_source.specs.declared.fault.SourceFault.{SourceFault}
 use Rattle.of_source.specs.declared.fault.SourceFault.TheVariants.{Unknown, TooLong}
 use Rattle.of_source.specs.declared.keyword.Keyword.{Keyword}
 use Rattle.of_source.specs.declared.keyword.Keyword.TheVariants as keyword
+use Rattle.of_source.specs.declared.keyword.Lone.{Lone}
+use Rattle.of_source.specs.declared.keyword.Lone.TheVariants as lone
 use Rattle.of_source.specs.declared.keyword.Quote.{Quote}
 use Rattle.of_source.specs.declared.keyword.Quote.TheVariants as quote
 use Rattle.of_source.specs.declared.keyword.Radix.{Radix}
@@ -29,21 +31,22 @@ use Rattle.of_source.specs.Items as item
 use Rattle.of_source.specs.Nesting.{Nesting, is_same, with_part}
 use Rattle.of_source.specs.Nesting.{opened_if}
 use Rattle.std.specs.Prelude.{not}
-use Rattle.of_source.specs.Nesting.{without_part, in_definition}
+use Rattle.of_source.specs.Nesting.{in_definition}
 use Rattle.of_source.specs.Nesting.{all_definitions, is_straight, is_closed}
 use Rattle.of_source.specs.Shapes.{shape_of}
 use Rattle.of_source.specs.Scan.{Rest, rest_at, left_of, start_of, next_word, Found, plain_string, quoted_string}
 use Rattle.of_source.specs.Scan.{line_end}
-use Rattle.of_source.specs.Steps.{State, Step, Goes, Ends, Fails, giving, opening, reading_on, at_next, with_radix}
-use Rattle.of_source.specs.Steps.{with_maker, with_next, with_name, name_found, with_string, with_code, if_open}
-use Rattle.of_source.specs.Steps.{if_ends, number_or_bad, number_items, comment_step, code_named, recurse_step}
+use Rattle.of_source.specs.Steps.{State, Step, Goes, Ends, Fails, giving, opening, reading_on, at_next, changed}
+use Rattle.of_source.specs.Steps.{with_next, with_name, name_found, with_string, with_code, effect_step, may_stand}
+use Rattle.of_source.specs.Steps.{number_or_bad, number_items, comment_step, code_named}
 use Rattle.of_source.specs.Steps.{text_step, keyword_step, number_word_step, ordinary_step, listed_step, own_step}
 use Rattle.of_source.specs.Steps.{word_step, next_step, ended}
-use Rattle.of_source.specs.Phrases.{Phrase, Spelled, Known, taken, written, items_of, learned, moved, behind, recursion}
+use Rattle.of_source.specs.Phrases.{Phrase, Spelled, Known, taken, written, items_of, learned, known_by, moved, behind}
+use Rattle.of_source.specs.Effects.{effect_of, Change, Same, Makes, Counts, Defines}
 use Rattle.of_source.specs.Phrases as phrase
-use Rattle.of_source.specs.Written.{IsWord, AreBlanks, EndsWord, IsStraight, own_of, keyword_of, IsKeyword, IsPlaced}
+use Rattle.of_source.specs.Written.{IsWord, AreBlanks, EndsWord, IsStraight, own_of, IsKeyword, IsPlaced}
 use Rattle.of_source.specs.Written.{IsFollowed, IsSaid}
-use Rattle.of_source.specs.Faults.{opened, IsCloser, HasWord, MakesName, IsWrong, no_opener, left_open, no_word}
+use Rattle.of_source.specs.Faults.{opened, HasWord, MakesName, IsWrong, no_opener, left_open, no_word}
 use Rattle.of_source.specs.Faults.{no_name}
 use Rattle.of_source.specs.Faults.{no_digits, bad_digits, long_name, long_string, no_end, no_code, not_outside}
 use Rattle.of_source.specs.Faults.{not_inside, not_straight, out_of_range, no_meaning, IsFailure, cut, wrong}
@@ -358,33 +361,6 @@ said_text last quote.Plain u word n m =
 said_text last quote.Printed u word n m =
     said_printed last u word (plain_string 34 u.rest.text) n m (plain_found 34 u.rest.text refl) refl
 
--- ---- definitions
-
-said_recurse : (last : ℕ) (u : State) (word : List ℕ) (o : Option Own) → own_in u.known word ≡ None
-    → keyword_named word ≡ Some keyword.Recurse → u.open_one ≡ o → Said last u word (recurse_step u o)
-said_recurse last u word None n m e = (n, not_inside m e)
-said_recurse last u word (Some d) n m e =
-    alone u _ word phrase.Recurse refl refl n m (d, e) tt
-    (λ at. ap (λ (p : Option Own). record (known_at at u) { items = u.items ++ recursion p }) (sym e)) refl
-
-said_ends : (last : ℕ) (o : Option Nesting) (u : State) (word : List ℕ) → own_in u.known word ≡ None
-    → keyword_named word ≡ Some keyword.Semicolon → without_part part.Definition u.nesting ≡ o
-    → Said last u word (if_ends o u)
-said_ends last None u word n m e = (n, no_opener phrase.Semicolon tt m e)
-said_ends last (Some p) u word n m e = alone u _ word phrase.Semicolon refl refl n m tt tt (λ at. refl) e
-
--- ---- control structures
-
-said_open : (last : ℕ) (o : Option Nesting) (is : List Item) (u : State) (word : List ℕ) (p : Phrase) → taken p ≡ []
-    → own_of p ≡ None → own_in u.known word ≡ None → keyword_named word ≡ keyword_of p → IsKeyword word p
-    → IsPlaced (known_at u.at u) word p → IsFollowed p u.rest.text
-    → ((n : Nesting) (at : ℕ)
-    → known_at at (giving is (opening n u)) ≡ placed_at at (behind word p (known_at u.at u)))
-    → IsCloser p → opened p u.at u.nesting ≡ o → Said last u word (if_open o is u)
-said_open last None is u word p e c n m q l f k j d = (n, no_opener p j m d)
-said_open last (Some x) is u word p e c n m q l f k j d =
-    alone u (giving is (opening x u)) word p e refl (n ∙ sym c) q l f (k x) d
-
 -- ---- what is open, by its shape
 
 straight_shapes : (fs : List Frame) → all_definitions fs ≡ true
@@ -401,6 +377,62 @@ straight_shape : (n : Nesting) → is_straight n ≡ true → IsStraight (shape_
 straight_shape n h =
     let w = both_true (nat_eq (length n.branches) 0) (all_definitions n.parts) h in
     (is_zero (length n.branches) w.0, straight_shapes n.parts w.1)
+
+-- ---- words that take nothing
+
+some_there : (o : Option Own) → is_some o ≡ true → (d : Own) × (o ≡ Some d)
+some_there None h = absurd cc
+some_there (Some d) h = (d, refl)
+
+none_there : (o : Option Own) → is_some o ≡ false → o ≡ None
+none_there None h = refl
+none_there (Some d) h = absurd cc
+
+-- where a keyword may stand, its phrase can, and elsewhere the keyword is wrong
+lone_placed : (w : Lone) (u : State) (word : List ℕ) → Inv u → may_stand (effect_of w).stands u ≡ true
+    → IsPlaced (known_at u.at u) word (phrase.Alone w)
+lone_placed lone.Recurse u word i b = some_there u.open_one b
+lone_placed lone.Offset16 u word i b = (shape_of u.nesting, i, straight_shape u.nesting b)
+lone_placed _ u word i b = tt
+
+lone_wrong : (last : ℕ) (w : Lone) (u : State) (word : List ℕ) → keyword_named word ≡ Some (keyword.Lone w)
+    → may_stand (effect_of w).stands u ≡ false → IsWrong last (known_at u.at u) u.nesting word u.rest (Unknown u.at)
+lone_wrong last lone.Recurse u word m b = not_inside m (none_there u.open_one b)
+lone_wrong last lone.Offset16 u word m b = not_straight m b
+lone_wrong last _ u word m b = absurd cc
+
+changed_rest : (c : Change) (s : State) → (changed c s).rest ≡ s.rest
+changed_rest Same s = refl
+changed_rest (Makes m) s = refl
+changed_rest (Counts base) s = refl
+changed_rest Defines s = refl
+
+changed_nesting : (c : Change) (s : State) → (changed c s).nesting ≡ s.nesting
+changed_nesting Same s = refl
+changed_nesting (Makes m) s = refl
+changed_nesting (Counts base) s = refl
+changed_nesting Defines s = refl
+
+changed_known : (c : Change) (is : List Item) (n : Nesting) (u : State) (to at : ℕ)
+    → known_at at (changed c (giving is (opening n u)))
+    ≡ placed_at at (record (known_by c (known_at u.at u)) { at = to; items = u.items ++ is })
+changed_known Same is n u to at = refl
+changed_known (Makes m) is n u to at = refl
+changed_known (Counts base) is n u to at = refl
+changed_known Defines is n u to at = refl
+
+said_effect : (last : ℕ) (w : Lone) (o : Option Nesting) (u : State) (word : List ℕ) → own_in u.known word ≡ None
+    → keyword_named word ≡ Some (keyword.Lone w) → Inv u → (effect_of w).opens u.at u.nesting ≡ o
+    → Said last u word (effect_step (effect_of w) o u)
+said_effect last w None u word n m i e = (n, no_opener w m e)
+said_effect last w (Some x) u word n m i e =
+    let c = (effect_of w).changes in
+    let is = (effect_of w).gives u.at u.open_one in
+    let t = giving is (opening x u) in
+    said_if last u word (may_stand (effect_of w).stands u) _ _ (λ b. (n, lone_wrong last w u word m b))
+    (λ b. alone u (changed c t) word (phrase.Alone w) refl (changed_rest c t) n m (lone_placed w u word i b) tt
+    (changed_known c is x u (u.at + length word + 0))
+    (e ∙ ap (λ (y : Nesting). Some y) (sym (changed_nesting c t))))
 
 -- ---- one word
 
@@ -421,12 +453,6 @@ said_keyword last keyword.Finish u word n m i = said_if last u word (is_closed u
 said_keyword last keyword.Comment u word n m i =
     said_comment last u word (plain_string 41 u.rest.text) n m (plain_found 41 u.rest.text refl) refl
 said_keyword last keyword.LineComment u word n m i = said_line last u word n m
-said_keyword last (keyword.Headers x) u word n m i =
-    alone u (with_maker x u) word (phrase.Headers x) refl refl n m tt tt
-    (λ at. same_items u.items (λ is. record (known_at at (with_maker x u)) { items = is })) refl
-said_keyword last (keyword.Radix x) u word n m i =
-    alone u (with_radix x u) word (phrase.Base x) refl refl n m tt tt
-    (λ at. same_items u.items (λ is. record (known_at at (with_radix x u)) { items = is })) refl
 said_keyword last (keyword.NumberIn base) u word n m i =
     said_next last u word _ (next_word u.rest) _ (next_found u.rest.at u.rest.text)
     (λ c. (n, no_digits base m c)) (λ w r h. said_number last u word base w r (number_in (base_of base) w) n m h refl)
@@ -451,8 +477,6 @@ said_keyword last keyword.Colon u word n m i =
       knows = λ at. refl;
       opens = ap (λ (b : Bool). opened_if (not b) (with_part part.Definition u.at u.nesting)) e;
     }))
-said_keyword last keyword.Semicolon u word n m i =
-    said_ends last (without_part part.Definition u.nesting) u word n m refl
 said_keyword last (keyword.Defining t) u word n m i =
     said_unless last u word (in_definition u.nesting.parts) _ _
     (λ e. (n, not_outside (keyword.Defining t) m tt e))
@@ -470,40 +494,11 @@ said_keyword last (keyword.Defining t) u word n m i =
       knows = λ at. refl;
       opens = ap (λ (b : Bool). opened_if (not b) u.nesting) e;
     }))
-said_keyword last keyword.Recurse u word n m i = said_recurse last u word u.open_one n m refl
 said_keyword last (keyword.Naming t) u word n m i =
     said_next last u word _ (next_word u.rest) _ (next_found u.rest.at u.rest.text)
     (λ c. (n, no_word (keyword.Naming t) m tt c))
     (λ w r h. said_naming last u word t w r (code_named u.known w) n m h refl)
-said_keyword last keyword.Offset16 u word n m i =
-    said_if last u word (is_straight u.nesting) _ _ (λ e. (n, not_straight m e))
-    (λ e. alone u _ word phrase.Offset16 refl refl n m (shape_of u.nesting, i, straight_shape u.nesting e) tt
-    (λ at. refl) refl)
-said_keyword last (keyword.One t) u word n m i = alone u _ word (phrase.Short t) refl refl n m tt tt (λ at. refl) refl
-said_keyword last (keyword.Two t x) u word n m i =
-    alone u _ word (phrase.Pair t x) refl refl n m tt tt (λ at. refl) refl
-said_keyword last keyword.If u word n m i = alone u _ word phrase.If refl refl n m tt tt (λ at. refl) refl
-said_keyword last keyword.Else u word n m i =
-    said_open last _ _ u word phrase.Else refl refl n m m tt tt (λ x at. refl) tt refl
-said_keyword last keyword.Then u word n m i =
-    said_open last _ _ u word phrase.Then refl refl n m m tt tt (λ x at. refl) tt refl
-said_keyword last keyword.Begin u word n m i = alone u _ word phrase.Begin refl refl n m tt tt (λ at. refl) refl
-said_keyword last (keyword.Back z) u word n m i =
-    said_open last _ _ u word (phrase.Back z) refl refl n m m tt tt (λ x at. refl) tt refl
-said_keyword last keyword.Repeat u word n m i =
-    said_open last _ _ u word phrase.Repeat refl refl n m m tt tt (λ x at. refl) tt refl
-said_keyword last (keyword.Do q) u word n m i = alone u _ word (phrase.Do q) refl refl n m tt tt (λ at. refl) refl
-said_keyword last (keyword.Loop q) u word n m i =
-    said_open last _ _ u word (phrase.Loop q) refl refl n m m tt tt (λ x at. refl) tt refl
-said_keyword last keyword.Leave u word n m i =
-    said_open last _ _ u word phrase.Leave refl refl n m m tt tt (λ x at. refl) tt refl
-said_keyword last keyword.Case u word n m i = alone u _ word phrase.Case refl refl n m tt tt (λ at. refl) refl
-said_keyword last keyword.Of u word n m i =
-    said_open last _ _ u word phrase.Of refl refl n m m tt tt (λ x at. refl) tt refl
-said_keyword last keyword.EndOf u word n m i =
-    said_open last _ _ u word phrase.EndOf refl refl n m m tt tt (λ x at. refl) tt refl
-said_keyword last keyword.EndCase u word n m i =
-    said_open last _ _ u word phrase.EndCase refl refl n m m tt tt (λ x at. refl) tt refl
+said_keyword last (keyword.Lone w) u word n m i = said_effect last w _ u word n m i refl
 
 said_digits : (last : ℕ) (u : State) (word : List ℕ) (v : Number) → own_in u.known word ≡ None
     → keyword_named word ≡ None

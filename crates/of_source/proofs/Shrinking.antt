@@ -14,10 +14,9 @@ use Rattle.of_source.specs.declared.number.Number.{Number}
 use Rattle.of_source.specs.declared.number.Number.TheVariants.{Value, OutOfRange, NoNumber}
 use Rattle.of_cells.specs.declared.cells.Cell.{Cell}
 use Rattle.of_format.specs.Digits.{digit_value}
-use Rattle.of_source.specs.Items.{Item}
 use Rattle.of_source.specs.Keywords.{keyword_named, ordinary_named}
-use Rattle.of_source.specs.Names.{Own, own_in}
-use Rattle.of_source.specs.Nesting.{Nesting, with_part, in_definition, is_closed, is_straight}
+use Rattle.of_source.specs.Names.{own_in}
+use Rattle.of_source.specs.Nesting.{Nesting, with_part, in_definition, is_closed}
 use Rattle.of_source.specs.Numbers.{number_in}
 use Rattle.of_source.specs.Radix.{base_of}
 use Rattle.of_source.specs.Scan.{Rest, rest_at, left_of, is_blank, at_word, word_length, next_word, Found}
@@ -25,8 +24,10 @@ use Rattle.of_source.specs.Scan.{byte_before, up_to, behind_blank, byte_of, befo
 use Rattle.of_source.specs.Scan.{grouped, and_grouped, quoted, quoted_string, plain_string, line_end}
 use Rattle.of_source.specs.Steps.{State, Step, Goes, Ends, Fails, opening, reading_on, at_next, with_next}
 use Rattle.of_source.specs.Steps.{with_name}
-use Rattle.of_source.specs.Steps.{name_found, with_string, if_open, if_ends, number_or_bad, number_word_step}
-use Rattle.of_source.specs.Steps.{comment_step, with_code, recurse_step, text_step, keyword_step, ordinary_step}
+use Rattle.of_source.specs.Steps.{name_found, with_string, number_or_bad, number_word_step}
+use Rattle.of_source.specs.Steps.{comment_step, with_code, text_step, keyword_step, ordinary_step}
+use Rattle.of_source.specs.Effects.{Effect, effect_of, Change, Same, Makes, Counts, Defines}
+use Rattle.of_source.specs.Steps.{effect_step, may_stand, changed, giving}
 use Rattle.of_source.specs.Steps.{listed_step, own_step, word_step, next_step, code_named}
 
 -- ---- words and strings
@@ -202,13 +203,17 @@ within_string n s (Some r) go h k = within_if n (nat_lt 255 (length r.0)) _ _ tt
 same : (s : State) → length s.rest.text ≤ length s.rest.text
 same s = omega arith
 
-within_open : (o : Option Nesting) (more : List Item) (s : State) → Within (length s.rest.text) (if_open o more s)
-within_open None more s = tt
-within_open (Some n) more s = same s
+within_change : (c : Change) (s : State) → Within (length s.rest.text) (Goes (changed c s))
+within_change Same s = same s
+within_change (Makes m) s = same s
+within_change (Counts base) s = same s
+within_change Defines s = same s
 
-within_ends : (o : Option Nesting) (s : State) → Within (length s.rest.text) (if_ends o s)
-within_ends None s = tt
-within_ends (Some n) s = same s
+within_effect : (e : Effect) (o : Option Nesting) (s : State) → Within (length s.rest.text) (effect_step e o s)
+within_effect e None s = tt
+within_effect e (Some n) s =
+    within_if _ (may_stand e.stands s) _ _
+    (within_change e.changes (giving (e.gives s.at s.open_one) (opening n s))) tt
 
 within_comment : (s : State) (o : Found) → FoundWithin (length s.rest.text) o
     → Within (length s.rest.text) (comment_step s o)
@@ -226,10 +231,6 @@ within_code : (n at : ℕ) (o : Option FCode) (go : FCode → Step) → ((c : FC
 within_code n at None go k = tt
 within_code n at (Some c) go k = k c
 
-within_recurse : (s : State) (o : Option Own) → Within (length s.rest.text) (recurse_step s o)
-within_recurse s None = tt
-within_recurse s (Some d) = same s
-
 within_text : (q : Quote) (s : State) → Within (length s.rest.text) (text_step q s)
 within_text quote.Bytes s =
     within_string _ s (quoted_string s.rest.text) _ (quoted_string-within s.rest.text) (λ bytes r l. l)
@@ -242,8 +243,6 @@ within_keyword : (last : ℕ) (k : Keyword) (s : State) → Within (length s.res
 within_keyword last keyword.Finish s = within_if _ (is_closed s.nesting) (Ends s) _ tt tt
 within_keyword last keyword.Comment s = within_comment s (plain_string 41 s.rest.text) (plain-within 41 s.rest.text)
 within_keyword last keyword.LineComment s = line_end-within s.rest.text
-within_keyword last (keyword.Headers m) s = same s
-within_keyword last (keyword.Radix base) s = same s
 within_keyword last (keyword.NumberIn base) s =
     within_next _ _ (next_word s.rest) _ (next_word-within s.rest)
     (λ w r l. within_bad _ s.at (number_in (base_of base) w) _ (λ c. l))
@@ -254,30 +253,13 @@ within_keyword last keyword.Colon s =
     within_if _ (in_definition s.nesting.parts) _ _ tt
     (within_name _ last (opening (with_part part.Definition s.at s.nesting) s) (next_word s.rest) _
     (next_word-within s.rest) (λ name r l. l))
-within_keyword last keyword.Semicolon s = within_ends _ s
 within_keyword last (keyword.Defining t) s =
     within_if _ (in_definition s.nesting.parts) _ _ tt
     (within_name _ last s (next_word s.rest) _ (next_word-within s.rest) (λ name r l. l))
-within_keyword last keyword.Recurse s = within_recurse s s.open_one
 within_keyword last (keyword.Naming t) s =
     within_next _ _ (next_word s.rest) _ (next_word-within s.rest)
     (λ w r l. within_code _ _ (code_named s.known w) _ (λ c. l))
-within_keyword last keyword.Offset16 s = within_if _ (is_straight s.nesting) _ _ (same s) tt
-within_keyword last (keyword.One t) s = same s
-within_keyword last (keyword.Two t u) s = same s
-within_keyword last keyword.If s = same s
-within_keyword last keyword.Else s = within_open _ _ s
-within_keyword last keyword.Then s = within_open _ _ s
-within_keyword last keyword.Begin s = same s
-within_keyword last (keyword.Back z) s = within_open _ _ s
-within_keyword last keyword.Repeat s = within_open _ _ s
-within_keyword last (keyword.Do q) s = same s
-within_keyword last (keyword.Loop q) s = within_open _ _ s
-within_keyword last keyword.Leave s = within_open _ _ s
-within_keyword last keyword.Case s = same s
-within_keyword last keyword.Of s = within_open _ _ s
-within_keyword last keyword.EndOf s = within_open _ _ s
-within_keyword last keyword.EndCase s = within_open _ _ s
+within_keyword last (keyword.Lone w) s = within_effect (effect_of w) _ s
 
 within_number : (s : State) (n : Number) → Within (length s.rest.text) (number_word_step s n)
 within_number s (Value x) = same s

@@ -17,6 +17,7 @@ use Rattle.of_fcodes.specs.Rows.{seventh_rows}
 use Rattle.of_stream.specs.Bytes.{is_code}
 use Rattle.of_source.specs.declared.keyword.Keyword.{Keyword}
 use Rattle.of_source.specs.declared.keyword.Keyword.TheVariants as keyword
+use Rattle.of_source.specs.declared.keyword.Lone.TheVariants as lone
 use Rattle.of_source.specs.declared.keyword.Maker.{Maker}
 use Rattle.of_source.specs.declared.keyword.Maker.TheVariants.{Named, External, Unnamed}
 use Rattle.of_source.specs.Encodable.{HasBytes, HasTokenBytes, UsesAmong}
@@ -216,8 +217,8 @@ is_naming c = is_code c.0 && takes_code (operand_numbered c.0)
 abbrev pub is_good : Keyword → Bool
 is_good (keyword.Defining t) = is_bare t
 is_good (keyword.Naming t) = is_naming t
-is_good (keyword.One t) = is_bare t
-is_good (keyword.Two t u) = is_bare t && is_bare u
+is_good (keyword.Lone (lone.One t)) = is_bare t
+is_good (keyword.Lone (lone.Two t u)) = is_bare t && is_bare u
 is_good _ = true
 
 text_good : all_pass is_good text_rows ≡ true
@@ -242,8 +243,8 @@ two_good c d h = let w = both (is_bare c) (is_bare d) h in (bare_good c w.0, bar
 -- the tokens of keywords are the board's
 abbrev is_low : Keyword → Bool
 is_low (keyword.Naming t) = nat_lt t.0 0x800
-is_low (keyword.One t) = nat_lt t.0 0x800
-is_low (keyword.Two t u) = nat_lt t.0 0x800 && nat_lt u.0 0x800
+is_low (keyword.Lone (lone.One t)) = nat_lt t.0 0x800
+is_low (keyword.Lone (lone.Two t u)) = nat_lt t.0 0x800 && nat_lt u.0 0x800
 is_low _ = true
 
 text_low : all_pass is_low text_rows ≡ true
@@ -260,13 +261,13 @@ keyword_low = each_keyword is_low text_low control_low
 pub naming_low : (name : List ℕ) (t : FCode) → keyword_named name ≡ Some (keyword.Naming t) → t.0 < 0x800
 naming_low name t h = let e = keyword_low name (keyword.Naming t) h in grind (arith, nat_tests, e)
 
-pub one_low : (name : List ℕ) (t : FCode) → keyword_named name ≡ Some (keyword.One t) → t.0 < 0x800
-one_low name t h = let e = keyword_low name (keyword.One t) h in grind (arith, nat_tests, e)
+pub one_low : (name : List ℕ) (t : FCode) → keyword_named name ≡ Some (keyword.Lone (lone.One t)) → t.0 < 0x800
+one_low name t h = let e = keyword_low name (keyword.Lone (lone.One t)) h in grind (arith, nat_tests, e)
 
-pub two_low : (name : List ℕ) (t u : FCode) → keyword_named name ≡ Some (keyword.Two t u)
+pub two_low : (name : List ℕ) (t u : FCode) → keyword_named name ≡ Some (keyword.Lone (lone.Two t u))
     → (t.0 < 0x800) × (u.0 < 0x800)
 two_low name t u h =
-    let e = both (nat_lt t.0 0x800) (nat_lt u.0 0x800) (keyword_low name (keyword.Two t u) h) in
+    let e = both (nat_lt t.0 0x800) (nat_lt u.0 0x800) (keyword_low name (keyword.Lone (lone.Two t u)) h) in
     (grind (arith, nat_tests, e.0), grind (arith, nat_tests, e.1))
 
 -- `b(')` or `b(to)` and an FCode

@@ -9,6 +9,8 @@ use Rattle.of_source.specs.declared.fault.SourceFault.{SourceFault}
 use Rattle.of_source.specs.declared.fault.SourceFault.TheVariants.{Unclosed, Unknown, BadNumber, TooLong}
 use Rattle.of_source.specs.declared.keyword.Keyword.{Keyword}
 use Rattle.of_source.specs.declared.keyword.Keyword.TheVariants as keyword
+use Rattle.of_source.specs.declared.keyword.Lone.{Lone}
+use Rattle.of_source.specs.declared.keyword.Lone.TheVariants as lone
 use Rattle.of_source.specs.declared.keyword.Quote.{Quote}
 use Rattle.of_source.specs.declared.keyword.Quote.TheVariants as quote
 use Rattle.of_source.specs.declared.keyword.Radix.{Radix}
@@ -18,16 +20,16 @@ use Rattle.of_source.specs.Keywords.{keyword_named, ordinary_named}
 use Rattle.of_source.specs.Names.{own_in}
 use Rattle.of_source.specs.Numbers.{number_in}
 use Rattle.of_source.specs.Radix.{base_of}
-use Rattle.of_source.specs.Nesting.{Nesting, nothing_open, with_branch, with_part, without_branch, without_begin}
-use Rattle.of_source.specs.Nesting.{without_part, then_without_branch, then_with_branch, opened_if, in_definition}
-use Rattle.of_source.specs.Nesting.{in_loop, on_case, is_straight, is_closed, first_open}
+use Rattle.of_source.specs.Nesting.{Nesting, nothing_open, with_part, opened_if, in_definition, is_straight, is_closed}
+use Rattle.of_source.specs.Nesting.{first_open}
+use Rattle.of_source.specs.Effects.{effect_of}
 use Rattle.of_source.specs.Scan.{Rest, rest_at, last_place, Found, plain_string, quoted_string}
 use Rattle.of_source.specs.Steps.{code_named}
 use Rattle.of_source.specs.Parsing.{is_word, misplaced, parsed}
 use Rattle.of_source.specs.Phrases.{Phrase, Spelled, Beginning, Known, each_written, moved, behind, all_behind}
 use Rattle.of_source.specs.Phrases.{place_behind, begun_with}
 use Rattle.of_source.specs.Phrases as phrase
-use Rattle.of_source.specs.Written.{IsWord, AreBlanks, EndsWord, keyword_of, IsSaid, AreRemarks, IsBegun}
+use Rattle.of_source.specs.Written.{IsWord, AreBlanks, EndsWord, IsSaid, AreRemarks, IsBegun}
 
 -- ---- what is open
 
@@ -36,20 +38,7 @@ use Rattle.of_source.specs.Written.{IsWord, AreBlanks, EndsWord, keyword_of, IsS
 abbrev pub opened : Phrase → ℕ → Nesting → Option Nesting
 opened (phrase.Defining t blanks name) at n = opened_if (not (in_definition n.parts)) n
 opened (phrase.Colon blanks name) at n = opened_if (not (in_definition n.parts)) (with_part part.Definition at n)
-opened phrase.Semicolon at n = without_part part.Definition n
-opened phrase.If at n = Some (with_branch at n)
-opened phrase.Else at n = then_with_branch at (without_branch n)
-opened phrase.Then at n = without_branch n
-opened phrase.Begin at n = Some (with_part part.Begin at n)
-opened (phrase.Back z) at n = without_begin n
-opened phrase.Repeat at n = then_without_branch (without_begin n)
-opened (phrase.Do q) at n = Some (with_part part.Do at n)
-opened (phrase.Loop q) at n = without_part part.Do n
-opened phrase.Leave at n = opened_if (in_loop n.parts) n
-opened phrase.Case at n = Some (with_part part.Case at n)
-opened phrase.Of at n = opened_if (on_case n) (with_part part.Of at n)
-opened phrase.EndOf at n = without_part part.Of n
-opened phrase.EndCase at n = without_part part.Case n
+opened (phrase.Alone w) at n = (effect_of w).opens at n
 opened _ at n = Some n
 
 -- what is open behind phrases
@@ -60,20 +49,6 @@ all_opened (p ∷ ps) k n =
     (opened p.phrase (moved p.blanks k).at n)
 
 -- ---- one word
-
--- a closer, `of` or `leave`
-abbrev pub IsCloser : Phrase → Type 0
-IsCloser phrase.Semicolon = Unit {0}
-IsCloser phrase.Else = Unit {0}
-IsCloser phrase.Then = Unit {0}
-IsCloser (phrase.Back z) = Unit {0}
-IsCloser phrase.Repeat = Unit {0}
-IsCloser (phrase.Loop q) = Unit {0}
-IsCloser phrase.Leave = Unit {0}
-IsCloser phrase.Of = Unit {0}
-IsCloser phrase.EndOf = Unit {0}
-IsCloser phrase.EndCase = Unit {0}
-IsCloser _ = ⊥
 
 -- a text begins with blanks or none and a word, which ends there
 pub record HasWord (all : List ℕ) : Type 0 where
@@ -114,7 +89,7 @@ string_behind _ text = None
 -- byte of the text is at `last`
 pub data IsWrong (last : ℕ) (k : Known) (n : Nesting) (word : List ℕ) (r : Rest) : SourceFault → Type 0 where
   -- a closer, `of` or `leave` with nothing to close or to stand in
-  no_opener : (p : Phrase) → IsCloser p → keyword_named word ≡ keyword_of p → opened p k.at n ≡ None
+  no_opener : (w : Lone) → keyword_named word ≡ Some (keyword.Lone w) → opened (phrase.Alone w) k.at n ≡ None
       → IsWrong last k n word r (Unclosed k.at)
   -- `fcode-end`, where something is open
   left_open : keyword_named word ≡ Some keyword.Finish → is_closed n ≡ false
@@ -145,9 +120,9 @@ pub data IsWrong (last : ℕ) (k : Known) (n : Nesting) (word : List ℕ) (r : R
   -- a defining word in a definition, `recurse` outside all, `offset16` in a control structure
   not_outside : (key : Keyword) → keyword_named word ≡ Some key → MakesName key → in_definition n.parts ≡ true
       → IsWrong last k n word r (Unknown k.at)
-  not_inside : keyword_named word ≡ Some keyword.Recurse → k.open_one ≡ None
+  not_inside : keyword_named word ≡ Some (keyword.Lone lone.Recurse) → k.open_one ≡ None
       → IsWrong last k n word r (Unknown k.at)
-  not_straight : keyword_named word ≡ Some keyword.Offset16 → is_straight n ≡ false
+  not_straight : keyword_named word ≡ Some (keyword.Lone lone.Offset16) → is_straight n ≡ false
       → IsWrong last k n word r (Unknown k.at)
   -- digits that no cell holds, and a word that is nothing
   out_of_range : keyword_named word ≡ None → ordinary_named word ≡ None

@@ -10,11 +10,9 @@ use Rattle.of_source.specs.declared.keyword.Maker.TheVariants.{Named, External, 
 use Rattle.of_source.specs.declared.keyword.Radix.TheVariants.{Hexadecimal, Decimal}
 use Rattle.of_source.specs.declared.keyword.Quote.TheVariants.{Bytes, Plain, Printed}
 use Rattle.of_source.specs.declared.keyword.Keyword.{Keyword}
-use Rattle.of_source.specs.declared.keyword.Keyword.TheVariants.{Finish, Comment, LineComment, Headers, Radix, NumberIn}
-use Rattle.of_source.specs.declared.keyword.Keyword.TheVariants.{Character, Text, Colon, Semicolon, Defining, Recurse}
-use Rattle.of_source.specs.declared.keyword.Keyword.TheVariants.{Naming, Offset16, One, Two, If, Else, Then, Begin}
-use Rattle.of_source.specs.declared.keyword.Keyword.TheVariants.{Back, Repeat, Do, Loop, Leave, Case, Of, EndOf}
-use Rattle.of_source.specs.declared.keyword.Keyword.TheVariants.{EndCase}
+use Rattle.of_source.specs.declared.keyword.Keyword.TheVariants.{Finish, Comment, LineComment, NumberIn, Character}
+use Rattle.of_source.specs.declared.keyword.Keyword.TheVariants.{Text, Colon, Defining, Naming, Lone}
+use Rattle.of_source.specs.declared.keyword.Lone.TheVariants as lone
 
 -- an FCode by its number
 abbrev pub fcode : ℕ → FCode
@@ -34,11 +32,11 @@ text_rows =
     row (codes "fcode-end") Finish ∷
     row (codes "(") Comment ∷
     row (codes "\\") LineComment ∷
-    row (codes "headers") (Headers Named) ∷
-    row (codes "external") (Headers External) ∷
-    row (codes "headerless") (Headers Unnamed) ∷
-    row (codes "hex") (Radix Hexadecimal) ∷
-    row (codes "decimal") (Radix Decimal) ∷
+    row (codes "headers") (Lone (lone.Headers Named)) ∷
+    row (codes "external") (Lone (lone.Headers External)) ∷
+    row (codes "headerless") (Lone (lone.Headers Unnamed)) ∷
+    row (codes "hex") (Lone (lone.Radix Hexadecimal)) ∷
+    row (codes "decimal") (Lone (lone.Radix Decimal)) ∷
     row (codes "h#") (NumberIn Hexadecimal) ∷
     row (codes "d#") (NumberIn Decimal) ∷
     row (codes "char") Character ∷
@@ -47,7 +45,7 @@ text_rows =
     row (codes "s\"") (Text Plain) ∷
     row (codes ".\"") (Text Printed) ∷
     row (codes ":") Colon ∷
-    row (codes ";") Semicolon ∷
+    row (codes ";") (Lone lone.Semicolon) ∷
     row (codes "value") (Defining (fcode 0x0b8)) ∷
     row (codes "variable") (Defining (fcode 0x0b9)) ∷
     row (codes "constant") (Defining (fcode 0x0ba)) ∷
@@ -55,45 +53,45 @@ text_rows =
     row (codes "defer") (Defining (fcode 0x0bc)) ∷
     row (codes "buffer:") (Defining (fcode 0x0bd)) ∷
     row (codes "field") (Defining (fcode 0x0be)) ∷
-    row (codes "recurse") Recurse ∷
+    row (codes "recurse") (Lone lone.Recurse) ∷
     row (codes "'") (Naming (fcode 0x011)) ∷
     row (codes "[']") (Naming (fcode 0x011)) ∷
     row (codes "to") (Naming (fcode 0x0c3)) ∷
-    row (codes "offset16") Offset16 ∷
+    row (codes "offset16") (Lone lone.Offset16) ∷
     []
 
 -- words that stand for tokens, and control structures
 unfoldable pub control_rows : List Row
 control_rows =
-    row (codes "1+") (Two (fcode 0x0a6) (fcode 0x01e)) ∷
-    row (codes "1-") (Two (fcode 0x0a6) (fcode 0x01f)) ∷
-    row (codes "2+") (Two (fcode 0x0a7) (fcode 0x01e)) ∷
-    row (codes "2-") (Two (fcode 0x0a7) (fcode 0x01f)) ∷
-    row (codes "true") (One (fcode 0x0a4)) ∷
-    row (codes "false") (One (fcode 0x0a5)) ∷
-    row (codes "struct") (One (fcode 0x0a5)) ∷
-    row (codes "space") (Two (fcode 0x0a9) (fcode 0x08f)) ∷
-    row (codes "erase") (Two (fcode 0x0a5) (fcode 0x079)) ∷
-    row (codes "<<") (One (fcode 0x027)) ∷
-    row (codes ">>") (One (fcode 0x028)) ∷
-    row (codes "not") (One (fcode 0x026)) ∷
-    row (codes "if") If ∷
-    row (codes "while") If ∷
-    row (codes "else") Else ∷
-    row (codes "then") Then ∷
-    row (codes "begin") Begin ∷
-    row (codes "until") (Back true) ∷
-    row (codes "again") (Back false) ∷
-    row (codes "repeat") Repeat ∷
-    row (codes "?do") (Do true) ∷
-    row (codes "do") (Do false) ∷
-    row (codes "+loop") (Loop true) ∷
-    row (codes "loop") (Loop false) ∷
-    row (codes "leave") Leave ∷
-    row (codes "case") Case ∷
-    row (codes "of") Of ∷
-    row (codes "endof") EndOf ∷
-    row (codes "endcase") EndCase ∷
+    row (codes "1+") (Lone (lone.Two (fcode 0x0a6) (fcode 0x01e))) ∷
+    row (codes "1-") (Lone (lone.Two (fcode 0x0a6) (fcode 0x01f))) ∷
+    row (codes "2+") (Lone (lone.Two (fcode 0x0a7) (fcode 0x01e))) ∷
+    row (codes "2-") (Lone (lone.Two (fcode 0x0a7) (fcode 0x01f))) ∷
+    row (codes "true") (Lone (lone.One (fcode 0x0a4))) ∷
+    row (codes "false") (Lone (lone.One (fcode 0x0a5))) ∷
+    row (codes "struct") (Lone (lone.One (fcode 0x0a5))) ∷
+    row (codes "space") (Lone (lone.Two (fcode 0x0a9) (fcode 0x08f))) ∷
+    row (codes "erase") (Lone (lone.Two (fcode 0x0a5) (fcode 0x079))) ∷
+    row (codes "<<") (Lone (lone.One (fcode 0x027))) ∷
+    row (codes ">>") (Lone (lone.One (fcode 0x028))) ∷
+    row (codes "not") (Lone (lone.One (fcode 0x026))) ∷
+    row (codes "if") (Lone lone.If) ∷
+    row (codes "while") (Lone lone.If) ∷
+    row (codes "else") (Lone lone.Else) ∷
+    row (codes "then") (Lone lone.Then) ∷
+    row (codes "begin") (Lone lone.Begin) ∷
+    row (codes "until") (Lone (lone.Back true)) ∷
+    row (codes "again") (Lone (lone.Back false)) ∷
+    row (codes "repeat") (Lone lone.Repeat) ∷
+    row (codes "?do") (Lone (lone.Do true)) ∷
+    row (codes "do") (Lone (lone.Do false)) ∷
+    row (codes "+loop") (Lone (lone.Loop true)) ∷
+    row (codes "loop") (Lone (lone.Loop false)) ∷
+    row (codes "leave") (Lone lone.Leave) ∷
+    row (codes "case") (Lone lone.Case) ∷
+    row (codes "of") (Lone lone.Of) ∷
+    row (codes "endof") (Lone lone.EndOf) ∷
+    row (codes "endcase") (Lone lone.EndCase) ∷
     []
 
 -- the keyword of a name among these rows, whatever the case of its letters

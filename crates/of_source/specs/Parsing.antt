@@ -1,6 +1,6 @@
 -- What a whole text of source words says: its words one after the other, between comments.
-use Rattle.std.specs.Prelude.{◌≡◌, ℕ, zero, suc, Bool, true, false, List, length}
-use Rattle.std.specs.Prelude.{codes, Option, Some, None, Result, Ok, Err, if◌then◌else◌}
+use Rattle.std.specs.Prelude.{◌≡◌, ℕ, zero, suc, Bool, false, List, length}
+use Rattle.std.specs.Prelude.{codes, Option, Some, None, is_none, Result, Ok, Err, if◌then◌else◌}
 use Rattle.std.specs.Str.{str_eq_ignore_ascii_case}
 use Rattle.of_stream.specs.declared.stream.OffsetSize.{OffsetSize}
 use Rattle.of_stream.specs.declared.stream.OffsetSize.TheVariants as size
@@ -18,6 +18,8 @@ use Rattle.of_source.specs.declared.number.Number.TheVariants.{Value, OutOfRange
 use Rattle.of_source.specs.Numbers.{number_in}
 use Rattle.of_source.specs.Keywords.{keyword_named}
 use Rattle.of_source.specs.Items.{Source}
+use Rattle.of_source.specs.Nesting.{nothing_open}
+use Rattle.of_source.specs.Effects.{effect_of}
 use Rattle.of_source.specs.Steps.{State, Step, Goes, Ends, Fails, beginning, ended, next_step}
 
 -- a word where none of its kind can stand
@@ -26,18 +28,9 @@ misplaced_number at (Value x) = Unknown at
 misplaced_number at OutOfRange = BadNumber at
 misplaced_number at NoNumber = Unknown at
 
--- a closer has nothing to close there
+-- with nothing open a closer has nothing to close, nor has `of` or `leave` anything to stand in
 abbrev pub is_closer : Keyword → Bool
-is_closer keyword.Semicolon = true
-is_closer keyword.Else = true
-is_closer keyword.Then = true
-is_closer (keyword.Back z) = true
-is_closer keyword.Repeat = true
-is_closer (keyword.Loop q) = true
-is_closer keyword.Leave = true
-is_closer keyword.Of = true
-is_closer keyword.EndOf = true
-is_closer keyword.EndCase = true
+is_closer (keyword.Lone w) = is_none ((effect_of w).opens 0 nothing_open)
 is_closer _ = false
 
 -- a closer is unclosed, another keyword what it says as a number

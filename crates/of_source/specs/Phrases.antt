@@ -6,8 +6,10 @@ use Rattle.of_stream.specs.declared.stream.OffsetSize.{OffsetSize}
 use Rattle.of_stream.specs.declared.stream.OffsetSize.TheVariants as size
 use Rattle.of_source.specs.declared.keyword.Maker.{Maker}
 use Rattle.of_source.specs.declared.keyword.Maker.TheVariants.{Named}
+use Rattle.of_source.specs.declared.keyword.Lone.{Lone}
 use Rattle.of_source.specs.declared.keyword.Radix.{Radix}
 use Rattle.of_source.specs.declared.keyword.Radix.TheVariants.{Hexadecimal}
+use Rattle.of_source.specs.Effects.{effect_of, Change, Same, Makes, Counts, Defines}
 use Rattle.of_source.specs.Names.{Own}
 use Rattle.of_source.specs.Items.{Item, Made, own_code, call, string, naming, bare}
 use Rattle.of_source.specs.Items as item
@@ -21,33 +23,14 @@ pub data Phrase : Type 0 where
   Number : Cell → Phrase  -- in the radix in force
   NumberIn : Radix → List ℕ → List ℕ → Cell → Phrase  -- `h#` or `d#`, blanks and a number
   Character : List ℕ → ℕ → List ℕ → Phrase  -- `char` or `[char]`, blanks and a word, of which the first byte counts
-  Short : FCode → Phrase  -- a word that stands for this one, as `true`
-  Pair : FCode → FCode → Phrase  -- a word that stands for these two, as `1+`
   Text : Bool → ℕ → List ℕ → Phrase  -- `s"`, or `."`, which prints; a blank and bytes up to the quote
   Quoted : ℕ → List Piece → List ℕ → Phrase  -- `"`, a blank, pieces and bytes up to the quote
   Comment : ℕ → List ℕ → Phrase  -- `(`, a blank and bytes up to `)`
   LineComment : List ℕ → Phrase  -- `\` and bytes up to the end of the line
   Naming : FCode → List ℕ → List ℕ → FCode → Phrase  -- `'`, `[']` or `to`, blanks and a name of this FCode
-  Headers : Maker → Phrase
-  Base : Radix → Phrase  -- `hex` or `decimal`
   Defining : FCode → List ℕ → List ℕ → Phrase  -- a defining word, blanks and a name
   Colon : List ℕ → List ℕ → Phrase  -- `:`, blanks and a name
-  Semicolon : Phrase
-  Recurse : Phrase
-  Offset16 : Phrase
-  If : Phrase  -- or `while`
-  Else : Phrase
-  Then : Phrase
-  Begin : Phrase
-  Back : Bool → Phrase  -- `until`, or `again`, which asks for no flag
-  Repeat : Phrase
-  Do : Bool → Phrase  -- `?do`, or `do`, which skips nothing
-  Loop : Bool → Phrase  -- `+loop`, or `loop`, which counts by one
-  Leave : Phrase
-  Case : Phrase
-  Of : Phrase
-  EndOf : Phrase
-  EndCase : Phrase
+  Alone : Lone → Phrase  -- a keyword that takes nothing, as `true`, `hex`, `if` or `;`
 
 -- a phrase with its word as it is spelled, in letters of either case, and with the blanks and line ends before that
 pub record Spelled : Type 0 where
@@ -129,11 +112,6 @@ abbrev pub string_items : Bool → List ℕ → List Item
 string_items false bytes = item.Plain (string bytes) ∷ []
 string_items true bytes = item.Plain (string bytes) ∷ item.Plain (bare 0x090) ∷ []
 
--- the open definition, if one is, by its number
-abbrev pub recursion : Option Own → List Item
-recursion None = []
-recursion (Some d) = item.Plain (call (own_code d.number)) ∷ []
-
 -- the definition of this name that begins, with the next number
 abbrev pub named : List ℕ → Known → Made
 named name k = record { maker = k.maker; name = name; number = length k.names }
@@ -145,45 +123,31 @@ items_of (BoardWord c) k = item.Plain (call c) ∷ []
 items_of (Number x) k = number_items x
 items_of (NumberIn base blanks word x) k = number_items x
 items_of (Character blanks b word) k = number_items (record { 0 = b })
-items_of (Short t) k = item.Plain (call t) ∷ []
-items_of (Pair t u) k = item.Plain (call t) ∷ item.Plain (call u) ∷ []
 items_of (Text prints blank bytes) k = string_items prints bytes
 items_of (Quoted blank pieces bytes) k = item.Plain (string (pieces_bytes pieces ++ bytes)) ∷ []
 items_of (Comment blank bytes) k = []
 items_of (LineComment bytes) k = []
 items_of (Naming t blanks name c) k = item.Plain (naming t c) ∷ []
-items_of (Headers m) k = []
-items_of (Base base) k = []
 items_of (Defining t blanks name) k = item.Defining (named name k) t ∷ []
 items_of (Colon blanks name) k = item.Colon (named name k) ∷ []
-items_of Semicolon k = item.Semicolon ∷ []
-items_of Recurse k = recursion k.open_one
-items_of Offset16 k = item.Plain (bare 0x0cc) ∷ []
-items_of If k = item.If k.at ∷ []
-items_of Else k = item.Else k.at ∷ []
-items_of Then k = item.Then ∷ []
-items_of Begin k = item.Begin ∷ []
-items_of (Back z) k = item.Back z k.at ∷ []
-items_of Repeat k = item.Back false k.at ∷ item.Then ∷ []
-items_of (Do q) k = item.Do q k.at ∷ []
-items_of (Loop q) k = item.Loop q k.at ∷ []
-items_of Leave k = item.Leave ∷ []
-items_of Case k = item.Case ∷ []
-items_of Of k = item.Of k.at ∷ []
-items_of EndOf k = item.EndOf k.at ∷ []
-items_of EndCase k = item.EndCase ∷ []
+items_of (Alone w) k = (effect_of w).gives k.at k.open_one
 
 -- a definition of this name, with the next number
 abbrev pub next_own : List ℕ → Known → Own
 next_own name k = record { name = name; number = length k.names }
 
+-- what is otherwise known behind a keyword that takes nothing
+abbrev pub known_by : Change → Known → Known
+known_by Same k = k
+known_by (Makes m) k = record k { maker = m }
+known_by (Counts base) k = record k { radix = base }
+known_by Defines k = record k { names = known_with k.open_one k.names; open_one = None }
+
 -- what else is known behind a phrase
 abbrev pub learned : Phrase → Known → Known
-learned (Headers m) k = record k { maker = m }
-learned (Base base) k = record k { radix = base }
 learned (Defining t blanks name) k = record k { names = next_own name k ∷ k.names }
 learned (Colon blanks name) k = record k { open_one = Some (next_own name k) }
-learned Semicolon k = record k { names = known_with k.open_one k.names; open_one = None }
+learned (Alone w) k = known_by (effect_of w).changes k
 learned _ k = k
 
 -- what is known behind a phrase whose word is this

@@ -1,6 +1,6 @@
 -- What each word of a source does (IEEE 1275-1994, 5.3 and annex C; Forth 2012, 3.4).
 use Rattle.std.specs.Prelude.{◌≡◌, ℕ, ◌+◌, Bool, true, false, List, [], ◌∷◌, ◌++◌, length, slice_index}
-use Rattle.std.specs.Prelude.{Option, Some, None, Result, Ok, Err, nat_eq, nat_lt, nat_le, if◌then◌else◌}
+use Rattle.std.specs.Prelude.{is_some, Option, Some, None, Result, Ok, Err, nat_eq, nat_lt, nat_le, if◌then◌else◌}
 use Rattle.of_cells.specs.declared.cells.Cell.{Cell}
 use Rattle.of_fcodes.specs.declared.codes.FCode.{FCode}
 use Rattle.of_stream.specs.Decoding.{Token}
@@ -12,6 +12,7 @@ use Rattle.of_source.specs.declared.keyword.Quote.{Quote}
 use Rattle.of_source.specs.declared.keyword.Quote.TheVariants as quote
 use Rattle.of_source.specs.declared.keyword.Keyword.{Keyword}
 use Rattle.of_source.specs.declared.keyword.Keyword.TheVariants as keyword
+use Rattle.of_source.specs.declared.keyword.Lone.{Lone}
 use Rattle.of_source.specs.declared.keyword.Radix.{Radix}
 use Rattle.of_source.specs.declared.keyword.Radix.TheVariants.{Hexadecimal}
 use Rattle.of_source.specs.Radix.{base_of}
@@ -24,9 +25,9 @@ use Rattle.of_source.specs.Numbers.{number_in}
 use Rattle.of_source.specs.Keywords.{keyword_named, ordinary_named}
 use Rattle.of_source.specs.Items.{Item, Made, Source, own_code, call, literal, string, naming, bare}
 use Rattle.of_source.specs.Items as item
-use Rattle.of_source.specs.Nesting.{Nesting, nothing_open, with_branch, with_part, without_branch, without_begin}
-use Rattle.of_source.specs.Nesting.{without_part, then_without_branch, then_with_branch, opened_if, in_definition}
-use Rattle.of_source.specs.Nesting.{in_loop, on_case, is_straight, is_closed, first_open}
+use Rattle.of_source.specs.Nesting.{Nesting, nothing_open, with_part, in_definition, is_straight, is_closed, first_open}
+use Rattle.of_source.specs.Effects.{Effect, effect_of, Where, Anywhere, Inside, Straight, Change, Same, Makes, Counts}
+use Rattle.of_source.specs.Effects.{Defines}
 
 -- what is known at a word
 pub record State : Type 0 where
@@ -73,14 +74,6 @@ reading_on r s = record s { rest = r }
 -- at the next word, behind which this is left
 abbrev pub at_next : Rest → State → State
 at_next r s = record s { at = start_of s.rest; rest = r }
-
--- with another radix of numbers
-abbrev pub with_radix : Radix → State → State
-with_radix base s = record s { radix = base }
-
--- with another token maker
-abbrev pub with_maker : Maker → State → State
-with_maker m s = record s { maker = m }
 
 -- with a definition that can be named from here on
 abbrev pub knowing : List ℕ → State → State
@@ -223,22 +216,31 @@ colon_step last s =
     if_outside s (with_name (name_read last (opening (with_part part.Definition s.at s.nesting) s))
     (λ name r. Goes (defining name (giving (item.Colon (made name s) ∷ []) r))))
 
--- `recurse`: the number of the open definition
-abbrev pub recurse_step : State → Option Own → Step
-recurse_step s None = Fails (Unknown s.at)
-recurse_step s (Some d) = Goes (giving (item.Plain (call (own_code d.number)) ∷ []) s)
+-- ---- words that take nothing from the text
 
--- ---- control structures
+-- a word that stands there may do so
+abbrev pub may_stand : Where → State → Bool
+may_stand Anywhere s = true
+may_stand Inside s = is_some s.open_one
+may_stand Straight s = is_straight s.nesting
 
--- these items, where this may be left open
-abbrev pub if_open : Option Nesting → List Item → State → Step
-if_open None more s = Fails (Unclosed s.at)
-if_open (Some n) more s = Goes (giving more (opening n s))
+-- what is otherwise known behind a word
+abbrev pub changed : Change → State → State
+changed Same s = s
+changed (Makes m) s = record s { maker = m }
+changed (Counts base) s = record s { radix = base }
+changed Defines s = defined s
 
--- the same, at the end of a definition
-abbrev pub if_ends : Option Nesting → State → Step
-if_ends None s = Fails (Unclosed s.at)
-if_ends (Some n) s = Goes (defined (giving (item.Semicolon ∷ []) (opening n s)))
+-- a word has this effect, where this may be left open
+abbrev pub effect_step : Effect → Option Nesting → State → Step
+effect_step e None s = Fails (Unclosed s.at)
+effect_step e (Some n) s =
+    if may_stand e.stands s then Goes (changed e.changes (giving (e.gives s.at s.open_one) (opening n s)))
+    else Fails (Unknown s.at)
+
+-- what a keyword does that takes nothing from the text
+abbrev pub lone_step : Lone → State → Step
+lone_step w s = effect_step (effect_of w) ((effect_of w).opens s.at s.nesting) s
 
 -- ---- one word
 
@@ -248,37 +250,13 @@ keyword_step last keyword.Finish s =
     if is_closed s.nesting then Ends s else Fails (Unclosed (first_open 0 s.nesting))
 keyword_step last keyword.Comment s = comment_step s (plain_string 41 s.rest.text)
 keyword_step last keyword.LineComment s = Goes (reading_on (left_of s.rest (line_end s.rest.text)) s)
-keyword_step last (keyword.Headers m) s = Goes (with_maker m s)
-keyword_step last (keyword.Radix base) s = Goes (with_radix base s)
 keyword_step last (keyword.NumberIn base) s = number_step base s
 keyword_step last keyword.Character s = character_step last s
 keyword_step last (keyword.Text q) s = text_step q s
 keyword_step last keyword.Colon s = colon_step last s
-keyword_step last keyword.Semicolon s = if_ends (without_part part.Definition s.nesting) s
 keyword_step last (keyword.Defining t) s = defining_step last t s
-keyword_step last keyword.Recurse s = recurse_step s s.open_one
 keyword_step last (keyword.Naming t) s = naming_step last t s
-keyword_step last keyword.Offset16 s =
-    if is_straight s.nesting then Goes (giving (item.Plain (bare 0x0cc) ∷ []) s) else Fails (Unknown s.at)
-keyword_step last (keyword.One t) s = Goes (giving (item.Plain (call t) ∷ []) s)
-keyword_step last (keyword.Two t u) s = Goes (giving (item.Plain (call t) ∷ item.Plain (call u) ∷ []) s)
-keyword_step last keyword.If s = if_open (Some (with_branch s.at s.nesting)) (item.If s.at ∷ []) s
-keyword_step last keyword.Else s =
-    if_open (then_with_branch s.at (without_branch s.nesting)) (item.Else s.at ∷ []) s
-keyword_step last keyword.Then s = if_open (without_branch s.nesting) (item.Then ∷ []) s
-keyword_step last keyword.Begin s = if_open (Some (with_part part.Begin s.at s.nesting)) (item.Begin ∷ []) s
-keyword_step last (keyword.Back z) s = if_open (without_begin s.nesting) (item.Back z s.at ∷ []) s
-keyword_step last keyword.Repeat s =
-    if_open (then_without_branch (without_begin s.nesting)) (item.Back false s.at ∷ item.Then ∷ []) s
-keyword_step last (keyword.Do q) s =
-    if_open (Some (with_part part.Do s.at s.nesting)) (item.Do q s.at ∷ []) s
-keyword_step last (keyword.Loop q) s = if_open (without_part part.Do s.nesting) (item.Loop q s.at ∷ []) s
-keyword_step last keyword.Leave s = if_open (opened_if (in_loop s.nesting.parts) s.nesting) (item.Leave ∷ []) s
-keyword_step last keyword.Case s = if_open (Some (with_part part.Case s.at s.nesting)) (item.Case ∷ []) s
-keyword_step last keyword.Of s =
-    if_open (opened_if (on_case s.nesting) (with_part part.Of s.at s.nesting)) (item.Of s.at ∷ []) s
-keyword_step last keyword.EndOf s = if_open (without_part part.Of s.nesting) (item.EndOf s.at ∷ []) s
-keyword_step last keyword.EndCase s = if_open (without_part part.Case s.nesting) (item.EndCase ∷ []) s
+keyword_step last (keyword.Lone w) s = lone_step w s
 
 -- a word that is no name: a number in the radix of the text
 abbrev pub number_word_step : State → Number → Step

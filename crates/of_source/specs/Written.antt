@@ -6,6 +6,7 @@ use Rattle.of_stream.specs.declared.stream.OffsetSize.{OffsetSize}
 use Rattle.of_source.specs.declared.keyword.Quote.TheVariants as quote
 use Rattle.of_source.specs.declared.keyword.Keyword.{Keyword}
 use Rattle.of_source.specs.declared.keyword.Keyword.TheVariants as keyword
+use Rattle.of_source.specs.declared.keyword.Lone.TheVariants as lone
 use Rattle.of_source.specs.declared.nesting.Part.{Part}
 use Rattle.of_source.specs.declared.nesting.Part.TheVariants as part
 use Rattle.of_source.specs.declared.number.Number.TheVariants.{Value}
@@ -57,34 +58,15 @@ keyword_of (phrase.BoardWord c) = None
 keyword_of (phrase.Number x) = None
 keyword_of (phrase.NumberIn base blanks word x) = Some (keyword.NumberIn base)
 keyword_of (phrase.Character blanks b word) = Some keyword.Character
-keyword_of (phrase.Short t) = Some (keyword.One t)
-keyword_of (phrase.Pair t u) = Some (keyword.Two t u)
 keyword_of (phrase.Text false blank bytes) = Some (keyword.Text quote.Plain)
 keyword_of (phrase.Text true blank bytes) = Some (keyword.Text quote.Printed)
 keyword_of (phrase.Quoted blank pieces bytes) = Some (keyword.Text quote.Bytes)
 keyword_of (phrase.Comment blank bytes) = Some keyword.Comment
 keyword_of (phrase.LineComment bytes) = Some keyword.LineComment
 keyword_of (phrase.Naming t blanks name c) = Some (keyword.Naming t)
-keyword_of (phrase.Headers m) = Some (keyword.Headers m)
-keyword_of (phrase.Base base) = Some (keyword.Radix base)
 keyword_of (phrase.Defining t blanks name) = Some (keyword.Defining t)
 keyword_of (phrase.Colon blanks name) = Some keyword.Colon
-keyword_of phrase.Semicolon = Some keyword.Semicolon
-keyword_of phrase.Recurse = Some keyword.Recurse
-keyword_of phrase.Offset16 = Some keyword.Offset16
-keyword_of phrase.If = Some keyword.If
-keyword_of phrase.Else = Some keyword.Else
-keyword_of phrase.Then = Some keyword.Then
-keyword_of phrase.Begin = Some keyword.Begin
-keyword_of (phrase.Back z) = Some (keyword.Back z)
-keyword_of phrase.Repeat = Some keyword.Repeat
-keyword_of (phrase.Do q) = Some (keyword.Do q)
-keyword_of (phrase.Loop q) = Some (keyword.Loop q)
-keyword_of phrase.Leave = Some keyword.Leave
-keyword_of phrase.Case = Some keyword.Case
-keyword_of phrase.Of = Some keyword.Of
-keyword_of phrase.EndOf = Some keyword.EndOf
-keyword_of phrase.EndCase = Some keyword.EndCase
+keyword_of (phrase.Alone w) = Some (keyword.Lone w)
 
 -- the definition that a phrase is, by its number
 abbrev pub own_of : Phrase → Option ℕ
@@ -111,8 +93,8 @@ IsPlaced k word (phrase.LineComment bytes) = All (λ b. b ≢ 10) bytes
 IsPlaced k word (phrase.Naming t blanks name c) = AreBlanks blanks × IsWord name × (code_named k.names name ≡ Some c)
 IsPlaced k word (phrase.Defining t blanks name) = AreBlanks blanks × IsName name
 IsPlaced k word (phrase.Colon blanks name) = AreBlanks blanks × IsName name
-IsPlaced k word phrase.Recurse = (d : Own) × (k.open_one ≡ Some d)
-IsPlaced k word phrase.Offset16 = LeaveOpen k.items IsStraight
+IsPlaced k word (phrase.Alone lone.Recurse) = (d : Own) × (k.open_one ≡ Some d)
+IsPlaced k word (phrase.Alone lone.Offset16) = LeaveOpen k.items IsStraight
 IsPlaced k word _ = Unit {0}
 
 -- a text that begins with the end of a line, or has no bytes

@@ -4,10 +4,11 @@ ghost use Rattle.of_source.specs.Items as item;
 ghost use Rattle.of_source.specs.Steps.{number_token};
 ghost use Rattle.of_source.specs.declared.fault.SourceFault.TheVariants.{Unclosed, Unknown};
 ghost use Rattle.of_source.specs.declared.keyword.Keyword.TheVariants as keyword;
+ghost use Rattle.of_source.specs.declared.keyword.Lone.TheVariants as lone;
 
 use crate::fault::SourceFault;
 use crate::item::{Item, Name, Plain};
-use crate::keyword::{Keyword, Maker, Quote, Radix};
+use crate::keyword::{Keyword, Lone, Maker, Quote, Radix};
 use crate::names::{Names, Own};
 use crate::nesting::Nesting;
 use crate::number::{Number, number_in};
@@ -61,8 +62,8 @@ impl<'a> Parser<'a> {
     ghost use Rattle.of_source.specs.Items as item;
     ghost use Rattle.of_source.specs.Keywords.{keyword_named, ordinary_named};
     ghost use Rattle.of_source.specs.Names.{own_in};
-    ghost use Rattle.of_source.specs.Steps.{beginning, giving, keyword_step, Steps, ordinary_step, listed_step};
-    ghost use Rattle.of_source.specs.Steps.{word_step, next_step, ended, number_items};
+    ghost use Rattle.of_source.specs.Steps.{beginning, giving, keyword_step, lone_step, Steps, ordinary_step};
+    ghost use Rattle.of_source.specs.Steps.{listed_step, word_step, next_step, ended, number_items};
 
     /// The beginning of a source.
     pub fn new(alloc: Global, rest: Rest<'a>) -> Self
@@ -148,7 +149,7 @@ impl<'a> Parser<'a> {
 
     /// `offset16`.
     fn offset16_word(&mut self) -> Result<bool, SourceFault>
-        ensures { Steps (keyword_step 0 keyword.Offset16 self.old) self.new result }
+        ensures { Steps (lone_step lone.Offset16 self.old) self.new result }
     {
         if !self.nesting.is_straight() {
             return self.unknown();
@@ -159,7 +160,7 @@ impl<'a> Parser<'a> {
 
     /// A word that stands for a token.
     fn one_word(&mut self, code: FCode) -> Result<bool, SourceFault>
-        ensures { Steps (keyword_step 0 (keyword.One code) self.old) self.new result }
+        ensures { Steps (lone_step (lone.One code) self.old) self.new result }
     {
         self.call(Name::Listed(code))?;
         Ok(true)
@@ -167,7 +168,7 @@ impl<'a> Parser<'a> {
 
     /// A word that stands for two tokens.
     fn two_words(&mut self, first: FCode, second: FCode) -> Result<bool, SourceFault>
-        ensures { Steps (keyword_step 0 (keyword.Two first second) self.old) self.new result }
+        ensures { Steps (lone_step (lone.Two first second) self.old) self.new result }
     {
         self.call(Name::Listed(first))?;
         self.call(Name::Listed(second))?;
@@ -176,7 +177,7 @@ impl<'a> Parser<'a> {
 
     /// `headers`, `external` or `headerless`.
     fn headers_word(&mut self, maker: Maker) -> Result<bool, SourceFault>
-        ensures { Steps (keyword_step 0 (keyword.Headers maker) self.old) self.new result }
+        ensures { Steps (lone_step (lone.Headers maker) self.old) self.new result }
     {
         self.maker = maker;
         Ok(true)
@@ -184,7 +185,7 @@ impl<'a> Parser<'a> {
 
     /// `hex` or `decimal`.
     fn radix_word(&mut self, radix: Radix) -> Result<bool, SourceFault>
-        ensures { Steps (keyword_step 0 (keyword.Radix radix) self.old) self.new result }
+        ensures { Steps (lone_step (lone.Radix radix) self.old) self.new result }
     {
         self.radix = radix;
         Ok(true)
@@ -200,6 +201,34 @@ impl<'a> Parser<'a> {
         Err(SourceFault::Unclosed(self.nesting.first_open(0)))
     }
 
+    /// A keyword that takes nothing from the text.
+    fn lone_word(&mut self, word: Lone) -> Result<bool, SourceFault>
+        ensures { Steps (lone_step word self.old) self.new result }
+    {
+        match word {
+            Lone::One(code) => self.one_word(code),
+            Lone::Two(first, second) => self.two_words(first, second),
+            Lone::Headers(maker) => self.headers_word(maker),
+            Lone::Radix(radix) => self.radix_word(radix),
+            Lone::Semicolon => self.semicolon_word(),
+            Lone::Recurse => self.recurse_word(),
+            Lone::Offset16 => self.offset16_word(),
+            Lone::If => self.if_word(),
+            Lone::Else => self.else_word(),
+            Lone::Then => self.then_word(),
+            Lone::Begin => self.begin_word(),
+            Lone::Back(tests) => self.back_word(tests),
+            Lone::Repeat => self.repeat_word(),
+            Lone::Do(skips) => self.do_word(skips),
+            Lone::Loop(takes) => self.loop_word(takes),
+            Lone::Leave => self.leave_word(),
+            Lone::Case => self.case_word(),
+            Lone::Of => self.of_word(),
+            Lone::EndOf => self.endof_word(),
+            Lone::EndCase => self.endcase_word(),
+        }
+    }
+
     /// A keyword.
     fn keyword_word(&mut self, keyword: Keyword, last: usize) -> Result<bool, SourceFault>
         ensures { Steps (keyword_step last keyword self.old) self.new result }
@@ -208,34 +237,15 @@ impl<'a> Parser<'a> {
             Keyword::Finish => self.finish_word(),
             Keyword::Comment => self.comment_word(),
             Keyword::LineComment => self.line_comment_word(),
-            Keyword::Headers(maker) => self.headers_word(maker),
-            Keyword::Radix(radix) => self.radix_word(radix),
             Keyword::NumberIn(radix) => self.number_word(radix),
             Keyword::Character => self.character_word(last),
             Keyword::Text(Quote::Bytes) => self.bytes_word(),
             Keyword::Text(Quote::Plain) => self.plain_word(),
             Keyword::Text(Quote::Printed) => self.printed_word(),
             Keyword::Colon => self.colon_word(last),
-            Keyword::Semicolon => self.semicolon_word(),
             Keyword::Defining(code) => self.defining_word(code, last),
-            Keyword::Recurse => self.recurse_word(),
             Keyword::Naming(code) => self.naming_word(code, last),
-            Keyword::Offset16 => self.offset16_word(),
-            Keyword::One(code) => self.one_word(code),
-            Keyword::Two(first, second) => self.two_words(first, second),
-            Keyword::If => self.if_word(),
-            Keyword::Else => self.else_word(),
-            Keyword::Then => self.then_word(),
-            Keyword::Begin => self.begin_word(),
-            Keyword::Back(tests) => self.back_word(tests),
-            Keyword::Repeat => self.repeat_word(),
-            Keyword::Do(skips) => self.do_word(skips),
-            Keyword::Loop(takes) => self.loop_word(takes),
-            Keyword::Leave => self.leave_word(),
-            Keyword::Case => self.case_word(),
-            Keyword::Of => self.of_word(),
-            Keyword::EndOf => self.endof_word(),
-            Keyword::EndCase => self.endcase_word(),
+            Keyword::Lone(word) => self.lone_word(word),
         }
     }
 

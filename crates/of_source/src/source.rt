@@ -7,7 +7,7 @@ ghost use Rattle.of_source.specs.Parsing.{parsed, IsRefused};
 
 use crate::fault::SourceFault;
 use crate::item::Item;
-use crate::keyword::{Keyword, Radix};
+use crate::keyword::{Keyword, Lone, Radix};
 use crate::names::is_same_name;
 use crate::number::{Number, number_in};
 use crate::parser::Parser;
@@ -123,16 +123,18 @@ fn is_closer(keyword: Keyword) -> bool
 {
     matches!(
         keyword,
-        Keyword::Semicolon
-            | Keyword::Else
-            | Keyword::Then
-            | Keyword::Back(_)
-            | Keyword::Repeat
-            | Keyword::Loop(_)
-            | Keyword::Leave
-            | Keyword::Of
-            | Keyword::EndOf
-            | Keyword::EndCase
+        Keyword::Lone(
+            Lone::Semicolon
+                | Lone::Else
+                | Lone::Then
+                | Lone::Back(_)
+                | Lone::Repeat
+                | Lone::Loop(_)
+                | Lone::Leave
+                | Lone::Of
+                | Lone::EndOf
+                | Lone::EndCase
+        )
     )
 }
 

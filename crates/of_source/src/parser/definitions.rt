@@ -2,6 +2,7 @@
 ghost use Rattle.std.specs.Prelude.{◌≡◌, ◌∷◌, [], Err, IfErr, IfOk, length, Ok, OnOk};
 ghost use Rattle.of_source.specs.Items as item;
 ghost use Rattle.of_source.specs.declared.keyword.Keyword.TheVariants as keyword;
+ghost use Rattle.of_source.specs.declared.keyword.Lone.TheVariants as lone;
 
 use super::Parser;
 use crate::fault::SourceFault;
@@ -13,7 +14,8 @@ use std::alloc::AllocError;
 
 impl<'a> Parser<'a> {
     ghost use Rattle.of_source.specs.Items.{made_shown};
-    ghost use Rattle.of_source.specs.Steps.{name_read, defined, keyword_step, Steps, knowing, defining, made};
+    ghost use Rattle.of_source.specs.Steps.{name_read, defined, knowing, defining, made, keyword_step, lone_step};
+    ghost use Rattle.of_source.specs.Steps.{Steps};
 
     /// The name of a definition, of at most 31 bytes.
     fn name(&mut self, last: usize) -> Result<&'a [u8], SourceFault>
@@ -104,7 +106,7 @@ impl<'a> Parser<'a> {
 
     /// `;`.
     pub(super) fn semicolon_word(&mut self) -> Result<bool, SourceFault>
-        ensures { Steps (keyword_step 0 keyword.Semicolon self.old) self.new result }
+        ensures { Steps (lone_step lone.Semicolon self.old) self.new result }
     {
         if !self.nesting.close_part(Part::Definition) {
             return self.unclosed();
@@ -116,7 +118,7 @@ impl<'a> Parser<'a> {
 
     /// `recurse`.
     pub(super) fn recurse_word(&mut self) -> Result<bool, SourceFault>
-        ensures { Steps (keyword_step 0 keyword.Recurse self.old) self.new result }
+        ensures { Steps (lone_step lone.Recurse self.old) self.new result }
     {
         match self.open_one {
             Some(own) => {

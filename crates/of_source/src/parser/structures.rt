@@ -1,5 +1,5 @@
 // Control structures (IEEE 1275-1994, 5.3.3; Forth 2012, A.3.2.3.2).
-ghost use Rattle.of_source.specs.declared.keyword.Keyword.TheVariants as keyword;
+ghost use Rattle.of_source.specs.declared.keyword.Lone.TheVariants as lone;
 
 use super::Parser;
 use crate::fault::SourceFault;
@@ -7,11 +7,11 @@ use crate::item::Item;
 use crate::nesting::Part;
 
 impl Parser<'_> {
-    ghost use Rattle.of_source.specs.Steps.{keyword_step, Steps};
+    ghost use Rattle.of_source.specs.Steps.{lone_step, Steps};
 
     /// `if` or `while`.
     pub(super) fn if_word(&mut self) -> Result<bool, SourceFault>
-        ensures { Steps (keyword_step 0 keyword.If self.old) self.new result }
+        ensures { Steps (lone_step lone.If self.old) self.new result }
     {
         let at = self.at;
         self.nesting.open_branch(at)?;
@@ -21,7 +21,7 @@ impl Parser<'_> {
 
     /// `else`.
     pub(super) fn else_word(&mut self) -> Result<bool, SourceFault>
-        ensures { Steps (keyword_step 0 keyword.Else self.old) self.new result }
+        ensures { Steps (lone_step lone.Else self.old) self.new result }
     {
         let at = self.at;
         if !self.nesting.exchange_branch(at)? {
@@ -33,7 +33,7 @@ impl Parser<'_> {
 
     /// `then`.
     pub(super) fn then_word(&mut self) -> Result<bool, SourceFault>
-        ensures { Steps (keyword_step 0 keyword.Then self.old) self.new result }
+        ensures { Steps (lone_step lone.Then self.old) self.new result }
     {
         if !self.nesting.close_branch() {
             return self.unclosed();
@@ -44,7 +44,7 @@ impl Parser<'_> {
 
     /// `begin`.
     pub(super) fn begin_word(&mut self) -> Result<bool, SourceFault>
-        ensures { Steps (keyword_step 0 keyword.Begin self.old) self.new result }
+        ensures { Steps (lone_step lone.Begin self.old) self.new result }
     {
         let at = self.at;
         self.nesting.open_part(Part::Begin, at)?;
@@ -54,7 +54,7 @@ impl Parser<'_> {
 
     /// `until` or `again`.
     pub(super) fn back_word(&mut self, tests: bool) -> Result<bool, SourceFault>
-        ensures { Steps (keyword_step 0 (keyword.Back tests) self.old) self.new result }
+        ensures { Steps (lone_step (lone.Back tests) self.old) self.new result }
     {
         if !self.nesting.close_begin() {
             return self.unclosed();
@@ -66,7 +66,7 @@ impl Parser<'_> {
 
     /// `repeat`.
     pub(super) fn repeat_word(&mut self) -> Result<bool, SourceFault>
-        ensures { Steps (keyword_step 0 keyword.Repeat self.old) self.new result }
+        ensures { Steps (lone_step lone.Repeat self.old) self.new result }
     {
         if !self.nesting.close_begin() || !self.nesting.close_branch() {
             return self.unclosed();
@@ -79,7 +79,7 @@ impl Parser<'_> {
 
     /// `do` or `?do`.
     pub(super) fn do_word(&mut self, skips: bool) -> Result<bool, SourceFault>
-        ensures { Steps (keyword_step 0 (keyword.Do skips) self.old) self.new result }
+        ensures { Steps (lone_step (lone.Do skips) self.old) self.new result }
     {
         let at = self.at;
         self.nesting.open_part(Part::Do, at)?;
@@ -89,7 +89,7 @@ impl Parser<'_> {
 
     /// `loop` or `+loop`.
     pub(super) fn loop_word(&mut self, takes: bool) -> Result<bool, SourceFault>
-        ensures { Steps (keyword_step 0 (keyword.Loop takes) self.old) self.new result }
+        ensures { Steps (lone_step (lone.Loop takes) self.old) self.new result }
     {
         if !self.nesting.close_part(Part::Do) {
             return self.unclosed();
@@ -101,7 +101,7 @@ impl Parser<'_> {
 
     /// `leave`.
     pub(super) fn leave_word(&mut self) -> Result<bool, SourceFault>
-        ensures { Steps (keyword_step 0 keyword.Leave self.old) self.new result }
+        ensures { Steps (lone_step lone.Leave self.old) self.new result }
     {
         if !self.nesting.in_loop() {
             return self.unclosed();
@@ -112,7 +112,7 @@ impl Parser<'_> {
 
     /// `case`.
     pub(super) fn case_word(&mut self) -> Result<bool, SourceFault>
-        ensures { Steps (keyword_step 0 keyword.Case self.old) self.new result }
+        ensures { Steps (lone_step lone.Case self.old) self.new result }
     {
         let at = self.at;
         self.nesting.open_part(Part::Case, at)?;
@@ -122,7 +122,7 @@ impl Parser<'_> {
 
     /// `of`.
     pub(super) fn of_word(&mut self) -> Result<bool, SourceFault>
-        ensures { Steps (keyword_step 0 keyword.Of self.old) self.new result }
+        ensures { Steps (lone_step lone.Of self.old) self.new result }
     {
         if !self.nesting.on_case() {
             return self.unclosed();
@@ -135,7 +135,7 @@ impl Parser<'_> {
 
     /// `endof`.
     pub(super) fn endof_word(&mut self) -> Result<bool, SourceFault>
-        ensures { Steps (keyword_step 0 keyword.EndOf self.old) self.new result }
+        ensures { Steps (lone_step lone.EndOf self.old) self.new result }
     {
         if !self.nesting.close_part(Part::Of) {
             return self.unclosed();
@@ -147,7 +147,7 @@ impl Parser<'_> {
 
     /// `endcase`.
     pub(super) fn endcase_word(&mut self) -> Result<bool, SourceFault>
-        ensures { Steps (keyword_step 0 keyword.EndCase self.old) self.new result }
+        ensures { Steps (lone_step lone.EndCase self.old) self.new result }
     {
         if !self.nesting.close_part(Part::Case) {
             return self.unclosed();
