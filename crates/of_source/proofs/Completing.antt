@@ -13,7 +13,7 @@ use Rattle.of_source.specs.declared.keyword.Keyword.TheVariants as keyword
 use Rattle.of_source.specs.declared.keyword.Lone.{Lone}
 use Rattle.of_source.specs.declared.keyword.Lone.TheVariants as lone
 use Rattle.of_source.specs.declared.nesting.Part.{Part}
-use Rattle.of_source.specs.Effects.{effect_of}
+use Rattle.of_source.specs.Effects.{effect_of, known_with}
 use Rattle.of_source.specs.declared.nesting.Part.TheVariants as part
 use Rattle.of_source.specs.Completion.{AreFree, PrefixesGoOn, begun_text, closing_word, closing_words, completion}
 use Rattle.of_source.specs.Completion.{on_lines, thens}
@@ -30,7 +30,6 @@ use Rattle.of_source.specs.Phrases.{behind}
 use Rattle.of_source.specs.Phrases.{each_written, end_written, items_in, items_of, moved, taken, text_of, written}
 use Rattle.of_source.specs.Phrases as phrase
 use Rattle.of_source.specs.Shapes.{Shape, nothing, floor_of, is_even, closing, opens, pushed, run, shape_of, when}
-use Rattle.of_source.specs.Steps.{known_with}
 use Rattle.of_source.specs.Written.{AreBlanks, AreSaid, EndsWord, IsBegun}
 use Rattle.of_source.specs.Written.{IsPlaced, IsSaid, IsWord}
 use Rattle.of_source.proofs.FaultsBack.{opened_first, opened_runs}

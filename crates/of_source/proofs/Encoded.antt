@@ -9,9 +9,12 @@ use Rattle.std.proofs.lemmas.List.Elements.{All-append, All-cons}
 use Rattle.std.specs.Str.{str_eq_ignore_ascii_case}
 use Rattle.of_fcodes.specs.declared.codes.FCode.{FCode}
 use Rattle.of_stream.specs.Decoding.{Argument, Code}
+use Rattle.of_source.specs.declared.keyword.Definer.TheVariants as definer
 use Rattle.of_source.specs.declared.keyword.Keyword.TheVariants as keyword
 use Rattle.of_source.specs.declared.keyword.Lone.TheVariants as lone
 use Rattle.of_source.specs.declared.keyword.Maker.{Maker}
+use Rattle.of_source.specs.declared.keyword.Quote.{Quote}
+use Rattle.of_source.specs.declared.keyword.Quote.TheVariants as quote
 use Rattle.of_source.specs.declared.nesting.Part.{Part}
 use Rattle.of_source.specs.declared.nesting.Part.TheVariants as part
 use Rattle.of_source.specs.Encodable.{AreEncodable, AreMadeInOrder, HasBytes, IsNumbered, IsSound, defines, definitions}
@@ -24,11 +27,11 @@ use Rattle.of_source.specs.Nest.{IsNested}
 use Rattle.of_source.specs.Nesting.{is_same}
 use Rattle.of_source.specs.Parsing.{parsed}
 use Rattle.of_source.specs.Phrases.{Phrase, Spelled, Ending, Known, all_behind, behind, begun_with, items_in, items_of}
-use Rattle.of_source.specs.Phrases.{moved, string_items}
-use Rattle.of_source.specs.Effects.{recursion}
+use Rattle.of_source.specs.Phrases.{moved, quote_if}
+use Rattle.of_source.specs.Effects.{known_with, recursion}
 use Rattle.of_source.specs.Phrases as phrase
 use Rattle.of_source.specs.Shapes.{Shape, nothing, around_of, around_part, closing, is_even, opens, pushed, run, when}
-use Rattle.of_source.specs.Steps.{code_named, known_with, named_code, number_token}
+use Rattle.of_source.specs.Steps.{code_named, named_code, number_token, string_items}
 use Rattle.of_source.specs.Strings.{pieces_bytes}
 use Rattle.of_source.specs.Written.{AreSaid, IsKeyword, IsPlaced, own_of}
 use Rattle.of_source.proofs.AcceptedLemmas.{accepted_written}
@@ -388,13 +391,13 @@ recursion_bytes (Some d) n h l =
 
 -- ---- phrases
 
-strings : (prints : Bool) (bytes : List ℕ) (k : Known) (o : Shape) → length bytes ≤ 255
-    → run k.items nothing ≡ Some o → Holds k → Inv k.names k.open_one (k.items ++ string_items prints bytes)
-strings false bytes k o l r h =
-    one_stays k (item.Plain (string bytes)) o tt r (omega arith, tt) (string_bytes bytes (omega (arith, l))) h
-strings true bytes k o l r h =
+strings : (q : Quote) (bytes : List ℕ) (k : Known) (o : Shape) → length bytes ≤ 255
+    → run k.items nothing ≡ Some o → Holds k → Inv k.names k.open_one (k.items ++ string_items q bytes)
+strings quote.Printed bytes k o l r h =
     two_stay k (item.Plain (string bytes)) (item.Plain (bare 0x090)) o tt tt r (omega arith, tt) (omega arith, tt)
     (string_bytes bytes (omega (arith, l))) type_bytes h
+strings _ bytes k o l r h =
+    one_stays k (item.Plain (string bytes)) o tt r (omega arith, tt) (string_bytes bytes (omega (arith, l))) h
 
 phrase_keeps : (p : Phrase) (k : Known) (word : List ℕ) (o q : Shape) → own_in k.names word ≡ own_of p
     → IsKeyword word p → IsPlaced k word p → run k.items nothing ≡ Some o → run (items_of p k) o ≡ Some q → Holds k
@@ -423,9 +426,10 @@ phrase_keeps (phrase.Alone (lone.Two t u)) k word o q e m w r f h =
     let l = two_low word t u m in
     two_stay k (item.Plain (call t)) (item.Plain (call u)) o tt tt r (board t _ l.0, tt) (board u _ l.1, tt)
     (bare_bytes t b.0) (bare_bytes u b.1) h
-phrase_keeps (phrase.Text prints blank bytes) k word o q e m w r f h = strings prints bytes k o w.1 r h
+phrase_keeps (phrase.Text prints blank bytes) k word o q e m w r f h =
+    strings (quote_if prints) bytes k o w.1 r h
 phrase_keeps (phrase.Quoted blank pieces bytes) k word o q e m w r f h =
-    strings false (pieces_bytes pieces ++ bytes) k o w.1 r h
+    strings quote.Bytes (pieces_bytes pieces ++ bytes) k o w.1 r h
 phrase_keeps (phrase.Comment blank bytes) k word o q e m w r f h = none_stay k o r h
 phrase_keeps (phrase.LineComment bytes) k word o q e m w r f h = none_stay k o r h
 phrase_keeps (phrase.Naming t blanks name c) k word o q e m w r f h =
@@ -436,10 +440,10 @@ phrase_keeps (phrase.Naming t blanks name c) k word o q e m w r f h =
     (named_bare name (definitions k.items) k.names c h.known l w.2))) h
 phrase_keeps (phrase.Alone (lone.Headers x)) k word o q e m w r f h = none_stay k o r h
 phrase_keeps (phrase.Alone (lone.Radix base)) k word o q e m w r f h = none_stay k o r h
-phrase_keeps (phrase.Defining t blanks name) k word o q e m w r f h =
+phrase_keeps (phrase.Defining (definer.Other t) blanks name) k word o q e m w r f h =
     makes_one k.maker name t k.names k.open_one k.items o q w.1.1
-    (bare_good t (keyword_good word (keyword.Defining t) m)) r f h
-phrase_keeps (phrase.Colon blanks name) k word o q e m w r f h =
+    (bare_good t (keyword_good word (keyword.Defining (definer.Other t)) m)) r f h
+phrase_keeps (phrase.Defining definer.Colon blanks name) k word o q e m w r f h =
     begins_one k.maker name k.names k.open_one k.items o q w.1.1 r f h
 phrase_keeps (phrase.Alone lone.Semicolon) k word o q e m w r f h = ends_one k.names k.open_one k.items h
 phrase_keeps (phrase.Alone lone.Recurse) k word o q e m w r f h =

@@ -11,11 +11,9 @@ use Rattle.of_stream.specs.declared.stream.OffsetSize.{OffsetSize}
 use Rattle.of_stream.specs.declared.stream.OffsetSize.TheVariants as size
 use Rattle.of_source.specs.declared.fault.SourceFault.{SourceFault}
 use Rattle.of_source.specs.declared.fault.SourceFault.TheVariants.{Unclosed, Unknown, BadNumber, TooLong}
+use Rattle.of_source.specs.declared.keyword.Definer.{Definer}
 use Rattle.of_source.specs.declared.keyword.Keyword.{Keyword}
 use Rattle.of_source.specs.declared.keyword.Keyword.TheVariants as keyword
-use Rattle.of_source.specs.declared.keyword.Quote.{Quote}
-use Rattle.of_source.specs.declared.keyword.Quote.TheVariants as quote
-use Rattle.of_source.specs.declared.nesting.Part.TheVariants as part
 use Rattle.of_source.specs.declared.number.Number.{Number}
 use Rattle.of_source.specs.declared.number.Number.TheVariants.{Value, OutOfRange, NoNumber}
 use Rattle.of_source.specs.Keywords.{keyword_named}
@@ -23,30 +21,30 @@ use Rattle.of_source.specs.Names.{own_in}
 use Rattle.of_source.specs.Numbers.{number_in}
 use Rattle.of_source.specs.Radix.{base_of}
 use Rattle.of_source.specs.Items.{Source}
-use Rattle.of_source.specs.Nesting.{Nesting, nothing_open, with_part}
+use Rattle.of_source.specs.Nesting.{Nesting, nothing_open}
 use Rattle.of_source.specs.Nesting.{opened_if, in_definition}
 use Rattle.of_source.specs.Nesting.{is_straight, is_closed, first_open}
 use Rattle.of_source.specs.Shapes.{nothing, run, shape_of}
 use Rattle.of_source.specs.Scan.{Rest, rest_at, start_of, next_word, last_place, Found, plain_string}
 use Rattle.of_source.specs.Steps.{State, Step, Goes, Ends, Fails, beginning, ended, with_next, with_name, name_found}
 use Rattle.of_source.specs.Steps.{with_string, with_code, effect_step, number_or_bad, comment_step, code_named}
-use Rattle.of_source.specs.Steps.{keyword_step, number_word_step, ordinary_step, word_step}
+use Rattle.of_source.specs.Steps.{opening, keyword_step, number_word_step, ordinary_step, word_step}
 use Rattle.of_source.specs.Steps.{next_step}
 use Rattle.of_source.specs.Parsing.{Beyond, Word, Nothing, Bad, is_word, beyond, beyond_word, skipped_comment, trailed}
 use Rattle.of_source.specs.Parsing.{begun, misplaced, parsed}
 use Rattle.of_source.specs.Order.{behind_word, behind_words, outcome_at, IsDecided}
 use Rattle.of_source.specs.Phrases.{Phrase, Spelled, Beginning, Known, written, each_written, version_word, taken}
 use Rattle.of_source.specs.Phrases.{items_of, moved, named, behind, all_behind, place_behind, begun_with}
-use Rattle.of_source.specs.Effects.{effect_of}
+use Rattle.of_source.specs.Effects.{effect_of, making_of}
 use Rattle.of_source.specs.Phrases as phrase
 use Rattle.of_source.specs.Written.{AreBlanks, own_of, IsKeyword, IsSaid, AreRemarks}
 use Rattle.of_source.specs.Written.{IsBegun}
-use Rattle.of_source.specs.Faults.{opened, all_opened, HasWord, MakesName, TakesWord, before_name}
+use Rattle.of_source.specs.Faults.{opened, all_opened, HasWord, TakesWord}
 use Rattle.of_source.specs.Faults.{string_behind, IsWrong, no_opener, left_open, no_word, no_name, no_digits}
 use Rattle.of_source.specs.Faults.{bad_digits, long_name, long_string, no_end, no_code, not_outside, not_inside}
 use Rattle.of_source.specs.Faults.{not_straight, out_of_range, no_meaning, IsAstray, open_comment, another, IsFailure}
 use Rattle.of_source.specs.Faults.{cut, wrong, late, AllSaid, begins_source, IsFault, no_source, no_beginning, failure}
-use Rattle.of_source.proofs.Kept.{Inv, Kept, kept, run-append, definition_opens, defining_stands, shape_same}
+use Rattle.of_source.proofs.Kept.{Inv, Kept, kept, run-append, making_runs, shape_same}
 use Rattle.of_source.proofs.Kept.{effect_runs}
 use Rattle.of_source.proofs.Deciding.{first_word_decides, decided-version1, decided-version2}
 use Rattle.of_source.proofs.ReadingBack.{ends_part, word_after, start_after, no_word_after}
@@ -54,13 +52,13 @@ use Rattle.of_source.proofs.PhraseSteps.{state_at, keyed}
 use Rattle.of_source.proofs.SaidSteps.{Says, Said, said_word}
 use Rattle.of_source.proofs.WrittenLemmas.{read_word, said_goes, remarks_passed, nothing_beyond}
 use Rattle.of_source.proofs.WrittenLemmas.{headed, head_at, head_longer, version_first, some_written}
+use Rattle.of_source.specs.Effects.{making_of}
 
 -- ---- what is open behind a phrase, by its word
 
 -- the same, by its keyword
 abbrev opened_by : Option Keyword → ℕ → Nesting → Option Nesting
-opened_by (Some (keyword.Defining t)) at n = opened_if (not (in_definition n.parts)) n
-opened_by (Some keyword.Colon) at n = opened_if (not (in_definition n.parts)) (with_part part.Definition at n)
+opened_by (Some (keyword.Defining w)) at n = opened_if (not (in_definition n.parts)) ((making_of w).opens at n)
 opened_by (Some (keyword.Lone w)) at n = (effect_of w).opens at n
 opened_by _ at n = Some n
 
@@ -78,8 +76,6 @@ listed_opens word o key at n e m =
 opened_word : (p : Phrase) (word : List ℕ) (o : Option ℕ) (at : ℕ) (n : Nesting) → o ≡ own_of p → IsKeyword word p
     → opened p at n ≡ opened_as o (keyword_named word) at n
 opened_word (phrase.OwnWord j) word o at n e m = ap (λ c. opened_as c (keyword_named word) at n) (sym e)
-opened_word (phrase.Text false b bytes) word o at n e m = listed_opens word o _ at n e m
-opened_word (phrase.Text true b bytes) word o at n e m = listed_opens word o _ at n e m
 opened_word _ word o at n e m = listed_opens word o _ at n e m
 
 same_open : (n m : Nesting) → Some n ≡ Some m → n ≡ m
@@ -96,13 +92,9 @@ not_so false h = refl
 -- the items of a phrase leave open what it leaves open
 pub opened_runs : (p : Phrase) (k : Known) (n m : Nesting) → opened p k.at n ≡ Some m
     → run (items_of p k) (shape_of n) ≡ Some (shape_of m)
-opened_runs (phrase.Defining t blanks name) k n m h =
-    let w = open_when (not (in_definition n.parts)) n m h in
-    defining_stands n (named name k) t (not_so (in_definition n.parts) w.0)
-    ∙ ap (λ (y : Nesting). Some (shape_of y)) w.1
-opened_runs (phrase.Colon blanks name) k n m h =
-    let w = open_when (not (in_definition n.parts)) (with_part part.Definition k.at n) m h in
-    definition_opens k.at n (named name k) (not_so (in_definition n.parts) w.0)
+opened_runs (phrase.Defining d blanks name) k n m h =
+    let w = open_when (not (in_definition n.parts)) ((making_of d).opens k.at n) m h in
+    making_runs d k.at n (named name k) (not_so (in_definition n.parts) w.0)
     ∙ ap (λ (y : Nesting). Some (shape_of y)) w.1
 opened_runs (phrase.Alone w) k n m h = effect_runs w k.at k.open_one n m h
 opened_runs (phrase.Text false b bytes) k n m h = shape_same n m h
@@ -188,16 +180,13 @@ name_fails : (last : ℕ) (s : State) (r : Rest) (go : List ℕ → State → St
     → with_name (name_found last s (next_word r)) go ≡ Fails (ended last s)
 name_fails last s r go h = ap (λ o. with_name (name_found last s o) go) (no_word_after r.text r.at h)
 
-no_name_fails : (last : ℕ) (key : Keyword) (word : List ℕ) (s : State) → MakesName key → own_in s.known word ≡ None
-    → keyword_named word ≡ Some key → in_definition s.nesting.parts ≡ false → AreBlanks s.rest.text
-    → word_step last word s ≡ Fails (Unclosed (first_open last (before_name key s.at s.nesting)))
-no_name_fails last keyword.Colon word s t o m e b =
+no_name_fails : (last : ℕ) (w : Definer) (word : List ℕ) (s : State) → own_in s.known word ≡ None
+    → keyword_named word ≡ Some (keyword.Defining w) → in_definition s.nesting.parts ≡ false → AreBlanks s.rest.text
+    → word_step last word s ≡ Fails (Unclosed (first_open last ((making_of w).opens s.at s.nesting)))
+no_name_fails last w word s o m e b =
     by_key last word s _ _ o m
     (else_of (in_definition s.nesting.parts) _ _ e
-    ∙ name_fails last (record s { nesting = with_part part.Definition s.at s.nesting }) s.rest _ b)
-no_name_fails last (keyword.Defining c) word s t o m e b =
-    by_key last word s _ _ o m (else_of (in_definition s.nesting.parts) _ _ e ∙ name_fails last s s.rest _ b)
-no_name_fails last _ word s t o m e b = absurd t
+    ∙ name_fails last (opening ((making_of w).opens s.at s.nesting) s) s.rest _ b)
 
 longer : (m l : ℕ) → m < l → nat_lt m l ≡ true
 longer m l h = grind (arith, nat_tests)
@@ -209,25 +198,14 @@ long_fails last s w go l =
     ap (λ o. with_name (name_found last s o) go) (word_there s.rest w)
     ∙ rw t (ap (λ a. Fails (TooLong a)) (start_there s.rest w))
 
-long_name_fails : (last : ℕ) (key : Keyword) (word : List ℕ) (s : State) (w : HasWord s.rest.text) → MakesName key
-    → own_in s.known word ≡ None → keyword_named word ≡ Some key → in_definition s.nesting.parts ≡ false
-    → 31 < length w.word → word_step last word s ≡ Fails (TooLong (s.rest.at + length w.blanks))
-long_name_fails last keyword.Colon word s w t o m e l =
+long_name_fails : (last : ℕ) (d : Definer) (word : List ℕ) (s : State) (w : HasWord s.rest.text)
+    → own_in s.known word ≡ None → keyword_named word ≡ Some (keyword.Defining d)
+    → in_definition s.nesting.parts ≡ false → 31 < length w.word
+    → word_step last word s ≡ Fails (TooLong (s.rest.at + length w.blanks))
+long_name_fails last d word s w o m e l =
     by_key last word s _ _ o m
     (else_of (in_definition s.nesting.parts) _ _ e
-    ∙ long_fails last (record s { nesting = with_part part.Definition s.at s.nesting }) w _ l)
-long_name_fails last (keyword.Defining c) word s w t o m e l =
-    by_key last word s _ _ o m (else_of (in_definition s.nesting.parts) _ _ e ∙ long_fails last s w _ l)
-long_name_fails last _ word s w t o m e l = absurd t
-
-inside_fails : (last : ℕ) (key : Keyword) (word : List ℕ) (s : State) → MakesName key → own_in s.known word ≡ None
-    → keyword_named word ≡ Some key → in_definition s.nesting.parts ≡ true
-    → word_step last word s ≡ Fails (Unknown s.at)
-inside_fails last keyword.Colon word s t o m e =
-    by_key last word s _ _ o m (then_of (in_definition s.nesting.parts) _ _ e)
-inside_fails last (keyword.Defining c) word s t o m e =
-    by_key last word s _ _ o m (then_of (in_definition s.nesting.parts) _ _ e)
-inside_fails last _ word s t o m e = absurd t
+    ∙ long_fails last (opening ((making_of d).opens s.at s.nesting) s) w _ l)
 
 bad_value : (at : ℕ) (v : Number) (go : Cell → Step) → ((x : Cell) → v ≢ Value x)
     → number_or_bad at v go ≡ Fails (BadNumber at)
@@ -244,17 +222,6 @@ string_long s f bytes text go e l =
     let t : nat_lt 255 (length bytes) ≡ true = longer 255 (length bytes) l in
     ap (λ o. with_string s o go) e ∙ rw t refl
 
-long_string_fails : (last : ℕ) (q : Quote) (word : List ℕ) (s : State) (bytes text : List ℕ)
-    → own_in s.known word ≡ None → keyword_named word ≡ Some (keyword.Text q)
-    → string_behind (keyword.Text q) s.rest.text ≡ Some (Some (bytes, text)) → 255 < length bytes
-    → word_step last word s ≡ Fails (TooLong s.at)
-long_string_fails last quote.Bytes word s bytes text o m e l =
-    by_key last word s _ _ o m (string_long s _ bytes text _ (found_is _ (Some (bytes, text)) e) l)
-long_string_fails last quote.Plain word s bytes text o m e l =
-    by_key last word s _ _ o m (string_long s _ bytes text _ (found_is _ (Some (bytes, text)) e) l)
-long_string_fails last quote.Printed word s bytes text o m e l =
-    by_key last word s _ _ o m (string_long s _ bytes text _ (found_is _ (Some (bytes, text)) e) l)
-
 string_none : (s : State) (f : Found) (go : List ℕ → State → Step) → f ≡ None
     → with_string s f go ≡ Fails (Unknown s.at)
 string_none s f go e = ap (λ o. with_string s o go) e
@@ -267,12 +234,7 @@ no_end_fails : (last : ℕ) (key : Keyword) (word : List ℕ) (s : State) → ow
     → word_step last word s ≡ Fails (Unknown s.at)
 no_end_fails last keyword.Comment word s o m e =
     by_key last word s _ _ o m (ap (comment_step s) (found_is _ None e))
-no_end_fails last (keyword.Text quote.Bytes) word s o m e =
-    by_key last word s _ _ o m (string_none s _ _ (found_is _ None e))
-no_end_fails last (keyword.Text quote.Plain) word s o m e =
-    by_key last word s _ _ o m (string_none s _ _ (found_is _ None e))
-no_end_fails last (keyword.Text quote.Printed) word s o m e =
-    by_key last word s _ _ o m (string_none s _ _ (found_is _ None e))
+no_end_fails last (keyword.Text q) word s o m e = by_key last word s _ _ o m (string_none s _ _ (found_is _ None e))
 no_end_fails last _ word s o m e = absurd cc
 
 -- each of these words is refused for its fault
@@ -284,23 +246,24 @@ wrong_back last k n word r o (no_opener w m d) =
 wrong_back last k n word r o (left_open m d) =
     by_key last word (state_at k.at r k n) _ _ o m (else_of (is_closed n) _ _ d)
 wrong_back last k n word r o (no_word key m t b) = word_fails last key word (state_at k.at r k n) t o m b
-wrong_back last k n word r o (no_name key m t e b) = no_name_fails last key word (state_at k.at r k n) t o m e b
+wrong_back last k n word r o (no_name w m e b) = no_name_fails last w word (state_at k.at r k n) o m e b
 wrong_back last k n word r o (no_digits base m b) =
     by_key last word (state_at k.at r k n) _ _ o m (next_none (BadNumber k.at) r _ b)
 wrong_back last k n word r o (bad_digits base w m v) =
     by_key last word (state_at k.at r k n) _ _ o m
     (next_some (BadNumber k.at) r w _ ∙ bad_value k.at (number_in (base_of base) w.word) _ v)
-wrong_back last k n word r o (long_name key w m t e l) =
-    long_name_fails last key word (state_at k.at r k n) w t o m e l
+wrong_back last k n word r o (long_name d w m e l) =
+    long_name_fails last d word (state_at k.at r k n) w o m e l
 wrong_back last k n word r o (long_string q bytes text m e l) =
-    long_string_fails last q word (state_at k.at r k n) bytes text o m e l
+    let s = state_at k.at r k n in by_key last word s _ _ o m (string_long s _ bytes text _ e l)
 wrong_back last k n word r o (no_end key m e) = no_end_fails last key word (state_at k.at r k n) o m e
 wrong_back last k n word r o (no_code t w m c) =
     let s = state_at k.at r k n in
     by_key last word s _ _ o m
     (next_some (ended last s) r w _ ∙ code_none (start_of r) (code_named k.names w.word) _ c
     ∙ ap (λ a. Fails (Unknown a)) (start_there r w))
-wrong_back last k n word r o (not_outside key m t e) = inside_fails last key word (state_at k.at r k n) t o m e
+wrong_back last k n word r o (not_outside w m e) =
+    by_key last word (state_at k.at r k n) _ _ o m (then_of (in_definition n.parts) _ _ e)
 wrong_back last k n word r o (not_inside m e) =
     by_key last word (state_at k.at r k n) _ _ o m (else_of (is_some k.open_one) _ _ (ap is_some e))
 wrong_back last k n word r o (not_straight m e) =

@@ -95,7 +95,6 @@ followed_on (phrase.NumberIn base blanks digits x) xs more t h = word_on xs more
 followed_on (phrase.Character blanks b bytes) xs more t h = word_on xs more t h
 followed_on (phrase.Naming c blanks name code) xs more t h = word_on xs more t h
 followed_on (phrase.Defining c blanks name) xs more t h = word_on xs more t h
-followed_on (phrase.Colon blanks name) xs more t h = word_on xs more t h
 followed_on (phrase.LineComment bytes) xs more t h = line_on xs more t h
 followed_on (phrase.Quoted blank pieces bytes) xs more t h = group_on xs more t h
 followed_on _ xs more t h = tt

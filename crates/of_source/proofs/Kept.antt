@@ -16,7 +16,7 @@ use Rattle.of_source.specs.declared.keyword.Keyword.{Keyword}
 use Rattle.of_source.specs.declared.keyword.Keyword.TheVariants as keyword
 use Rattle.of_source.specs.declared.keyword.Quote.{Quote}
 use Rattle.of_source.specs.declared.keyword.Quote.TheVariants as quote
-use Rattle.of_source.specs.Scan.{Rest, Found, rest_at, left_of, last_place, next_word, plain_string, quoted_string}
+use Rattle.of_source.specs.Scan.{Rest, Found, rest_at, left_of, last_place, next_word, plain_string}
 use Rattle.of_source.specs.Numbers.{number_in}
 use Rattle.of_source.specs.Radix.{base_of}
 use Rattle.of_source.specs.Keywords.{keyword_named, ordinary_named}
@@ -30,11 +30,13 @@ use Rattle.of_source.specs.Nesting.{Nesting, is_same, floor, is_in, without_bran
 use Rattle.of_source.specs.Nesting.{with_branch, with_part, in_definition, in_loop, on_case, is_closed}
 use Rattle.of_source.specs.Shapes.{Shape, nothing, floor_of, around_part, around_of, is_even, closing, opens, run}
 use Rattle.of_source.specs.Shapes.{shape_of}
+use Rattle.of_source.specs.declared.keyword.Definer.{Definer}
+use Rattle.of_source.specs.declared.keyword.Definer.TheVariants as definer
 use Rattle.of_source.specs.declared.keyword.Lone.{Lone}
 use Rattle.of_source.specs.declared.keyword.Lone.TheVariants as lone
 use Rattle.of_source.specs.Names.{Own, own_in}
-use Rattle.of_source.specs.Effects.{Effect, effect_of, Change, Same, Makes, Counts, Defines, recursion}
-use Rattle.of_source.specs.Steps.{effect_step, may_stand, changed}
+use Rattle.of_source.specs.Effects.{Effect, effect_of, recursion, making_of}
+use Rattle.of_source.specs.Steps.{effect_step, may_stand, string_found, string_items}
 use Rattle.of_source.specs.Steps.{State, Step, Goes, Ends, Fails, giving, opening, reading_on, at_next, with_next}
 use Rattle.of_source.specs.Steps.{with_name, name_found, with_string, number_or_bad}
 use Rattle.of_source.specs.Steps.{number_word_step, number_items, number_token, comment_step, with_code}
@@ -290,19 +292,12 @@ effect_runs _ at one m n h = shape_same m n h
 
 -- ---- words
 
-kept_change : (c : Change) (s : State) → Inv s → Inv (changed c s)
-kept_change Same s h = h
-kept_change (Makes m) s h = h
-kept_change (Counts base) s h = h
-kept_change Defines s h = h
-
 kept_effect : (e : Effect) (o : Option Nesting) (s : State) → Inv s
     → ((n : Nesting) → o ≡ Some n → run (e.gives s.at s.open_one) (shape_of s.nesting) ≡ Some (shape_of n))
     → Kept (effect_step e o s)
 kept_effect e None s h k = tt
 kept_effect e (Some n) s h k =
-    kept_if (may_stand e.stands s) _ _
-    (λ b. kept_change e.changes _ (given (e.gives s.at s.open_one) s n h (k n refl)))
+    kept_if (may_stand e.stands s) _ _ (λ b. given (e.gives s.at s.open_one) s n h (k n refl))
 
 kept_comment : (s : State) (o : Found) → Inv s → Kept (comment_step s o)
 kept_comment s None h = tt
@@ -319,13 +314,15 @@ kept_code : (at : ℕ) (o : Option FCode) (t : FCode) (s : State) → Inv s
 kept_code at None t s h = tt
 kept_code at (Some c) t s h = plain (naming t c) s h
 
+strings_run : (q : Quote) (bytes : List ℕ) (o : Shape) → run (string_items q bytes) o ≡ Some o
+strings_run quote.Bytes bytes o = refl
+strings_run quote.Plain bytes o = refl
+strings_run quote.Printed bytes o = refl
+
 kept_text : (q : Quote) (s : State) → Inv s → Kept (text_step q s)
-kept_text quote.Bytes s h =
-    kept_string s (quoted_string s.rest.text) _ (λ bytes r. plain (string bytes) (reading_on r s) h)
-kept_text quote.Plain s h =
-    kept_string s (plain_string 34 s.rest.text) _ (λ bytes r. plain (string bytes) (reading_on r s) h)
-kept_text quote.Printed s h =
-    kept_string s (plain_string 34 s.rest.text) _ (λ bytes r. plain_two (string bytes) (bare 0x090) (reading_on r s) h)
+kept_text q s h =
+    kept_string s (string_found q s.rest.text) _
+    (λ bytes r. given (string_items q bytes) (reading_on r s) s.nesting h (strings_run q bytes (shape_of s.nesting)))
 
 closed_shape : (bs : List ℕ) (fs : List Frame) → (nat_eq (length bs) 0 && nat_eq (length fs) 0) ≡ true
     → shape_of (record { branches = bs; parts = fs }) ≡ nothing
@@ -338,15 +335,13 @@ kept_finish : (b : Bool) (s : State) (f : SourceFault) → Inv s → (b ≡ true
 kept_finish true s f h k = h ∙ ap (λ (o : Shape). Some o) (k refl)
 kept_finish false s f h k = tt
 
-pub definition_opens : (l : ℕ) (m : Nesting) (d : Made) → in_definition m.parts ≡ false
-    → run (item.Colon d ∷ []) (shape_of m) ≡ Some (shape_of (with_part part.Definition l m))
-definition_opens l m d e =
+-- a defining word's item leaves open what the word does
+pub making_runs : (w : Definer) (l : ℕ) (m : Nesting) (d : Made) → in_definition m.parts ≡ false
+    → run ((making_of w).gives d ∷ []) (shape_of m) ≡ Some (shape_of ((making_of w).opens l m))
+making_runs definer.Colon l m d e =
     let o : (around_of (shapes m.parts)).defines ≡ false = defines-shapes m.parts ∙ e in
     rw o refl
-
-pub defining_stands : (m : Nesting) (d : Made) (t : FCode) → in_definition m.parts ≡ false
-    → run (item.Defining d t ∷ []) (shape_of m) ≡ Some (shape_of m)
-defining_stands m d t e =
+making_runs (definer.Other t) l m d e =
     let o : (around_of (shapes m.parts)).defines ≡ false = defines-shapes m.parts ∙ e in
     rw o refl
 
@@ -359,15 +354,11 @@ kept_keyword last (keyword.NumberIn base) s h =
     kept_next _ (next_word s.rest) _ (λ word r. kept_bad s.at (number_in (base_of base) word) (reading_on r s) h)
 kept_keyword last keyword.Character s h = kept_next _ (next_word s.rest) _ (λ word r. plain _ (reading_on r s) h)
 kept_keyword last (keyword.Text q) s h = kept_text q s h
-kept_keyword last keyword.Colon s h =
-    let n = with_part part.Definition s.at s.nesting in
+kept_keyword last (keyword.Defining w) s h =
+    let n = (making_of w).opens s.at s.nesting in
     kept_unless (in_definition s.nesting.parts) _ _
     (λ e. kept_name last (opening n s) (next_word s.rest) _
-    (λ name r. given _ (reading_on r s) n h (definition_opens s.at s.nesting (made name s) e)))
-kept_keyword last (keyword.Defining t) s h =
-    kept_unless (in_definition s.nesting.parts) _ _
-    (λ e. kept_name last s (next_word s.rest) _
-    (λ name r. given _ (reading_on r s) s.nesting h (defining_stands s.nesting (made name s) t e)))
+    (λ name r. given _ (reading_on r s) n h (making_runs w s.at s.nesting (made name s) e)))
 kept_keyword last (keyword.Naming t) s h =
     kept_next _ (next_word s.rest) _ (λ name r. kept_code _ (code_named s.known name) t (reading_on r s) h)
 kept_keyword last (keyword.Lone w) s h =

@@ -3,12 +3,14 @@ use Rattle.std.proofs.Common.{◌≡◌, ℕ, suc, Bool, true, false, not, ◌&&
 use Rattle.std.proofs.Common.{Some, None, nat_eq, nat_lt, if◌then◌else◌, refl, sym, ap, ◌∙◌, arith}
 use Rattle.std.specs.Prelude.{option_and_then, is_some}
 use Rattle.std.specs.List.{list_all}
-use Rattle.of_fcodes.specs.declared.codes.FCode.{FCode}
+use Rattle.of_source.specs.declared.keyword.Definer.{Definer}
+use Rattle.of_source.specs.declared.keyword.Definer.TheVariants as definer
 use Rattle.of_source.specs.declared.nesting.Part.{Part}
 use Rattle.of_source.specs.declared.nesting.Part.TheVariants as part
 use Rattle.of_source.specs.declared.nesting.Frame.{Frame}
 use Rattle.of_source.specs.Items.{Item, Made}
 use Rattle.of_source.specs.Items as item
+use Rattle.of_source.specs.Effects.{making_of}
 use Rattle.of_source.specs.Nesting.{Nesting, is_same, floor, is_in, without_branch, without_begin, without_part}
 use Rattle.of_source.specs.Nesting.{then_without_branch, then_with_branch, opened_if, in_definition, in_loop, on_case}
 use Rattle.of_source.specs.Nesting.{all_definitions, is_straight, is_closed, with_part}
@@ -107,14 +109,12 @@ of_goes l n h =
 
 -- ---- definitions
 
-pub colon_goes : (n : Nesting) (d : Made) → MayStand (item.Colon d ∷ []) n → in_definition n.parts ≡ false
-colon_goes n d h =
+pub making_goes : (w : Definer) (n : Nesting) (d : Made) → MayStand ((making_of w).gives d ∷ []) n
+    → in_definition n.parts ≡ false
+making_goes definer.Colon n d h =
     let w = when_some (not (around_of (shapes n.parts)).defines) _ (run []) h.0 h.1 in
     sym (defines-shapes n.parts) ∙ not_true (around_of (shapes n.parts)).defines w.0
-
-pub defining_goes : (n : Nesting) (d : Made) (t : FCode) → MayStand (item.Defining d t ∷ []) n
-    → in_definition n.parts ≡ false
-defining_goes n d t h =
+making_goes (definer.Other t) n d h =
     let w = when_some (not (around_of (shapes n.parts)).defines) _ (run []) h.0 h.1 in
     sym (defines-shapes n.parts) ∙ not_true (around_of (shapes n.parts)).defines w.0
 

@@ -11,11 +11,11 @@ use Rattle.of_source.specs.declared.fault.SourceFault.{SourceFault}
 use Rattle.of_source.specs.declared.fault.SourceFault.TheVariants.{BadNumber}
 use Rattle.of_source.specs.declared.keyword.Keyword.{Keyword}
 use Rattle.of_source.specs.declared.keyword.Keyword.TheVariants as keyword
+use Rattle.of_source.specs.declared.keyword.Definer.{Definer}
 use Rattle.of_source.specs.declared.keyword.Lone.{Lone}
 use Rattle.of_source.specs.declared.keyword.Lone.TheVariants as lone
 use Rattle.of_source.specs.declared.keyword.Quote.TheVariants as quote
 use Rattle.of_source.specs.declared.keyword.Radix.{Radix}
-use Rattle.of_source.specs.declared.nesting.Part.TheVariants as part
 use Rattle.of_source.specs.declared.number.Number.TheVariants.{Value}
 use Rattle.of_source.specs.Keywords.{keyword_named, ordinary_named}
 use Rattle.of_source.specs.Names.{Own, own_in}
@@ -23,19 +23,19 @@ use Rattle.of_source.specs.Numbers.{number_in}
 use Rattle.of_source.specs.Radix.{base_of}
 use Rattle.of_source.specs.Items.{Item, call, string, naming, making, bare, own_code}
 use Rattle.of_source.specs.Items as item
-use Rattle.of_source.specs.Nesting.{Nesting, with_part}
+use Rattle.of_source.specs.Nesting.{Nesting}
 use Rattle.of_source.specs.Nesting.{in_definition}
 use Rattle.of_source.specs.Nesting.{is_straight}
 use Rattle.of_source.specs.Shapes.{Shape, nothing, run, shape_of}
-use Rattle.of_source.specs.Scan.{Rest, rest_at, left_of, start_of, next_word, Found, group}
+use Rattle.of_source.specs.Scan.{Rest, rest_at, left_of, start_of, next_word, Found, group, plain_string}
 use Rattle.of_source.specs.Steps.{State, Step, Goes, giving, reading_on, with_next}
-use Rattle.of_source.specs.Steps.{with_name, name_found, with_string, with_code, ended, opening, changed}
-use Rattle.of_source.specs.Steps.{effect_step, may_stand}
+use Rattle.of_source.specs.Steps.{with_name, name_found, with_string, with_code, ended, effect_step}
+use Rattle.of_source.specs.Steps.{may_stand, string_found, string_items}
 use Rattle.of_source.specs.Steps.{number_or_bad, number_items, comment_step, code_named}
 use Rattle.of_source.specs.Steps.{keyword_step, number_word_step, ordinary_step, listed_step, own_step, word_step}
 use Rattle.of_source.specs.Phrases.{Phrase, Spelled, Known, taken, written, items_of, behind}
-use Rattle.of_source.specs.Phrases.{next_own, named, string_items, known_by}
-use Rattle.of_source.specs.Effects.{effect_of, Change, Same, Makes, Counts, Defines}
+use Rattle.of_source.specs.Phrases.{next_own, named}
+use Rattle.of_source.specs.Effects.{effect_of}
 use Rattle.of_source.specs.Phrases as phrase
 use Rattle.of_source.specs.Strings.{Piece, pieces_bytes, IsWithin, ArePieces}
 use Rattle.of_source.specs.Written.{IsWord, AreBlanks, EndsLine, IsName, LeaveOpen, IsStraight, own_of}
@@ -43,8 +43,11 @@ use Rattle.of_source.specs.Written.{IsKeyword, IsPlaced, IsFollowed}
 use Rattle.of_source.proofs.ReadingBack.{Parts, ends_part, word_behind, left_behind, line_left, plain_behind}
 use Rattle.of_source.proofs.ReadingBack.{quoted_behind}
 use Rattle.of_source.proofs.Opening.{MayStand, then_goes, else_goes, back_goes, repeat_goes, semicolon_goes, loop_goes}
-use Rattle.of_source.proofs.Opening.{end_of_goes, end_case_goes, leave_goes, of_goes, colon_goes, defining_goes}
+use Rattle.of_source.proofs.Opening.{end_of_goes, end_case_goes, leave_goes, of_goes, making_goes}
 use Rattle.of_source.proofs.Opening.{straight_goes}
+use Rattle.of_source.specs.Effects.{effect_of, making_of}
+use Rattle.of_source.specs.Phrases.{quote_if}
+use Rattle.of_source.proofs.Opening.{making_goes}
 
 -- the state of a word here, behind which this is left, where this is known and open
 abbrev pub state_at : ℕ → Rest → Known → Nesting → State
@@ -138,29 +141,23 @@ string_taken at from k n bytes all more f go e l =
     short_string (state_at at (rest_at from (all ++ more)) k n) bytes more f go e l
     ∙ ap (λ r. go bytes (state_at at r k n)) (left_behind from all more)
 
-pub text_goes : (last : ℕ) (b : ℕ) (bytes : List ℕ) (at from : ℕ) (k : Known) (n : Nesting) (more : List ℕ)
+pub text_goes : (last : ℕ) (prints : Bool) (b : ℕ) (bytes : List ℕ) (at from : ℕ) (k : Known) (n : Nesting)
+    (more : List ℕ)
     → b ≢ 10 → length bytes ≤ 255 → IsWithin 34 bytes
-    → GoesOn (keyword_step last (keyword.Text quote.Plain)
+    → GoesOn (keyword_step last (keyword.Text (quote_if prints))
     (state_at at (rest_at from ((b ∷ bytes ++ 34 ∷ []) ++ more)) k n))
-    (with_items (string_items false bytes) k) (rest_at (from + length (b ∷ bytes ++ 34 ∷ [])) more)
-text_goes last b bytes at from k n more s l h = record {
+    (with_items (string_items (quote_if prints) bytes) k) (rest_at (from + length (b ∷ bytes ++ 34 ∷ [])) more)
+text_goes last prints b bytes at from k n more s l h = record {
   at = at;
   nesting = n;
   goes =
-      string_taken at from k n bytes (b ∷ bytes ++ 34 ∷ []) more _ _ (plain_behind 34 b bytes more s h) l;
+      string_taken at from k n bytes (b ∷ bytes ++ 34 ∷ []) more _ _
+      (plain_there prints ((b ∷ bytes ++ 34 ∷ []) ++ more) ∙ plain_behind 34 b bytes more s h) l;
 }
-
-pub printed_goes : (last : ℕ) (b : ℕ) (bytes : List ℕ) (at from : ℕ) (k : Known) (n : Nesting) (more : List ℕ)
-    → b ≢ 10 → length bytes ≤ 255 → IsWithin 34 bytes
-    → GoesOn (keyword_step last (keyword.Text quote.Printed)
-    (state_at at (rest_at from ((b ∷ bytes ++ 34 ∷ []) ++ more)) k n))
-    (with_items (string_items true bytes) k) (rest_at (from + length (b ∷ bytes ++ 34 ∷ [])) more)
-printed_goes last b bytes at from k n more s l h = record {
-  at = at;
-  nesting = n;
-  goes =
-      string_taken at from k n bytes (b ∷ bytes ++ 34 ∷ []) more _ _ (plain_behind 34 b bytes more s h) l;
-}
+  where
+    plain_there : (prints : Bool) (text : List ℕ) → string_found (quote_if prints) text ≡ plain_string 34 text
+    plain_there true text = refl
+    plain_there false text = refl
 
 pub quoted_goes : (last b : ℕ) (ps : List Piece) (bytes : List ℕ) (at from : ℕ) (k : Known) (n : Nesting)
     (more : List ℕ)
@@ -218,27 +215,17 @@ unless b x y h = rw h refl
 pub when_so : (b : Bool) (x y : Step) → b ≡ true → (if b then x else y) ≡ x
 when_so b x y h = rw h refl
 
-pub defining_step_goes : (last : ℕ) (t : FCode) (blanks name : List ℕ) (at from : ℕ) (k : Known) (n : Nesting)
+pub defining_step_goes : (last : ℕ) (w : Definer) (blanks name : List ℕ) (at from : ℕ) (k : Known) (n : Nesting)
     (more word : List ℕ)
     → AreBlanks blanks → IsName name → in_definition n.parts ≡ false → Parts more
-    → GoesOn (keyword_step last (keyword.Defining t) (state_at at (rest_at from ((blanks ++ name) ++ more)) k n))
-    (behind word (phrase.Defining t blanks name) k) (rest_at (from + length (blanks ++ name)) more)
-defining_step_goes last t blanks name at from k n more word b h e p = record {
+    → GoesOn (keyword_step last (keyword.Defining w) (state_at at (rest_at from ((blanks ++ name) ++ more)) k n))
+    (behind word (phrase.Defining w blanks name) k) (rest_at (from + length (blanks ++ name)) more)
+defining_step_goes last w blanks name at from k n more word b h e p = record {
   at = at;
-  nesting = n;
-  goes = unless (in_definition n.parts) _ _ e ∙ name_by last at from blanks name more k n _ b h p;
-}
-
-pub colon_step_goes : (last : ℕ) (blanks name : List ℕ) (at from : ℕ) (k : Known) (n : Nesting) (more word : List ℕ)
-    → AreBlanks blanks → IsName name → in_definition n.parts ≡ false → Parts more
-    → GoesOn (keyword_step last keyword.Colon (state_at at (rest_at from ((blanks ++ name) ++ more)) k n))
-    (behind word (phrase.Colon blanks name) k) (rest_at (from + length (blanks ++ name)) more)
-colon_step_goes last blanks name at from k n more word b h e p = record {
-  at = at;
-  nesting = with_part part.Definition at n;
+  nesting = (making_of w).opens at n;
   goes =
       unless (in_definition n.parts) _ _ e
-      ∙ name_by last at from blanks name more k (with_part part.Definition at n) _ b h p;
+      ∙ name_by last at from blanks name more k ((making_of w).opens at n) _ b h p;
 }
 
 -- ---- one phrase
@@ -307,14 +294,6 @@ straight_there k n h l = straight_goes n (subst IsStraight (same (sym l.1 ∙ h)
     same : {o p : Shape} → Some o ≡ Some p → o ≡ p
     same h = cc
 
-changed_at : (c : Change) (is : List Item) (at : ℕ) (r : Rest) (k : Known) (n m : Nesting) (to : ℕ)
-    → changed c (giving is (opening m (state_at at r k n)))
-    ≡ state_at at r (record (known_by c k) { at = to; items = k.items ++ is }) m
-changed_at Same is at r k n m to = refl
-changed_at (Makes x) is at r k n m to = refl
-changed_at (Counts base) is at r k n m to = refl
-changed_at Defines is at r k n m to = refl
-
 effect_goes : (w : Lone) (o : Option Nesting) (r : Rest) (k : Known) (n : Nesting) (word : List ℕ) → is_some o ≡ true
     → may_stand (effect_of w).stands (state_at k.at r k n) ≡ true
     → GoesOn (effect_step (effect_of w) o (state_at k.at r k n)) (behind word (phrase.Alone w) k) r
@@ -322,10 +301,7 @@ effect_goes w None r k n word h b = absurd cc
 effect_goes w (Some m) r k n word h b = record {
   at = k.at;
   nesting = m;
-  goes =
-      when_so (may_stand (effect_of w).stands (state_at k.at r k n)) _ _ b
-      ∙ ap Goes (changed_at (effect_of w).changes ((effect_of w).gives k.at k.open_one) k.at r k n m
-      (k.at + length word + 0));
+  goes = when_so (may_stand (effect_of w).stands (state_at k.at r k n)) _ _ b;
 }
 
 -- a keyword's phrase stands where the keyword may
@@ -388,12 +364,9 @@ phrase_goes last from word (phrase.NumberIn base blanks digits x) k n more h e w
 phrase_goes last from word (phrase.Character blanks b bytes) k n more h e w r m f =
     by_keyword last from word _ (phrase.Character blanks b bytes) k n more h e
     (character_goes last b blanks bytes k.at from k n more w.0 w.1 (ends_part more f))
-phrase_goes last from word (phrase.Text false b bytes) k n more h e w r m f =
-    by_keyword last from word _ (phrase.Text false b bytes) k n more h e
-    (text_goes last b bytes k.at from k n more w.0 w.1 w.2)
-phrase_goes last from word (phrase.Text true b bytes) k n more h e w r m f =
-    by_keyword last from word _ (phrase.Text true b bytes) k n more h e
-    (printed_goes last b bytes k.at from k n more w.0 w.1 w.2)
+phrase_goes last from word (phrase.Text prints b bytes) k n more h e w r m f =
+    by_keyword last from word _ (phrase.Text prints b bytes) k n more h e
+    (text_goes last prints b bytes k.at from k n more w.0 w.1 w.2)
 phrase_goes last from word (phrase.Quoted b ps bytes) k n more h e w r m f =
     by_keyword last from word _ (phrase.Quoted b ps bytes) k n more h e
     (quoted_goes last b ps bytes k.at from k n more w.0 w.1 w.2 w.3 f)
@@ -406,13 +379,9 @@ phrase_goes last from word (phrase.LineComment bytes) k n more h e w r m f =
 phrase_goes last from word (phrase.Naming t blanks name c) k n more h e w r m f =
     by_keyword last from word _ (phrase.Naming t blanks name c) k n more h e
     (naming_goes last t blanks name c k.at from k n more w.0 w.1 w.2 (ends_part more f))
-phrase_goes last from word (phrase.Defining t blanks name) k n more h e w r m f =
-    by_keyword last from word _ (phrase.Defining t blanks name) k n more h e
-    (defining_step_goes last t blanks name k.at from k n more word w.0 w.1 (defining_goes n (named name k) t m)
-    (ends_part more f))
-phrase_goes last from word (phrase.Colon blanks name) k n more h e w r m f =
-    by_keyword last from word _ (phrase.Colon blanks name) k n more h e
-    (colon_step_goes last blanks name k.at from k n more word w.0 w.1 (colon_goes n (named name k) m)
+phrase_goes last from word (phrase.Defining d blanks name) k n more h e w r m f =
+    by_keyword last from word _ (phrase.Defining d blanks name) k n more h e
+    (defining_step_goes last d blanks name k.at from k n more word w.0 w.1 (making_goes d n (named name k) m)
     (ends_part more f))
 phrase_goes last from word (phrase.Alone lw) k n more h e w r m f =
     by_word last from word _ (phrase.Alone lw) k n more h e

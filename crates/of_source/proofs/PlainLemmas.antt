@@ -12,6 +12,10 @@ use Rattle.of_fcodes.specs.Lookup.{row_numbered, word_numbered}
 use Rattle.of_fcodes.specs.Rows.{rows, first_rows, second_rows, third_rows, fourth_rows, fifth_rows, sixth_rows}
 use Rattle.of_fcodes.specs.Rows.{seventh_rows}
 use Rattle.of_stream.specs.Decoding.{Token}
+use Rattle.of_source.specs.declared.keyword.Definer.TheVariants as definer
+use Rattle.of_source.specs.declared.keyword.Quote.{Quote}
+use Rattle.of_source.specs.declared.keyword.Quote.TheVariants as quote
+use Rattle.of_source.specs.Steps.{string_items}
 use Rattle.of_source.specs.declared.keyword.Keyword.{Keyword}
 use Rattle.of_source.specs.declared.keyword.Keyword.TheVariants as keyword
 use Rattle.of_source.specs.declared.keyword.Lone.TheVariants as lone
@@ -130,7 +134,7 @@ named_is name c h = ordinary_is c.0 (named_ordinary name c h)
 
 -- the tokens of a keyword
 abbrev is_fine : Keyword → Bool
-is_fine (keyword.Defining t) = is_kind t.0
+is_fine (keyword.Defining (definer.Other t)) = is_kind t.0
 is_fine (keyword.Naming t) = nat_eq t.0 0x011 || nat_eq t.0 0x0c3
 is_fine (keyword.Lone (lone.One t)) = is_word t
 is_fine (keyword.Lone (lone.Two t u)) = is_word t && is_word u
@@ -184,9 +188,9 @@ type_is = (refl, refl)
 
 -- ---- phrases
 
-strings : (prints : Bool) (front : List Item) (bytes : List ℕ) → ArePlain front (phrase.string_items prints bytes)
-strings false front bytes = one front (string bytes) (refl, refl)
-strings true front bytes = two front (string bytes) (bare 0x090) (refl, refl) type_is
+strings : (q : Quote) (front : List Item) (bytes : List ℕ) → ArePlain front (string_items q bytes)
+strings quote.Printed front bytes = two front (string bytes) (bare 0x090) (refl, refl) type_is
+strings _ front bytes = one front (string bytes) (refl, refl)
 
 recursions : (o : Option Own) (front : List Item) → ArePlain front (recursion o)
 recursions None front = tt
@@ -201,12 +205,13 @@ phrase_plain (phrase.Number x) k word m h = one k.items (number_token x) (number
 phrase_plain (phrase.NumberIn base blanks digits x) k word m h = one k.items (number_token x) (number_is x)
 phrase_plain (phrase.Character blanks b bytes) k word m h =
     one k.items (number_token (record { 0 = b })) (number_is (record { 0 = b }))
-phrase_plain (phrase.Text prints blank bytes) k word m h = strings prints k.items bytes
+phrase_plain (phrase.Text prints blank bytes) k word m h = strings (phrase.quote_if prints) k.items bytes
 phrase_plain (phrase.Quoted blank pieces bytes) k word m h =
     one k.items (string (pieces_bytes pieces ++ bytes)) (refl, refl)
 phrase_plain (phrase.Naming t blanks name c) k word m h =
     one k.items (naming t c) (naming_is t c (fine word (keyword.Naming t) m))
-phrase_plain (phrase.Defining t blanks name) k word m h = (fine word (keyword.Defining t) m, tt)
+phrase_plain (phrase.Defining (definer.Other t) blanks name) k word m h =
+    (fine word (keyword.Defining (definer.Other t)) m, tt)
 phrase_plain (phrase.Alone (lone.One t)) k word m h =
     one k.items (call t) (word_is t (fine word (keyword.Lone (lone.One t)) m))
 phrase_plain (phrase.Alone (lone.Two t u)) k word m h =

@@ -12,6 +12,7 @@ use Rattle.of_source.specs.declared.fault.SourceFault.{SourceFault}
 use Rattle.of_source.specs.declared.fault.SourceFault.TheVariants.{Unknown, TooLong}
 use Rattle.of_source.specs.declared.keyword.Keyword.{Keyword}
 use Rattle.of_source.specs.declared.keyword.Keyword.TheVariants as keyword
+use Rattle.of_source.specs.declared.keyword.Definer.{Definer}
 use Rattle.of_source.specs.declared.keyword.Lone.{Lone}
 use Rattle.of_source.specs.declared.keyword.Lone.TheVariants as lone
 use Rattle.of_source.specs.declared.keyword.Quote.{Quote}
@@ -28,7 +29,7 @@ use Rattle.of_source.specs.Numbers.{number_in}
 use Rattle.of_source.specs.Radix.{base_of}
 use Rattle.of_source.specs.Items.{Item, call, string, naming, bare, own_code}
 use Rattle.of_source.specs.Items as item
-use Rattle.of_source.specs.Nesting.{Nesting, is_same, with_part}
+use Rattle.of_source.specs.Nesting.{Nesting, is_same}
 use Rattle.of_source.specs.Nesting.{opened_if}
 use Rattle.std.specs.Prelude.{not}
 use Rattle.of_source.specs.Nesting.{in_definition}
@@ -36,17 +37,18 @@ use Rattle.of_source.specs.Nesting.{all_definitions, is_straight, is_closed}
 use Rattle.of_source.specs.Shapes.{shape_of}
 use Rattle.of_source.specs.Scan.{Rest, rest_at, left_of, start_of, next_word, Found, plain_string, quoted_string}
 use Rattle.of_source.specs.Scan.{line_end}
-use Rattle.of_source.specs.Steps.{State, Step, Goes, Ends, Fails, giving, opening, reading_on, at_next, changed}
+use Rattle.of_source.specs.Steps.{State, Step, Goes, Ends, Fails, giving, opening, reading_on, at_next}
 use Rattle.of_source.specs.Steps.{with_next, with_name, name_found, with_string, with_code, effect_step, may_stand}
+use Rattle.of_source.specs.Steps.{string_found, string_items}
 use Rattle.of_source.specs.Steps.{number_or_bad, number_items, comment_step, code_named}
 use Rattle.of_source.specs.Steps.{text_step, keyword_step, number_word_step, ordinary_step, listed_step, own_step}
 use Rattle.of_source.specs.Steps.{word_step, next_step, ended}
-use Rattle.of_source.specs.Phrases.{Phrase, Spelled, Known, taken, written, items_of, learned, known_by, moved, behind}
-use Rattle.of_source.specs.Effects.{effect_of, Change, Same, Makes, Counts, Defines}
+use Rattle.of_source.specs.Phrases.{Phrase, Spelled, Known, taken, written, items_of, learned, moved, behind}
+use Rattle.of_source.specs.Effects.{effect_of}
 use Rattle.of_source.specs.Phrases as phrase
 use Rattle.of_source.specs.Written.{IsWord, AreBlanks, EndsWord, IsStraight, own_of, IsKeyword, IsPlaced}
 use Rattle.of_source.specs.Written.{IsFollowed, IsSaid}
-use Rattle.of_source.specs.Faults.{opened, HasWord, MakesName, IsWrong, no_opener, left_open, no_word}
+use Rattle.of_source.specs.Faults.{opened, HasWord, IsWrong, no_opener, left_open, no_word}
 use Rattle.of_source.specs.Faults.{no_name}
 use Rattle.of_source.specs.Faults.{no_digits, bad_digits, long_name, long_string, no_end, no_code, not_outside}
 use Rattle.of_source.specs.Faults.{not_inside, not_straight, out_of_range, no_meaning, IsFailure, cut, wrong}
@@ -54,6 +56,8 @@ use Rattle.of_source.proofs.Kept.{Inv, shapes}
 use Rattle.of_source.proofs.ShapeLemmas.{both_true}
 use Rattle.of_source.proofs.FoundText.{FoundPlain, FoundQuoted, FoundWord, plain_found, quoted_found, line_found}
 use Rattle.of_source.proofs.FoundText.{next_found, left_place}
+use Rattle.of_source.specs.Effects.{effect_of, making_of}
+use Rattle.of_source.specs.Phrases.{quote_if}
 
 -- what is known in a state, at this place
 abbrev pub known_at : ℕ → State → Known
@@ -288,39 +292,25 @@ said_line last u word n m =
       opens = refl;
     }
 
-said_plain : (last : ℕ) (u : State) (word : List ℕ) (o : Found) → own_in u.known word ≡ None
-    → keyword_named word ≡ Some (keyword.Text quote.Plain) → FoundPlain 34 u.rest.text o
-    → plain_string 34 u.rest.text ≡ o
-    → Said last u word (with_string u o (λ bytes t. Goes (giving (item.Plain (string bytes) ∷ []) t)))
-said_plain last u word None n m h d =
-    (n, no_end (keyword.Text quote.Plain) m (ap (λ (o : Found). Some o) d))
-said_plain last u word (Some r) n m h d =
-    said_unless last u word (nat_lt 255 (length r.0)) _ _
-    (λ e. (n, long_string quote.Plain r.0 r.1 m (ap (λ (o : Found). Some o) d) (too_long 255 (length r.0) e)))
-    (λ e. record {
-      phrase = phrase.Text false h.0 r.0;
-      text = h.1;
-      place = left_place u.rest (h.0 ∷ r.0 ++ 34 ∷ []) r.1 h.1;
-      own = n;
-      means = m;
-      placed = (h.2, no_longer_string (length r.0) e, h.3);
-      followed = tt;
-      knows = λ at. refl;
-      opens = refl;
-    })
+plain_there : (prints : Bool) (text : List ℕ) → string_found (quote_if prints) text ≡ plain_string 34 text
+plain_there true text = refl
+plain_there false text = refl
 
-said_printed : (last : ℕ) (u : State) (word : List ℕ) (o : Found) → own_in u.known word ≡ None
-    → keyword_named word ≡ Some (keyword.Text quote.Printed) → FoundPlain 34 u.rest.text o
+said_plain : (last : ℕ) (prints : Bool) (u : State) (word : List ℕ) (o : Found) → own_in u.known word ≡ None
+    → keyword_named word ≡ Some (keyword.Text (quote_if prints)) → FoundPlain 34 u.rest.text o
     → plain_string 34 u.rest.text ≡ o
-    → Said last u word (with_string u o
-    (λ bytes t. Goes (giving (item.Plain (string bytes) ∷ item.Plain (bare 0x090) ∷ []) t)))
-said_printed last u word None n m h d =
-    (n, no_end (keyword.Text quote.Printed) m (ap (λ (o : Found). Some o) d))
-said_printed last u word (Some r) n m h d =
+    → Said last u word
+    (with_string u o (λ bytes t. Goes (giving (string_items (quote_if prints) bytes) t)))
+said_plain last prints u word None n m h d =
+    (n, no_end (keyword.Text (quote_if prints)) m (ap (λ (o : Found). Some o) (plain_there prints u.rest.text ∙ d)))
+said_plain last prints u word (Some r) n m h d =
     said_unless last u word (nat_lt 255 (length r.0)) _ _
-    (λ e. (n, long_string quote.Printed r.0 r.1 m (ap (λ (o : Found). Some o) d) (too_long 255 (length r.0) e)))
+    (λ e. (
+      n,
+      long_string (quote_if prints) r.0 r.1 m (plain_there prints u.rest.text ∙ d) (too_long 255 (length r.0) e),
+    ))
     (λ e. record {
-      phrase = phrase.Text true h.0 r.0;
+      phrase = phrase.Text prints h.0 r.0;
       text = h.1;
       place = left_place u.rest (h.0 ∷ r.0 ++ 34 ∷ []) r.1 h.1;
       own = n;
@@ -339,7 +329,7 @@ said_quoted last u word None n m h d =
     (n, no_end (keyword.Text quote.Bytes) m (ap (λ (o : Found). Some o) d))
 said_quoted last u word (Some r) n m h d =
     said_unless last u word (nat_lt 255 (length r.0)) _ _
-    (λ e. (n, long_string quote.Bytes r.0 r.1 m (ap (λ (o : Found). Some o) d) (too_long 255 (length r.0) e)))
+    (λ e. (n, long_string quote.Bytes r.0 r.1 m d (too_long 255 (length r.0) e)))
     (λ e. record {
       phrase = phrase.Quoted h.0 h.1 h.2;
       text = h.3;
@@ -357,9 +347,9 @@ said_text : (last : ℕ) (q : Quote) (u : State) (word : List ℕ) → own_in u.
 said_text last quote.Bytes u word n m =
     said_quoted last u word (quoted_string u.rest.text) n m (quoted_found u.rest.text) refl
 said_text last quote.Plain u word n m =
-    said_plain last u word (plain_string 34 u.rest.text) n m (plain_found 34 u.rest.text refl) refl
+    said_plain last false u word (plain_string 34 u.rest.text) n m (plain_found 34 u.rest.text refl) refl
 said_text last quote.Printed u word n m =
-    said_printed last u word (plain_string 34 u.rest.text) n m (plain_found 34 u.rest.text refl) refl
+    said_plain last true u word (plain_string 34 u.rest.text) n m (plain_found 34 u.rest.text refl) refl
 
 -- ---- what is open, by its shape
 
@@ -401,49 +391,24 @@ lone_wrong last lone.Recurse u word m b = not_inside m (none_there u.open_one b)
 lone_wrong last lone.Offset16 u word m b = not_straight m b
 lone_wrong last _ u word m b = absurd cc
 
-changed_rest : (c : Change) (s : State) → (changed c s).rest ≡ s.rest
-changed_rest Same s = refl
-changed_rest (Makes m) s = refl
-changed_rest (Counts base) s = refl
-changed_rest Defines s = refl
-
-changed_nesting : (c : Change) (s : State) → (changed c s).nesting ≡ s.nesting
-changed_nesting Same s = refl
-changed_nesting (Makes m) s = refl
-changed_nesting (Counts base) s = refl
-changed_nesting Defines s = refl
-
-changed_known : (c : Change) (is : List Item) (n : Nesting) (u : State) (to at : ℕ)
-    → known_at at (changed c (giving is (opening n u)))
-    ≡ placed_at at (record (known_by c (known_at u.at u)) { at = to; items = u.items ++ is })
-changed_known Same is n u to at = refl
-changed_known (Makes m) is n u to at = refl
-changed_known (Counts base) is n u to at = refl
-changed_known Defines is n u to at = refl
-
 said_effect : (last : ℕ) (w : Lone) (o : Option Nesting) (u : State) (word : List ℕ) → own_in u.known word ≡ None
     → keyword_named word ≡ Some (keyword.Lone w) → Inv u → (effect_of w).opens u.at u.nesting ≡ o
     → Said last u word (effect_step (effect_of w) o u)
 said_effect last w None u word n m i e = (n, no_opener w m e)
 said_effect last w (Some x) u word n m i e =
-    let c = (effect_of w).changes in
-    let is = (effect_of w).gives u.at u.open_one in
-    let t = giving is (opening x u) in
     said_if last u word (may_stand (effect_of w).stands u) _ _ (λ b. (n, lone_wrong last w u word m b))
-    (λ b. alone u (changed c t) word (phrase.Alone w) refl (changed_rest c t) n m (lone_placed w u word i b) tt
-    (changed_known c is x u (u.at + length word + 0))
-    (e ∙ ap (λ (y : Nesting). Some y) (sym (changed_nesting c t))))
+    (λ b. alone u _ word (phrase.Alone w) refl refl n m (lone_placed w u word i b) tt (λ at. refl) e)
 
 -- ---- one word
 
 -- a name of more than 31 bytes
-named_long : (last : ℕ) (u : State) (word : List ℕ) (key : Keyword) (name : List ℕ) (r : Rest) → Taken u name r
-    → own_in u.known word ≡ None → keyword_named word ≡ Some key → MakesName key
+named_long : (last : ℕ) (u : State) (word : List ℕ) (w : Definer) (name : List ℕ) (r : Rest) → Taken u name r
+    → own_in u.known word ≡ None → keyword_named word ≡ Some (keyword.Defining w)
     → in_definition u.nesting.parts ≡ false → 31 < length name → Failed last u word (TooLong (start_of u.rest))
-named_long last u word key name r h n m c e l = (
+named_long last u word w name r h n m e l = (
   n,
   subst (λ (a : ℕ). IsWrong last (known_at u.at u) u.nesting word u.rest (TooLong a)) (sym h.5)
-      (long_name key (has_word u name r h) m c e l),
+      (long_name w (has_word u name r h) m e l),
 )
 
 said_keyword : (last : ℕ) (k : Keyword) (u : State) (word : List ℕ) → own_in u.known word ≡ None
@@ -460,14 +425,13 @@ said_keyword last keyword.Character u word n m i =
     said_next last u word _ (next_word u.rest) _ (next_found u.rest.at u.rest.text)
     (λ c. (n, no_word keyword.Character m tt c)) (λ w r h. said_character last u word w r n m h)
 said_keyword last (keyword.Text q) u word n m i = said_text last q u word n m
-said_keyword last keyword.Colon u word n m i =
-    said_unless last u word (in_definition u.nesting.parts) _ _
-    (λ e. (n, not_outside keyword.Colon m tt e))
-    (λ e. said_name last u (opening (with_part part.Definition u.at u.nesting) u) word (next_word u.rest) _
-    (next_found u.rest.at u.rest.text) (λ c. (n, no_name keyword.Colon m tt e c))
-    (λ name r h l. named_long last u word keyword.Colon name r h n m tt e l)
+said_keyword last (keyword.Defining w) u word n m i =
+    let open_now = (making_of w).opens u.at u.nesting in
+    said_unless last u word (in_definition u.nesting.parts) _ _ (λ e. (n, not_outside w m e))
+    (λ e. said_name last u (opening open_now u) word (next_word u.rest) _ (next_found u.rest.at u.rest.text)
+    (λ c. (n, no_name w m e c)) (λ name r h l. named_long last u word w name r h n m e l)
     (λ name r h l. record {
-      phrase = phrase.Colon h.0 name;
+      phrase = phrase.Defining w h.0 name;
       text = operand_text u name r h;
       place = operand_place u name r h;
       own = n;
@@ -475,24 +439,7 @@ said_keyword last keyword.Colon u word n m i =
       placed = (h.2, (h.3, l));
       followed = h.4;
       knows = λ at. refl;
-      opens = ap (λ (b : Bool). opened_if (not b) (with_part part.Definition u.at u.nesting)) e;
-    }))
-said_keyword last (keyword.Defining t) u word n m i =
-    said_unless last u word (in_definition u.nesting.parts) _ _
-    (λ e. (n, not_outside (keyword.Defining t) m tt e))
-    (λ e. said_name last u u word (next_word u.rest) _ (next_found u.rest.at u.rest.text)
-    (λ c. (n, no_name (keyword.Defining t) m tt e c))
-    (λ name r h l. named_long last u word (keyword.Defining t) name r h n m tt e l)
-    (λ name r h l. record {
-      phrase = phrase.Defining t h.0 name;
-      text = operand_text u name r h;
-      place = operand_place u name r h;
-      own = n;
-      means = m;
-      placed = (h.2, (h.3, l));
-      followed = h.4;
-      knows = λ at. refl;
-      opens = ap (λ (b : Bool). opened_if (not b) u.nesting) e;
+      opens = ap (λ (b : Bool). opened_if (not b) open_now) e;
     }))
 said_keyword last (keyword.Naming t) u word n m i =
     said_next last u word _ (next_word u.rest) _ (next_found u.rest.at u.rest.text)

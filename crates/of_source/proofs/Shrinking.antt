@@ -9,14 +9,13 @@ use Rattle.of_source.specs.declared.keyword.Keyword.{Keyword}
 use Rattle.of_source.specs.declared.keyword.Keyword.TheVariants as keyword
 use Rattle.of_source.specs.declared.keyword.Quote.{Quote}
 use Rattle.of_source.specs.declared.keyword.Quote.TheVariants as quote
-use Rattle.of_source.specs.declared.nesting.Part.TheVariants as part
 use Rattle.of_source.specs.declared.number.Number.{Number}
 use Rattle.of_source.specs.declared.number.Number.TheVariants.{Value, OutOfRange, NoNumber}
 use Rattle.of_cells.specs.declared.cells.Cell.{Cell}
 use Rattle.of_format.specs.Digits.{digit_value}
 use Rattle.of_source.specs.Keywords.{keyword_named, ordinary_named}
 use Rattle.of_source.specs.Names.{own_in}
-use Rattle.of_source.specs.Nesting.{Nesting, with_part, in_definition, is_closed}
+use Rattle.of_source.specs.Nesting.{Nesting, in_definition, is_closed}
 use Rattle.of_source.specs.Numbers.{number_in}
 use Rattle.of_source.specs.Radix.{base_of}
 use Rattle.of_source.specs.Scan.{Rest, rest_at, left_of, is_blank, at_word, word_length, next_word, Found}
@@ -26,8 +25,8 @@ use Rattle.of_source.specs.Steps.{State, Step, Goes, Ends, Fails, opening, readi
 use Rattle.of_source.specs.Steps.{with_name}
 use Rattle.of_source.specs.Steps.{name_found, with_string, number_or_bad, number_word_step}
 use Rattle.of_source.specs.Steps.{comment_step, with_code, text_step, keyword_step, ordinary_step}
-use Rattle.of_source.specs.Effects.{Effect, effect_of, Change, Same, Makes, Counts, Defines}
-use Rattle.of_source.specs.Steps.{effect_step, may_stand, changed, giving}
+use Rattle.of_source.specs.Effects.{Effect, effect_of, making_of}
+use Rattle.of_source.specs.Steps.{effect_step, may_stand, string_found}
 use Rattle.of_source.specs.Steps.{listed_step, own_step, word_step, next_step, code_named}
 
 -- ---- words and strings
@@ -203,17 +202,10 @@ within_string n s (Some r) go h k = within_if n (nat_lt 255 (length r.0)) _ _ tt
 same : (s : State) → length s.rest.text ≤ length s.rest.text
 same s = omega arith
 
-within_change : (c : Change) (s : State) → Within (length s.rest.text) (Goes (changed c s))
-within_change Same s = same s
-within_change (Makes m) s = same s
-within_change (Counts base) s = same s
-within_change Defines s = same s
-
 within_effect : (e : Effect) (o : Option Nesting) (s : State) → Within (length s.rest.text) (effect_step e o s)
 within_effect e None s = tt
 within_effect e (Some n) s =
-    within_if _ (may_stand e.stands s) _ _
-    (within_change e.changes (giving (e.gives s.at s.open_one) (opening n s))) tt
+    within_if _ (may_stand e.stands s) _ _ (same s) tt
 
 within_comment : (s : State) (o : Found) → FoundWithin (length s.rest.text) o
     → Within (length s.rest.text) (comment_step s o)
@@ -231,13 +223,13 @@ within_code : (n at : ℕ) (o : Option FCode) (go : FCode → Step) → ((c : FC
 within_code n at None go k = tt
 within_code n at (Some c) go k = k c
 
+string-within : (q : Quote) (text : List ℕ) → FoundWithin (length text) (string_found q text)
+string-within quote.Bytes text = quoted_string-within text
+string-within quote.Plain text = plain-within 34 text
+string-within quote.Printed text = plain-within 34 text
+
 within_text : (q : Quote) (s : State) → Within (length s.rest.text) (text_step q s)
-within_text quote.Bytes s =
-    within_string _ s (quoted_string s.rest.text) _ (quoted_string-within s.rest.text) (λ bytes r l. l)
-within_text quote.Plain s =
-    within_string _ s (plain_string 34 s.rest.text) _ (plain-within 34 s.rest.text) (λ bytes r l. l)
-within_text quote.Printed s =
-    within_string _ s (plain_string 34 s.rest.text) _ (plain-within 34 s.rest.text) (λ bytes r l. l)
+within_text q s = within_string _ s (string_found q s.rest.text) _ (string-within q s.rest.text) (λ bytes r l. l)
 
 within_keyword : (last : ℕ) (k : Keyword) (s : State) → Within (length s.rest.text) (keyword_step last k s)
 within_keyword last keyword.Finish s = within_if _ (is_closed s.nesting) (Ends s) _ tt tt
@@ -249,13 +241,10 @@ within_keyword last (keyword.NumberIn base) s =
 within_keyword last keyword.Character s =
     within_next _ _ (next_word s.rest) _ (next_word-within s.rest) (λ w r l. l)
 within_keyword last (keyword.Text q) s = within_text q s
-within_keyword last keyword.Colon s =
+within_keyword last (keyword.Defining w) s =
     within_if _ (in_definition s.nesting.parts) _ _ tt
-    (within_name _ last (opening (with_part part.Definition s.at s.nesting) s) (next_word s.rest) _
+    (within_name _ last (opening ((making_of w).opens s.at s.nesting) s) (next_word s.rest) _
     (next_word-within s.rest) (λ name r l. l))
-within_keyword last (keyword.Defining t) s =
-    within_if _ (in_definition s.nesting.parts) _ _ tt
-    (within_name _ last s (next_word s.rest) _ (next_word-within s.rest) (λ name r l. l))
 within_keyword last (keyword.Naming t) s =
     within_next _ _ (next_word s.rest) _ (next_word-within s.rest)
     (λ w r l. within_code _ _ (code_named s.known w) _ (λ c. l))

@@ -15,6 +15,7 @@ use Rattle.of_fcodes.specs.Lookup.{number_named, operand_numbered, row_in, row_n
 use Rattle.of_fcodes.specs.Rows.{Row, rows, first_rows, second_rows, third_rows, fourth_rows, fifth_rows, sixth_rows}
 use Rattle.of_fcodes.specs.Rows.{seventh_rows}
 use Rattle.of_stream.specs.Bytes.{is_code}
+use Rattle.of_source.specs.declared.keyword.Definer.TheVariants as definer
 use Rattle.of_source.specs.declared.keyword.Keyword.{Keyword}
 use Rattle.of_source.specs.declared.keyword.Keyword.TheVariants as keyword
 use Rattle.of_source.specs.declared.keyword.Lone.TheVariants as lone
@@ -215,7 +216,7 @@ is_naming c = is_code c.0 && takes_code (operand_numbered c.0)
 
 -- the tokens of a keyword are of the kind that its step writes
 abbrev pub is_good : Keyword → Bool
-is_good (keyword.Defining t) = is_bare t
+is_good (keyword.Defining (definer.Other t)) = is_bare t
 is_good (keyword.Naming t) = is_naming t
 is_good (keyword.Lone (lone.One t)) = is_bare t
 is_good (keyword.Lone (lone.Two t u)) = is_bare t && is_bare u

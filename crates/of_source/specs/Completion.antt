@@ -7,7 +7,7 @@ use Rattle.of_source.specs.declared.nesting.Part.{Part}
 use Rattle.of_source.specs.declared.nesting.Part.TheVariants as part
 use Rattle.of_source.specs.Items.{Item}
 use Rattle.of_source.specs.Names.{own_in}
-use Rattle.of_source.specs.Steps.{known_with}
+use Rattle.of_source.specs.Effects.{known_with}
 use Rattle.of_source.specs.Nesting.{Nesting, nothing_open}
 use Rattle.of_source.specs.Shapes.{Shape, nothing, run, shape_of}
 use Rattle.of_source.specs.Parsing.{parsed}

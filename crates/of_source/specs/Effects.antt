@@ -1,14 +1,16 @@
--- What each keyword does that takes nothing from the text behind it: a row a keyword (IEEE 1275-1994, 5.3 and annex C;
--- Forth 2012, A.3.2.3.2).
+-- What keywords do: a row for each that takes nothing from the text behind it, and for each defining word (IEEE
+-- 1275-1994, 5.3 and annex C; Forth 2012, A.3.2.3.2).
 use Rattle.std.specs.Prelude.{ℕ, false, List, [], ◌∷◌, Option, Some, None}
 use Rattle.of_source.specs.declared.keyword.Maker.{Maker}
 use Rattle.of_source.specs.declared.keyword.Radix.{Radix}
+use Rattle.of_source.specs.declared.keyword.Definer.{Definer}
+use Rattle.of_source.specs.declared.keyword.Definer.TheVariants as definer
 use Rattle.of_source.specs.declared.keyword.Lone.{Lone}
 use Rattle.of_source.specs.declared.keyword.Lone.TheVariants as lone
 use Rattle.of_source.specs.declared.nesting.Part.{Part}
 use Rattle.of_source.specs.declared.nesting.Part.TheVariants as part
 use Rattle.of_source.specs.Names.{Own}
-use Rattle.of_source.specs.Items.{Item, own_code, call, bare}
+use Rattle.of_source.specs.Items.{Item, Made, own_code, call, bare}
 use Rattle.of_source.specs.Items as item
 use Rattle.of_source.specs.Nesting.{Nesting, with_branch, with_part, without_branch, without_begin, without_part}
 use Rattle.of_source.specs.Nesting.{then_without_branch, then_with_branch, opened_if, in_loop, on_case}
@@ -19,31 +21,51 @@ pub data Where : Type 0 where
   Inside : Where  -- in a definition
   Straight : Where  -- in no control structure
 
--- what is otherwise behind a keyword, beside its items and what is open
-pub data Change : Type 0 where
-  Same : Change
-  Makes : Maker → Change  -- what gives the next definitions their numbers
-  Counts : Radix → Change  -- the radix of the numbers that follow
-  Defines : Change  -- the open definition ends, and can be named
+-- what else is known behind a word: the radix of numbers, what gives the next definition its number, the definitions
+-- that can be named, latest first, and the one that is open
+pub record Setting : Type 0 where
+  pub radix : Radix
+  pub maker : Maker
+  pub names : List Own
+  pub open_one : Option Own
+
+-- with the definition that was open, if one was
+abbrev pub known_with : Option Own → List Own → List Own
+known_with None known = known
+known_with (Some d) known = d ∷ known
+
+-- a definition can be named from here on
+abbrev pub can_name : Own → Setting → Setting
+can_name d c = record c { names = d ∷ c.names }
+
+-- a definition is open
+abbrev pub has_open : Own → Setting → Setting
+has_open d c = record c { open_one = Some d }
+
+-- the open definition is closed, and can be named
+abbrev pub open_ends : Setting → Setting
+open_ends c = record c { names = known_with c.open_one c.names; open_one = None }
+
+-- ---- keywords that take nothing
 
 -- what a keyword does
 pub record Effect : Type 0 where
   pub stands : Where
   pub opens : ℕ → Nesting → Option Nesting  -- what is open behind it at a place; none with nothing to close or stand in
   pub gives : ℕ → Option Own → List Item  -- its items at a place, in the definition that is open
-  pub changes : Change
+  pub changes : Setting → Setting
 
 -- the items of a token or two, wherever they stand
 abbrev pub tokens : List Item → Effect
-tokens items = record { stands = Anywhere; opens = λ at n. Some n; gives = λ at one. items; changes = Same }
+tokens items = record { stands = Anywhere; opens = λ at n. Some n; gives = λ at one. items; changes = λ c. c }
 
 -- a change, without items
-abbrev pub changing : Change → Effect
-changing c = record { stands = Anywhere; opens = λ at n. Some n; gives = λ at one. []; changes = c }
+abbrev pub changing : (Setting → Setting) → Effect
+changing f = record (tokens []) { changes = f }
 
 -- a word of a control structure: what is open behind it, and its items
 abbrev pub control : (ℕ → Nesting → Option Nesting) → (ℕ → List Item) → Effect
-control opens items = record { stands = Anywhere; opens = opens; gives = λ at one. items at; changes = Same }
+control opens items = record (tokens []) { opens = opens; gives = λ at one. items at }
 
 -- the open definition, if one is, by its number
 abbrev pub recursion : Option Own → List Item
@@ -60,11 +82,12 @@ ending k at n = without_part k n
 abbrev pub effect_of : Lone → Effect
 effect_of (lone.One t) = tokens (item.Plain (call t) ∷ [])
 effect_of (lone.Two t u) = tokens (item.Plain (call t) ∷ item.Plain (call u) ∷ [])
-effect_of (lone.Headers m) = changing (Makes m)
-effect_of (lone.Radix base) = changing (Counts base)
+effect_of (lone.Headers m) = changing (λ c. record c { maker = m })
+effect_of (lone.Radix base) = changing (λ c. record c { radix = base })
 effect_of lone.Offset16 = record (tokens (item.Plain (bare 0x0cc) ∷ [])) { stands = Straight }
 effect_of lone.Recurse = record (tokens []) { stands = Inside; gives = λ at one. recursion one }
-effect_of lone.Semicolon = record (control (ending part.Definition) (λ at. item.Semicolon ∷ [])) { changes = Defines }
+effect_of lone.Semicolon =
+    record (control (ending part.Definition) (λ at. item.Semicolon ∷ [])) { changes = λ c. open_ends c }
 effect_of lone.If = control (λ at n. Some (with_branch at n)) (λ at. item.If at ∷ [])
 effect_of lone.Else = control (λ at n. then_with_branch at (without_branch n)) (λ at. item.Else at ∷ [])
 effect_of lone.Then = control (λ at n. without_branch n) (λ at. item.Then ∷ [])
@@ -79,3 +102,17 @@ effect_of lone.Case = control (starting part.Case) (λ at. item.Case ∷ [])
 effect_of lone.Of = control (λ at n. opened_if (on_case n) (with_part part.Of at n)) (λ at. item.Of at ∷ [])
 effect_of lone.EndOf = control (ending part.Of) (λ at. item.EndOf at ∷ [])
 effect_of lone.EndCase = control (ending part.Case) (λ at. item.EndCase ∷ [])
+
+-- ---- defining words
+
+-- what a defining word does with the name that follows it
+pub record Making : Type 0 where
+  pub opens : ℕ → Nesting → Nesting  -- what is open while the name is read
+  pub gives : Made → Item
+  pub changes : Own → Setting → Setting
+
+abbrev pub making_of : Definer → Making
+making_of definer.Colon =
+    record { opens = λ at n. with_part part.Definition at n; gives = λ m. item.Colon m; changes = λ d c. has_open d c }
+making_of (definer.Other t) =
+    record { opens = λ at n. n; gives = λ m. item.Defining m t; changes = λ d c. can_name d c }

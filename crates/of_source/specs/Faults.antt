@@ -9,22 +9,21 @@ use Rattle.of_source.specs.declared.fault.SourceFault.{SourceFault}
 use Rattle.of_source.specs.declared.fault.SourceFault.TheVariants.{Unclosed, Unknown, BadNumber, TooLong}
 use Rattle.of_source.specs.declared.keyword.Keyword.{Keyword}
 use Rattle.of_source.specs.declared.keyword.Keyword.TheVariants as keyword
+use Rattle.of_source.specs.declared.keyword.Definer.{Definer}
 use Rattle.of_source.specs.declared.keyword.Lone.{Lone}
 use Rattle.of_source.specs.declared.keyword.Lone.TheVariants as lone
 use Rattle.of_source.specs.declared.keyword.Quote.{Quote}
-use Rattle.of_source.specs.declared.keyword.Quote.TheVariants as quote
 use Rattle.of_source.specs.declared.keyword.Radix.{Radix}
-use Rattle.of_source.specs.declared.nesting.Part.TheVariants as part
 use Rattle.of_source.specs.declared.number.Number.TheVariants.{Value, OutOfRange, NoNumber}
 use Rattle.of_source.specs.Keywords.{keyword_named, ordinary_named}
 use Rattle.of_source.specs.Names.{own_in}
 use Rattle.of_source.specs.Numbers.{number_in}
 use Rattle.of_source.specs.Radix.{base_of}
-use Rattle.of_source.specs.Nesting.{Nesting, nothing_open, with_part, opened_if, in_definition, is_straight, is_closed}
+use Rattle.of_source.specs.Nesting.{Nesting, nothing_open, opened_if, in_definition, is_straight, is_closed}
 use Rattle.of_source.specs.Nesting.{first_open}
-use Rattle.of_source.specs.Effects.{effect_of}
-use Rattle.of_source.specs.Scan.{Rest, rest_at, last_place, Found, plain_string, quoted_string}
-use Rattle.of_source.specs.Steps.{code_named}
+use Rattle.of_source.specs.Effects.{effect_of, making_of}
+use Rattle.of_source.specs.Scan.{Rest, rest_at, last_place, Found, plain_string}
+use Rattle.of_source.specs.Steps.{code_named, string_found}
 use Rattle.of_source.specs.Parsing.{is_word, misplaced, parsed}
 use Rattle.of_source.specs.Phrases.{Phrase, Spelled, Beginning, Known, each_written, moved, behind, all_behind}
 use Rattle.of_source.specs.Phrases.{place_behind, begun_with}
@@ -36,8 +35,7 @@ use Rattle.of_source.specs.Written.{IsWord, AreBlanks, EndsWord, IsSaid, AreRema
 -- what is open behind a phrase at this place; none where a closer, `of` or `leave` has nothing to close or stand in,
 -- and where a definition would begin in another
 abbrev pub opened : Phrase → ℕ → Nesting → Option Nesting
-opened (phrase.Defining t blanks name) at n = opened_if (not (in_definition n.parts)) n
-opened (phrase.Colon blanks name) at n = opened_if (not (in_definition n.parts)) (with_part part.Definition at n)
+opened (phrase.Defining w blanks name) at n = opened_if (not (in_definition n.parts)) ((making_of w).opens at n)
 opened (phrase.Alone w) at n = (effect_of w).opens at n
 opened _ at n = Some n
 
@@ -60,29 +58,16 @@ pub record HasWord (all : List ℕ) : Type 0 where
   pub spelled : IsWord word
   pub ends : EndsWord more
 
--- a defining word, which stands outside definitions
-abbrev pub MakesName : Keyword → Type 0
-MakesName keyword.Colon = Unit {0}
-MakesName (keyword.Defining t) = Unit {0}
-MakesName _ = ⊥
-
 -- a keyword that takes a word which may be any
 abbrev pub TakesWord : Keyword → Type 0
 TakesWord keyword.Character = Unit {0}
 TakesWord (keyword.Naming t) = Unit {0}
 TakesWord _ = ⊥
 
--- a definition is open before its name is read
-abbrev pub before_name : Keyword → ℕ → Nesting → Nesting
-before_name keyword.Colon at n = with_part part.Definition at n
-before_name _ at n = n
-
 -- the string or comment behind a keyword, if it takes one; none of it where its end isn't on the line
 abbrev pub string_behind : Keyword → List ℕ → Option Found
 string_behind keyword.Comment text = Some (plain_string 41 text)
-string_behind (keyword.Text quote.Bytes) text = Some (quoted_string text)
-string_behind (keyword.Text quote.Plain) text = Some (plain_string 34 text)
-string_behind (keyword.Text quote.Printed) text = Some (plain_string 34 text)
+string_behind (keyword.Text q) text = Some (string_found q text)
 string_behind _ text = None
 
 -- a word that is no own name can't stand where this is known and open and this follows it, for this fault; the last
@@ -97,19 +82,19 @@ pub data IsWrong (last : ℕ) (k : Known) (n : Nesting) (word : List ℕ) (r : R
   -- the text ends where a word must follow
   no_word : (key : Keyword) → keyword_named word ≡ Some key → TakesWord key → AreBlanks r.text
       → IsWrong last k n word r (Unclosed (first_open last n))
-  no_name : (key : Keyword) → keyword_named word ≡ Some key → MakesName key → in_definition n.parts ≡ false
-      → AreBlanks r.text → IsWrong last k n word r (Unclosed (first_open last (before_name key k.at n)))
+  no_name : (w : Definer) → keyword_named word ≡ Some (keyword.Defining w) → in_definition n.parts ≡ false
+      → AreBlanks r.text → IsWrong last k n word r (Unclosed (first_open last ((making_of w).opens k.at n)))
   -- `h#` or `d#` without a number that a cell holds
   no_digits : (base : Radix) → keyword_named word ≡ Some (keyword.NumberIn base) → AreBlanks r.text
       → IsWrong last k n word r (BadNumber k.at)
   bad_digits : (base : Radix) (w : HasWord r.text) → keyword_named word ≡ Some (keyword.NumberIn base)
       → ((x : Cell) → number_in (base_of base) w.word ≢ Value x) → IsWrong last k n word r (BadNumber k.at)
   -- a name of more than 31 bytes, a string of more than 255
-  long_name : (key : Keyword) (w : HasWord r.text) → keyword_named word ≡ Some key → MakesName key
+  long_name : (d : Definer) (w : HasWord r.text) → keyword_named word ≡ Some (keyword.Defining d)
       → in_definition n.parts ≡ false → 31 < length w.word
       → IsWrong last k n word r (TooLong (r.at + length w.blanks))
   long_string : (q : Quote) (bytes text : List ℕ) → keyword_named word ≡ Some (keyword.Text q)
-      → string_behind (keyword.Text q) r.text ≡ Some (Some (bytes, text)) → 255 < length bytes
+      → string_found q r.text ≡ Some (bytes, text) → 255 < length bytes
       → IsWrong last k n word r (TooLong k.at)
   -- a string or comment whose end isn't on its line
   no_end : (key : Keyword) → keyword_named word ≡ Some key → string_behind key r.text ≡ Some None
@@ -118,7 +103,7 @@ pub data IsWrong (last : ℕ) (k : Known) (n : Nesting) (word : List ℕ) (r : R
   no_code : (t : FCode) (w : HasWord r.text) → keyword_named word ≡ Some (keyword.Naming t)
       → code_named k.names w.word ≡ None → IsWrong last k n word r (Unknown (r.at + length w.blanks))
   -- a defining word in a definition, `recurse` outside all, `offset16` in a control structure
-  not_outside : (key : Keyword) → keyword_named word ≡ Some key → MakesName key → in_definition n.parts ≡ true
+  not_outside : (w : Definer) → keyword_named word ≡ Some (keyword.Defining w) → in_definition n.parts ≡ true
       → IsWrong last k n word r (Unknown k.at)
   not_inside : keyword_named word ≡ Some (keyword.Lone lone.Recurse) → k.open_one ≡ None
       → IsWrong last k n word r (Unknown k.at)

@@ -11,7 +11,8 @@ use Rattle.of_source.specs.declared.keyword.Radix.TheVariants.{Hexadecimal, Deci
 use Rattle.of_source.specs.declared.keyword.Quote.TheVariants.{Bytes, Plain, Printed}
 use Rattle.of_source.specs.declared.keyword.Keyword.{Keyword}
 use Rattle.of_source.specs.declared.keyword.Keyword.TheVariants.{Finish, Comment, LineComment, NumberIn, Character}
-use Rattle.of_source.specs.declared.keyword.Keyword.TheVariants.{Text, Colon, Defining, Naming, Lone}
+use Rattle.of_source.specs.declared.keyword.Keyword.TheVariants.{Text, Defining, Naming, Lone}
+use Rattle.of_source.specs.declared.keyword.Definer.TheVariants as definer
 use Rattle.of_source.specs.declared.keyword.Lone.TheVariants as lone
 
 -- an FCode by its number
@@ -44,15 +45,15 @@ text_rows =
     row (codes "\"") (Text Bytes) ∷
     row (codes "s\"") (Text Plain) ∷
     row (codes ".\"") (Text Printed) ∷
-    row (codes ":") Colon ∷
+    row (codes ":") (Defining definer.Colon) ∷
     row (codes ";") (Lone lone.Semicolon) ∷
-    row (codes "value") (Defining (fcode 0x0b8)) ∷
-    row (codes "variable") (Defining (fcode 0x0b9)) ∷
-    row (codes "constant") (Defining (fcode 0x0ba)) ∷
-    row (codes "create") (Defining (fcode 0x0bb)) ∷
-    row (codes "defer") (Defining (fcode 0x0bc)) ∷
-    row (codes "buffer:") (Defining (fcode 0x0bd)) ∷
-    row (codes "field") (Defining (fcode 0x0be)) ∷
+    row (codes "value") (Defining (definer.Other (fcode 0x0b8))) ∷
+    row (codes "variable") (Defining (definer.Other (fcode 0x0b9))) ∷
+    row (codes "constant") (Defining (definer.Other (fcode 0x0ba))) ∷
+    row (codes "create") (Defining (definer.Other (fcode 0x0bb))) ∷
+    row (codes "defer") (Defining (definer.Other (fcode 0x0bc))) ∷
+    row (codes "buffer:") (Defining (definer.Other (fcode 0x0bd))) ∷
+    row (codes "field") (Defining (definer.Other (fcode 0x0be))) ∷
     row (codes "recurse") (Lone lone.Recurse) ∷
     row (codes "'") (Naming (fcode 0x011)) ∷
     row (codes "[']") (Naming (fcode 0x011)) ∷

@@ -1,19 +1,22 @@
 -- A source as a list of phrases: each is a word with all that it takes from the text.
-use Rattle.std.specs.Prelude.{ℕ, ◌+◌, Bool, true, false, List, [], ◌∷◌, ◌++◌, length, codes, Option, Some, None}
+use Rattle.std.specs.Prelude.{ℕ, ◌+◌, Bool, true, false, List, [], ◌∷◌, ◌++◌, length, codes, Option, None}
 use Rattle.of_cells.specs.declared.cells.Cell.{Cell}
 use Rattle.of_fcodes.specs.declared.codes.FCode.{FCode}
 use Rattle.of_stream.specs.declared.stream.OffsetSize.{OffsetSize}
 use Rattle.of_stream.specs.declared.stream.OffsetSize.TheVariants as size
 use Rattle.of_source.specs.declared.keyword.Maker.{Maker}
 use Rattle.of_source.specs.declared.keyword.Maker.TheVariants.{Named}
+use Rattle.of_source.specs.declared.keyword.Definer.{Definer}
 use Rattle.of_source.specs.declared.keyword.Lone.{Lone}
+use Rattle.of_source.specs.declared.keyword.Quote.{Quote}
+use Rattle.of_source.specs.declared.keyword.Quote.TheVariants as quote
 use Rattle.of_source.specs.declared.keyword.Radix.{Radix}
 use Rattle.of_source.specs.declared.keyword.Radix.TheVariants.{Hexadecimal}
-use Rattle.of_source.specs.Effects.{effect_of, Change, Same, Makes, Counts, Defines}
+use Rattle.of_source.specs.Effects.{effect_of, Setting, making_of}
 use Rattle.of_source.specs.Names.{Own}
 use Rattle.of_source.specs.Items.{Item, Made, own_code, call, string, naming, bare}
 use Rattle.of_source.specs.Items as item
-use Rattle.of_source.specs.Steps.{number_items, known_with}
+use Rattle.of_source.specs.Steps.{number_items, string_items}
 use Rattle.of_source.specs.Strings.{Piece, pieces_written, pieces_bytes}
 
 -- a word with all that it takes from the text
@@ -28,8 +31,7 @@ pub data Phrase : Type 0 where
   Comment : ℕ → List ℕ → Phrase  -- `(`, a blank and bytes up to `)`
   LineComment : List ℕ → Phrase  -- `\` and bytes up to the end of the line
   Naming : FCode → List ℕ → List ℕ → FCode → Phrase  -- `'`, `[']` or `to`, blanks and a name of this FCode
-  Defining : FCode → List ℕ → List ℕ → Phrase  -- a defining word, blanks and a name
-  Colon : List ℕ → List ℕ → Phrase  -- `:`, blanks and a name
+  Defining : Definer → List ℕ → List ℕ → Phrase  -- a defining word, blanks and a name
   Alone : Lone → Phrase  -- a keyword that takes nothing, as `true`, `hex`, `if` or `;`
 
 -- a phrase with its word as it is spelled, in letters of either case, and with the blanks and line ends before that
@@ -62,8 +64,7 @@ taken (Quoted blank pieces bytes) = blank ∷ pieces_written pieces (bytes ++ 34
 taken (Comment blank bytes) = blank ∷ bytes ++ 41 ∷ []
 taken (LineComment bytes) = bytes
 taken (Naming t blanks name c) = blanks ++ name
-taken (Defining t blanks name) = blanks ++ name
-taken (Colon blanks name) = blanks ++ name
+taken (Defining w blanks name) = blanks ++ name
 taken _ = []
 
 -- a phrase behind its blanks, and then this text
@@ -107,10 +108,10 @@ pub record Known : Type 0 where
 abbrev pub nothing_known : ℕ → Known
 nothing_known at = record { at = at; radix = Hexadecimal; maker = Named; names = []; open_one = None; items = [] }
 
--- a string, which `."` also prints
-abbrev pub string_items : Bool → List ℕ → List Item
-string_items false bytes = item.Plain (string bytes) ∷ []
-string_items true bytes = item.Plain (string bytes) ∷ item.Plain (bare 0x090) ∷ []
+-- `."` or `s"`
+abbrev pub quote_if : Bool → Quote
+quote_if true = quote.Printed
+quote_if false = quote.Plain
 
 -- the definition of this name that begins, with the next number
 abbrev pub named : List ℕ → Known → Made
@@ -123,31 +124,29 @@ items_of (BoardWord c) k = item.Plain (call c) ∷ []
 items_of (Number x) k = number_items x
 items_of (NumberIn base blanks word x) k = number_items x
 items_of (Character blanks b word) k = number_items (record { 0 = b })
-items_of (Text prints blank bytes) k = string_items prints bytes
+items_of (Text prints blank bytes) k = string_items (quote_if prints) bytes
 items_of (Quoted blank pieces bytes) k = item.Plain (string (pieces_bytes pieces ++ bytes)) ∷ []
 items_of (Comment blank bytes) k = []
 items_of (LineComment bytes) k = []
 items_of (Naming t blanks name c) k = item.Plain (naming t c) ∷ []
-items_of (Defining t blanks name) k = item.Defining (named name k) t ∷ []
-items_of (Colon blanks name) k = item.Colon (named name k) ∷ []
+items_of (Defining w blanks name) k = (making_of w).gives (named name k) ∷ []
 items_of (Alone w) k = (effect_of w).gives k.at k.open_one
 
 -- a definition of this name, with the next number
 abbrev pub next_own : List ℕ → Known → Own
 next_own name k = record { name = name; number = length k.names }
 
--- what is otherwise known behind a keyword that takes nothing
-abbrev pub known_by : Change → Known → Known
-known_by Same k = k
-known_by (Makes m) k = record k { maker = m }
-known_by (Counts base) k = record k { radix = base }
-known_by Defines k = record k { names = known_with k.open_one k.names; open_one = None }
+-- what is known beside items, with a change of it
+abbrev pub known_setting : Known → Setting
+known_setting k = record { radix = k.radix; maker = k.maker; names = k.names; open_one = k.open_one }
+
+abbrev pub knowing : Setting → Known → Known
+knowing c k = record k { radix = c.radix; maker = c.maker; names = c.names; open_one = c.open_one }
 
 -- what else is known behind a phrase
 abbrev pub learned : Phrase → Known → Known
-learned (Defining t blanks name) k = record k { names = next_own name k ∷ k.names }
-learned (Colon blanks name) k = record k { open_one = Some (next_own name k) }
-learned (Alone w) k = known_by (effect_of w).changes k
+learned (Alone w) k = knowing ((effect_of w).changes (known_setting k)) k
+learned (Defining w blanks name) k = knowing ((making_of w).changes (next_own name k) (known_setting k)) k
 learned _ k = k
 
 -- what is known behind a phrase whose word is this

@@ -16,7 +16,6 @@ use Rattle.of_source.specs.declared.keyword.Lone.{Lone}
 use Rattle.of_source.specs.declared.keyword.Radix.{Radix}
 use Rattle.of_source.specs.declared.keyword.Radix.TheVariants.{Hexadecimal}
 use Rattle.of_source.specs.Radix.{base_of}
-use Rattle.of_source.specs.declared.nesting.Part.TheVariants as part
 use Rattle.of_source.specs.Names.{Own, own_in}
 use Rattle.of_source.specs.Scan.{Rest, left_of, start_of, next_word, Found, quoted_string, plain_string, line_end}
 use Rattle.of_source.specs.declared.number.Number.{Number}
@@ -25,9 +24,8 @@ use Rattle.of_source.specs.Numbers.{number_in}
 use Rattle.of_source.specs.Keywords.{keyword_named, ordinary_named}
 use Rattle.of_source.specs.Items.{Item, Made, Source, own_code, call, literal, string, naming, bare}
 use Rattle.of_source.specs.Items as item
-use Rattle.of_source.specs.Nesting.{Nesting, nothing_open, with_part, in_definition, is_straight, is_closed, first_open}
-use Rattle.of_source.specs.Effects.{Effect, effect_of, Where, Anywhere, Inside, Straight, Change, Same, Makes, Counts}
-use Rattle.of_source.specs.Effects.{Defines}
+use Rattle.of_source.specs.Nesting.{Nesting, nothing_open, in_definition, is_straight, is_closed, first_open}
+use Rattle.of_source.specs.Effects.{Effect, effect_of, Where, Anywhere, Inside, Straight, Setting, Making, making_of}
 
 -- what is known at a word
 pub record State : Type 0 where
@@ -75,22 +73,16 @@ reading_on r s = record s { rest = r }
 abbrev pub at_next : Rest → State → State
 at_next r s = record s { at = start_of s.rest; rest = r }
 
--- with a definition that can be named from here on
-abbrev pub knowing : List ℕ → State → State
-knowing name s = record s { known = record { name = name; number = length s.known } ∷ s.known }
+-- what is known beside items and what is open
+abbrev pub setting_of : State → Setting
+setting_of s = record { radix = s.radix; maker = s.maker; names = s.known; open_one = s.open_one }
 
--- with a definition that is open
-abbrev pub defining : List ℕ → State → State
-defining name s = record s { open_one = Some (record { name = name; number = length s.known }) }
+abbrev pub with_setting : Setting → State → State
+with_setting c s = record s { radix = c.radix; maker = c.maker; known = c.names; open_one = c.open_one }
 
--- with the definition that was open, if one was
-abbrev pub known_with : Option Own → List Own → List Own
-known_with None known = known
-known_with (Some d) known = d ∷ known
-
--- the open definition is closed, and can be named from here on
-abbrev pub defined : State → State
-defined s = record s { known = known_with s.open_one s.known; open_one = None }
+-- with a change of it
+abbrev pub changed : (Setting → Setting) → State → State
+changed f s = with_setting (f (setting_of s)) s
 
 -- ---- names
 
@@ -179,15 +171,21 @@ with_string s None go = Fails (Unknown s.at)
 with_string s (Some r) go =
     if nat_lt 255 (length r.0) then Fails (TooLong s.at) else go r.0 (reading_on (left_of s.rest r.1) s)
 
+-- the string behind `"`, `s"` or `."`
+abbrev pub string_found : Quote → List ℕ → Found
+string_found quote.Bytes text = quoted_string text
+string_found quote.Plain text = plain_string 34 text
+string_found quote.Printed text = plain_string 34 text
+
+-- the string, which `."` also prints
+abbrev pub string_items : Quote → List ℕ → List Item
+string_items quote.Bytes bytes = item.Plain (string bytes) ∷ []
+string_items quote.Plain bytes = item.Plain (string bytes) ∷ []
+string_items quote.Printed bytes = item.Plain (string bytes) ∷ item.Plain (bare 0x090) ∷ []
+
 -- `"`, `s"` or `."`
 abbrev pub text_step : Quote → State → Step
-text_step quote.Bytes s =
-    with_string s (quoted_string s.rest.text) (λ bytes t. Goes (giving (item.Plain (string bytes) ∷ []) t))
-text_step quote.Plain s =
-    with_string s (plain_string 34 s.rest.text) (λ bytes t. Goes (giving (item.Plain (string bytes) ∷ []) t))
-text_step quote.Printed s =
-    with_string s (plain_string 34 s.rest.text)
-    (λ bytes t. Goes (giving (item.Plain (string bytes) ∷ item.Plain (bare 0x090) ∷ []) t))
+text_step q s = with_string s (string_found q s.rest.text) (λ bytes t. Goes (giving (string_items q bytes) t))
 
 -- a comment has any length
 abbrev pub comment_step : State → Found → Step
@@ -200,21 +198,18 @@ comment_step s (Some r) = Goes (reading_on (left_of s.rest r.1) s)
 abbrev pub made : List ℕ → State → Made
 made name s = record { maker = s.maker; name = name; number = length s.known }
 
+abbrev pub next_own : List ℕ → State → Own
+next_own name s = record { name = name; number = length s.known }
+
 -- outside all definitions
 abbrev pub if_outside : State → Step → Step
 if_outside s go = if in_definition s.nesting.parts then Fails (Unknown s.at) else go
 
--- a defining word other than `:`
-abbrev pub defining_step : ℕ → FCode → State → Step
-defining_step last t s =
-    if_outside s (with_name (name_read last s)
-    (λ name r. Goes (knowing name (giving (item.Defining (made name s) t ∷ []) r))))
-
--- the definition is open before its name is read
-abbrev pub colon_step : ℕ → State → Step
-colon_step last s =
-    if_outside s (with_name (name_read last (opening (with_part part.Definition s.at s.nesting) s))
-    (λ name r. Goes (defining name (giving (item.Colon (made name s) ∷ []) r))))
+-- a defining word, with the name that follows
+abbrev pub defining_step : ℕ → Making → State → Step
+defining_step last w s =
+    if_outside s (with_name (name_read last (opening (w.opens s.at s.nesting) s))
+    (λ name r. Goes (changed (w.changes (next_own name s)) (giving (w.gives (made name s) ∷ []) r))))
 
 -- ---- words that take nothing from the text
 
@@ -223,13 +218,6 @@ abbrev pub may_stand : Where → State → Bool
 may_stand Anywhere s = true
 may_stand Inside s = is_some s.open_one
 may_stand Straight s = is_straight s.nesting
-
--- what is otherwise known behind a word
-abbrev pub changed : Change → State → State
-changed Same s = s
-changed (Makes m) s = record s { maker = m }
-changed (Counts base) s = record s { radix = base }
-changed Defines s = defined s
 
 -- a word has this effect, where this may be left open
 abbrev pub effect_step : Effect → Option Nesting → State → Step
@@ -253,8 +241,7 @@ keyword_step last keyword.LineComment s = Goes (reading_on (left_of s.rest (line
 keyword_step last (keyword.NumberIn base) s = number_step base s
 keyword_step last keyword.Character s = character_step last s
 keyword_step last (keyword.Text q) s = text_step q s
-keyword_step last keyword.Colon s = colon_step last s
-keyword_step last (keyword.Defining t) s = defining_step last t s
+keyword_step last (keyword.Defining w) s = defining_step last (making_of w) s
 keyword_step last (keyword.Naming t) s = naming_step last t s
 keyword_step last (keyword.Lone w) s = lone_step w s
 

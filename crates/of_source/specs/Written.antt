@@ -1,5 +1,5 @@
 -- Which phrases can be written: what must hold of each where it stands.
-use Rattle.std.specs.Prelude.{◌≡◌, ◌≢◌, ℕ, ◌<◌, ◌≤◌, true, false, List, [], ◌∷◌, ◌++◌, length, codes, Option, Some}
+use Rattle.std.specs.Prelude.{◌≡◌, ◌≢◌, ℕ, ◌<◌, ◌≤◌, true, List, [], ◌∷◌, ◌++◌, length, codes, Option, Some}
 use Rattle.std.specs.Prelude.{None, Ok}
 use Rattle.std.specs.List.{All, list_all}
 use Rattle.of_stream.specs.declared.stream.OffsetSize.{OffsetSize}
@@ -22,8 +22,8 @@ use Rattle.of_source.specs.Steps.{code_named}
 use Rattle.of_source.specs.Parsing.{is_word, parsed}
 use Rattle.of_source.specs.Scan.{group}
 use Rattle.of_source.specs.Strings.{IsWithin, ArePieces, pieces_bytes}
-use Rattle.of_source.specs.Phrases.{Phrase, Spelled, Beginning, Ending, Known, begun_with, taken, moved, behind}
-use Rattle.of_source.specs.Phrases.{items_in, version_word, each_written, all_written, text_of}
+use Rattle.of_source.specs.Phrases.{Phrase, Spelled, Beginning, Ending, Known, begun_with, quote_if, taken, moved}
+use Rattle.of_source.specs.Phrases.{behind, items_in, version_word, each_written, all_written, text_of}
 use Rattle.of_source.specs.Phrases as phrase
 
 -- one byte or more, and none of them a blank
@@ -58,14 +58,12 @@ keyword_of (phrase.BoardWord c) = None
 keyword_of (phrase.Number x) = None
 keyword_of (phrase.NumberIn base blanks word x) = Some (keyword.NumberIn base)
 keyword_of (phrase.Character blanks b word) = Some keyword.Character
-keyword_of (phrase.Text false blank bytes) = Some (keyword.Text quote.Plain)
-keyword_of (phrase.Text true blank bytes) = Some (keyword.Text quote.Printed)
+keyword_of (phrase.Text prints blank bytes) = Some (keyword.Text (quote_if prints))
 keyword_of (phrase.Quoted blank pieces bytes) = Some (keyword.Text quote.Bytes)
 keyword_of (phrase.Comment blank bytes) = Some keyword.Comment
 keyword_of (phrase.LineComment bytes) = Some keyword.LineComment
 keyword_of (phrase.Naming t blanks name c) = Some (keyword.Naming t)
-keyword_of (phrase.Defining t blanks name) = Some (keyword.Defining t)
-keyword_of (phrase.Colon blanks name) = Some keyword.Colon
+keyword_of (phrase.Defining w blanks name) = Some (keyword.Defining w)
 keyword_of (phrase.Alone w) = Some (keyword.Lone w)
 
 -- the definition that a phrase is, by its number
@@ -91,8 +89,7 @@ IsPlaced k word (phrase.Quoted blank pieces bytes) =
 IsPlaced k word (phrase.Comment blank bytes) = (blank ≢ 10) × IsWithin 41 bytes
 IsPlaced k word (phrase.LineComment bytes) = All (λ b. b ≢ 10) bytes
 IsPlaced k word (phrase.Naming t blanks name c) = AreBlanks blanks × IsWord name × (code_named k.names name ≡ Some c)
-IsPlaced k word (phrase.Defining t blanks name) = AreBlanks blanks × IsName name
-IsPlaced k word (phrase.Colon blanks name) = AreBlanks blanks × IsName name
+IsPlaced k word (phrase.Defining w blanks name) = AreBlanks blanks × IsName name
 IsPlaced k word (phrase.Alone lone.Recurse) = (d : Own) × (k.open_one ≡ Some d)
 IsPlaced k word (phrase.Alone lone.Offset16) = LeaveOpen k.items IsStraight
 IsPlaced k word _ = Unit {0}
@@ -108,8 +105,7 @@ abbrev pub IsFollowed : Phrase → List ℕ → Type 0
 IsFollowed (phrase.NumberIn base blanks digits x) more = EndsWord more
 IsFollowed (phrase.Character blanks b bytes) more = EndsWord more
 IsFollowed (phrase.Naming t blanks name c) more = EndsWord more
-IsFollowed (phrase.Defining t blanks name) more = EndsWord more
-IsFollowed (phrase.Colon blanks name) more = EndsWord more
+IsFollowed (phrase.Defining w blanks name) more = EndsWord more
 IsFollowed (phrase.LineComment bytes) more = EndsLine more
 IsFollowed (phrase.Quoted blank pieces bytes) more = group more ≡ None
 IsFollowed _ more = Unit {0}

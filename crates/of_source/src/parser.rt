@@ -8,7 +8,7 @@ ghost use Rattle.of_source.specs.declared.keyword.Lone.TheVariants as lone;
 
 use crate::fault::SourceFault;
 use crate::item::{Item, Name, Plain};
-use crate::keyword::{Keyword, Lone, Maker, Quote, Radix};
+use crate::keyword::{Definer, Keyword, Lone, Maker, Quote, Radix};
 use crate::names::{Names, Own};
 use crate::nesting::Nesting;
 use crate::number::{Number, number_in};
@@ -242,8 +242,8 @@ impl<'a> Parser<'a> {
             Keyword::Text(Quote::Bytes) => self.bytes_word(),
             Keyword::Text(Quote::Plain) => self.plain_word(),
             Keyword::Text(Quote::Printed) => self.printed_word(),
-            Keyword::Colon => self.colon_word(last),
-            Keyword::Defining(code) => self.defining_word(code, last),
+            Keyword::Defining(Definer::Colon) => self.colon_word(last),
+            Keyword::Defining(Definer::Other(code)) => self.defining_word(code, last),
             Keyword::Naming(code) => self.naming_word(code, last),
             Keyword::Lone(word) => self.lone_word(word),
         }

@@ -3,7 +3,7 @@ ghost use Rattle.std.specs.Option.{option_map};
 ghost use Rattle.of_source.specs.Keywords.{text_rows, control_rows, row_shown, keyword_in, keyword_named, is_ordinary};
 ghost use Rattle.of_source.specs.Keywords.{ordinary_named};
 
-use crate::keyword::{Keyword, Lone, Maker, Quote, Radix};
+use crate::keyword::{Definer, Keyword, Lone, Maker, Quote, Radix};
 use crate::names::is_same_name;
 use of_fcodes::{FCode, Word, fcode_of, word_of};
 
@@ -28,15 +28,15 @@ static TEXT_ROWS: [Row; 29] = [
     ("\"",         Keyword::Text(Quote::Bytes)),
     ("s\"",        Keyword::Text(Quote::Plain)),
     (".\"",        Keyword::Text(Quote::Printed)),
-    (":",          Keyword::Colon),
+    (":",          Keyword::Defining(Definer::Colon)),
     (";",          Keyword::Lone(Lone::Semicolon)),
-    ("value",      Keyword::Defining(FCode(0x0b8))),
-    ("variable",   Keyword::Defining(FCode(0x0b9))),
-    ("constant",   Keyword::Defining(FCode(0x0ba))),
-    ("create",     Keyword::Defining(FCode(0x0bb))),
-    ("defer",      Keyword::Defining(FCode(0x0bc))),
-    ("buffer:",    Keyword::Defining(FCode(0x0bd))),
-    ("field",      Keyword::Defining(FCode(0x0be))),
+    ("value",      Keyword::Defining(Definer::Other(FCode(0x0b8)))),
+    ("variable",   Keyword::Defining(Definer::Other(FCode(0x0b9)))),
+    ("constant",   Keyword::Defining(Definer::Other(FCode(0x0ba)))),
+    ("create",     Keyword::Defining(Definer::Other(FCode(0x0bb)))),
+    ("defer",      Keyword::Defining(Definer::Other(FCode(0x0bc)))),
+    ("buffer:",    Keyword::Defining(Definer::Other(FCode(0x0bd)))),
+    ("field",      Keyword::Defining(Definer::Other(FCode(0x0be)))),
     ("recurse",    Keyword::Lone(Lone::Recurse)),
     ("'",          Keyword::Naming(FCode(0x011))),
     ("[']",        Keyword::Naming(FCode(0x011))),

@@ -1,6 +1,7 @@
 // Definitions and their names (IEEE 1275-1994, 5.3.3.1; Forth 2012, 3.3.1.2).
 ghost use Rattle.std.specs.Prelude.{◌≡◌, ◌∷◌, [], Err, IfErr, IfOk, length, Ok, OnOk};
 ghost use Rattle.of_source.specs.Items as item;
+ghost use Rattle.of_source.specs.declared.keyword.Definer.TheVariants as definer;
 ghost use Rattle.of_source.specs.declared.keyword.Keyword.TheVariants as keyword;
 ghost use Rattle.of_source.specs.declared.keyword.Lone.TheVariants as lone;
 
@@ -14,8 +15,8 @@ use std::alloc::AllocError;
 
 impl<'a> Parser<'a> {
     ghost use Rattle.of_source.specs.Items.{made_shown};
-    ghost use Rattle.of_source.specs.Steps.{name_read, defined, knowing, defining, made, keyword_step, lone_step};
-    ghost use Rattle.of_source.specs.Steps.{Steps};
+    ghost use Rattle.of_source.specs.Effects.{can_name, has_open, open_ends};
+    ghost use Rattle.of_source.specs.Steps.{name_read, changed, next_own, made, keyword_step, lone_step, Steps};
 
     /// The name of a definition, of at most 31 bytes.
     fn name(&mut self, last: usize) -> Result<&'a [u8], SourceFault>
@@ -47,7 +48,7 @@ impl<'a> Parser<'a> {
     /// A defining word other than `:`.
     #[tactic(auto, using(crate::proofs::Refusals::refused))]
     pub(super) fn defining_word(&mut self, code: FCode, last: usize) -> Result<bool, SourceFault>
-        ensures { Steps (keyword_step last (keyword.Defining code) self.old) self.new result }
+        ensures { Steps (keyword_step last (keyword.Defining (definer.Other code)) self.old) self.new result }
     {
         if self.nesting.in_definition() {
             return self.unknown();
@@ -61,7 +62,7 @@ impl<'a> Parser<'a> {
 
     /// A definition that can be named from here on.
     fn know(&mut self, name: &'a [u8]) -> Result<(), AllocError>
-        ensures { OnOk result (self.new ≡ knowing name.now self.old) }
+        ensures { OnOk result (self.new ≡ changed (can_name (next_own name.now self.old)) self.old) }
     {
         let number = self.known.count();
         self.known.add(Own { name, number })?;
@@ -71,7 +72,7 @@ impl<'a> Parser<'a> {
     /// `:`.
     #[tactic(auto, using(crate::proofs::Refusals::refused))]
     pub(super) fn colon_word(&mut self, last: usize) -> Result<bool, SourceFault>
-        ensures { Steps (keyword_step last keyword.Colon self.old) self.new result }
+        ensures { Steps (keyword_step last (keyword.Defining definer.Colon) self.old) self.new result }
     {
         if self.nesting.in_definition() {
             return self.unknown();
@@ -87,7 +88,7 @@ impl<'a> Parser<'a> {
 
     /// A definition that is open.
     fn open_definition(&mut self, name: &'a [u8])
-        ensures { self.new ≡ defining name.now self.old }
+        ensures { self.new ≡ changed (has_open (next_own name.now self.old)) self.old }
     {
         let number = self.known.count();
         self.open_one = Some(Own { name, number });
@@ -95,7 +96,7 @@ impl<'a> Parser<'a> {
 
     /// The open definition is closed, and can be named.
     fn define(&mut self) -> Result<(), AllocError>
-        ensures { OnOk result (self.new ≡ defined self.old) }
+        ensures { OnOk result (self.new ≡ changed open_ends self.old) }
     {
         if let Some(own) = self.open_one {
             self.known.add(own)?;
