@@ -13,7 +13,7 @@ use Rattle.of_source.specs.declared.keyword.Keyword.TheVariants as keyword
 use Rattle.of_source.specs.declared.keyword.Lone.{Lone}
 use Rattle.of_source.specs.declared.keyword.Lone.TheVariants as lone
 use Rattle.of_source.specs.declared.nesting.Part.{Part}
-use Rattle.of_source.specs.Effects.{effect_of, known_with}
+use Rattle.of_source.specs.Effects.{all_names, effect_of, known_with}
 use Rattle.of_source.specs.declared.nesting.Part.TheVariants as part
 use Rattle.of_source.specs.Completion.{AreFree, PrefixesGoOn, begun_text, closing_word, closing_words, completion}
 use Rattle.of_source.specs.Completion.{on_lines, thens}
@@ -178,7 +178,7 @@ abbrev behind_line : List ℕ → Lone → Known → Known
 behind_line w key k = behind w (phrase.Alone key) (moved (10 ∷ []) k)
 
 word_more : (w : List ℕ) (key : Lone) (words : List (List ℕ)) (k : Known) → IsClosing w key
-    → own_in k.names w ≡ None → Finishes words (behind_line w key k) → Finishes (w ∷ words) k
+    → own_in k.setting.names w ≡ None → Finishes words (behind_line w key k) → Finishes (w ∷ words) k
 word_more w key words k c n f = record {
   phrases = record { blanks = 10 ∷ []; word = w; phrase = phrase.Alone key } ∷ f.phrases;
   text = ap (λ t. 10 ∷ w ++ t) f.text;
@@ -197,7 +197,7 @@ word_more w key words k c n f = record {
   runs = f.runs;
 }
 
-end_now : (k : Known) → own_in k.names (codes "fcode-end") ≡ None → run k.items nothing ≡ Some nothing
+end_now : (k : Known) → own_in k.setting.names (codes "fcode-end") ≡ None → run k.items nothing ≡ Some nothing
     → Finishes (codes "fcode-end" ∷ []) k
 unfolding keyword_named text_rows
 end_now k n r = record {
@@ -230,9 +230,9 @@ free_now (Some d) names w h = either (str_eq_ignore_ascii_case d.name w) h
 abbrev Free : List Own → List ℕ → Type 0
 Free names w = own_in names w ≡ None
 
-free_at : (k : Known) (names : List Own) (w : List ℕ) → known_with k.open_one k.names ≡ names → Free names w
-    → own_in k.names w ≡ None
-free_at k names w e h = free_now k.open_one k.names w (ap (λ ds. own_in ds w) e ∙ h)
+free_at : (k : Known) (names : List Own) (w : List ℕ) → all_names k.setting ≡ names → Free names w
+    → own_in k.setting.names w ≡ None
+free_at k names w e h = free_now k.setting.open_one k.setting.names w (ap (λ ds. own_in ds w) e ∙ h)
 
 behind_thens : (n : ℕ) (words : List (List ℕ)) (names : List Own) → All (Free names) (thens n words)
     → All (Free names) words
@@ -255,9 +255,9 @@ then_more n m ps k l r =
     run-append k.items (item.Then ∷ []) nothing ∙ ap (option_and_then (run (item.Then ∷ []))) r ∙ then_run n m ps l
 
 thens_finish : (n m : ℕ) (ps : List (Part × ℕ)) (words : List (List ℕ)) (k : Known) (names : List Own)
-    → known_with k.open_one k.names ≡ names → All (Free names) (thens n words)
+    → all_names k.setting ≡ names → All (Free names) (thens n words)
     → run k.items nothing ≡ Some (shape (n + m) ps) → floor_of ps ≤ m
-    → ((l : Known) → known_with l.open_one l.names ≡ names → run l.items nothing ≡ Some (shape m ps)
+    → ((l : Known) → all_names l.setting ≡ names → run l.items nothing ≡ Some (shape m ps)
     → Finishes words l)
     → Finishes (thens n words) k
 thens_finish zero m ps words k names e a r l next =
@@ -280,8 +280,8 @@ closer_run part.Of at b one ps = ap (option_and_then (run [])) (closed_part part
 
 -- the names behind a closer
 closer_names : (k : Part) (w : List ℕ) (l : Known)
-    → known_with (behind w (phrase.Alone (closer k)) l).open_one (behind w (phrase.Alone (closer k)) l).names
-    ≡ known_with l.open_one l.names
+    → all_names (behind w (phrase.Alone (closer k)) l).setting
+    ≡ all_names l.setting
 closer_names part.Definition w l = refl
 closer_names part.Begin w l = refl
 closer_names part.Do w l = refl
@@ -293,11 +293,11 @@ part_more : (k : Part) (b : ℕ) (ps : List (Part × ℕ)) (l : Known)
     → run (behind_line (closing_word k) (closer k) l).items nothing ≡ Some (shape b ps)
 part_more k b ps l r =
     let at = (moved (10 ∷ []) l).at in
-    let is = (effect_of (closer k)).gives at l.open_one in
-    run-append l.items is nothing ∙ ap (option_and_then (run is)) r ∙ closer_run k at b l.open_one ps
+    let is = (effect_of (closer k)).gives at l.setting.open_one in
+    run-append l.items is nothing ∙ ap (option_and_then (run is)) r ∙ closer_run k at b l.setting.open_one ps
 
 all_finish : (ps : List (Part × ℕ)) (count : ℕ) (k : Known) (names : List Own)
-    → known_with k.open_one k.names ≡ names → Stacked count ps → All (Free names) (closing_words count ps)
+    → all_names k.setting ≡ names → Stacked count ps → All (Free names) (closing_words count ps)
     → run k.items nothing ≡ Some (shape count ps) → Finishes (closing_words count ps) k
 all_finish [] count k names e s a r =
     let z : count ≡ count + 0 = omega arith in
@@ -367,7 +367,7 @@ completed : (z : OffsetSize) (b : Beginning) (ps : List Spelled) (more : List �
     × (parsed (begun_text b ps (on_lines (completion o))) ≡ Ok (record { size = z; items = items_in b ps ++ items }))
 completed z b ps more o begun said r free =
     let k = all_behind ps (begun_with b) in
-    let f = all_finish o.parts o.count k (known_with k.open_one k.names) refl
+    let f = all_finish o.parts o.count k (all_names k.setting) refl
     (run_stacked (items_in b ps) nothing o r tt)
     free r in
     let line = closing_line o.parts o.count in

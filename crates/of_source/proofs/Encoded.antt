@@ -180,7 +180,7 @@ record Inv (names : List Own) (one : Option Own) (items : List Item) : Type 0 wh
   bytes : AreEncodable items
 
 abbrev Holds : Known → Type 0
-Holds k = Inv k.names k.open_one k.items
+Holds k = Inv k.setting.names k.setting.open_one k.items
 
 raised : (m n : ℕ) (ds : List Own) → m ≤ n → AreBelow m ds → AreBelow n ds
 raised m n [] l h = tt
@@ -235,19 +235,21 @@ stays names one items more o n r u b h =
     }
 
 one_stays : (k : Known) (i : Item) (o : Shape) → IsInner i → run k.items nothing ≡ Some o
-    → UsesAmong (definitions k.items) i → HasBytes i → Holds k → Inv k.names k.open_one (k.items ++ i ∷ [])
+    → UsesAmong (definitions k.items) i → HasBytes i → Holds k
+    → Inv k.setting.names k.setting.open_one (k.items ++ i ∷ [])
 one_stays k i o n r u b h =
-    stays k.names k.open_one k.items (i ∷ []) o (n, tt) r (u, tt) (λ l. one_more i b) h
+    stays k.setting.names k.setting.open_one k.items (i ∷ []) o (n, tt) r (u, tt) (λ l. one_more i b) h
 
 two_stay : (k : Known) (i j : Item) (o : Shape) → IsInner i → IsInner j → run k.items nothing ≡ Some o
     → UsesAmong (definitions k.items) i → UsesAmong (definitions k.items) j → HasBytes i → HasBytes j → Holds k
-    → Inv k.names k.open_one (k.items ++ i ∷ j ∷ [])
+    → Inv k.setting.names k.setting.open_one (k.items ++ i ∷ j ∷ [])
 two_stay k i j o m n r u v b c h =
-    stays k.names k.open_one k.items (i ∷ j ∷ []) o (m, (n, tt)) r (u, (v, tt)) (λ l. two_more i j b c) h
+    stays k.setting.names k.setting.open_one k.items (i ∷ j ∷ []) o (m, (n, tt)) r (u, (v, tt))
+    (λ l. two_more i j b c) h
 
 none_stay : (k : Known) (o : Shape) → run k.items nothing ≡ Some o → Holds k
-    → Inv k.names k.open_one (k.items ++ [])
-none_stay k o r h = stays k.names k.open_one k.items [] o tt r tt (λ l. nothing_more) h
+    → Inv k.setting.names k.setting.open_one (k.items ++ [])
+none_stay k o r h = stays k.setting.names k.setting.open_one k.items [] o tt r tt (λ l. nothing_more) h
 
 -- ---- definitions
 
@@ -392,19 +394,19 @@ recursion_bytes (Some d) n h l =
 -- ---- phrases
 
 strings : (q : Quote) (bytes : List ℕ) (k : Known) (o : Shape) → length bytes ≤ 255
-    → run k.items nothing ≡ Some o → Holds k → Inv k.names k.open_one (k.items ++ string_items q bytes)
+    → run k.items nothing ≡ Some o → Holds k → Inv k.setting.names k.setting.open_one (k.items ++ string_items q bytes)
 strings quote.Printed bytes k o l r h =
     two_stay k (item.Plain (string bytes)) (item.Plain (bare 0x090)) o tt tt r (omega arith, tt) (omega arith, tt)
     (string_bytes bytes (omega (arith, l))) type_bytes h
 strings _ bytes k o l r h =
     one_stays k (item.Plain (string bytes)) o tt r (omega arith, tt) (string_bytes bytes (omega (arith, l))) h
 
-phrase_keeps : (p : Phrase) (k : Known) (word : List ℕ) (o q : Shape) → own_in k.names word ≡ own_of p
+phrase_keeps : (p : Phrase) (k : Known) (word : List ℕ) (o q : Shape) → own_in k.setting.names word ≡ own_of p
     → IsKeyword word p → IsPlaced k word p → run k.items nothing ≡ Some o → run (items_of p k) o ≡ Some q → Holds k
     → Holds (behind word p k)
 phrase_keeps (phrase.OwnWord n) k word o q e m w r f h =
-    let made = own_below (definitions k.items) k.names word n h.known e in
-    stays k.names k.open_one k.items (item.Plain (call (own_code n)) ∷ []) o (tt, tt) r
+    let made = own_below (definitions k.items) k.setting.names word n h.known e in
+    stays k.setting.names k.setting.open_one k.items (item.Plain (call (own_code n)) ∷ []) o (tt, tt) r
     ((omega (arith, made), tt), tt)
     (λ l. one_more (item.Plain (call (own_code n)))
     (bare_bytes (own_code n) (own_bare n (omega (arith, l, made))))) h
@@ -433,23 +435,25 @@ phrase_keeps (phrase.Quoted blank pieces bytes) k word o q e m w r f h =
 phrase_keeps (phrase.Comment blank bytes) k word o q e m w r f h = none_stay k o r h
 phrase_keeps (phrase.LineComment bytes) k word o q e m w r f h = none_stay k o r h
 phrase_keeps (phrase.Naming t blanks name c) k word o q e m w r f h =
-    stays k.names k.open_one k.items (item.Plain (naming t c) ∷ []) o (tt, tt) r
-    ((board t _ (naming_low word t m), named_among name (definitions k.items) k.names c h.known w.2), tt)
+    stays k.setting.names k.setting.open_one k.items (item.Plain (naming t c) ∷ []) o (tt, tt) r
+    ((board t _ (naming_low word t m), named_among name (definitions k.items) k.setting.names c h.known w.2), tt)
     (λ l. one_more (item.Plain (naming t c))
     (naming_bytes t c (keyword_good word (keyword.Naming t) m)
-    (named_bare name (definitions k.items) k.names c h.known l w.2))) h
+    (named_bare name (definitions k.items) k.setting.names c h.known l w.2))) h
 phrase_keeps (phrase.Alone (lone.Headers x)) k word o q e m w r f h = none_stay k o r h
 phrase_keeps (phrase.Alone (lone.Radix base)) k word o q e m w r f h = none_stay k o r h
 phrase_keeps (phrase.Defining (definer.Other t) blanks name) k word o q e m w r f h =
-    makes_one k.maker name t k.names k.open_one k.items o q w.1.1
+    makes_one k.setting.maker name t k.setting.names k.setting.open_one k.items o q w.1.1
     (bare_good t (keyword_good word (keyword.Defining (definer.Other t)) m)) r f h
 phrase_keeps (phrase.Defining definer.Colon blanks name) k word o q e m w r f h =
-    begins_one k.maker name k.names k.open_one k.items o q w.1.1 r f h
-phrase_keeps (phrase.Alone lone.Semicolon) k word o q e m w r f h = ends_one k.names k.open_one k.items h
+    begins_one k.setting.maker name k.setting.names k.setting.open_one k.items o q w.1.1 r f h
+phrase_keeps (phrase.Alone lone.Semicolon) k word o q e m w r f h =
+    ends_one k.setting.names k.setting.open_one k.items h
 phrase_keeps (phrase.Alone lone.Recurse) k word o q e m w r f h =
-    stays k.names k.open_one k.items (recursion k.open_one) o (recursion_inner k.open_one) r
-    (recursion_among k.open_one (definitions k.items) h.latest)
-    (recursion_bytes k.open_one (definitions k.items) h.latest) h
+    stays k.setting.names k.setting.open_one k.items (recursion k.setting.open_one) o
+    (recursion_inner k.setting.open_one) r
+    (recursion_among k.setting.open_one (definitions k.items) h.latest)
+    (recursion_bytes k.setting.open_one (definitions k.items) h.latest) h
 phrase_keeps (phrase.Alone lone.Offset16) k word o q e m w r f h =
     one_stays k (item.Plain (bare 0x0cc)) o tt r (omega arith, tt) offset16_bytes h
 phrase_keeps (phrase.Alone lone.Repeat) k word o q e m w r f h =

@@ -55,14 +55,15 @@ astray_word radix meant r q at w h m =
 
 -- behind the end of a source
 astray_late : (z : OffsetSize) (t : State) (b : Beyond) (f : SourceFault) → FoundBeyond t.rest b
-    → trailed z t b ≡ Err f → IsAstray (base_of t.radix) (λ w. false) t.rest f
+    → trailed z t b ≡ Err f → IsAstray (base_of t.setting.radix) (λ w. false) t.rest f
 astray_late z t Nothing f h e = absurd cc
 astray_late z t (Bad at) f h e =
-    subst (IsAstray (base_of t.radix) (λ w. false) t.rest) (fault_is (Unknown at) f e)
-    (astray_comment (base_of t.radix) (λ w. false) t.rest at h)
+    subst (IsAstray (base_of t.setting.radix) (λ w. false) t.rest) (fault_is (Unknown at) f e)
+    (astray_comment (base_of t.setting.radix) (λ w. false) t.rest at h)
 astray_late z t (Word at w q) f h e =
-    subst (IsAstray (base_of t.radix) (λ v. false) t.rest) (fault_is (misplaced at (base_of t.radix) w) f e)
-    (astray_word (base_of t.radix) (λ v. false) t.rest q at w h refl)
+    subst (IsAstray (base_of t.setting.radix) (λ v. false) t.rest)
+    (fault_is (misplaced at (base_of t.setting.radix) w) f e)
+    (astray_word (base_of t.setting.radix) (λ v. false) t.rest q at w h refl)
 
 -- ---- the words of a source
 
@@ -119,10 +120,10 @@ broken_end last z s t b f g h e =
     } in
     let r : t.rest ≡ rest_at (s.rest.at + length g.blanks + length g.word) t.rest.text =
     ap (λ a. rest_at a t.rest.text) g.place in
-    let a : IsAstray (base_of t.radix) (λ v. false) t.rest f = astray_late z t b f h e in
-    let c : IsAstray (base_of s.radix) (λ v. false) t.rest f =
+    let a : IsAstray (base_of t.setting.radix) (λ v. false) t.rest f = astray_late z t b f h e in
+    let c : IsAstray (base_of s.setting.radix) (λ v. false) t.rest f =
     subst (λ x. IsAstray (base_of x) (λ v. false) t.rest f) g.radix a in
-    late f w g.own g.means g.closed (subst (λ (x : Rest). IsAstray (base_of s.radix) (λ v. false) x f) r c)
+    late f w g.own g.means g.closed (subst (λ (x : Rest). IsAstray (base_of s.setting.radix) (λ v. false) x f) r c)
 
 broken_step : (text : List ℕ) (z : OffsetSize) (n : ℕ) (s : State) (x : Step) (f : SourceFault)
     → SaidNext (last_place text) s x → Kept x → Shrinks (length s.rest.text) x → length s.rest.text ≤ suc n

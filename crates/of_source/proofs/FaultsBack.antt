@@ -34,7 +34,7 @@ use Rattle.of_source.specs.Parsing.{Beyond, Word, Nothing, Bad, is_word, beyond,
 use Rattle.of_source.specs.Parsing.{begun, misplaced, parsed}
 use Rattle.of_source.specs.Order.{behind_word, behind_words, outcome_at, IsDecided}
 use Rattle.of_source.specs.Phrases.{Phrase, Spelled, Beginning, Known, written, each_written, version_word, taken}
-use Rattle.of_source.specs.Phrases.{items_of, moved, named, behind, all_behind, place_behind, begun_with}
+use Rattle.of_source.specs.Phrases.{items_of, moved, behind, all_behind, place_behind, begun_with}
 use Rattle.of_source.specs.Effects.{effect_of, making_of}
 use Rattle.of_source.specs.Phrases as phrase
 use Rattle.of_source.specs.Written.{AreBlanks, own_of, IsKeyword, IsSaid, AreRemarks}
@@ -53,6 +53,7 @@ use Rattle.of_source.proofs.SaidSteps.{Says, Said, said_word}
 use Rattle.of_source.proofs.WrittenLemmas.{read_word, said_goes, remarks_passed, nothing_beyond}
 use Rattle.of_source.proofs.WrittenLemmas.{headed, head_at, head_longer, version_first, some_written}
 use Rattle.of_source.specs.Effects.{making_of}
+use Rattle.of_source.specs.Effects.{made}
 
 -- ---- what is open behind a phrase, by its word
 
@@ -94,9 +95,9 @@ pub opened_runs : (p : Phrase) (k : Known) (n m : Nesting) → opened p k.at n �
     → run (items_of p k) (shape_of n) ≡ Some (shape_of m)
 opened_runs (phrase.Defining d blanks name) k n m h =
     let w = open_when (not (in_definition n.parts)) ((making_of d).opens k.at n) m h in
-    making_runs d k.at n (named name k) (not_so (in_definition n.parts) w.0)
+    making_runs d k.at n (made name k.setting) (not_so (in_definition n.parts) w.0)
     ∙ ap (λ (y : Nesting). Some (shape_of y)) w.1
-opened_runs (phrase.Alone w) k n m h = effect_runs w k.at k.open_one n m h
+opened_runs (phrase.Alone w) k n m h = effect_runs w k.at k.setting.open_one n m h
 opened_runs (phrase.Text false b bytes) k n m h = shape_same n m h
 opened_runs (phrase.Text true b bytes) k n m h = shape_same n m h
 opened_runs _ k n m h = shape_same n m h
@@ -111,12 +112,12 @@ record Fits (last at : ℕ) (p : Spelled) (k : Known) (n m : Nesting) (more : Li
       (behind p.word p.phrase (moved p.blanks k)) m)
 
 same_nesting : (last : ℕ) (u t : State) (word : List ℕ) (p : Phrase) (m : Nesting) → Inv u
-    → word_step last word u ≡ Goes t → own_in u.known word ≡ own_of p → IsKeyword word p
+    → word_step last word u ≡ Goes t → own_in u.setting.names word ≡ own_of p → IsKeyword word p
     → opened p u.at u.nesting ≡ Some m → t.nesting ≡ m
 same_nesting last u t word p m i g o e h =
     let s : Says u word t = subst (Said last u word) g (said_word last u word i) in
-    let a = opened_word p word (own_in u.known word) u.at u.nesting o e in
-    let b = opened_word s.phrase word (own_in u.known word) u.at u.nesting s.own s.means in
+    let a = opened_word p word (own_in u.setting.names word) u.at u.nesting o e in
+    let b = opened_word s.phrase word (own_in u.setting.names word) u.at u.nesting s.own s.means in
     same_open t.nesting m (sym s.opens ∙ b ∙ sym a ∙ h)
 
 fits : (last at : ℕ) (p : Spelled) (k : Known) (n m : Nesting) (more : List ℕ)
@@ -141,7 +142,7 @@ fits last at p k n m more h r e =
 
 -- ---- a word that can't stand
 
-by_key : (last : ℕ) (word : List ℕ) (s : State) (key : Keyword) (f : SourceFault) → own_in s.known word ≡ None
+by_key : (last : ℕ) (word : List ℕ) (s : State) (key : Keyword) (f : SourceFault) → own_in s.setting.names word ≡ None
     → keyword_named word ≡ Some key → keyword_step last key s ≡ Fails f → word_step last word s ≡ Fails f
 by_key last word s key f o m e = keyed last word s (Some key) o m ∙ e
 
@@ -170,7 +171,7 @@ next_some : (f : SourceFault) (r : Rest) (w : HasWord r.text) (go : List ℕ →
     → with_next f (next_word r) go ≡ go w.word (rest_at (r.at + length w.blanks + length w.word) w.more)
 next_some f r w go = ap (λ o. with_next f o go) (word_there r w)
 
-word_fails : (last : ℕ) (key : Keyword) (word : List ℕ) (s : State) → TakesWord key → own_in s.known word ≡ None
+word_fails : (last : ℕ) (key : Keyword) (word : List ℕ) (s : State) → TakesWord key → own_in s.setting.names word ≡ None
     → keyword_named word ≡ Some key → AreBlanks s.rest.text → word_step last word s ≡ Fails (ended last s)
 word_fails last keyword.Character word s t o m b = by_key last word s _ _ o m (next_none (ended last s) s.rest _ b)
 word_fails last (keyword.Naming c) word s t o m b = by_key last word s _ _ o m (next_none (ended last s) s.rest _ b)
@@ -180,7 +181,7 @@ name_fails : (last : ℕ) (s : State) (r : Rest) (go : List ℕ → State → St
     → with_name (name_found last s (next_word r)) go ≡ Fails (ended last s)
 name_fails last s r go h = ap (λ o. with_name (name_found last s o) go) (no_word_after r.text r.at h)
 
-no_name_fails : (last : ℕ) (w : Definer) (word : List ℕ) (s : State) → own_in s.known word ≡ None
+no_name_fails : (last : ℕ) (w : Definer) (word : List ℕ) (s : State) → own_in s.setting.names word ≡ None
     → keyword_named word ≡ Some (keyword.Defining w) → in_definition s.nesting.parts ≡ false → AreBlanks s.rest.text
     → word_step last word s ≡ Fails (Unclosed (first_open last ((making_of w).opens s.at s.nesting)))
 no_name_fails last w word s o m e b =
@@ -199,7 +200,7 @@ long_fails last s w go l =
     ∙ rw t (ap (λ a. Fails (TooLong a)) (start_there s.rest w))
 
 long_name_fails : (last : ℕ) (d : Definer) (word : List ℕ) (s : State) (w : HasWord s.rest.text)
-    → own_in s.known word ≡ None → keyword_named word ≡ Some (keyword.Defining d)
+    → own_in s.setting.names word ≡ None → keyword_named word ≡ Some (keyword.Defining d)
     → in_definition s.nesting.parts ≡ false → 31 < length w.word
     → word_step last word s ≡ Fails (TooLong (s.rest.at + length w.blanks))
 long_name_fails last d word s w o m e l =
@@ -229,7 +230,7 @@ string_none s f go e = ap (λ o. with_string s o go) e
 code_none : (at : ℕ) (o : Option FCode) (go : FCode → Step) → o ≡ None → with_code at o go ≡ Fails (Unknown at)
 code_none at o go e = ap (λ x. with_code at x go) e
 
-no_end_fails : (last : ℕ) (key : Keyword) (word : List ℕ) (s : State) → own_in s.known word ≡ None
+no_end_fails : (last : ℕ) (key : Keyword) (word : List ℕ) (s : State) → own_in s.setting.names word ≡ None
     → keyword_named word ≡ Some key → string_behind key s.rest.text ≡ Some None
     → word_step last word s ≡ Fails (Unknown s.at)
 no_end_fails last keyword.Comment word s o m e =
@@ -239,7 +240,7 @@ no_end_fails last _ word s o m e = absurd cc
 
 -- each of these words is refused for its fault
 wrong_back : (last : ℕ) (k : Known) (n : Nesting) (word : List ℕ) (r : Rest) {f : SourceFault}
-    → own_in k.names word ≡ None → IsWrong last k n word r f
+    → own_in k.setting.names word ≡ None → IsWrong last k n word r f
     → word_step last word (state_at k.at r k n) ≡ Fails f
 wrong_back last k n word r o (no_opener w m d) =
     let s = state_at k.at r k n in by_key last word s _ _ o m (ap (λ x. effect_step (effect_of w) x s) d)
@@ -260,12 +261,12 @@ wrong_back last k n word r o (no_end key m e) = no_end_fails last key word (stat
 wrong_back last k n word r o (no_code t w m c) =
     let s = state_at k.at r k n in
     by_key last word s _ _ o m
-    (next_some (ended last s) r w _ ∙ code_none (start_of r) (code_named k.names w.word) _ c
+    (next_some (ended last s) r w _ ∙ code_none (start_of r) (code_named k.setting.names w.word) _ c
     ∙ ap (λ a. Fails (Unknown a)) (start_there r w))
 wrong_back last k n word r o (not_outside w m e) =
     by_key last word (state_at k.at r k n) _ _ o m (then_of (in_definition n.parts) _ _ e)
 wrong_back last k n word r o (not_inside m e) =
-    by_key last word (state_at k.at r k n) _ _ o m (else_of (is_some k.open_one) _ _ (ap is_some e))
+    by_key last word (state_at k.at r k n) _ _ o m (else_of (is_some k.setting.open_one) _ _ (ap is_some e))
 wrong_back last k n word r o (not_straight m e) =
     by_key last word (state_at k.at r k n) _ _ o m (else_of (is_straight n) _ _ e)
 wrong_back last k n word r o (out_of_range m c v) =
@@ -334,7 +335,7 @@ astray_back radix meant r n l (another cs text w e rem p x m) =
     (sym b) (m, refl)
 
 trailed_back : (z : OffsetSize) (t : State) (b : Beyond) (f : SourceFault)
-    → IsBeyond (base_of t.radix) (λ w. false) b f → trailed z t b ≡ Err f
+    → IsBeyond (base_of t.setting.radix) (λ w. false) b f → trailed z t b ≡ Err f
 trailed_back z t (Word at w r) f h = ap (λ (g : SourceFault). let x : Result Source SourceFault = Err g in x) (sym h.1)
 trailed_back z t Nothing f h = absurd h
 trailed_back z t (Bad at) f h = ap (λ (g : SourceFault). let x : Result Source SourceFault = Err g in x) (sym h)
@@ -390,7 +391,7 @@ failing_now text z at k n more l (late f w o m c x) =
           (read_on last at k n more w ∙ keyed last w.word t (Some keyword.Finish) o m
           ∙ then_of (is_closed n) (Ends t) _ c)
           ∙ ap (λ y. Some y) (trailed_back z t (beyond (length text) r) f
-          (astray_back (base_of k.radix) (λ v. false) r (length text) (omega (arith, l, shorter more w)) x));
+          (astray_back (base_of k.setting.radix) (λ v. false) r (length text) (omega (arith, l, shorter more w)) x));
     }
 
 -- where phrases open so, each does

@@ -42,10 +42,11 @@ use Rattle.of_source.specs.Steps.{with_name, name_found, with_string, number_or_
 use Rattle.of_source.specs.Steps.{number_word_step, number_items, number_token, comment_step, with_code}
 use Rattle.of_source.specs.Steps.{text_step, keyword_step, ordinary_step, listed_step, own_step, word_step, next_step}
 use Rattle.of_source.specs.Nesting.{then_without_branch, then_with_branch, opened_if}
-use Rattle.of_source.specs.Steps.{code_named, made}
+use Rattle.of_source.specs.Steps.{code_named}
 use Rattle.of_source.specs.Parsing.{Beyond, Word}
 use Rattle.of_source.specs.Steps.{beginning}
 use Rattle.of_source.specs.Parsing.{Nothing, Bad, trailed, beyond, stepped, words, begun, misplaced, parsed}
+use Rattle.of_source.specs.Effects.{made}
 
 abbrev pub Inv : State → Type 0
 Inv s = run s.items nothing ≡ Some (shape_of s.nesting)
@@ -293,11 +294,11 @@ effect_runs _ at one m n h = shape_same m n h
 -- ---- words
 
 kept_effect : (e : Effect) (o : Option Nesting) (s : State) → Inv s
-    → ((n : Nesting) → o ≡ Some n → run (e.gives s.at s.open_one) (shape_of s.nesting) ≡ Some (shape_of n))
+    → ((n : Nesting) → o ≡ Some n → run (e.gives s.at s.setting.open_one) (shape_of s.nesting) ≡ Some (shape_of n))
     → Kept (effect_step e o s)
 kept_effect e None s h k = tt
 kept_effect e (Some n) s h k =
-    kept_if (may_stand e.stands s) _ _ (λ b. given (e.gives s.at s.open_one) s n h (k n refl))
+    kept_if (may_stand e.stands s) _ _ (λ b. given (e.gives s.at s.setting.open_one) s n h (k n refl))
 
 kept_comment : (s : State) (o : Found) → Inv s → Kept (comment_step s o)
 kept_comment s None h = tt
@@ -358,11 +359,11 @@ kept_keyword last (keyword.Defining w) s h =
     let n = (making_of w).opens s.at s.nesting in
     kept_unless (in_definition s.nesting.parts) _ _
     (λ e. kept_name last (opening n s) (next_word s.rest) _
-    (λ name r. given _ (reading_on r s) n h (making_runs w s.at s.nesting (made name s) e)))
+    (λ name r. given _ (reading_on r s) n h (making_runs w s.at s.nesting (made name s.setting) e)))
 kept_keyword last (keyword.Naming t) s h =
-    kept_next _ (next_word s.rest) _ (λ name r. kept_code _ (code_named s.known name) t (reading_on r s) h)
+    kept_next _ (next_word s.rest) _ (λ name r. kept_code _ (code_named s.setting.names name) t (reading_on r s) h)
 kept_keyword last (keyword.Lone w) s h =
-    kept_effect (effect_of w) ((effect_of w).opens s.at s.nesting) s h (effect_runs w s.at s.open_one s.nesting)
+    kept_effect (effect_of w) ((effect_of w).opens s.at s.nesting) s h (effect_runs w s.at s.setting.open_one s.nesting)
 
 kept_number : (s : State) (n : Number) → Inv s → Kept (number_word_step s n)
 kept_number s (Value x) h = plain (number_token x) s h
@@ -371,7 +372,7 @@ kept_number s NoNumber h = tt
 
 kept_ordinary : (word : List ℕ) (s : State) (o : Option FCode) → Inv s → Kept (ordinary_step word s o)
 kept_ordinary word s (Some c) h = plain (call c) s h
-kept_ordinary word s None h = kept_number s (number_in (base_of s.radix) word) h
+kept_ordinary word s None h = kept_number s (number_in (base_of s.setting.radix) word) h
 
 kept_listed : (last : ℕ) (word : List ℕ) (s : State) (o : Option Keyword) → Inv s → Kept (listed_step last word s o)
 kept_listed last word s (Some k) h = kept_keyword last k s h
@@ -383,7 +384,7 @@ kept_own last word s None h = kept_listed last word s (keyword_named word) h
 
 kept_word : (last : ℕ) (word : List ℕ) (s : State) → Inv s → Kept (word_step last word s)
 unfolding word_step
-kept_word last word s h = kept_own last word s (own_in s.known word) h
+kept_word last word s h = kept_own last word s (own_in s.setting.names word) h
 
 -- each word keeps it
 pub kept : (last : ℕ) (s : State) → Inv s → Kept (next_step last s)

@@ -34,7 +34,6 @@ use Rattle.of_source.specs.Steps.{may_stand, string_found, string_items}
 use Rattle.of_source.specs.Steps.{number_or_bad, number_items, comment_step, code_named}
 use Rattle.of_source.specs.Steps.{keyword_step, number_word_step, ordinary_step, listed_step, own_step, word_step}
 use Rattle.of_source.specs.Phrases.{Phrase, Spelled, Known, taken, written, items_of, behind}
-use Rattle.of_source.specs.Phrases.{next_own, named}
 use Rattle.of_source.specs.Effects.{effect_of}
 use Rattle.of_source.specs.Phrases as phrase
 use Rattle.of_source.specs.Strings.{Piece, pieces_bytes, IsWithin, ArePieces}
@@ -48,16 +47,14 @@ use Rattle.of_source.proofs.Opening.{straight_goes}
 use Rattle.of_source.specs.Effects.{effect_of, making_of}
 use Rattle.of_source.specs.Phrases.{quote_if}
 use Rattle.of_source.proofs.Opening.{making_goes}
+use Rattle.of_source.specs.Effects.{made}
 
 -- the state of a word here, behind which this is left, where this is known and open
 abbrev pub state_at : ℕ → Rest → Known → Nesting → State
 state_at at r k n = record {
   at = at;
   rest = r;
-  radix = k.radix;
-  maker = k.maker;
-  known = k.names;
-  open_one = k.open_one;
+  setting = k.setting;
   nesting = n;
   items = k.items;
 }
@@ -111,7 +108,7 @@ character_goes last b blanks word at from k n more c h p =
 
 pub naming_goes : (last : ℕ) (t : FCode) (blanks name : List ℕ) (c : FCode) (at from : ℕ) (k : Known) (n : Nesting)
     (more : List ℕ)
-    → AreBlanks blanks → IsWord name → code_named k.names name ≡ Some c → Parts more
+    → AreBlanks blanks → IsWord name → code_named k.setting.names name ≡ Some c → Parts more
     → GoesOn (keyword_step last (keyword.Naming t) (state_at at (rest_at from ((blanks ++ name) ++ more)) k n))
     (with_items (item.Plain (naming t c) ∷ []) k) (rest_at (from + length (blanks ++ name)) more)
 naming_goes last t blanks name c at from k n more b h e p =
@@ -231,12 +228,12 @@ defining_step_goes last w blanks name at from k n more word b h e p = record {
 -- ---- one phrase
 
 own_goes : (last j : ℕ) (word : List ℕ) (at : ℕ) (r : Rest) (k : Known) (n : Nesting)
-    → own_in k.names word ≡ Some j
+    → own_in k.setting.names word ≡ Some j
     → GoesOn (word_step last word (state_at at r k n)) (with_items (item.Plain (call (own_code j)) ∷ []) k) r
 unfolding word_step
 own_goes last j word at r k n h = record { at = at; nesting = n; goes = ap (own_step last word (state_at at r k n)) h }
 
-pub keyed : (last : ℕ) (word : List ℕ) (s : State) (key : Option Keyword) → own_in s.known word ≡ None
+pub keyed : (last : ℕ) (word : List ℕ) (s : State) (key : Option Keyword) → own_in s.setting.names word ≡ None
     → keyword_named word ≡ key → word_step last word s ≡ listed_step last word s key
 unfolding word_step
 keyed last word s key h e = ap (own_step last word s) h ∙ ap (listed_step last word s) e
@@ -247,7 +244,7 @@ board_goes word c at r k n h =
     record { at = at; nesting = n; goes = ap (ordinary_step word (state_at at r k n)) h }
 
 digits_go : (word : List ℕ) (x : Cell) (at : ℕ) (r : Rest) (k : Known) (n : Nesting) → ordinary_named word ≡ None
-    → number_in (base_of k.radix) word ≡ Value x
+    → number_in (base_of k.setting.radix) word ≡ Value x
     → GoesOn (ordinary_step word (state_at at r k n) (ordinary_named word)) (with_items (number_items x) k) r
 digits_go word x at r k n h e = record {
   at = at;
@@ -262,7 +259,7 @@ Left step from word p k more = GoesOn step (behind word p k) (rest_at (from + le
 
 -- a phrase of a keyword, where the keyword's word goes on
 by_keyword : (last from : ℕ) (word : List ℕ) (key : Keyword) (p : Phrase) (k : Known) (n : Nesting) (more : List ℕ)
-    → own_in k.names word ≡ None → keyword_named word ≡ Some key
+    → own_in k.setting.names word ≡ None → keyword_named word ≡ Some key
     → Left (keyword_step last key (state_at k.at (rest_at from (taken p ++ more)) k n)) from word p k more
     → Left (word_step last word (state_at k.at (rest_at from (taken p ++ more)) k n)) from word p k more
 by_keyword last from word key p k n more h e g =
@@ -278,7 +275,7 @@ still step from k more h =
 
 -- the same, where nothing is taken
 by_word : (last from : ℕ) (word : List ℕ) (key : Keyword) (p : Phrase) (k : Known) (n : Nesting) (more : List ℕ)
-    → own_in k.names word ≡ None → keyword_named word ≡ Some key
+    → own_in k.setting.names word ≡ None → keyword_named word ≡ Some key
     → GoesOn (keyword_step last key (state_at k.at (rest_at from more) k n)) (behind word p k) (rest_at from more)
     → GoesOn (word_step last word (state_at k.at (rest_at from more) k n)) (behind word p k) (rest_at (from + 0) more)
 by_word last from word key p k n more h e g =
@@ -341,7 +338,7 @@ line_comment_goes last bytes at from k n more h f = record {
 
 -- each phrase goes on, where it can stand
 pub phrase_goes : (last from : ℕ) (word : List ℕ) (p : Phrase) (k : Known) (n : Nesting) (more : List ℕ)
-    → own_in k.names word ≡ own_of p → IsKeyword word p → IsPlaced k word p
+    → own_in k.setting.names word ≡ own_of p → IsKeyword word p → IsPlaced k word p
     → run k.items nothing ≡ Some (shape_of n) → MayStand (items_of p k) n → IsFollowed p more
     → Left (word_step last word (state_at k.at (rest_at from (taken p ++ more)) k n)) from word p k more
 phrase_goes last from word (phrase.OwnWord j) k n more h e w r m f =
@@ -381,9 +378,9 @@ phrase_goes last from word (phrase.Naming t blanks name c) k n more h e w r m f 
     (naming_goes last t blanks name c k.at from k n more w.0 w.1 w.2 (ends_part more f))
 phrase_goes last from word (phrase.Defining d blanks name) k n more h e w r m f =
     by_keyword last from word _ (phrase.Defining d blanks name) k n more h e
-    (defining_step_goes last d blanks name k.at from k n more word w.0 w.1 (making_goes d n (named name k) m)
+    (defining_step_goes last d blanks name k.at from k n more word w.0 w.1 (making_goes d n (made name k.setting) m)
     (ends_part more f))
 phrase_goes last from word (phrase.Alone lw) k n more h e w r m f =
     by_word last from word _ (phrase.Alone lw) k n more h e
-    (effect_goes lw _ (rest_at from more) k n word (lone_opens lw k.at k.open_one n m)
+    (effect_goes lw _ (rest_at from more) k n word (lone_opens lw k.at k.setting.open_one n m)
     (lone_stands lw (rest_at from more) k n word w r))

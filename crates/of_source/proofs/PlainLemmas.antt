@@ -217,7 +217,7 @@ phrase_plain (phrase.Alone (lone.One t)) k word m h =
 phrase_plain (phrase.Alone (lone.Two t u)) k word m h =
     let w = both (is_word t) (is_word u) (fine word (keyword.Lone (lone.Two t u)) m) in
     two k.items (call t) (call u) (word_is t w.0) (word_is u w.1)
-phrase_plain (phrase.Alone lone.Recurse) k word m h = recursions k.open_one k.items
+phrase_plain (phrase.Alone lone.Recurse) k word m h = recursions k.setting.open_one k.items
 phrase_plain (phrase.Alone lone.Offset16) k word m h = (refl, λ e. h, tt)
 phrase_plain _ k word m h = tt
 

@@ -61,14 +61,7 @@ use Rattle.of_source.specs.Phrases.{quote_if}
 
 -- what is known in a state, at this place
 abbrev pub known_at : ℕ → State → Known
-known_at at s = record {
-  at = at;
-  radix = s.radix;
-  maker = s.maker;
-  names = s.known;
-  open_one = s.open_one;
-  items = s.items;
-}
+known_at at s = record { at = at; setting = s.setting; items = s.items }
 
 -- at another place
 abbrev pub placed_at : ℕ → Known → Known
@@ -79,7 +72,7 @@ pub record Says (u : State) (word : List ℕ) (t : State) : Type 0 where
   pub phrase : Phrase
   pub text : u.rest.text ≡ taken phrase ++ t.rest.text
   pub place : t.rest.at ≡ u.rest.at + length (taken phrase)
-  pub own : own_in u.known word ≡ own_of phrase
+  pub own : own_in u.setting.names word ≡ own_of phrase
   pub means : IsKeyword word phrase
   pub placed : IsPlaced (known_at u.at u) word phrase
   pub followed : IsFollowed phrase t.rest.text
@@ -89,11 +82,12 @@ pub record Says (u : State) (word : List ℕ) (t : State) : Type 0 where
 -- the word ends a source
 abbrev IsLast : State → List ℕ → State → Type 0
 IsLast u word t =
-    (t ≡ u) × (own_in u.known word ≡ None) × (keyword_named word ≡ Some keyword.Finish) × (is_closed u.nesting ≡ true)
+    (t ≡ u) × (own_in u.setting.names word ≡ None) × (keyword_named word ≡ Some keyword.Finish)
+    × (is_closed u.nesting ≡ true)
 
 -- the word can't stand there, and the last byte of the text is at this place
 abbrev Failed : ℕ → State → List ℕ → SourceFault → Type 0
-Failed last u word f = (own_in u.known word ≡ None) × IsWrong last (known_at u.at u) u.nesting word u.rest f
+Failed last u word f = (own_in u.setting.names word ≡ None) × IsWrong last (known_at u.at u) u.nesting word u.rest f
 
 abbrev pub Said : ℕ → State → List ℕ → Step → Type 0
 Said last u word (Goes t) = Says u word t
@@ -104,7 +98,8 @@ stay : (at : ℕ) → at ≡ at + 0
 stay at = omega arith
 
 -- a phrase that takes nothing from the text
-alone : (u t : State) (word : List ℕ) (p : Phrase) → taken p ≡ [] → t.rest ≡ u.rest → own_in u.known word ≡ own_of p
+alone : (u t : State) (word : List ℕ) (p : Phrase) → taken p ≡ [] → t.rest ≡ u.rest
+    → own_in u.setting.names word ≡ own_of p
     → IsKeyword word p → IsPlaced (known_at u.at u) word p → IsFollowed p t.rest.text
     → ((at : ℕ) → known_at at t ≡ placed_at at (behind word p (known_at u.at u)))
     → opened p u.at u.nesting ≡ Some t.nesting → Says u word t
@@ -196,7 +191,7 @@ operand_place u w r h = h.6 ∙ together u.rest.at (length h.0) (length w) (leng
 -- ---- words that read on
 
 said_number : (last : ℕ) (u : State) (word : List ℕ) (base : Radix) (w : List ℕ) (r : Rest) (v : Number)
-    → own_in u.known word ≡ None → keyword_named word ≡ Some (keyword.NumberIn base) → Taken u w r
+    → own_in u.setting.names word ≡ None → keyword_named word ≡ Some (keyword.NumberIn base) → Taken u w r
     → number_in (base_of base) w ≡ v
     → Said last u word (number_or_bad u.at v (λ x. Goes (giving (number_items x) (reading_on r u))))
 said_number last u word base w r (Value x) o m h e = record {
@@ -221,7 +216,7 @@ said_number last u word base w r NoNumber o m h e =
     no_value : (x : Cell) → NoNumber ≡ Value x → ⊥
     no_value x d = cc
 
-said_character : (last : ℕ) (u : State) (word w : List ℕ) (r : Rest) → own_in u.known word ≡ None
+said_character : (last : ℕ) (u : State) (word w : List ℕ) (r : Rest) → own_in u.setting.names word ≡ None
     → keyword_named word ≡ Some keyword.Character → Taken u w r
     → Said last u word (Goes (giving (number_items (record { 0 = slice_index w 0 })) (reading_on r u)))
 said_character last u word [] r o m h = let l : 0 < 0 = h.3.0 in absurd (omega (arith, l))
@@ -238,8 +233,8 @@ said_character last u word (b ∷ bytes) r o m h = record {
 }
 
 said_naming : (last : ℕ) (u : State) (word : List ℕ) (t : FCode) (w : List ℕ) (r : Rest) (o : Option FCode)
-    → own_in u.known word ≡ None → keyword_named word ≡ Some (keyword.Naming t) → Taken u w r
-    → code_named u.known w ≡ o
+    → own_in u.setting.names word ≡ None → keyword_named word ≡ Some (keyword.Naming t) → Taken u w r
+    → code_named u.setting.names w ≡ o
     → Said last u word (with_code (start_of u.rest) o
     (λ c. Goes (giving (item.Plain (naming t c) ∷ []) (reading_on r u))))
 said_naming last u word t w r None o m h e = (
@@ -259,7 +254,7 @@ said_naming last u word t w r (Some c) o m h e = record {
   opens = refl;
 }
 
-said_comment : (last : ℕ) (u : State) (word : List ℕ) (o : Found) → own_in u.known word ≡ None
+said_comment : (last : ℕ) (u : State) (word : List ℕ) (o : Found) → own_in u.setting.names word ≡ None
     → keyword_named word ≡ Some keyword.Comment → FoundPlain 41 u.rest.text o → plain_string 41 u.rest.text ≡ o
     → Said last u word (comment_step u o)
 said_comment last u word None n m h d = (n, no_end keyword.Comment m (ap (λ (o : Found). Some o) d))
@@ -275,7 +270,7 @@ said_comment last u word (Some r) n m h d = record {
   opens = refl;
 }
 
-said_line : (last : ℕ) (u : State) (word : List ℕ) → own_in u.known word ≡ None
+said_line : (last : ℕ) (u : State) (word : List ℕ) → own_in u.setting.names word ≡ None
     → keyword_named word ≡ Some keyword.LineComment
     → Said last u word (Goes (reading_on (left_of u.rest (line_end u.rest.text)) u))
 said_line last u word n m =
@@ -296,7 +291,7 @@ plain_there : (prints : Bool) (text : List ℕ) → string_found (quote_if print
 plain_there true text = refl
 plain_there false text = refl
 
-said_plain : (last : ℕ) (prints : Bool) (u : State) (word : List ℕ) (o : Found) → own_in u.known word ≡ None
+said_plain : (last : ℕ) (prints : Bool) (u : State) (word : List ℕ) (o : Found) → own_in u.setting.names word ≡ None
     → keyword_named word ≡ Some (keyword.Text (quote_if prints)) → FoundPlain 34 u.rest.text o
     → plain_string 34 u.rest.text ≡ o
     → Said last u word
@@ -321,7 +316,7 @@ said_plain last prints u word (Some r) n m h d =
       opens = refl;
     })
 
-said_quoted : (last : ℕ) (u : State) (word : List ℕ) (o : Found) → own_in u.known word ≡ None
+said_quoted : (last : ℕ) (u : State) (word : List ℕ) (o : Found) → own_in u.setting.names word ≡ None
     → keyword_named word ≡ Some (keyword.Text quote.Bytes) → FoundQuoted u.rest.text o
     → quoted_string u.rest.text ≡ o
     → Said last u word (with_string u o (λ bytes t. Goes (giving (item.Plain (string bytes) ∷ []) t)))
@@ -342,7 +337,7 @@ said_quoted last u word (Some r) n m h d =
       opens = refl;
     })
 
-said_text : (last : ℕ) (q : Quote) (u : State) (word : List ℕ) → own_in u.known word ≡ None
+said_text : (last : ℕ) (q : Quote) (u : State) (word : List ℕ) → own_in u.setting.names word ≡ None
     → keyword_named word ≡ Some (keyword.Text q) → Said last u word (text_step q u)
 said_text last quote.Bytes u word n m =
     said_quoted last u word (quoted_string u.rest.text) n m (quoted_found u.rest.text) refl
@@ -381,18 +376,19 @@ none_there (Some d) h = absurd cc
 -- where a keyword may stand, its phrase can, and elsewhere the keyword is wrong
 lone_placed : (w : Lone) (u : State) (word : List ℕ) → Inv u → may_stand (effect_of w).stands u ≡ true
     → IsPlaced (known_at u.at u) word (phrase.Alone w)
-lone_placed lone.Recurse u word i b = some_there u.open_one b
+lone_placed lone.Recurse u word i b = some_there u.setting.open_one b
 lone_placed lone.Offset16 u word i b = (shape_of u.nesting, i, straight_shape u.nesting b)
 lone_placed _ u word i b = tt
 
 lone_wrong : (last : ℕ) (w : Lone) (u : State) (word : List ℕ) → keyword_named word ≡ Some (keyword.Lone w)
     → may_stand (effect_of w).stands u ≡ false → IsWrong last (known_at u.at u) u.nesting word u.rest (Unknown u.at)
-lone_wrong last lone.Recurse u word m b = not_inside m (none_there u.open_one b)
+lone_wrong last lone.Recurse u word m b = not_inside m (none_there u.setting.open_one b)
 lone_wrong last lone.Offset16 u word m b = not_straight m b
 lone_wrong last _ u word m b = absurd cc
 
-said_effect : (last : ℕ) (w : Lone) (o : Option Nesting) (u : State) (word : List ℕ) → own_in u.known word ≡ None
-    → keyword_named word ≡ Some (keyword.Lone w) → Inv u → (effect_of w).opens u.at u.nesting ≡ o
+said_effect : (last : ℕ) (w : Lone) (o : Option Nesting) (u : State) (word : List ℕ)
+    → own_in u.setting.names word ≡ None → keyword_named word ≡ Some (keyword.Lone w) → Inv u
+    → (effect_of w).opens u.at u.nesting ≡ o
     → Said last u word (effect_step (effect_of w) o u)
 said_effect last w None u word n m i e = (n, no_opener w m e)
 said_effect last w (Some x) u word n m i e =
@@ -403,7 +399,7 @@ said_effect last w (Some x) u word n m i e =
 
 -- a name of more than 31 bytes
 named_long : (last : ℕ) (u : State) (word : List ℕ) (w : Definer) (name : List ℕ) (r : Rest) → Taken u name r
-    → own_in u.known word ≡ None → keyword_named word ≡ Some (keyword.Defining w)
+    → own_in u.setting.names word ≡ None → keyword_named word ≡ Some (keyword.Defining w)
     → in_definition u.nesting.parts ≡ false → 31 < length name → Failed last u word (TooLong (start_of u.rest))
 named_long last u word w name r h n m e l = (
   n,
@@ -411,7 +407,7 @@ named_long last u word w name r h n m e l = (
       (long_name w (has_word u name r h) m e l),
 )
 
-said_keyword : (last : ℕ) (k : Keyword) (u : State) (word : List ℕ) → own_in u.known word ≡ None
+said_keyword : (last : ℕ) (k : Keyword) (u : State) (word : List ℕ) → own_in u.setting.names word ≡ None
     → keyword_named word ≡ Some k → Inv u → Said last u word (keyword_step last k u)
 said_keyword last keyword.Finish u word n m i = said_if last u word (is_closed u.nesting) _ (Ends u)
     (λ e. (n, left_open m e)) (λ e. (refl, n, m, e))
@@ -444,34 +440,35 @@ said_keyword last (keyword.Defining w) u word n m i =
 said_keyword last (keyword.Naming t) u word n m i =
     said_next last u word _ (next_word u.rest) _ (next_found u.rest.at u.rest.text)
     (λ c. (n, no_word (keyword.Naming t) m tt c))
-    (λ w r h. said_naming last u word t w r (code_named u.known w) n m h refl)
+    (λ w r h. said_naming last u word t w r (code_named u.setting.names w) n m h refl)
 said_keyword last (keyword.Lone w) u word n m i = said_effect last w _ u word n m i refl
 
-said_digits : (last : ℕ) (u : State) (word : List ℕ) (v : Number) → own_in u.known word ≡ None
+said_digits : (last : ℕ) (u : State) (word : List ℕ) (v : Number) → own_in u.setting.names word ≡ None
     → keyword_named word ≡ None
-    → ordinary_named word ≡ None → number_in (base_of u.radix) word ≡ v → Said last u word (number_word_step u v)
+    → ordinary_named word ≡ None → number_in (base_of u.setting.radix) word ≡ v
+    → Said last u word (number_word_step u v)
 said_digits last u word (Value x) n m o e = alone u _ word (phrase.Number x) refl refl n m (o, e) tt (λ at. refl) refl
 said_digits last u word OutOfRange n m o e = (n, out_of_range m o e)
 said_digits last u word NoNumber n m o e = (n, no_meaning m o e)
 
-said_ordinary : (last : ℕ) (u : State) (word : List ℕ) (o : Option FCode) → own_in u.known word ≡ None
+said_ordinary : (last : ℕ) (u : State) (word : List ℕ) (o : Option FCode) → own_in u.setting.names word ≡ None
     → keyword_named word ≡ None → ordinary_named word ≡ o → Said last u word (ordinary_step word u o)
 said_ordinary last u word (Some c) n m e = alone u _ word (phrase.BoardWord c) refl refl n m e tt (λ at. refl) refl
-said_ordinary last u word None n m e = said_digits last u word (number_in (base_of u.radix) word) n m e refl
+said_ordinary last u word None n m e = said_digits last u word (number_in (base_of u.setting.radix) word) n m e refl
 
-said_listed : (last : ℕ) (u : State) (word : List ℕ) (o : Option Keyword) → own_in u.known word ≡ None
+said_listed : (last : ℕ) (u : State) (word : List ℕ) (o : Option Keyword) → own_in u.setting.names word ≡ None
     → keyword_named word ≡ o → Inv u → Said last u word (listed_step last word u o)
 said_listed last u word (Some k) n m i = said_keyword last k u word n m i
 said_listed last u word None n m i = said_ordinary last u word (ordinary_named word) n m refl
 
-said_own : (last : ℕ) (u : State) (word : List ℕ) (o : Option ℕ) → own_in u.known word ≡ o → Inv u
+said_own : (last : ℕ) (u : State) (word : List ℕ) (o : Option ℕ) → own_in u.setting.names word ≡ o → Inv u
     → Said last u word (own_step last word u o)
 said_own last u word (Some j) e i = alone u _ word (phrase.OwnWord j) refl refl e tt tt tt (λ at. refl) refl
 said_own last u word None e i = said_listed last u word (keyword_named word) e refl i
 
 pub said_word : (last : ℕ) (u : State) (word : List ℕ) → Inv u → Said last u word (word_step last word u)
 unfolding word_step
-said_word last u word i = said_own last u word (own_in u.known word) refl i
+said_word last u word i = said_own last u word (own_in u.setting.names word) refl i
 
 -- ---- the next word, with the blanks before it
 
@@ -495,11 +492,11 @@ pub record IsEnd (s t : State) : Type 0 where
   pub between : AreBlanks blanks
   pub spelled : IsWord word
   pub ends : EndsWord t.rest.text
-  pub own : own_in s.known word ≡ None
+  pub own : own_in s.setting.names word ≡ None
   pub means : keyword_named word ≡ Some keyword.Finish
   pub closed : is_closed s.nesting ≡ true
   pub items : t.items ≡ s.items
-  pub radix : t.radix ≡ s.radix
+  pub radix : t.setting.radix ≡ s.setting.radix
   pub place : t.rest.at ≡ s.rest.at + length blanks + length word
 
 -- the next word can't stand there, or the text ends
@@ -553,7 +550,7 @@ next_ends s w r t h g =
       means = g.2;
       closed = g.3;
       items = ap (λ (x : State). x.items) g.0;
-      radix = ap (λ (x : State). x.radix) g.0;
+      radix = ap (λ (x : State). x.setting.radix) g.0;
       place = ap (λ (x : State). x.rest.at) g.0 ∙ h.6;
     }
 

@@ -247,7 +247,7 @@ within_keyword last (keyword.Defining w) s =
     (next_word-within s.rest) (λ name r l. l))
 within_keyword last (keyword.Naming t) s =
     within_next _ _ (next_word s.rest) _ (next_word-within s.rest)
-    (λ w r l. within_code _ _ (code_named s.known w) _ (λ c. l))
+    (λ w r l. within_code _ _ (code_named s.setting.names w) _ (λ c. l))
 within_keyword last (keyword.Lone w) s = within_effect (effect_of w) _ s
 
 within_number : (s : State) (n : Number) → Within (length s.rest.text) (number_word_step s n)
@@ -257,7 +257,7 @@ within_number s NoNumber = tt
 
 within_ordinary : (word : List ℕ) (s : State) (o : Option FCode) → Within (length s.rest.text) (ordinary_step word s o)
 within_ordinary word s (Some c) = same s
-within_ordinary word s None = within_number s (number_in (base_of s.radix) word)
+within_ordinary word s None = within_number s (number_in (base_of s.setting.radix) word)
 
 within_listed : (last : ℕ) (word : List ℕ) (s : State) (o : Option Keyword)
     → Within (length s.rest.text) (listed_step last word s o)
@@ -271,7 +271,7 @@ within_own last word s None = within_listed last word s (keyword_named word)
 
 within_word : (last : ℕ) (word : List ℕ) (s : State) → Within (length s.rest.text) (word_step last word s)
 unfolding word_step
-within_word last word s = within_own last word s (own_in s.known word)
+within_word last word s = within_own last word s (own_in s.setting.names word)
 
 -- behind a word fewer bytes are left
 abbrev pub Shrinks : ℕ → Step → Type 0

@@ -7,7 +7,7 @@ use Rattle.of_source.specs.declared.nesting.Part.{Part}
 use Rattle.of_source.specs.declared.nesting.Part.TheVariants as part
 use Rattle.of_source.specs.Items.{Item}
 use Rattle.of_source.specs.Names.{own_in}
-use Rattle.of_source.specs.Effects.{known_with}
+use Rattle.of_source.specs.Effects.{all_names}
 use Rattle.of_source.specs.Nesting.{Nesting, nothing_open}
 use Rattle.of_source.specs.Shapes.{Shape, nothing, run, shape_of}
 use Rattle.of_source.specs.Parsing.{parsed}
@@ -44,7 +44,7 @@ on_lines (w ∷ words) = 10 ∷ w ++ on_lines words
 
 -- no definition has one of these names, nor has the one that is open
 abbrev pub AreFree : List (List ℕ) → Known → Type 0
-AreFree words k = All (λ w. own_in (known_with k.open_one k.names) w ≡ None) words
+AreFree words k = All (λ w. own_in (all_names k.setting) w ≡ None) words
 
 -- a source that begins with these phrases, and then this text
 abbrev pub begun_text : Beginning → List Spelled → List ℕ → List ℕ

@@ -1,8 +1,10 @@
 -- What keywords do: a row for each that takes nothing from the text behind it, and for each defining word (IEEE
 -- 1275-1994, 5.3 and annex C; Forth 2012, A.3.2.3.2).
-use Rattle.std.specs.Prelude.{ℕ, false, List, [], ◌∷◌, Option, Some, None}
+use Rattle.std.specs.Prelude.{ℕ, false, List, [], ◌∷◌, length, Option, Some, None}
 use Rattle.of_source.specs.declared.keyword.Maker.{Maker}
+use Rattle.of_source.specs.declared.keyword.Maker.TheVariants.{Named}
 use Rattle.of_source.specs.declared.keyword.Radix.{Radix}
+use Rattle.of_source.specs.declared.keyword.Radix.TheVariants.{Hexadecimal}
 use Rattle.of_source.specs.declared.keyword.Definer.{Definer}
 use Rattle.of_source.specs.declared.keyword.Definer.TheVariants as definer
 use Rattle.of_source.specs.declared.keyword.Lone.{Lone}
@@ -29,10 +31,24 @@ pub record Setting : Type 0 where
   pub names : List Own
   pub open_one : Option Own
 
--- with the definition that was open, if one was
+-- what is known at the beginning
+abbrev pub first_setting : Setting
+first_setting = record { radix = Hexadecimal; maker = Named; names = []; open_one = None }
+
+-- the definition of this name that begins, with the next number
+abbrev pub made : List ℕ → Setting → Made
+made name c = record { maker = c.maker; name = name; number = length c.names }
+
+abbrev pub next_own : List ℕ → Setting → Own
+next_own name c = record { name = name; number = length c.names }
+
+-- the names, and that of the definition that is open, if one is
 abbrev pub known_with : Option Own → List Own → List Own
 known_with None known = known
 known_with (Some d) known = d ∷ known
+
+abbrev pub all_names : Setting → List Own
+all_names c = known_with c.open_one c.names
 
 -- a definition can be named from here on
 abbrev pub can_name : Own → Setting → Setting
@@ -44,7 +60,7 @@ has_open d c = record c { open_one = Some d }
 
 -- the open definition is closed, and can be named
 abbrev pub open_ends : Setting → Setting
-open_ends c = record c { names = known_with c.open_one c.names; open_one = None }
+open_ends c = record c { names = all_names c; open_one = None }
 
 -- ---- keywords that take nothing
 

@@ -101,19 +101,19 @@ pub data IsWrong (last : ℕ) (k : Known) (n : Nesting) (word : List ℕ) (r : R
       → IsWrong last k n word r (Unknown k.at)
   -- behind `'`, `[']` or `to` a word that stands for no FCode
   no_code : (t : FCode) (w : HasWord r.text) → keyword_named word ≡ Some (keyword.Naming t)
-      → code_named k.names w.word ≡ None → IsWrong last k n word r (Unknown (r.at + length w.blanks))
+      → code_named k.setting.names w.word ≡ None → IsWrong last k n word r (Unknown (r.at + length w.blanks))
   -- a defining word in a definition, `recurse` outside all, `offset16` in a control structure
   not_outside : (w : Definer) → keyword_named word ≡ Some (keyword.Defining w) → in_definition n.parts ≡ true
       → IsWrong last k n word r (Unknown k.at)
-  not_inside : keyword_named word ≡ Some (keyword.Lone lone.Recurse) → k.open_one ≡ None
+  not_inside : keyword_named word ≡ Some (keyword.Lone lone.Recurse) → k.setting.open_one ≡ None
       → IsWrong last k n word r (Unknown k.at)
   not_straight : keyword_named word ≡ Some (keyword.Lone lone.Offset16) → is_straight n ≡ false
       → IsWrong last k n word r (Unknown k.at)
   -- digits that no cell holds, and a word that is nothing
   out_of_range : keyword_named word ≡ None → ordinary_named word ≡ None
-      → number_in (base_of k.radix) word ≡ OutOfRange → IsWrong last k n word r (BadNumber k.at)
+      → number_in (base_of k.setting.radix) word ≡ OutOfRange → IsWrong last k n word r (BadNumber k.at)
   no_meaning : keyword_named word ≡ None → ordinary_named word ≡ None
-      → number_in (base_of k.radix) word ≡ NoNumber → IsWrong last k n word r (Unknown k.at)
+      → number_in (base_of k.setting.radix) word ≡ NoNumber → IsWrong last k n word r (Unknown k.at)
 
 -- ---- outside the words of a source
 
@@ -133,13 +133,13 @@ pub data IsFailure (last : ℕ) (k : Known) (n : Nesting) (text : List ℕ) : So
   -- the text ends
   cut : AreBlanks text → IsFailure last k n text (Unclosed (first_open last n))
   -- a word can't stand there
-  wrong : (f : SourceFault) (w : HasWord text) → own_in k.names w.word ≡ None
+  wrong : (f : SourceFault) (w : HasWord text) → own_in k.setting.names w.word ≡ None
       → IsWrong last (moved w.blanks k) n w.word (rest_at (k.at + length w.blanks + length w.word) w.more) f
       → IsFailure last k n text f
   -- `fcode-end` ends the source, and behind it stand more than comments
-  late : (f : SourceFault) (w : HasWord text) → own_in k.names w.word ≡ None
+  late : (f : SourceFault) (w : HasWord text) → own_in k.setting.names w.word ≡ None
       → keyword_named w.word ≡ Some keyword.Finish → is_closed n ≡ true
-      → IsAstray (base_of k.radix) (λ word. false) (rest_at (k.at + length w.blanks + length w.word) w.more) f
+      → IsAstray (base_of k.setting.radix) (λ word. false) (rest_at (k.at + length w.blanks + length w.word) w.more) f
       → IsFailure last k n text f
 
 -- each of these phrases can stand where it does, before this text

@@ -81,7 +81,7 @@ beyond (suc n) r = beyond_word (start_of r) (next_word r) (beyond n)
 abbrev pub trailed : OffsetSize → State → Beyond → Result Source SourceFault
 trailed z s Nothing = Ok (record { size = z; items = s.items })
 trailed z s (Bad at) = Err (Unknown at)
-trailed z s (Word at w r) = Err (misplaced at (base_of s.radix) w)
+trailed z s (Word at w r) = Err (misplaced at (base_of s.setting.radix) w)
 
 -- what a word's step makes of the whole text
 abbrev pub stepped : List ℕ → OffsetSize → Step → (State → Result Source SourceFault) → Result Source SourceFault

@@ -1,19 +1,15 @@
 -- A source as a list of phrases: each is a word with all that it takes from the text.
-use Rattle.std.specs.Prelude.{ℕ, ◌+◌, Bool, true, false, List, [], ◌∷◌, ◌++◌, length, codes, Option, None}
+use Rattle.std.specs.Prelude.{ℕ, ◌+◌, Bool, true, false, List, [], ◌∷◌, ◌++◌, length, codes}
 use Rattle.of_cells.specs.declared.cells.Cell.{Cell}
 use Rattle.of_fcodes.specs.declared.codes.FCode.{FCode}
 use Rattle.of_stream.specs.declared.stream.OffsetSize.{OffsetSize}
 use Rattle.of_stream.specs.declared.stream.OffsetSize.TheVariants as size
-use Rattle.of_source.specs.declared.keyword.Maker.{Maker}
-use Rattle.of_source.specs.declared.keyword.Maker.TheVariants.{Named}
 use Rattle.of_source.specs.declared.keyword.Definer.{Definer}
 use Rattle.of_source.specs.declared.keyword.Lone.{Lone}
 use Rattle.of_source.specs.declared.keyword.Quote.{Quote}
 use Rattle.of_source.specs.declared.keyword.Quote.TheVariants as quote
 use Rattle.of_source.specs.declared.keyword.Radix.{Radix}
-use Rattle.of_source.specs.declared.keyword.Radix.TheVariants.{Hexadecimal}
-use Rattle.of_source.specs.Effects.{effect_of, Setting, making_of}
-use Rattle.of_source.specs.Names.{Own}
+use Rattle.of_source.specs.Effects.{effect_of, making_of, Setting, first_setting, made, next_own}
 use Rattle.of_source.specs.Items.{Item, Made, own_code, call, string, naming, bare}
 use Rattle.of_source.specs.Items as item
 use Rattle.of_source.specs.Steps.{number_items, string_items}
@@ -98,24 +94,17 @@ text_of b ps e = each_written b.comments (b.blanks ++ (b.word ++ all_written ps 
 -- what is known at a phrase
 pub record Known : Type 0 where
   pub at : ℕ  -- the place of its word
-  pub radix : Radix
-  pub maker : Maker
-  pub names : List Own  -- the definitions that can be named, latest first
-  pub open_one : Option Own  -- the definition that is open
+  pub setting : Setting
   pub items : List Item  -- the items before it
 
 -- at this place nothing is known yet
 abbrev pub nothing_known : ℕ → Known
-nothing_known at = record { at = at; radix = Hexadecimal; maker = Named; names = []; open_one = None; items = [] }
+nothing_known at = record { at = at; setting = first_setting; items = [] }
 
 -- `."` or `s"`
 abbrev pub quote_if : Bool → Quote
 quote_if true = quote.Printed
 quote_if false = quote.Plain
-
--- the definition of this name that begins, with the next number
-abbrev pub named : List ℕ → Known → Made
-named name k = record { maker = k.maker; name = name; number = length k.names }
 
 -- the items of a phrase
 abbrev pub items_of : Phrase → Known → List Item
@@ -129,24 +118,13 @@ items_of (Quoted blank pieces bytes) k = item.Plain (string (pieces_bytes pieces
 items_of (Comment blank bytes) k = []
 items_of (LineComment bytes) k = []
 items_of (Naming t blanks name c) k = item.Plain (naming t c) ∷ []
-items_of (Defining w blanks name) k = (making_of w).gives (named name k) ∷ []
-items_of (Alone w) k = (effect_of w).gives k.at k.open_one
-
--- a definition of this name, with the next number
-abbrev pub next_own : List ℕ → Known → Own
-next_own name k = record { name = name; number = length k.names }
-
--- what is known beside items, with a change of it
-abbrev pub known_setting : Known → Setting
-known_setting k = record { radix = k.radix; maker = k.maker; names = k.names; open_one = k.open_one }
-
-abbrev pub knowing : Setting → Known → Known
-knowing c k = record k { radix = c.radix; maker = c.maker; names = c.names; open_one = c.open_one }
+items_of (Defining w blanks name) k = (making_of w).gives (made name k.setting) ∷ []
+items_of (Alone w) k = (effect_of w).gives k.at k.setting.open_one
 
 -- what else is known behind a phrase
 abbrev pub learned : Phrase → Known → Known
-learned (Alone w) k = knowing ((effect_of w).changes (known_setting k)) k
-learned (Defining w blanks name) k = knowing ((making_of w).changes (next_own name k) (known_setting k)) k
+learned (Alone w) k = record k { setting = (effect_of w).changes k.setting }
+learned (Defining w blanks name) k = record k { setting = (making_of w).changes (next_own name k.setting) k.setting }
 learned _ k = k
 
 -- what is known behind a phrase whose word is this

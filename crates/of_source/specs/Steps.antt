@@ -6,15 +6,12 @@ use Rattle.of_fcodes.specs.declared.codes.FCode.{FCode}
 use Rattle.of_stream.specs.Decoding.{Token}
 use Rattle.of_source.specs.declared.fault.SourceFault.{SourceFault}
 use Rattle.of_source.specs.declared.fault.SourceFault.TheVariants.{Unclosed, Unknown, BadNumber, TooLong, NoMemory}
-use Rattle.of_source.specs.declared.keyword.Maker.{Maker}
-use Rattle.of_source.specs.declared.keyword.Maker.TheVariants.{Named}
 use Rattle.of_source.specs.declared.keyword.Quote.{Quote}
 use Rattle.of_source.specs.declared.keyword.Quote.TheVariants as quote
 use Rattle.of_source.specs.declared.keyword.Keyword.{Keyword}
 use Rattle.of_source.specs.declared.keyword.Keyword.TheVariants as keyword
 use Rattle.of_source.specs.declared.keyword.Lone.{Lone}
 use Rattle.of_source.specs.declared.keyword.Radix.{Radix}
-use Rattle.of_source.specs.declared.keyword.Radix.TheVariants.{Hexadecimal}
 use Rattle.of_source.specs.Radix.{base_of}
 use Rattle.of_source.specs.Names.{Own, own_in}
 use Rattle.of_source.specs.Scan.{Rest, left_of, start_of, next_word, Found, quoted_string, plain_string, line_end}
@@ -25,16 +22,14 @@ use Rattle.of_source.specs.Keywords.{keyword_named, ordinary_named}
 use Rattle.of_source.specs.Items.{Item, Made, Source, own_code, call, literal, string, naming, bare}
 use Rattle.of_source.specs.Items as item
 use Rattle.of_source.specs.Nesting.{Nesting, nothing_open, in_definition, is_straight, is_closed, first_open}
-use Rattle.of_source.specs.Effects.{Effect, effect_of, Where, Anywhere, Inside, Straight, Setting, Making, making_of}
+use Rattle.of_source.specs.Effects.{Effect, effect_of, Where, Anywhere, Inside, Straight, Making, making_of, Setting}
+use Rattle.of_source.specs.Effects.{first_setting, made, next_own}
 
 -- what is known at a word
 pub record State : Type 0 where
   pub at : ℕ  -- at which it stands
   pub rest : Rest
-  pub radix : Radix
-  pub maker : Maker
-  pub known : List Own  -- the definitions that can be named, latest first
-  pub open_one : Option Own  -- the definition that is open
+  pub setting : Setting
   pub nesting : Nesting
   pub items : List Item
 
@@ -43,10 +38,7 @@ abbrev pub beginning : Rest → State
 beginning r = record {
   at = r.at;
   rest = r;
-  radix = Hexadecimal;
-  maker = Named;
-  known = [];
-  open_one = None;
+  setting = first_setting;
   nesting = nothing_open;
   items = [];
 }
@@ -73,16 +65,9 @@ reading_on r s = record s { rest = r }
 abbrev pub at_next : Rest → State → State
 at_next r s = record s { at = start_of s.rest; rest = r }
 
--- what is known beside items and what is open
-abbrev pub setting_of : State → Setting
-setting_of s = record { radix = s.radix; maker = s.maker; names = s.known; open_one = s.open_one }
-
-abbrev pub with_setting : Setting → State → State
-with_setting c s = record s { radix = c.radix; maker = c.maker; known = c.names; open_one = c.open_one }
-
--- with a change of it
+-- with a change of what else is known
 abbrev pub changed : (Setting → Setting) → State → State
-changed f s = with_setting (f (setting_of s)) s
+changed f s = record s { setting = f s.setting }
 
 -- ---- names
 
@@ -143,7 +128,7 @@ with_code at (Some c) go = go c
 abbrev pub naming_step : ℕ → FCode → State → Step
 naming_step last t s =
     with_next (ended last s) (next_word s.rest)
-    (λ name r. with_code (start_of s.rest) (code_named s.known name)
+    (λ name r. with_code (start_of s.rest) (code_named s.setting.names name)
     (λ c. Goes (giving (item.Plain (naming t c) ∷ []) (reading_on r s))))
 
 -- with a number, which must be there
@@ -194,13 +179,6 @@ comment_step s (Some r) = Goes (reading_on (left_of s.rest r.1) s)
 
 -- ---- definitions
 
--- the definition of this name that begins, with the next number
-abbrev pub made : List ℕ → State → Made
-made name s = record { maker = s.maker; name = name; number = length s.known }
-
-abbrev pub next_own : List ℕ → State → Own
-next_own name s = record { name = name; number = length s.known }
-
 -- outside all definitions
 abbrev pub if_outside : State → Step → Step
 if_outside s go = if in_definition s.nesting.parts then Fails (Unknown s.at) else go
@@ -209,21 +187,21 @@ if_outside s go = if in_definition s.nesting.parts then Fails (Unknown s.at) els
 abbrev pub defining_step : ℕ → Making → State → Step
 defining_step last w s =
     if_outside s (with_name (name_read last (opening (w.opens s.at s.nesting) s))
-    (λ name r. Goes (changed (w.changes (next_own name s)) (giving (w.gives (made name s) ∷ []) r))))
+    (λ name r. Goes (changed (w.changes (next_own name s.setting)) (giving (w.gives (made name s.setting) ∷ []) r))))
 
 -- ---- words that take nothing from the text
 
 -- a word that stands there may do so
 abbrev pub may_stand : Where → State → Bool
 may_stand Anywhere s = true
-may_stand Inside s = is_some s.open_one
+may_stand Inside s = is_some s.setting.open_one
 may_stand Straight s = is_straight s.nesting
 
 -- a word has this effect, where this may be left open
 abbrev pub effect_step : Effect → Option Nesting → State → Step
 effect_step e None s = Fails (Unclosed s.at)
 effect_step e (Some n) s =
-    if may_stand e.stands s then Goes (changed e.changes (giving (e.gives s.at s.open_one) (opening n s)))
+    if may_stand e.stands s then Goes (changed e.changes (giving (e.gives s.at s.setting.open_one) (opening n s)))
     else Fails (Unknown s.at)
 
 -- what a keyword does that takes nothing from the text
@@ -254,7 +232,7 @@ number_word_step s NoNumber = Fails (Unknown s.at)
 -- a word that is neither an own name nor a keyword
 abbrev pub ordinary_step : List ℕ → State → Option FCode → Step
 ordinary_step word s (Some c) = Goes (giving (item.Plain (call c) ∷ []) s)
-ordinary_step word s None = number_word_step s (number_in (base_of s.radix) word)
+ordinary_step word s None = number_word_step s (number_in (base_of s.setting.radix) word)
 
 -- a word that is no own name
 abbrev pub listed_step : ℕ → List ℕ → State → Option Keyword → Step
@@ -268,7 +246,7 @@ own_step last word s None = listed_step last word s (keyword_named word)
 
 -- a word: an own name goes before all others
 unfoldable pub word_step : ℕ → List ℕ → State → Step
-word_step last word s = own_step last word s (own_in s.known word)
+word_step last word s = own_step last word s (own_in s.setting.names word)
 
 -- the next word of a text
 abbrev pub next_step : ℕ → State → Step

@@ -79,7 +79,7 @@ IsKeyword word p = keyword_named word ≡ keyword_of p
 -- what a phrase asks of the place where it stands, and of what it takes from the text
 abbrev pub IsPlaced : Known → List ℕ → Phrase → Type 0
 IsPlaced k word (phrase.BoardWord c) = ordinary_named word ≡ Some c
-IsPlaced k word (phrase.Number x) = (ordinary_named word ≡ None) × (number_in (base_of k.radix) word ≡ Value x)
+IsPlaced k word (phrase.Number x) = (ordinary_named word ≡ None) × (number_in (base_of k.setting.radix) word ≡ Value x)
 IsPlaced k word (phrase.NumberIn base blanks digits x) =
     AreBlanks blanks × IsWord digits × (number_in (base_of base) digits ≡ Value x)
 IsPlaced k word (phrase.Character blanks b bytes) = AreBlanks blanks × IsWord (b ∷ bytes)
@@ -88,9 +88,10 @@ IsPlaced k word (phrase.Quoted blank pieces bytes) =
     (blank ≢ 10) × (length (pieces_bytes pieces ++ bytes) ≤ 255) × ArePieces pieces × IsWithin 34 bytes
 IsPlaced k word (phrase.Comment blank bytes) = (blank ≢ 10) × IsWithin 41 bytes
 IsPlaced k word (phrase.LineComment bytes) = All (λ b. b ≢ 10) bytes
-IsPlaced k word (phrase.Naming t blanks name c) = AreBlanks blanks × IsWord name × (code_named k.names name ≡ Some c)
+IsPlaced k word (phrase.Naming t blanks name c) =
+    AreBlanks blanks × IsWord name × (code_named k.setting.names name ≡ Some c)
 IsPlaced k word (phrase.Defining w blanks name) = AreBlanks blanks × IsName name
-IsPlaced k word (phrase.Alone lone.Recurse) = (d : Own) × (k.open_one ≡ Some d)
+IsPlaced k word (phrase.Alone lone.Recurse) = (d : Own) × (k.setting.open_one ≡ Some d)
 IsPlaced k word (phrase.Alone lone.Offset16) = LeaveOpen k.items IsStraight
 IsPlaced k word _ = Unit {0}
 
@@ -116,7 +117,7 @@ pub record IsSaid (k : Known) (p : Spelled) (more : List ℕ) : Type 0 where
   pub blanks : AreBlanks p.blanks
   pub spelled : IsWord p.word
   pub ends : EndsWord (taken p.phrase ++ more)
-  pub own : own_in k.names p.word ≡ own_of p.phrase
+  pub own : own_in k.setting.names p.word ≡ own_of p.phrase
   pub means : IsKeyword p.word p.phrase
   pub placed : IsPlaced k p.word p.phrase
   pub followed : IsFollowed p.phrase more
@@ -153,7 +154,7 @@ pub record IsEnded (k : Known) (e : Ending) : Type 0 where
   pub blanks : AreBlanks e.blanks
   pub spelled : IsWord e.word
   pub ends : EndsWord (each_written e.comments e.more)
-  pub own : own_in k.names e.word ≡ None
+  pub own : own_in k.setting.names e.word ≡ None
   pub means : keyword_named e.word ≡ Some keyword.Finish
   pub comments : AreRemarks e.comments e.more
   pub more : AreBlanks e.more

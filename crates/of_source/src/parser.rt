@@ -48,10 +48,12 @@ impl<'a> Model for Parser<'a> {
     ghost view = { λ p. record {
       at = p.at;
       rest = p.rest;
-      radix = p.radix;
-      maker = p.maker;
-      known = p.known;
-      open_one = option_map own_shown p.open_one;
+      setting = record {
+        radix = p.radix;
+        maker = p.maker;
+        names = p.known;
+        open_one = option_map own_shown p.open_one;
+      };
       nesting = p.nesting;
       items = map item_shown p.items.items;
     } };
@@ -100,7 +102,7 @@ impl<'a> Parser<'a> {
     /// What is left of the text, the radix, and the items.
     pub fn into_parts(self) -> (Rest<'a>, Radix, Vec<Item>)
         ensures rest { result.0 ≡ self.entry.rest }
-        ensures radix { result.1 ≡ self.entry.radix }
+        ensures radix { result.1 ≡ self.entry.setting.radix }
         ensures items { map item_shown result.2.items ≡ self.entry.items }
     {
         let Parser {
@@ -114,7 +116,7 @@ impl<'a> Parser<'a> {
 
     /// The latest definition of a name, whatever the case of its letters.
     fn own(&self, name: &[u8]) -> Result<Option<usize>, AllocError>
-        ensures { IfOk result (λ own. own ≡ own_in self.now.known name.now) }
+        ensures { IfOk result (λ own. own ≡ own_in self.now.setting.names name.now) }
     {
         self.known.find(name)
     }

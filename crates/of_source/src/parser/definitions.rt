@@ -15,8 +15,8 @@ use std::alloc::AllocError;
 
 impl<'a> Parser<'a> {
     ghost use Rattle.of_source.specs.Items.{made_shown};
-    ghost use Rattle.of_source.specs.Effects.{can_name, has_open, open_ends};
-    ghost use Rattle.of_source.specs.Steps.{name_read, changed, next_own, made, keyword_step, lone_step, Steps};
+    ghost use Rattle.of_source.specs.Effects.{can_name, has_open, open_ends, made, next_own};
+    ghost use Rattle.of_source.specs.Steps.{name_read, changed, keyword_step, lone_step, Steps};
 
     /// The name of a definition, of at most 31 bytes.
     fn name(&mut self, last: usize) -> Result<&'a [u8], SourceFault>
@@ -35,7 +35,7 @@ impl<'a> Parser<'a> {
 
     /// The definition of this name that begins, with the next number.
     fn made(&self, name: &[u8]) -> Result<Made, AllocError>
-        ensures { IfOk result (λ d. made_shown d ≡ made name.now self.now) }
+        ensures { IfOk result (λ d. made_shown d ≡ made name.now self.now.setting) }
     {
         let name = name.to_vec(self.alloc)?;
         Ok(Made {
@@ -62,7 +62,7 @@ impl<'a> Parser<'a> {
 
     /// A definition that can be named from here on.
     fn know(&mut self, name: &'a [u8]) -> Result<(), AllocError>
-        ensures { OnOk result (self.new ≡ changed (can_name (next_own name.now self.old)) self.old) }
+        ensures { OnOk result (self.new ≡ changed (can_name (next_own name.now self.old.setting)) self.old) }
     {
         let number = self.known.count();
         self.known.add(Own { name, number })?;
@@ -88,7 +88,7 @@ impl<'a> Parser<'a> {
 
     /// A definition that is open.
     fn open_definition(&mut self, name: &'a [u8])
-        ensures { self.new ≡ changed (has_open (next_own name.now self.old)) self.old }
+        ensures { self.new ≡ changed (has_open (next_own name.now self.old.setting)) self.old }
     {
         let number = self.known.count();
         self.open_one = Some(Own { name, number });

@@ -53,7 +53,7 @@ impl Parser<'_> {
 
     /// What a name stands for: a definition, or an ordinary word.
     fn named(&self, name: &[u8]) -> Result<Option<Name>, AllocError>
-        ensures { IfOk result (λ named. option_map code_of named ≡ code_named self.now.known name.now) }
+        ensures { IfOk result (λ named. option_map code_of named ≡ code_named self.now.setting.names name.now) }
     {
         if let Some(number) = self.own(name)? {
             return Ok(Some(Name::Own(number)));
