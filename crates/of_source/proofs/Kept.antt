@@ -267,12 +267,15 @@ recursion_runs : (o : Option Own) (s : Shape) → run (recursion o) s ≡ Some s
 recursion_runs None s = refl
 recursion_runs (Some d) s = refl
 
+closed : (k : Part) (m n : Nesting) → ((b c : ℕ) → is_even k b c ≡ nat_eq b c) → without_part k m ≡ Some n
+    → option_and_then (run []) (closing k (length m.branches) (shapes m.parts)) ≡ Some (shape_of n)
+closed k m n e h = ap (option_and_then (run [])) (part_at k m.branches m.parts n e h)
+
 -- the items of a keyword that takes nothing leave open what it leaves open
 pub effect_runs : (w : Lone) (at : ℕ) (one : Option Own) (m n : Nesting) → (effect_of w).opens at m ≡ Some n
     → run ((effect_of w).gives at one) (shape_of m) ≡ Some (shape_of n)
 effect_runs lone.Recurse at one m n h = recursion_runs one (shape_of m) ∙ shape_same m n h
-effect_runs lone.Semicolon at one m n h =
-    ap (option_and_then (run [])) (part_at part.Definition m.branches m.parts n (λ b c. refl) h)
+effect_runs lone.Semicolon at one m n h = closed part.Definition m n (λ b c. refl) h
 effect_runs lone.If at one m n h = pushes (item.If at) m (with_branch at m) n (one_more at m) h
 effect_runs lone.Else at one m n h = else_closed at m n (without_branch m) refl h
 effect_runs lone.Then at one m n h = then_closed m n h
@@ -280,15 +283,12 @@ effect_runs lone.Begin at one m n h = pushes item.Begin m (with_part part.Begin 
 effect_runs (lone.Back z) at one m n h = ap (option_and_then (run [])) (begin_at m.branches m.parts n h)
 effect_runs lone.Repeat at one m n h = repeat_at at m n (without_begin m) refl h
 effect_runs (lone.Do q) at one m n h = pushes (item.Do q at) m (with_part part.Do at m) n refl h
-effect_runs (lone.Loop q) at one m n h =
-    ap (option_and_then (run [])) (part_at part.Do m.branches m.parts n (λ b c. refl) h)
+effect_runs (lone.Loop q) at one m n h = closed part.Do m n (λ b c. refl) h
 effect_runs lone.Leave at one m n h = leave_at m n h
 effect_runs lone.Case at one m n h = pushes item.Case m (with_part part.Case at m) n refl h
 effect_runs lone.Of at one m n h = of_at at m n h
-effect_runs lone.EndOf at one m n h =
-    ap (option_and_then (run [])) (part_at part.Of m.branches m.parts n (λ b c. refl) h)
-effect_runs lone.EndCase at one m n h =
-    ap (option_and_then (run [])) (part_at part.Case m.branches m.parts n (λ b c. refl) h)
+effect_runs lone.EndOf at one m n h = closed part.Of m n (λ b c. refl) h
+effect_runs lone.EndCase at one m n h = closed part.Case m n (λ b c. refl) h
 effect_runs _ at one m n h = shape_same m n h
 
 -- ---- words

@@ -27,10 +27,10 @@ use Rattle.of_source.specs.Nesting.{Nesting}
 use Rattle.of_source.specs.Nesting.{in_definition}
 use Rattle.of_source.specs.Nesting.{is_straight}
 use Rattle.of_source.specs.Shapes.{Shape, nothing, run, shape_of}
-use Rattle.of_source.specs.Scan.{Rest, rest_at, left_of, start_of, next_word, Found, group, plain_string}
+use Rattle.of_source.specs.Scan.{Rest, rest_at, left_of, start_of, next_word, Found, group}
 use Rattle.of_source.specs.Steps.{State, Step, Goes, giving, reading_on, with_next}
 use Rattle.of_source.specs.Steps.{with_name, name_found, with_string, with_code, ended, effect_step}
-use Rattle.of_source.specs.Steps.{may_stand, string_found, string_items}
+use Rattle.of_source.specs.Steps.{may_stand, string_items}
 use Rattle.of_source.specs.Steps.{number_or_bad, number_items, comment_step, code_named}
 use Rattle.of_source.specs.Steps.{keyword_step, number_word_step, ordinary_step, listed_step, own_step, word_step}
 use Rattle.of_source.specs.Phrases.{Phrase, Spelled, Known, taken, written, items_of, behind}
@@ -40,7 +40,7 @@ use Rattle.of_source.specs.Strings.{Piece, pieces_bytes, IsWithin, ArePieces}
 use Rattle.of_source.specs.Written.{IsWord, AreBlanks, EndsLine, IsName, LeaveOpen, IsStraight, own_of}
 use Rattle.of_source.specs.Written.{IsKeyword, IsPlaced, IsFollowed}
 use Rattle.of_source.proofs.ReadingBack.{Parts, ends_part, word_behind, left_behind, line_left, plain_behind}
-use Rattle.of_source.proofs.ReadingBack.{quoted_behind}
+use Rattle.of_source.proofs.ReadingBack.{plain_there, quoted_behind}
 use Rattle.of_source.proofs.Opening.{MayStand, then_goes, else_goes, back_goes, repeat_goes, semicolon_goes, loop_goes}
 use Rattle.of_source.proofs.Opening.{end_of_goes, end_case_goes, leave_goes, of_goes, making_goes}
 use Rattle.of_source.proofs.Opening.{straight_goes}
@@ -151,10 +151,6 @@ text_goes last prints b bytes at from k n more s l h = record {
       string_taken at from k n bytes (b ∷ bytes ++ 34 ∷ []) more _ _
       (plain_there prints ((b ∷ bytes ++ 34 ∷ []) ++ more) ∙ plain_behind 34 b bytes more s h) l;
 }
-  where
-    plain_there : (prints : Bool) (text : List ℕ) → string_found (quote_if prints) text ≡ plain_string 34 text
-    plain_there true text = refl
-    plain_there false text = refl
 
 pub quoted_goes : (last b : ℕ) (ps : List Piece) (bytes : List ℕ) (at from : ℕ) (k : Known) (n : Nesting)
     (more : List ℕ)
@@ -380,7 +376,7 @@ phrase_goes last from word (phrase.Defining d blanks name) k n more h e w r m f 
     by_keyword last from word _ (phrase.Defining d blanks name) k n more h e
     (defining_step_goes last d blanks name k.at from k n more word w.0 w.1 (making_goes d n (made name k.setting) m)
     (ends_part more f))
-phrase_goes last from word (phrase.Alone lw) k n more h e w r m f =
-    by_word last from word _ (phrase.Alone lw) k n more h e
-    (effect_goes lw _ (rest_at from more) k n word (lone_opens lw k.at k.setting.open_one n m)
-    (lone_stands lw (rest_at from more) k n word w r))
+phrase_goes last from word (phrase.Alone c) k n more h e w r m f =
+    by_word last from word _ (phrase.Alone c) k n more h e
+    (effect_goes c _ (rest_at from more) k n word (lone_opens c k.at k.setting.open_one n m)
+    (lone_stands c (rest_at from more) k n word w r))

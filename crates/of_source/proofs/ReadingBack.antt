@@ -14,6 +14,8 @@ use Rattle.of_source.specs.Scan.{byte_before, up_to, behind_blank, byte_of, pair
 use Rattle.of_source.specs.Scan.{and_grouped, quoted, quoted_string, plain_string, line_end}
 use Rattle.of_source.specs.Strings.{Digits, Byte, Blank, Piece, digits_written, digits_bytes, pieces_written}
 use Rattle.of_source.specs.Strings.{pieces_bytes, IsWithin, AreDigits, ArePieces}
+use Rattle.of_source.specs.Steps.{string_found}
+use Rattle.of_source.specs.Phrases.{quote_if}
 use Rattle.of_source.specs.Written.{IsWord, AreBlanks, EndsWord, EndsLine}
 use Rattle.of_source.proofs.Scanning.{passed}
 
@@ -262,3 +264,8 @@ quoted_behind b ps bytes more s h w g =
     let n = length (b ∷ text) in
     let l : length ps < n = omega (arith, few_pieces ps (bytes ++ 34 ∷ more), ap length e) in
     ap (quoted n) (past_blank b text s ∙ e) ∙ pieces_back ps bytes more n h w g l
+
+-- `s"` and `."` take the same string
+pub plain_there : (prints : Bool) (text : List ℕ) → string_found (quote_if prints) text ≡ plain_string 34 text
+plain_there true text = refl
+plain_there false text = refl

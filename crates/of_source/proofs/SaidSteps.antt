@@ -39,7 +39,7 @@ use Rattle.of_source.specs.Scan.{Rest, rest_at, left_of, start_of, next_word, Fo
 use Rattle.of_source.specs.Scan.{line_end}
 use Rattle.of_source.specs.Steps.{State, Step, Goes, Ends, Fails, giving, opening, reading_on, at_next}
 use Rattle.of_source.specs.Steps.{with_next, with_name, name_found, with_string, with_code, effect_step, may_stand}
-use Rattle.of_source.specs.Steps.{string_found, string_items}
+use Rattle.of_source.specs.Steps.{string_items}
 use Rattle.of_source.specs.Steps.{number_or_bad, number_items, comment_step, code_named}
 use Rattle.of_source.specs.Steps.{text_step, keyword_step, number_word_step, ordinary_step, listed_step, own_step}
 use Rattle.of_source.specs.Steps.{word_step, next_step, ended}
@@ -56,6 +56,7 @@ use Rattle.of_source.proofs.Kept.{Inv, shapes}
 use Rattle.of_source.proofs.ShapeLemmas.{both_true}
 use Rattle.of_source.proofs.FoundText.{FoundPlain, FoundQuoted, FoundWord, plain_found, quoted_found, line_found}
 use Rattle.of_source.proofs.FoundText.{next_found, left_place}
+use Rattle.of_source.proofs.ReadingBack.{plain_there}
 use Rattle.of_source.specs.Effects.{effect_of, making_of}
 use Rattle.of_source.specs.Phrases.{quote_if}
 
@@ -286,10 +287,6 @@ said_line last u word n m =
       knows = λ at. same_items u.items (λ is. record (known_at at u) { items = is });
       opens = refl;
     }
-
-plain_there : (prints : Bool) (text : List ℕ) → string_found (quote_if prints) text ≡ plain_string 34 text
-plain_there true text = refl
-plain_there false text = refl
 
 said_plain : (last : ℕ) (prints : Bool) (u : State) (word : List ℕ) (o : Found) → own_in u.setting.names word ≡ None
     → keyword_named word ≡ Some (keyword.Text (quote_if prints)) → FoundPlain 34 u.rest.text o
