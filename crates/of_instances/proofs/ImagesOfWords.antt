@@ -29,8 +29,9 @@ use Rattle.of_props.specs.declared.fault.PropFault.{PropFault}
 use Rattle.of_props.specs.declared.fault.PropFault.TheVariants.{Address}
 use Rattle.of_props.specs.Decoding.{int_decoded, phys_decoded, string_decoded}
 use Rattle.of_props.specs.Encoding.{as_array, copy_encoded, encoded, phys_bytes, phys_encoded}
-use Rattle.of_instances.specs.declared.active.Active.{Active}
-use Rattle.of_instances.specs.Active.{finished, latest}
+use Rattle.of_board.specs.declared.board.Board.{Board}
+use Rattle.of_board.specs.declared.active.Active.{Active}
+use Rattle.of_board.specs.Active.{finished, latest}
 use Rattle.of_instances.specs.Encoding.{cells_left, decode_int_entry, decode_phys_entry, decode_string_entry}
 use Rattle.of_instances.specs.Encoding.{encode_bytes_entry, encode_int_entry, encode_phys_entry, encode_plus_entry}
 use Rattle.of_instances.specs.Encoding.{encode_string_entry, encoded_left, int_left, joined_left, phys_left, phys_read}
@@ -44,23 +45,23 @@ use Rattle.of_instances.specs.Reading.{active_package, cells_of, package_at, tex
 use Rattle.of_instances.specs.Setting.{delete_entry, deleted_left, property_cut, property_entry, property_made}
 use Rattle.of_instances.specs.Setting.{property_put as property_made_by, reg_entry, reg_made, reg_put, set_left}
 use Rattle.of_instances.specs.Setting.{string_entry, string_made}
-use Rattle.of_instances.specs.Site.{Site, with_room}
+use Rattle.of_instances.specs.Left.{with_room}
 use Rattle.of_instances.specs.TreeWords.{active_left, child_entry, find_method_entry, find_package_entry, found_left}
 use Rattle.of_instances.specs.TreeWords.{handle_left, method_left, method_of, new_device_entry, opened_left}
 use Rattle.of_instances.specs.TreeWords.{package_left, peer_entry, tree_entry}
 use Rattle.of_instances.proofs.ImagesKept.{AddressStands, IsReady, NamedStands, PutStands, Stands, append_stands}
 use Rattle.of_instances.proofs.ImagesKept.{images_kept, named_stands, put_stands, same}
 
--- what is left of a site keeps the images
-abbrev SiteStands : DataSpace → Result Site Throw → Type 0
-SiteStands m (Ok w) = Stands m w.memory
-SiteStands m (Err t) = Unit {0}
+-- what is left of a board keeps the images
+abbrev BoardStands : DataSpace → Result Board Throw → Type 0
+BoardStands m (Ok w) = Stands m w.memory
+BoardStands m (Err t) = Unit {0}
 
-room_if : (m : DataSpace) (b : Bool) (w : Site) → Stands m w.memory → SiteStands m (refused_if b stack_overflow w)
+room_if : (m : DataSpace) (b : Bool) (w : Board) → Stands m w.memory → BoardStands m (refused_if b stack_overflow w)
 room_if m true w h = tt
 room_if m false w h = h
 
-room_stands : (m : DataSpace) (r : Result Site Throw) → SiteStands m r → SiteStands m (with_room r)
+room_stands : (m : DataSpace) (r : Result Board Throw) → BoardStands m r → BoardStands m (with_room r)
 room_stands m (Ok w) h = room_if m (nat_lt 256 (length w.stack)) w h
 room_stands m (Err t) h = tt
 
@@ -87,13 +88,13 @@ copied_stands : (m : DataSpace) (a n : Cell) (tail : List ℕ) → length m.byte
     → ArrayStands m (copy_encoded m a n tail)
 copied_stands m a n tail full = copy_if (are_readable m a.0 n.0) m (bytes_from m a.0 n.0 ++ tail) full
 
-left_stands : (s : List Cell) (w : Site) (r : Result (Array × DataSpace) PropFault) → ArrayStands w.memory r
-    → SiteStands w.memory (encoded_left s w (of_array r))
+left_stands : (s : List Cell) (w : Board) (r : Result (Array × DataSpace) PropFault) → ArrayStands w.memory r
+    → BoardStands w.memory (encoded_left s w (of_array r))
 left_stands s w (Ok x) h = h
 left_stands s w (Err fault) h = tt
 
-encode_int : (s : List Cell) (w : Site) → length w.memory.bytes ≡ byte_count
-    → SiteStands w.memory (encode_int_entry s w)
+encode_int : (s : List Cell) (w : Board) → length w.memory.bytes ≡ byte_count
+    → BoardStands w.memory (encode_int_entry s w)
 unfolding encode_int_entry
 encode_int [] w full = tt
 encode_int (x ∷ s) w full =
@@ -101,20 +102,20 @@ encode_int (x ∷ s) w full =
     room_stands w.memory (encoded_left s w (of_array r))
     (left_stands s w r (encoded_stands w.memory (big_bytes 4 x.0) full))
 
-encode_string : (s : List Cell) (w : Site) → length w.memory.bytes ≡ byte_count
-    → SiteStands w.memory (encode_string_entry s w)
+encode_string : (s : List Cell) (w : Board) → length w.memory.bytes ≡ byte_count
+    → BoardStands w.memory (encode_string_entry s w)
 unfolding encode_string_entry
 encode_string (n ∷ a ∷ s) w full = left_stands s w _ (copied_stands w.memory a n (0 ∷ []) full)
 encode_string _ w full = tt
 
-encode_bytes : (s : List Cell) (w : Site) → length w.memory.bytes ≡ byte_count
-    → SiteStands w.memory (encode_bytes_entry s w)
+encode_bytes : (s : List Cell) (w : Board) → length w.memory.bytes ≡ byte_count
+    → BoardStands w.memory (encode_bytes_entry s w)
 unfolding encode_bytes_entry
 encode_bytes (n ∷ a ∷ s) w full = left_stands s w _ (copied_stands w.memory a n [] full)
 encode_bytes _ w full = tt
 
-phys_if : (b : Bool) (count : ℕ) (s : List Cell) (w : Site) → length w.memory.bytes ≡ byte_count →
-    SiteStands w.memory (if b then Err stack_underflow
+phys_if : (b : Bool) (count : ℕ) (s : List Cell) (w : Board) → length w.memory.bytes ≡ byte_count →
+    BoardStands w.memory (if b then Err stack_underflow
     else with_room (encoded_left (drop count s) w (of_array (phys_encoded w.memory (take count s)))))
 phys_if true count s w full = tt
 phys_if false count s w full =
@@ -122,92 +123,94 @@ phys_if false count s w full =
     room_stands w.memory (encoded_left (drop count s) w (of_array r))
     (left_stands (drop count s) w r (encoded_stands w.memory (phys_bytes (take count s)) full))
 
-phys_stands : (s : List Cell) (w : Site) (r : Result ℕ Throw) → length w.memory.bytes ≡ byte_count
-    → SiteStands w.memory (phys_left s w r)
+phys_stands : (s : List Cell) (w : Board) (r : Result ℕ Throw) → length w.memory.bytes ≡ byte_count
+    → BoardStands w.memory (phys_left s w r)
 phys_stands s w (Ok count) full = phys_if (nat_lt (length s) count) count s w full
 phys_stands s w (Err t) full = tt
 
-encode_phys : (s : List Cell) (w : Site) → length w.memory.bytes ≡ byte_count
-    → SiteStands w.memory (encode_phys_entry s w)
+encode_phys : (s : List Cell) (w : Board) → length w.memory.bytes ≡ byte_count
+    → BoardStands w.memory (encode_phys_entry s w)
 unfolding encode_phys_entry
 encode_phys [] w full = tt
 encode_phys (hi ∷ s) w full = phys_stands (hi ∷ s) w _ full
 
 -- ---- what leaves memory as it is
 
-joined_stands : (s : List Cell) (w : Site) (r : Result Array Throw) → SiteStands w.memory (joined_left s w r)
+joined_stands : (s : List Cell) (w : Board) (r : Result Array Throw) → BoardStands w.memory (joined_left s w r)
 joined_stands s w (Ok p) = same w.memory
 joined_stands s w (Err t) = tt
 
-encode_plus : (s : List Cell) (w : Site) → SiteStands w.memory (encode_plus_entry s w)
+encode_plus : (s : List Cell) (w : Board) → BoardStands w.memory (encode_plus_entry s w)
 unfolding encode_plus_entry
 encode_plus (k ∷ q ∷ n ∷ p ∷ s) w = joined_stands s w _
 encode_plus _ w = tt
 
-int_stands : (s : List Cell) (w : Site) (r : Result (Cell × Array) Throw) → SiteStands w.memory (int_left s w r)
+int_stands : (s : List Cell) (w : Board) (r : Result (Cell × Array) Throw) → BoardStands w.memory (int_left s w r)
 int_stands s w (Ok x) = same w.memory
 int_stands s w (Err t) = tt
 
-decode_int : (s : List Cell) (w : Site) → SiteStands w.memory (decode_int_entry s w)
+decode_int : (s : List Cell) (w : Board) → BoardStands w.memory (decode_int_entry s w)
 unfolding decode_int_entry
 decode_int (n ∷ p ∷ s) w =
     let r = of_array (int_decoded w.memory (array p n)) in room_stands w.memory (int_left s w r) (int_stands s w r)
 decode_int _ w = tt
 
-string_stands : (s : List Cell) (w : Site) (r : Result (Array × Array) Throw) → SiteStands w.memory (string_left s w r)
+string_stands : (s : List Cell) (w : Board) (r : Result (Array × Array) Throw)
+    → BoardStands w.memory (string_left s w r)
 string_stands s w (Ok x) = same w.memory
 string_stands s w (Err t) = tt
 
-decode_string : (s : List Cell) (w : Site) → SiteStands w.memory (decode_string_entry s w)
+decode_string : (s : List Cell) (w : Board) → BoardStands w.memory (decode_string_entry s w)
 unfolding decode_string_entry
 decode_string (n ∷ p ∷ s) w =
     let r = of_array (string_decoded w.memory (array p n)) in
     room_stands w.memory (string_left s w r) (string_stands s w r)
 decode_string _ w = tt
 
-cells_stand : (s : List Cell) (w : Site) (r : Result (List Cell × Array) Throw)
-    → SiteStands w.memory (cells_left s w r)
+cells_stand : (s : List Cell) (w : Board) (r : Result (List Cell × Array) Throw)
+    → BoardStands w.memory (cells_left s w r)
 cells_stand s w (Ok x) = same w.memory
 cells_stand s w (Err t) = tt
 
-read_stands : (s : List Cell) (w : Site) (p : Array) (r : Result ℕ Throw) → SiteStands w.memory (phys_read s w p r)
+read_stands : (s : List Cell) (w : Board) (p : Array) (r : Result ℕ Throw) → BoardStands w.memory (phys_read s w p r)
 read_stands s w p (Ok count) =
     let r = of_array (phys_decoded w.memory p count) in room_stands w.memory (cells_left s w r) (cells_stand s w r)
 read_stands s w p (Err t) = tt
 
-decode_phys : (s : List Cell) (w : Site) → SiteStands w.memory (decode_phys_entry s w)
+decode_phys : (s : List Cell) (w : Board) → BoardStands w.memory (decode_phys_entry s w)
 unfolding decode_phys_entry
 decode_phys (n ∷ p ∷ s) w = read_stands s w (array p n) _
 decode_phys _ w = tt
 
-deleted_stands : (s : List Cell) (w : Site) (r : Result (Unit {0} × List Node) Throw)
-    → SiteStands w.memory (deleted_left s w r)
+deleted_stands : (s : List Cell) (w : Board) (r : Result (Unit {0} × List Node) Throw)
+    → BoardStands w.memory (deleted_left s w r)
 deleted_stands s w (Ok x) = same w.memory
 deleted_stands s w (Err t) = tt
 
-cut_stands : (s : List Cell) (w : Site) (ph : Result Phandle Throw) (name : Result (List ℕ) Throw)
-    → SiteStands w.memory (property_cut s w ph name)
+cut_stands : (s : List Cell) (w : Board) (ph : Result Phandle Throw) (name : Result (List ℕ) Throw)
+    → BoardStands w.memory (property_cut s w ph name)
 cut_stands s w (Err t) name = tt
 cut_stands s w (Ok ph) (Err t) = tt
 cut_stands s w (Ok ph) (Ok name) = deleted_stands s w _
 
-delete : (s : List Cell) (w : Site) → SiteStands w.memory (delete_entry s w)
+delete : (s : List Cell) (w : Board) → BoardStands w.memory (delete_entry s w)
 unfolding delete_entry
 delete (n ∷ a ∷ s) w = cut_stands s w (active_package w) (text_at w.memory a n)
 delete _ w = tt
 
-value_stands : (s : List Cell) (w : Site) (r : Result (Option Property) Throw) → SiteStands w.memory (value_left s w r)
+value_stands : (s : List Cell) (w : Board) (r : Result (Option Property) Throw)
+    → BoardStands w.memory (value_left s w r)
 value_stands s w (Ok None) = same w.memory
 value_stands s w (Ok (Some p)) = same w.memory
 value_stands s w (Err t) = tt
 
-found_stands : (s : List Cell) (w : Site) (ph : Result Phandle Throw) (name : Result (List ℕ) Throw)
-    → SiteStands w.memory (value_found s w ph name)
+found_stands : (s : List Cell) (w : Board) (ph : Result Phandle Throw) (name : Result (List ℕ) Throw)
+    → BoardStands w.memory (value_found s w ph name)
 found_stands s w (Err t) name = tt
 found_stands s w (Ok ph) (Err t) = tt
 found_stands s w (Ok ph) (Ok name) = value_stands s w _
 
-get_my : (s : List Cell) (w : Site) → SiteStands w.memory (get_my_entry s w)
+get_my : (s : List Cell) (w : Board) → BoardStands w.memory (get_my_entry s w)
 unfolding get_my_entry
 get_my (n ∷ a ∷ s) w =
     let ph = active_package w in
@@ -215,23 +218,23 @@ get_my (n ∷ a ∷ s) w =
     room_stands w.memory (value_found s w ph name) (found_stands s w ph name)
 get_my _ w = tt
 
-get_package : (s : List Cell) (w : Site) → SiteStands w.memory (get_package_entry s w)
+get_package : (s : List Cell) (w : Board) → BoardStands w.memory (get_package_entry s w)
 unfolding get_package_entry
 get_package (ph ∷ n ∷ a ∷ s) w = found_stands s w (package_at w.tree ph) (text_at w.memory a n)
 get_package _ w = tt
 
-name_stands : (s : List Cell) (w : Site) (r : Result (Option Property) Throw) → SiteStands w.memory (name_left s w r)
+name_stands : (s : List Cell) (w : Board) (r : Result (Option Property) Throw) → BoardStands w.memory (name_left s w r)
 name_stands s w (Ok None) = same w.memory
 name_stands s w (Ok (Some p)) = same w.memory
 name_stands s w (Err t) = tt
 
-next_stands : (s : List Cell) (w : Site) (ph : Result Phandle Throw) (name : Result (List ℕ) Throw)
-    → SiteStands w.memory (name_found s w ph name)
+next_stands : (s : List Cell) (w : Board) (ph : Result Phandle Throw) (name : Result (List ℕ) Throw)
+    → BoardStands w.memory (name_found s w ph name)
 next_stands s w (Err t) name = tt
 next_stands s w (Ok ph) (Err t) = tt
 next_stands s w (Ok ph) (Ok name) = name_stands s w _
 
-next : (s : List Cell) (w : Site) → SiteStands w.memory (next_entry s w)
+next : (s : List Cell) (w : Board) → BoardStands w.memory (next_entry s w)
 unfolding next_entry
 next (ph ∷ n ∷ a ∷ s) w = next_stands s w (package_at w.tree ph) (text_at w.memory a n)
 next _ w = tt
@@ -287,66 +290,66 @@ at_stands : (m : DataSpace) (ns : List Node) (name value : List ℕ) (i : Option
 at_stands m ns name value None ready = tt
 at_stands m ns name value (Some i) ready = set_if (may_hold name value) m ns i name value ready
 
-tree_stands : (s : List Cell) (w : Site) (r : Result (List Node × DataSpace) NodeFault) → SetStands w.memory r
-    → SiteStands w.memory (set_left s w (of_tree r))
+tree_stands : (s : List Cell) (w : Board) (r : Result (List Node × DataSpace) NodeFault) → SetStands w.memory r
+    → BoardStands w.memory (set_left s w (of_tree r))
 tree_stands s w (Ok x) h = h
 tree_stands s w (Err fault) h = tt
 
-put_stands_at : (s : List Cell) (w : Site) (ph : Phandle) (name value : List ℕ) → IsReady w.memory
-    → SiteStands w.memory (property_made_by s w ph name value)
+put_stands_at : (s : List Cell) (w : Board) (ph : Phandle) (name value : List ℕ) → IsReady w.memory
+    → BoardStands w.memory (property_made_by s w ph name value)
 put_stands_at s w ph name value ready =
     tree_stands s w (tree_property_set w.memory w.tree ph name value)
     (at_stands w.memory w.tree name value (number_of (length w.tree) ph) ready)
 
-made_stands : (s : List Cell) (w : Site) (ph : Result Phandle Throw) (value name : Result (List ℕ) Throw)
-    → IsReady w.memory → SiteStands w.memory (property_made s w ph value name)
+made_stands : (s : List Cell) (w : Board) (ph : Result Phandle Throw) (value name : Result (List ℕ) Throw)
+    → IsReady w.memory → BoardStands w.memory (property_made s w ph value name)
 made_stands s w (Err t) value name ready = tt
 made_stands s w (Ok ph) (Err t) name ready = tt
 made_stands s w (Ok ph) (Ok value) (Err t) ready = tt
 made_stands s w (Ok ph) (Ok value) (Ok name) ready = put_stands_at s w ph name value ready
 
-property : (s : List Cell) (w : Site) → IsReady w.memory → SiteStands w.memory (property_entry s w)
+property : (s : List Cell) (w : Board) → IsReady w.memory → BoardStands w.memory (property_entry s w)
 unfolding property_entry
 property (n ∷ a ∷ k ∷ p ∷ s) w ready =
     made_stands s w (active_package w) (text_at w.memory p k) (text_at w.memory a n) ready
 property _ w ready = tt
 
-text_stands : (name : List ℕ) (s : List Cell) (w : Site) (ph : Result Phandle Throw) (text : Result (List ℕ) Throw)
-    → IsReady w.memory → SiteStands w.memory (string_made name s w ph text)
+text_stands : (name : List ℕ) (s : List Cell) (w : Board) (ph : Result Phandle Throw) (text : Result (List ℕ) Throw)
+    → IsReady w.memory → BoardStands w.memory (string_made name s w ph text)
 text_stands name s w (Err t) text ready = tt
 text_stands name s w (Ok ph) (Err t) ready = tt
 text_stands name s w (Ok ph) (Ok text) ready = put_stands_at s w ph name (text ++ 0 ∷ []) ready
 
-string : (name : List ℕ) (s : List Cell) (w : Site) → IsReady w.memory → SiteStands w.memory (string_entry name s w)
+string : (name : List ℕ) (s : List Cell) (w : Board) → IsReady w.memory → BoardStands w.memory (string_entry name s w)
 unfolding string_entry
 string name (n ∷ a ∷ s) w ready = text_stands name s w (active_package w) (text_at w.memory a n) ready
 string name _ w ready = tt
 
-reg_if : (b : Bool) (size : Cell) (count : ℕ) (s : List Cell) (w : Site) (ph : Phandle) → IsReady w.memory →
-    SiteStands w.memory (if b then Err stack_underflow
+reg_if : (b : Bool) (size : Cell) (count : ℕ) (s : List Cell) (w : Board) (ph : Phandle) → IsReady w.memory →
+    BoardStands w.memory (if b then Err stack_underflow
     else property_made_by (drop count s) w ph (codes "reg") (phys_bytes (take count s ++ size ∷ [])))
 reg_if true size count s w ph ready = tt
 reg_if false size count s w ph ready =
     put_stands_at (drop count s) w ph (codes "reg") (phys_bytes (take count s ++ size ∷ [])) ready
 
-reg_stands : (size : Cell) (s : List Cell) (w : Site) (ph : Phandle) (r : Result ℕ Throw) → IsReady w.memory
-    → SiteStands w.memory (reg_put size s w ph r)
+reg_stands : (size : Cell) (s : List Cell) (w : Board) (ph : Phandle) (r : Result ℕ Throw) → IsReady w.memory
+    → BoardStands w.memory (reg_put size s w ph r)
 reg_stands size s w ph (Ok count) ready = reg_if (nat_lt (length s) count) size count s w ph ready
 reg_stands size s w ph (Err t) ready = tt
 
-reg_made_stands : (size : Cell) (s : List Cell) (w : Site) (ph : Result Phandle Throw) → IsReady w.memory
-    → SiteStands w.memory (reg_made size s w ph)
+reg_made_stands : (size : Cell) (s : List Cell) (w : Board) (ph : Result Phandle Throw) → IsReady w.memory
+    → BoardStands w.memory (reg_made size s w ph)
 reg_made_stands size s w (Ok ph) ready = reg_stands size s w ph (cells_of w.memory w.tree ph) ready
 reg_made_stands size s w (Err t) ready = tt
 
-reg : (s : List Cell) (w : Site) → IsReady w.memory → SiteStands w.memory (reg_entry s w)
+reg : (s : List Cell) (w : Board) → IsReady w.memory → BoardStands w.memory (reg_entry s w)
 unfolding reg_entry
 reg (size ∷ hi ∷ s) w ready = reg_made_stands size (hi ∷ s) w (active_package w) ready
 reg _ w ready = tt
 
 -- ---- the group Properties
 
-properties : (p : PropertiesWord) (w : Site) → IsReady w.memory → SiteStands w.memory (properties_entry p w)
+properties : (p : PropertiesWord) (w : Board) → IsReady w.memory → BoardStands w.memory (properties_entry p w)
 unfolding properties_entry
 properties word.Property w ready = property w.stack w ready
 properties word.EncodeInt w ready = encode_int w.stack w ready.0
@@ -369,68 +372,69 @@ properties word.NextProperty w ready = next w.stack w
 
 -- ---- the group Tree, which leaves memory as it is
 
-opened_stands : (w : Site) (ph : Phandle) (r : Result (Phandle × List Node) Throw)
-    → SiteStands w.memory (opened_left w ph r)
+opened_stands : (w : Board) (ph : Phandle) (r : Result (Phandle × List Node) Throw)
+    → BoardStands w.memory (opened_left w ph r)
 opened_stands w ph (Ok x) = same w.memory
 opened_stands w ph (Err t) = tt
 
-new_device : (w : Site) (ph : Option Phandle) → SiteStands w.memory (new_device_entry w ph)
+new_device : (w : Board) (ph : Option Phandle) → BoardStands w.memory (new_device_entry w ph)
 unfolding new_device_entry
 new_device w None = tt
 new_device w (Some ph) = opened_stands w ph _
 
-active_stands : (w : Site) (r : Result Active Throw) → SiteStands w.memory (active_left w r)
+active_stands : (w : Board) (r : Result Active Throw) → BoardStands w.memory (active_left w r)
 active_stands w (Ok a) = same w.memory
 active_stands w (Err t) = tt
 
-handle_stands : (s : List Cell) (w : Site) (r : Result (Option Phandle) Throw) → SiteStands w.memory (handle_left s w r)
+handle_stands : (s : List Cell) (w : Board) (r : Result (Option Phandle) Throw)
+    → BoardStands w.memory (handle_left s w r)
 handle_stands s w (Ok x) = same w.memory
 handle_stands s w (Err t) = tt
 
-child : (s : List Cell) (w : Site) → SiteStands w.memory (child_entry s w)
+child : (s : List Cell) (w : Board) → BoardStands w.memory (child_entry s w)
 unfolding child_entry
 child [] w = tt
 child (x ∷ s) w = handle_stands s w _
 
-peer_if : (b : Bool) (m : DataSpace) (left r : Result Site Throw) → SiteStands m left → SiteStands m r
-    → SiteStands m (if b then left else r)
+peer_if : (b : Bool) (m : DataSpace) (left r : Result Board Throw) → BoardStands m left → BoardStands m r
+    → BoardStands m (if b then left else r)
 peer_if true m left r h k = h
 peer_if false m left r h k = k
 
-peer : (s : List Cell) (w : Site) → SiteStands w.memory (peer_entry s w)
+peer : (s : List Cell) (w : Board) → BoardStands w.memory (peer_entry s w)
 unfolding peer_entry
 peer [] w = tt
 peer (x ∷ s) w = peer_if (x.0 == 0) w.memory _ _ (same w.memory) (handle_stands s w _)
 
-found_cell : (s : List Cell) (w : Site) (x : Option Cell) → SiteStands w.memory (found_left s w x)
+found_cell : (s : List Cell) (w : Board) (x : Option Cell) → BoardStands w.memory (found_left s w x)
 found_cell s w None = same w.memory
 found_cell s w (Some x) = same w.memory
 
-package_stands : (s : List Cell) (w : Site) (r : Result (List ℕ) Throw) → SiteStands w.memory (package_left s w r)
+package_stands : (s : List Cell) (w : Board) (r : Result (List ℕ) Throw) → BoardStands w.memory (package_left s w r)
 package_stands s w (Ok path) = found_cell s w _
 package_stands s w (Err t) = tt
 
-find_package : (s : List Cell) (w : Site) → SiteStands w.memory (find_package_entry s w)
+find_package : (s : List Cell) (w : Board) → BoardStands w.memory (find_package_entry s w)
 unfolding find_package_entry
 find_package (n ∷ a ∷ s) w = package_stands s w (text_at w.memory a n)
 find_package _ w = tt
 
-method_stands : (s : List Cell) (w : Site) (r : Result (Option Cell) Throw) → SiteStands w.memory (method_left s w r)
+method_stands : (s : List Cell) (w : Board) (r : Result (Option Cell) Throw) → BoardStands w.memory (method_left s w r)
 method_stands s w (Ok x) = found_cell s w x
 method_stands s w (Err t) = tt
 
-method_found_stands : (s : List Cell) (w : Site) (ph : Result Phandle Throw) (name : Result (List ℕ) Throw)
-    → SiteStands w.memory (method_of s w ph name)
+method_found_stands : (s : List Cell) (w : Board) (ph : Result Phandle Throw) (name : Result (List ℕ) Throw)
+    → BoardStands w.memory (method_of s w ph name)
 method_found_stands s w (Err t) name = tt
 method_found_stands s w (Ok ph) (Err t) = tt
 method_found_stands s w (Ok ph) (Ok name) = method_stands s w _
 
-find_method : (s : List Cell) (w : Site) → SiteStands w.memory (find_method_entry s w)
+find_method : (s : List Cell) (w : Board) → BoardStands w.memory (find_method_entry s w)
 unfolding find_method_entry
 find_method (ph ∷ n ∷ a ∷ s) w = method_found_stands s w (package_at w.tree ph) (text_at w.memory a n)
 find_method _ w = tt
 
-tree : (p : TreeWord) (w : Site) → SiteStands w.memory (tree_entry p w)
+tree : (p : TreeWord) (w : Board) → BoardStands w.memory (tree_entry p w)
 unfolding tree_entry
 tree node.NewDevice w = new_device w w.active.«package»
 tree node.FinishDevice w = active_stands w (finished w.active (latest w.active.new_devices))
@@ -457,7 +461,7 @@ pub images_stay : ImagesStay
 images_stay = record {
   properties = λ p w after sound e.
       images_kept w.memory after.memory
-      (subst (λ r. SiteStands w.memory r) e (properties p w (sound.bytes, sound.properties_from)));
+      (subst (λ r. BoardStands w.memory r) e (properties p w (sound.bytes, sound.properties_from)));
   tree = λ p w after sound e.
-      images_kept w.memory after.memory (subst (λ r. SiteStands w.memory r) e (tree p w));
+      images_kept w.memory after.memory (subst (λ r. BoardStands w.memory r) e (tree p w));
 }

@@ -26,9 +26,10 @@ use Rattle.of_props.specs.declared.fault.PropFault.{PropFault}
 use Rattle.of_props.specs.declared.fault.PropFault.TheVariants.{Address, Full, NotAdjacent, Short}
 use Rattle.of_props.specs.Decoding.{int_decoded, phys_decoded, string_decoded}
 use Rattle.of_props.specs.Encoding.{int_encoded, phys_bytes, phys_encoded}
-use Rattle.of_instances.specs.declared.active.Active.{Active}
-use Rattle.of_instances.specs.declared.active.NewDevice.{NewDevice}
-use Rattle.of_instances.specs.Active.{finished, latest}
+use Rattle.of_board.specs.declared.board.Board.{Board}
+use Rattle.of_board.specs.declared.active.Active.{Active}
+use Rattle.of_board.specs.declared.active.NewDevice.{NewDevice}
+use Rattle.of_board.specs.Active.{finished, latest}
 use Rattle.of_instances.specs.Encoding.{array, cells_left, decode_int_entry, decode_phys_entry, decode_string_entry}
 use Rattle.of_instances.specs.Encoding.{encode_bytes_entry, encode_int_entry, encode_phys_entry, encode_plus_entry}
 use Rattle.of_instances.specs.Encoding.{encode_string_entry, encoded_left, int_left, joined_left, phys_left, phys_read}
@@ -42,7 +43,7 @@ use Rattle.of_instances.specs.Reading.{active_package, cells_by, cells_in, cells
 use Rattle.of_instances.specs.Reading.{text_at, text_read}
 use Rattle.of_instances.specs.Setting.{delete_entry, deleted_left, property_cut, property_entry, property_made}
 use Rattle.of_instances.specs.Setting.{property_put, reg_entry, reg_made, reg_put, set_left, string_entry, string_made}
-use Rattle.of_instances.specs.Site.{Site, with_room}
+use Rattle.of_instances.specs.Left.{with_room}
 use Rattle.of_instances.specs.TreeWords.{active_left, as_cell, child_entry, find_method_entry, find_package_entry}
 use Rattle.of_instances.specs.TreeWords.{found_left, handle_left, method_left, method_of, new_device_entry, opened_left}
 use Rattle.of_instances.specs.TreeWords.{package_left, peer_entry, tree_entry}
@@ -87,7 +88,7 @@ unfolding is_listed listed_numbers
 packages ns None = refl
 packages ns (Some ph) = one_package ns ph.0
 
-active : (w : Site) → ThrowsListed (active_package w)
+active : (w : Board) → ThrowsListed (active_package w)
 active w = packages w.tree w.active.«package»
 
 cells : (m : DataSpace) (ns : List Node) (r : Result (Option Phandle) NodeFault) → ThrowsListed (cells_by m ns r)
@@ -100,26 +101,26 @@ cells_inside : (m : DataSpace) (ns : List Node) (r : Result Phandle Throw) → T
 cells_inside m ns (Ok ph) h = cells m ns (parent_found ns ph)
 cells_inside m ns (Err t) h = h
 
-counts : (w : Site) → ThrowsListed (cells_in w.memory w.tree (active_package w))
+counts : (w : Board) → ThrowsListed (cells_in w.memory w.tree (active_package w))
 counts w = cells_inside w.memory w.tree (active_package w) (active w)
 
-full : (b : Bool) (w : Site) → ThrowsListed (refused_if b stack_overflow w)
+full : (b : Bool) (w : Board) → ThrowsListed (refused_if b stack_overflow w)
 unfolding is_listed listed_numbers
 full true w = refl
 full false w = tt
 
-fits : (r : Result Site Throw) → ThrowsListed r → ThrowsListed (with_room r)
+fits : (r : Result Board Throw) → ThrowsListed r → ThrowsListed (with_room r)
 fits (Ok w) h = full (nat_lt 256 (length w.stack)) w
 fits (Err t) h = h
 
 -- ---- encoding and decoding
 
-encodes : (s : List Cell) (w : Site) (r : Result (Array × DataSpace) PropFault)
+encodes : (s : List Cell) (w : Board) (r : Result (Array × DataSpace) PropFault)
     → ThrowsListed (encoded_left s w (of_array r))
 encodes s w (Ok x) = tt
 encodes s w (Err fault) = arrays {A = Array × DataSpace} (Err fault)
 
-encodes_phys : (b : Bool) (count : ℕ) (s : List Cell) (w : Site) →
+encodes_phys : (b : Bool) (count : ℕ) (s : List Cell) (w : Board) →
     ThrowsListed (if b then Err stack_underflow
     else with_room (encoded_left (drop count s) w (of_array (phys_encoded w.memory (take count s)))))
 unfolding is_listed listed_numbers
@@ -128,30 +129,30 @@ encodes_phys false count s w =
     let r = phys_encoded w.memory (take count s) in
     fits (encoded_left (drop count s) w (of_array r)) (encodes (drop count s) w r)
 
-encodes_cells : (s : List Cell) (w : Site) (r : Result ℕ Throw) → ThrowsListed r → ThrowsListed (phys_left s w r)
+encodes_cells : (s : List Cell) (w : Board) (r : Result ℕ Throw) → ThrowsListed r → ThrowsListed (phys_left s w r)
 encodes_cells s w (Ok count) h = encodes_phys (nat_lt (length s) count) count s w
 encodes_cells s w (Err t) h = h
 
-joins : (s : List Cell) (w : Site) (r : Result Array PropFault) → ThrowsListed (joined_left s w (of_array r))
+joins : (s : List Cell) (w : Board) (r : Result Array PropFault) → ThrowsListed (joined_left s w (of_array r))
 joins s w (Ok p) = tt
 joins s w (Err fault) = arrays {A = Array} (Err fault)
 
-decodes_int : (s : List Cell) (w : Site) (r : Result (Cell × Array) PropFault)
+decodes_int : (s : List Cell) (w : Board) (r : Result (Cell × Array) PropFault)
     → ThrowsListed (int_left s w (of_array r))
 decodes_int s w (Ok x) = tt
 decodes_int s w (Err fault) = arrays {A = Cell × Array} (Err fault)
 
-decodes_string : (s : List Cell) (w : Site) (r : Result (Array × Array) PropFault)
+decodes_string : (s : List Cell) (w : Board) (r : Result (Array × Array) PropFault)
     → ThrowsListed (string_left s w (of_array r))
 decodes_string s w (Ok x) = tt
 decodes_string s w (Err fault) = arrays {A = Array × Array} (Err fault)
 
-decodes_phys : (s : List Cell) (w : Site) (r : Result (List Cell × Array) PropFault)
+decodes_phys : (s : List Cell) (w : Board) (r : Result (List Cell × Array) PropFault)
     → ThrowsListed (cells_left s w (of_array r))
 decodes_phys s w (Ok x) = tt
 decodes_phys s w (Err fault) = arrays {A = List Cell × Array} (Err fault)
 
-decodes_cells : (s : List Cell) (w : Site) (p : Array) (r : Result ℕ Throw) → ThrowsListed r
+decodes_cells : (s : List Cell) (w : Board) (p : Array) (r : Result ℕ Throw) → ThrowsListed r
     → ThrowsListed (phys_read s w p r)
 decodes_cells s w p (Ok count) h =
     let r = phys_decoded w.memory p count in fits (cells_left s w (of_array r)) (decodes_phys s w r)
@@ -159,56 +160,56 @@ decodes_cells s w p (Err t) h = h
 
 -- ---- setting
 
-sets : (s : List Cell) (w : Site) (r : Result (List Node × DataSpace) NodeFault)
+sets : (s : List Cell) (w : Board) (r : Result (List Node × DataSpace) NodeFault)
     → ThrowsListed (set_left s w (of_tree r))
 sets s w (Ok x) = tt
 sets s w (Err fault) = nodes {A = List Node × DataSpace} (Err fault)
 
-puts : (s : List Cell) (w : Site) (ph : Phandle) (name value : List ℕ) → ThrowsListed (property_put s w ph name value)
+puts : (s : List Cell) (w : Board) (ph : Phandle) (name value : List ℕ) → ThrowsListed (property_put s w ph name value)
 puts s w ph name value = sets s w _
 
-makes : (s : List Cell) (w : Site) (ph : Result Phandle Throw) (value name : Result (List ℕ) Throw) → ThrowsListed ph
+makes : (s : List Cell) (w : Board) (ph : Result Phandle Throw) (value name : Result (List ℕ) Throw) → ThrowsListed ph
     → ThrowsListed value → ThrowsListed name → ThrowsListed (property_made s w ph value name)
 makes s w (Err t) value name h k l = h
 makes s w (Ok ph) (Err t) name h k l = k
 makes s w (Ok ph) (Ok value) (Err t) h k l = l
 makes s w (Ok ph) (Ok value) (Ok name) h k l = puts s w ph name value
 
-makes_string : (name : List ℕ) (s : List Cell) (w : Site) (ph : Result Phandle Throw) (text : Result (List ℕ) Throw)
+makes_string : (name : List ℕ) (s : List Cell) (w : Board) (ph : Result Phandle Throw) (text : Result (List ℕ) Throw)
     → ThrowsListed ph → ThrowsListed text → ThrowsListed (string_made name s w ph text)
 makes_string name s w (Err t) text h k = h
 makes_string name s w (Ok ph) (Err t) h k = k
 makes_string name s w (Ok ph) (Ok text) h k = puts s w ph name (text ++ 0 ∷ [])
 
-sets_string : (name : List ℕ) (s : List Cell) (w : Site) → ThrowsListed (string_entry name s w)
+sets_string : (name : List ℕ) (s : List Cell) (w : Board) → ThrowsListed (string_entry name s w)
 unfolding string_entry is_listed listed_numbers
 sets_string name (n ∷ a ∷ s) w = makes_string name s w _ _ (active w) (text w.memory a n)
 sets_string name _ w = refl
 
-reg_if : (b : Bool) (size : Cell) (count : ℕ) (s : List Cell) (w : Site) (ph : Phandle) →
+reg_if : (b : Bool) (size : Cell) (count : ℕ) (s : List Cell) (w : Board) (ph : Phandle) →
     ThrowsListed (if b then Err stack_underflow
     else property_put (drop count s) w ph (codes "reg") (phys_bytes (take count s ++ size ∷ [])))
 unfolding is_listed listed_numbers
 reg_if true size count s w ph = refl
 reg_if false size count s w ph = puts (drop count s) w ph (codes "reg") (phys_bytes (take count s ++ size ∷ []))
 
-puts_reg : (size : Cell) (s : List Cell) (w : Site) (ph : Phandle) (r : Result ℕ Throw) → ThrowsListed r
+puts_reg : (size : Cell) (s : List Cell) (w : Board) (ph : Phandle) (r : Result ℕ Throw) → ThrowsListed r
     → ThrowsListed (reg_put size s w ph r)
 puts_reg size s w ph (Ok count) h = reg_if (nat_lt (length s) count) size count s w ph
 puts_reg size s w ph (Err t) h = h
 
-makes_reg : (size : Cell) (s : List Cell) (w : Site) (ph : Result Phandle Throw) → ThrowsListed ph
+makes_reg : (size : Cell) (s : List Cell) (w : Board) (ph : Result Phandle Throw) → ThrowsListed ph
     → ThrowsListed (reg_made size s w ph)
 makes_reg size s w (Ok ph) h =
     puts_reg size s w ph (cells_of w.memory w.tree ph) (cells w.memory w.tree (parent_found w.tree ph))
 makes_reg size s w (Err t) h = h
 
-deletes : (s : List Cell) (w : Site) (r : Result (Unit {0} × List Node) NodeFault)
+deletes : (s : List Cell) (w : Board) (r : Result (Unit {0} × List Node) NodeFault)
     → ThrowsListed (deleted_left s w (of_tree r))
 deletes s w (Ok x) = tt
 deletes s w (Err fault) = nodes {A = Unit {0} × List Node} (Err fault)
 
-cuts : (s : List Cell) (w : Site) (ph : Result Phandle Throw) (name : Result (List ℕ) Throw) → ThrowsListed ph
+cuts : (s : List Cell) (w : Board) (ph : Result Phandle Throw) (name : Result (List ℕ) Throw) → ThrowsListed ph
     → ThrowsListed name → ThrowsListed (property_cut s w ph name)
 cuts s w (Err t) name h k = h
 cuts s w (Ok ph) (Err t) h k = k
@@ -216,23 +217,24 @@ cuts s w (Ok ph) (Ok name) h k = deletes s w _
 
 -- ---- finding
 
-values : (s : List Cell) (w : Site) (r : Result (Option Property) NodeFault) → ThrowsListed (value_left s w (of_tree r))
+values : (s : List Cell) (w : Board) (r : Result (Option Property) NodeFault)
+    → ThrowsListed (value_left s w (of_tree r))
 values s w (Ok None) = tt
 values s w (Ok (Some p)) = tt
 values s w (Err fault) = nodes {A = Option Property} (Err fault)
 
-finds_value : (s : List Cell) (w : Site) (ph : Result Phandle Throw) (name : Result (List ℕ) Throw) → ThrowsListed ph
+finds_value : (s : List Cell) (w : Board) (ph : Result Phandle Throw) (name : Result (List ℕ) Throw) → ThrowsListed ph
     → ThrowsListed name → ThrowsListed (value_found s w ph name)
 finds_value s w (Err t) name h k = h
 finds_value s w (Ok ph) (Err t) h k = k
 finds_value s w (Ok ph) (Ok name) h k = values s w _
 
-names : (s : List Cell) (w : Site) (r : Result (Option Property) NodeFault) → ThrowsListed (name_left s w (of_tree r))
+names : (s : List Cell) (w : Board) (r : Result (Option Property) NodeFault) → ThrowsListed (name_left s w (of_tree r))
 names s w (Ok None) = tt
 names s w (Ok (Some p)) = tt
 names s w (Err fault) = nodes {A = Option Property} (Err fault)
 
-finds_name : (s : List Cell) (w : Site) (ph : Result Phandle Throw) (name : Result (List ℕ) Throw) → ThrowsListed ph
+finds_name : (s : List Cell) (w : Board) (ph : Result Phandle Throw) (name : Result (List ℕ) Throw) → ThrowsListed ph
     → ThrowsListed name → ThrowsListed (name_found s w ph name)
 finds_name s w (Err t) name h k = h
 finds_name s w (Ok ph) (Err t) h k = k
@@ -240,80 +242,80 @@ finds_name s w (Ok ph) (Ok name) h k = names s w _
 
 -- ---- the group Properties, a word at a time
 
-property : (s : List Cell) (w : Site) → ThrowsListed (property_entry s w)
+property : (s : List Cell) (w : Board) → ThrowsListed (property_entry s w)
 unfolding property_entry is_listed listed_numbers
 property (n ∷ a ∷ k ∷ p ∷ s) w = makes s w _ _ _ (active w) (text w.memory p k) (text w.memory a n)
 property _ w = refl
 
-encode_int : (s : List Cell) (w : Site) → ThrowsListed (encode_int_entry s w)
+encode_int : (s : List Cell) (w : Board) → ThrowsListed (encode_int_entry s w)
 unfolding encode_int_entry is_listed listed_numbers
 encode_int [] w = refl
 encode_int (x ∷ s) w =
     let r = int_encoded w.memory x in fits (encoded_left s w (of_array r)) (encodes s w r)
 
-encode_string : (s : List Cell) (w : Site) → ThrowsListed (encode_string_entry s w)
+encode_string : (s : List Cell) (w : Board) → ThrowsListed (encode_string_entry s w)
 unfolding encode_string_entry is_listed listed_numbers
 encode_string (n ∷ a ∷ s) w = encodes s w _
 encode_string _ w = refl
 
-encode_bytes : (s : List Cell) (w : Site) → ThrowsListed (encode_bytes_entry s w)
+encode_bytes : (s : List Cell) (w : Board) → ThrowsListed (encode_bytes_entry s w)
 unfolding encode_bytes_entry is_listed listed_numbers
 encode_bytes (n ∷ a ∷ s) w = encodes s w _
 encode_bytes _ w = refl
 
-encode_phys : (s : List Cell) (w : Site) → ThrowsListed (encode_phys_entry s w)
+encode_phys : (s : List Cell) (w : Board) → ThrowsListed (encode_phys_entry s w)
 unfolding encode_phys_entry is_listed listed_numbers
 encode_phys [] w = refl
 encode_phys (hi ∷ s) w = encodes_cells (hi ∷ s) w _ (counts w)
 
-encode_plus : (s : List Cell) (w : Site) → ThrowsListed (encode_plus_entry s w)
+encode_plus : (s : List Cell) (w : Board) → ThrowsListed (encode_plus_entry s w)
 unfolding encode_plus_entry is_listed listed_numbers
 encode_plus (k ∷ q ∷ n ∷ p ∷ s) w = joins s w _
 encode_plus _ w = refl
 
-decode_int : (s : List Cell) (w : Site) → ThrowsListed (decode_int_entry s w)
+decode_int : (s : List Cell) (w : Board) → ThrowsListed (decode_int_entry s w)
 unfolding decode_int_entry is_listed listed_numbers
 decode_int (n ∷ p ∷ s) w =
     let r = int_decoded w.memory (array p n) in fits (int_left s w (of_array r)) (decodes_int s w r)
 decode_int _ w = refl
 
-decode_string : (s : List Cell) (w : Site) → ThrowsListed (decode_string_entry s w)
+decode_string : (s : List Cell) (w : Board) → ThrowsListed (decode_string_entry s w)
 unfolding decode_string_entry is_listed listed_numbers
 decode_string (n ∷ p ∷ s) w =
     let r = string_decoded w.memory (array p n) in fits (string_left s w (of_array r)) (decodes_string s w r)
 decode_string _ w = refl
 
-decode_phys : (s : List Cell) (w : Site) → ThrowsListed (decode_phys_entry s w)
+decode_phys : (s : List Cell) (w : Board) → ThrowsListed (decode_phys_entry s w)
 unfolding decode_phys_entry is_listed listed_numbers
 decode_phys (n ∷ p ∷ s) w = decodes_cells s w (array p n) _ (counts w)
 decode_phys _ w = refl
 
-reg : (s : List Cell) (w : Site) → ThrowsListed (reg_entry s w)
+reg : (s : List Cell) (w : Board) → ThrowsListed (reg_entry s w)
 unfolding reg_entry is_listed listed_numbers
 reg (size ∷ hi ∷ s) w = makes_reg size (hi ∷ s) w _ (active w)
 reg _ w = refl
 
-get_my : (s : List Cell) (w : Site) → ThrowsListed (get_my_entry s w)
+get_my : (s : List Cell) (w : Board) → ThrowsListed (get_my_entry s w)
 unfolding get_my_entry is_listed listed_numbers
 get_my (n ∷ a ∷ s) w = fits _ (finds_value s w _ _ (active w) (text w.memory a n))
 get_my _ w = refl
 
-get_package : (s : List Cell) (w : Site) → ThrowsListed (get_package_entry s w)
+get_package : (s : List Cell) (w : Board) → ThrowsListed (get_package_entry s w)
 unfolding get_package_entry is_listed listed_numbers
 get_package (ph ∷ n ∷ a ∷ s) w = finds_value s w _ _ (one_package w.tree ph) (text w.memory a n)
 get_package _ w = refl
 
-delete : (s : List Cell) (w : Site) → ThrowsListed (delete_entry s w)
+delete : (s : List Cell) (w : Board) → ThrowsListed (delete_entry s w)
 unfolding delete_entry is_listed listed_numbers
 delete (n ∷ a ∷ s) w = cuts s w _ _ (active w) (text w.memory a n)
 delete _ w = refl
 
-next : (s : List Cell) (w : Site) → ThrowsListed (next_entry s w)
+next : (s : List Cell) (w : Board) → ThrowsListed (next_entry s w)
 unfolding next_entry is_listed listed_numbers
 next (ph ∷ n ∷ a ∷ s) w = finds_name s w _ _ (one_package w.tree ph) (text w.memory a n)
 next _ w = refl
 
-properties : (p : PropertiesWord) (w : Site) → ThrowsListed (properties_entry p w)
+properties : (p : PropertiesWord) (w : Board) → ThrowsListed (properties_entry p w)
 unfolding properties_entry is_listed listed_numbers
 properties word.Property w = property w.stack w
 properties word.EncodeInt w = encode_int w.stack w
@@ -336,71 +338,71 @@ properties word.NextProperty w = next w.stack w
 
 -- ---- the group Tree, a word at a time
 
-opens : (w : Site) (ph : Phandle) (r : Result (Phandle × List Node) NodeFault)
+opens : (w : Board) (ph : Phandle) (r : Result (Phandle × List Node) NodeFault)
     → ThrowsListed (opened_left w ph (of_tree r))
 opens w ph (Ok x) = tt
 opens w ph (Err fault) = nodes {A = Phandle × List Node} (Err fault)
 
-new_device : (w : Site) (ph : Option Phandle) → ThrowsListed (new_device_entry w ph)
+new_device : (w : Board) (ph : Option Phandle) → ThrowsListed (new_device_entry w ph)
 unfolding new_device_entry is_listed listed_numbers
 new_device w None = refl
 new_device w (Some ph) = opens w ph _
 
-finishes : (w : Site) (a : Active) (d : Option NewDevice) → ThrowsListed (active_left w (finished a d))
+finishes : (w : Board) (a : Active) (d : Option NewDevice) → ThrowsListed (active_left w (finished a d))
 unfolding is_listed listed_numbers
 finishes w a None = refl
 finishes w a (Some d) = tt
 
-handles : (s : List Cell) (w : Site) (r : Result (Option Phandle) NodeFault)
+handles : (s : List Cell) (w : Board) (r : Result (Option Phandle) NodeFault)
     → ThrowsListed (handle_left s w (of_tree r))
 handles s w (Ok x) = tt
 handles s w (Err fault) = nodes {A = Option Phandle} (Err fault)
 
-child : (s : List Cell) (w : Site) → ThrowsListed (child_entry s w)
+child : (s : List Cell) (w : Board) → ThrowsListed (child_entry s w)
 unfolding child_entry is_listed listed_numbers
 child [] w = refl
 child (x ∷ s) w = handles s w _
 
-peer_if : (b : Bool) (left r : Result Site Throw) → ThrowsListed left → ThrowsListed r
+peer_if : (b : Bool) (left r : Result Board Throw) → ThrowsListed left → ThrowsListed r
     → ThrowsListed (if b then left else r)
 peer_if true left r h k = h
 peer_if false left r h k = k
 
-peer : (s : List Cell) (w : Site) → ThrowsListed (peer_entry s w)
+peer : (s : List Cell) (w : Board) → ThrowsListed (peer_entry s w)
 unfolding peer_entry is_listed listed_numbers
 peer [] w = refl
 peer (x ∷ s) w = peer_if (x.0 == 0) _ _ tt (handles s w _)
 
-finds : (s : List Cell) (w : Site) (x : Option Cell) → ThrowsListed (found_left s w x)
+finds : (s : List Cell) (w : Board) (x : Option Cell) → ThrowsListed (found_left s w x)
 finds s w None = tt
 finds s w (Some x) = tt
 
-finds_package : (s : List Cell) (w : Site) (r : Result (List ℕ) Throw) → ThrowsListed r
+finds_package : (s : List Cell) (w : Board) (r : Result (List ℕ) Throw) → ThrowsListed r
     → ThrowsListed (package_left s w r)
 finds_package s w (Ok path) h = finds s w (as_cell (package_found w.memory w.tree path))
 finds_package s w (Err t) h = h
 
-find_package : (s : List Cell) (w : Site) → ThrowsListed (find_package_entry s w)
+find_package : (s : List Cell) (w : Board) → ThrowsListed (find_package_entry s w)
 unfolding find_package_entry is_listed listed_numbers
 find_package (n ∷ a ∷ s) w = finds_package s w _ (text w.memory a n)
 find_package _ w = refl
 
-methods : (s : List Cell) (w : Site) (r : Result (Option Cell) NodeFault) → ThrowsListed (method_left s w (of_tree r))
+methods : (s : List Cell) (w : Board) (r : Result (Option Cell) NodeFault) → ThrowsListed (method_left s w (of_tree r))
 methods s w (Ok x) = finds s w x
 methods s w (Err fault) = nodes {A = Option Cell} (Err fault)
 
-finds_method : (s : List Cell) (w : Site) (ph : Result Phandle Throw) (name : Result (List ℕ) Throw) → ThrowsListed ph
+finds_method : (s : List Cell) (w : Board) (ph : Result Phandle Throw) (name : Result (List ℕ) Throw) → ThrowsListed ph
     → ThrowsListed name → ThrowsListed (method_of s w ph name)
 finds_method s w (Err t) name h k = h
 finds_method s w (Ok ph) (Err t) h k = k
 finds_method s w (Ok ph) (Ok name) h k = methods s w _
 
-find_method : (s : List Cell) (w : Site) → ThrowsListed (find_method_entry s w)
+find_method : (s : List Cell) (w : Board) → ThrowsListed (find_method_entry s w)
 unfolding find_method_entry is_listed listed_numbers
 find_method (ph ∷ n ∷ a ∷ s) w = finds_method s w _ _ (one_package w.tree ph) (text w.memory a n)
 find_method _ w = refl
 
-tree : (p : TreeWord) (w : Site) → ThrowsListed (tree_entry p w)
+tree : (p : TreeWord) (w : Board) → ThrowsListed (tree_entry p w)
 unfolding tree_entry is_listed listed_numbers
 tree node.NewDevice w = new_device w w.active.«package»
 tree node.FinishDevice w = finishes w w.active (latest w.active.new_devices)

@@ -1,6 +1,5 @@
-pub mod Site
+pub mod Left
 pub mod Faults
-pub mod Active
 pub mod Reading
 pub mod Encoding
 pub mod Setting

@@ -2,10 +2,10 @@
 use Rattle.of_fcodes.specs.declared.words.PropertiesWord.{PropertiesWord}
 use Rattle.of_fcodes.specs.declared.words.TreeWord.{TreeWord}
 use Rattle.of_stacks.specs.Throws.{ThrowsListed}
+use Rattle.of_board.specs.declared.board.Board.{Board}
 use Rattle.of_instances.specs.PropertyWords.{properties_entry}
-use Rattle.of_instances.specs.Site.{Site}
 use Rattle.of_instances.specs.TreeWords.{tree_entry}
 
 pub record ThrowListedNumbers : Type 0 where
-  pub properties : (word : PropertiesWord) (w : Site) → ThrowsListed (properties_entry word w)
-  pub tree : (word : TreeWord) (w : Site) → ThrowsListed (tree_entry word w)
+  pub properties : (word : PropertiesWord) (w : Board) → ThrowsListed (properties_entry word w)
+  pub tree : (word : TreeWord) (w : Board) → ThrowsListed (tree_entry word w)

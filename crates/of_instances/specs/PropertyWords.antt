@@ -9,14 +9,14 @@ use Rattle.of_fcodes.specs.declared.words.PropertiesWord.TheVariants.{GetMyPrope
 use Rattle.of_fcodes.specs.declared.words.PropertiesWord.TheVariants.{GetPackageProperty, DeleteProperty, NextProperty}
 use Rattle.of_stacks.specs.declared.throws.Throw.{Throw}
 use Rattle.of_stacks.specs.Throws.{not_assigned}
+use Rattle.of_board.specs.declared.board.Board.{Board}
 use Rattle.of_instances.specs.Encoding.{decode_int_entry, decode_phys_entry, decode_string_entry, encode_bytes_entry}
 use Rattle.of_instances.specs.Encoding.{encode_int_entry, encode_phys_entry, encode_plus_entry, encode_string_entry}
 use Rattle.of_instances.specs.Finding.{get_my_entry, get_package_entry, next_entry}
 use Rattle.of_instances.specs.Setting.{delete_entry, property_entry, reg_entry, string_entry}
-use Rattle.of_instances.specs.Site.{Site}
 
 -- the table, a word a line; `get-inherited-property` is as unassigned
-unfoldable pub properties_entry : PropertiesWord → Site → Result Site Throw
+unfoldable pub properties_entry : PropertiesWord → Board → Result Board Throw
 properties_entry Property w = property_entry w.stack w
 properties_entry EncodeInt w = encode_int_entry w.stack w
 properties_entry EncodeString w = encode_string_entry w.stack w

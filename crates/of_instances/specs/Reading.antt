@@ -11,8 +11,8 @@ use Rattle.of_nodes.specs.declared.phandles.Phandle.{Phandle}
 use Rattle.of_nodes.specs.declared.tree.Node.{Node}
 use Rattle.of_nodes.specs.Nodes.{number_of, parent_found}
 use Rattle.of_nodes.specs.Paths.{cells_found}
+use Rattle.of_board.specs.declared.board.Board.{Board}
 use Rattle.of_instances.specs.Faults.{node_throw, of_tree}
-use Rattle.of_instances.specs.Site.{Site}
 
 -- bytes that were read; their one fault is their address
 abbrev pub text_read : Result (List ℕ) MemFault → Result (List ℕ) Throw
@@ -37,7 +37,7 @@ package_in ns None = Err no_node
 package_in ns (Some ph) = package_at ns ph.0
 
 -- the active package
-abbrev pub active_package : Site → Result Phandle Throw
+abbrev pub active_package : Board → Result Phandle Throw
 active_package w = package_in w.tree w.active.«package»
 
 -- how many cells an address of a package has: as its parent says, and 2 for the root

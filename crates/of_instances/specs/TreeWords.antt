@@ -14,26 +14,27 @@ use Rattle.of_nodes.specs.declared.phandles.Phandle.{Phandle}
 use Rattle.of_nodes.specs.declared.tree.Node.{Node}
 use Rattle.of_nodes.specs.Lookup.{package_found}
 use Rattle.of_nodes.specs.Nodes.{child_found, method_found, node_added, peer_found, phandle_of}
-use Rattle.of_instances.specs.declared.active.Active.{Active}
-use Rattle.of_instances.specs.Active.{device_finished, device_opened}
+use Rattle.of_board.specs.declared.board.Board.{Board}
+use Rattle.of_board.specs.declared.active.Active.{Active}
+use Rattle.of_board.specs.Active.{device_finished, device_opened}
 use Rattle.of_instances.specs.Faults.{of_tree}
 use Rattle.of_instances.specs.Finding.{yes}
 use Rattle.of_instances.specs.Reading.{package_at, text_at}
-use Rattle.of_instances.specs.Site.{Site, number, site_of, with_stack}
+use Rattle.of_instances.specs.Left.{number, with_stack}
 
 -- a node was made below a package
-abbrev pub opened_left : Site → Phandle → Result (Phandle × List Node) Throw → Result Site Throw
-opened_left w found (Ok x) = Ok (site_of w.stack w.memory x.1 (device_opened w.active found x.0))
+abbrev pub opened_left : Board → Phandle → Result (Phandle × List Node) Throw → Result Board Throw
+opened_left w found (Ok x) = Ok (record w { tree = x.1; active = device_opened w.active found x.0 })
 opened_left w found (Err t) = Err t
 
 -- `new-device` ( -- ) below the active package
-unfoldable pub new_device_entry : Site → Option Phandle → Result Site Throw
+unfoldable pub new_device_entry : Board → Option Phandle → Result Board Throw
 new_device_entry w None = Err no_node
 new_device_entry w (Some ph) = opened_left w ph (of_tree (node_added w.tree ph))
 
 -- `finish-device` ( -- )
-abbrev pub active_left : Site → Result Active Throw → Result Site Throw
-active_left w (Ok a) = Ok (site_of w.stack w.memory w.tree a)
+abbrev pub active_left : Board → Result Active Throw → Result Board Throw
+active_left w (Ok a) = Ok (record w { active = a })
 active_left w (Err t) = Err t
 
 -- a phandle as a cell, or 0
@@ -42,24 +43,24 @@ handle None = number 0
 handle (Some ph) = ph.0
 
 -- ( -- ph or 0 )
-abbrev pub handle_left : List Cell → Site → Result (Option Phandle) Throw → Result Site Throw
+abbrev pub handle_left : List Cell → Board → Result (Option Phandle) Throw → Result Board Throw
 handle_left s w (Ok x) = Ok (with_stack w (handle x ∷ s))
 handle_left s w (Err t) = Err t
 
 -- `child` ( ph -- ph or 0 )
-unfoldable pub child_entry : List Cell → Site → Result Site Throw
+unfoldable pub child_entry : List Cell → Board → Result Board Throw
 child_entry [] w = Err stack_underflow
 child_entry (x ∷ s) w = handle_left s w (of_tree (child_found w.tree (record { 0 = x })))
 
 -- `peer` ( ph -- ph or 0 ): that of 0 is the root
-unfoldable pub peer_entry : List Cell → Site → Result Site Throw
+unfoldable pub peer_entry : List Cell → Board → Result Board Throw
 peer_entry [] w = Err stack_underflow
 peer_entry (x ∷ s) w =
     if x.0 == 0 then Ok (with_stack w ((phandle_of 0).0 ∷ s))
     else handle_left s w (of_tree (peer_found w.tree (record { 0 = x })))
 
 -- ( -- false ), or ( -- x true )
-abbrev pub found_left : List Cell → Site → Option Cell → Result Site Throw
+abbrev pub found_left : List Cell → Board → Option Cell → Result Board Throw
 found_left s w None = Ok (with_stack w (number 0 ∷ s))
 found_left s w (Some x) = Ok (with_stack w (yes ∷ x ∷ s))
 
@@ -67,31 +68,31 @@ abbrev pub as_cell : Option Phandle → Option Cell
 as_cell None = None
 as_cell (Some ph) = Some ph.0
 
-abbrev pub package_left : List Cell → Site → Result (List ℕ) Throw → Result Site Throw
+abbrev pub package_left : List Cell → Board → Result (List ℕ) Throw → Result Board Throw
 package_left s w (Ok path) = found_left s w (as_cell (package_found w.memory w.tree path))
 package_left s w (Err t) = Err t
 
 -- `find-package` ( s n -- false, or ph true )
-unfoldable pub find_package_entry : List Cell → Site → Result Site Throw
+unfoldable pub find_package_entry : List Cell → Board → Result Board Throw
 find_package_entry (n ∷ a ∷ s) w = package_left s w (text_at w.memory a n)
 find_package_entry _ w = Err stack_underflow
 
-abbrev pub method_left : List Cell → Site → Result (Option Cell) Throw → Result Site Throw
+abbrev pub method_left : List Cell → Board → Result (Option Cell) Throw → Result Board Throw
 method_left s w (Ok x) = found_left s w x
 method_left s w (Err t) = Err t
 
-abbrev pub method_of : List Cell → Site → Result Phandle Throw → Result (List ℕ) Throw → Result Site Throw
+abbrev pub method_of : List Cell → Board → Result Phandle Throw → Result (List ℕ) Throw → Result Board Throw
 method_of s w (Err t) name = Err t
 method_of s w (Ok ph) (Err t) = Err t
 method_of s w (Ok ph) (Ok name) = method_left s w (of_tree (method_found w.tree ph name))
 
 -- `find-method` ( s n ph -- false, or xt true )
-unfoldable pub find_method_entry : List Cell → Site → Result Site Throw
+unfoldable pub find_method_entry : List Cell → Board → Result Board Throw
 find_method_entry (ph ∷ n ∷ a ∷ s) w = method_of s w (package_at w.tree ph) (text_at w.memory a n)
 find_method_entry _ w = Err stack_underflow
 
 -- the table, a word a line; the words over instances are as unassigned
-unfoldable pub tree_entry : TreeWord → Site → Result Site Throw
+unfoldable pub tree_entry : TreeWord → Board → Result Board Throw
 tree_entry NewDevice w = new_device_entry w w.active.«package»
 tree_entry FinishDevice w = active_left w (device_finished w.active)
 tree_entry Child w = child_entry w.stack w

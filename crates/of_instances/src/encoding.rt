@@ -5,18 +5,16 @@ ghost use Rattle.of_stacks.specs.Throws.{dictionary_overflow};
 ghost use Rattle.of_instances.specs.Encoding.{decode_int_entry, decode_phys_entry, decode_string_entry};
 ghost use Rattle.of_instances.specs.Encoding.{encode_bytes_entry, encode_int_entry, encode_phys_entry};
 ghost use Rattle.of_instances.specs.Encoding.{encode_plus_entry, encode_string_entry};
-ghost use Rattle.of_instances.specs.Site.{site_of};
 
-use crate::active::Active;
 use crate::cells::{cells_under, push_all};
 use crate::faults::{array_throw, of_array};
 use crate::reading::active_cells;
+use of_board::Board;
 use of_cells::Cell;
 use of_memory::Memory;
-use of_nodes::Tree;
 use of_props as props;
 use of_props::Array;
-use of_stacks::{DataStack, Throw};
+use of_stacks::Throw;
 
 /// Where the data region ends.
 const DATA_LIMIT: u32 = 0x14_0000;
@@ -36,21 +34,16 @@ fn check_room(memory: &Memory, count: u32) -> Result<(), Throw>
 /// `encode-int` ( x -- p n ) puts 4 bytes at `here`; -8 where they have no room.
 #[tactic(auto, unfolding(crate::specs::Encoding::encode_int_entry))]
 #[inline(never)]
-pub(crate) fn encode_int(
-    stack: &mut DataStack,
-    memory: &mut Memory,
-    tree: &Tree,
-    active: &Active,
-) -> Result<(), Throw>
-    ensures { Becomes (encode_int_entry stack.old (site_of stack.old memory.old tree.now active.now))
-        (site_of stack.old memory.old tree.now active.now) (site_of stack.new memory.new tree.now active.now) result }
+pub(crate) fn encode_int(board: &mut Board) -> Result<(), Throw>
+    ensures value { Becomes (encode_int_entry board.old.stack board.old) board.old board.new result }
+    ensures console { board.new.console ≡ board.old.console }
 {
-    let x = stack.peek()?;
-    check_room(memory, 4)?;
-    stack.room_for(1)?;
-    let array = of_array(props::encode_int(memory, x))?;
-    stack.replace_top(array.address);
-    stack.push(array.length);
+    let x = board.stack.peek()?;
+    check_room(&board.memory, 4)?;
+    board.stack.room_for(1)?;
+    let array = of_array(props::encode_int(&mut board.memory, x))?;
+    board.stack.replace_top(array.address);
+    board.stack.push(array.length);
     Ok(())
 }
 
@@ -58,19 +51,14 @@ pub(crate) fn encode_int(
 /// where there is no room.
 #[tactic(auto, unfolding(crate::specs::Encoding::encode_string_entry))]
 #[inline(never)]
-pub(crate) fn encode_string(
-    stack: &mut DataStack,
-    memory: &mut Memory,
-    tree: &Tree,
-    active: &Active,
-) -> Result<(), Throw>
-    ensures { Becomes (encode_string_entry stack.old (site_of stack.old memory.old tree.now active.now))
-        (site_of stack.old memory.old tree.now active.now) (site_of stack.new memory.new tree.now active.now) result }
+pub(crate) fn encode_string(board: &mut Board) -> Result<(), Throw>
+    ensures value { Becomes (encode_string_entry board.old.stack board.old) board.old board.new result }
+    ensures console { board.new.console ≡ board.old.console }
 {
-    let (address, length) = stack.top_two()?;
-    let array = of_array(props::encode_string(memory, address, length))?;
-    stack.replace_two(array.address);
-    stack.push(array.length);
+    let (address, length) = board.stack.top_two()?;
+    let array = of_array(props::encode_string(&mut board.memory, address, length))?;
+    board.stack.replace_two(array.address);
+    board.stack.push(array.length);
     Ok(())
 }
 
@@ -78,19 +66,14 @@ pub(crate) fn encode_string(
 /// room.
 #[tactic(auto, unfolding(crate::specs::Encoding::encode_bytes_entry))]
 #[inline(never)]
-pub(crate) fn encode_bytes(
-    stack: &mut DataStack,
-    memory: &mut Memory,
-    tree: &Tree,
-    active: &Active,
-) -> Result<(), Throw>
-    ensures { Becomes (encode_bytes_entry stack.old (site_of stack.old memory.old tree.now active.now))
-        (site_of stack.old memory.old tree.now active.now) (site_of stack.new memory.new tree.now active.now) result }
+pub(crate) fn encode_bytes(board: &mut Board) -> Result<(), Throw>
+    ensures value { Becomes (encode_bytes_entry board.old.stack board.old) board.old board.new result }
+    ensures console { board.new.console ≡ board.old.console }
 {
-    let (address, length) = stack.top_two()?;
-    let array = of_array(props::encode_bytes(memory, address, length))?;
-    stack.replace_two(array.address);
-    stack.push(array.length);
+    let (address, length) = board.stack.top_two()?;
+    let array = of_array(props::encode_bytes(&mut board.memory, address, length))?;
+    board.stack.replace_two(array.address);
+    board.stack.push(array.length);
     Ok(())
 }
 
@@ -98,51 +81,41 @@ pub(crate) fn encode_bytes(
 /// cell first; -259 without one, -8 where there is no room.
 #[tactic(auto, using(crate::proofs::NoRoom::phys_full), unfolding(crate::specs::Encoding::encode_phys_entry))]
 #[inline(never)]
-pub(crate) fn encode_phys(
-    stack: &mut DataStack,
-    memory: &mut Memory,
-    tree: &Tree,
-    active: &Active,
-) -> Result<(), Throw>
-    ensures { Becomes (encode_phys_entry stack.old (site_of stack.old memory.old tree.now active.now))
-        (site_of stack.old memory.old tree.now active.now) (site_of stack.new memory.new tree.now active.now) result }
+pub(crate) fn encode_phys(board: &mut Board) -> Result<(), Throw>
+    ensures value { Becomes (encode_phys_entry board.old.stack board.old) board.old board.new result }
+    ensures console { board.new.console ≡ board.old.console }
 {
-    let _ = stack.peek()?;
-    let count = active_cells(memory, tree, active)?;
-    let cells = cells_under(stack, 0, count)?;
-    check_room(memory, 4 * count as u32)?;
-    if stack.depth() - count + 2 > of_stacks::CAPACITY {
+    let _ = board.stack.peek()?;
+    let count = active_cells(&board.memory, &board.tree, &board.active)?;
+    let cells = cells_under(&board.stack, 0, count)?;
+    check_room(&board.memory, 4 * count as u32)?;
+    if board.stack.depth() - count + 2 > of_stacks::CAPACITY {
         return Err(Throw::STACK_OVERFLOW);
     }
-    let array = of_array(props::encode_phys(memory, cells.as_slice()))?;
-    stack.drop_top(count);
-    stack.push(array.address);
-    stack.push(array.length);
+    let array = of_array(props::encode_phys(&mut board.memory, cells.as_slice()))?;
+    board.stack.drop_top(count);
+    board.stack.push(array.address);
+    board.stack.push(array.length);
     Ok(())
 }
 
 /// `encode+` ( p n p n -- p n ) joins two arrays; -24 where the second isn't directly behind the first.
 #[tactic(auto, unfolding(crate::specs::Encoding::encode_plus_entry))]
 #[inline(never)]
-pub(crate) fn encode_plus(
-    stack: &mut DataStack,
-    memory: &Memory,
-    tree: &Tree,
-    active: &Active,
-) -> Result<(), Throw>
-    ensures { Becomes (encode_plus_entry stack.old (site_of stack.old memory.now tree.now active.now))
-        (site_of stack.old memory.now tree.now active.now) (site_of stack.new memory.now tree.now active.now) result }
+pub(crate) fn encode_plus(board: &mut Board) -> Result<(), Throw>
+    ensures value { Becomes (encode_plus_entry board.old.stack board.old) board.old board.new result }
+    ensures console { board.new.console ≡ board.old.console }
 {
-    let (address, length, second, more) = stack.top_four()?;
+    let (address, length, second, more) = board.stack.top_four()?;
     let first = Array { address, length };
     let second = Array {
         address: second,
         length: more,
     };
     let whole = of_array(props::join(first, second))?;
-    stack.drop_top(4);
-    stack.push(whole.address);
-    stack.push(whole.length);
+    board.stack.drop_top(4);
+    board.stack.push(whole.address);
+    board.stack.push(whole.length);
     Ok(())
 }
 
@@ -150,22 +123,17 @@ pub(crate) fn encode_plus(
 /// has less than 4.
 #[tactic(auto, unfolding(crate::specs::Encoding::decode_int_entry))]
 #[inline(never)]
-pub(crate) fn decode_int(
-    stack: &mut DataStack,
-    memory: &Memory,
-    tree: &Tree,
-    active: &Active,
-) -> Result<(), Throw>
-    ensures { Becomes (decode_int_entry stack.old (site_of stack.old memory.now tree.now active.now))
-        (site_of stack.old memory.now tree.now active.now) (site_of stack.new memory.now tree.now active.now) result }
+pub(crate) fn decode_int(board: &mut Board) -> Result<(), Throw>
+    ensures value { Becomes (decode_int_entry board.old.stack board.old) board.old board.new result }
+    ensures console { board.new.console ≡ board.old.console }
 {
-    let (address, length) = stack.top_two()?;
-    let (x, rest) = of_array(props::decode_int(memory, Array { address, length }))?;
-    stack.room_for(1)?;
-    stack.drop_top(2);
-    stack.push(rest.address);
-    stack.push(rest.length);
-    stack.push(x);
+    let (address, length) = board.stack.top_two()?;
+    let (x, rest) = of_array(props::decode_int(&board.memory, Array { address, length }))?;
+    board.stack.room_for(1)?;
+    board.stack.drop_top(2);
+    board.stack.push(rest.address);
+    board.stack.push(rest.length);
+    board.stack.push(x);
     Ok(())
 }
 
@@ -173,23 +141,18 @@ pub(crate) fn decode_int(
 /// can't be read, -262 where none is zero.
 #[tactic(auto, unfolding(crate::specs::Encoding::decode_string_entry))]
 #[inline(never)]
-pub(crate) fn decode_string(
-    stack: &mut DataStack,
-    memory: &Memory,
-    tree: &Tree,
-    active: &Active,
-) -> Result<(), Throw>
-    ensures { Becomes (decode_string_entry stack.old (site_of stack.old memory.now tree.now active.now))
-        (site_of stack.old memory.now tree.now active.now) (site_of stack.new memory.now tree.now active.now) result }
+pub(crate) fn decode_string(board: &mut Board) -> Result<(), Throw>
+    ensures value { Becomes (decode_string_entry board.old.stack board.old) board.old board.new result }
+    ensures console { board.new.console ≡ board.old.console }
 {
-    let (address, length) = stack.top_two()?;
-    let (text, rest) = of_array(props::decode_string(memory, Array { address, length }))?;
-    stack.room_for(2)?;
-    stack.drop_top(2);
-    stack.push(rest.address);
-    stack.push(rest.length);
-    stack.push(text.address);
-    stack.push(text.length);
+    let (address, length) = board.stack.top_two()?;
+    let (text, rest) = of_array(props::decode_string(&board.memory, Array { address, length }))?;
+    board.stack.room_for(2)?;
+    board.stack.drop_top(2);
+    board.stack.push(rest.address);
+    board.stack.push(rest.length);
+    board.stack.push(text.address);
+    board.stack.push(text.length);
     Ok(())
 }
 
@@ -197,25 +160,20 @@ pub(crate) fn decode_string(
 /// one, -9 where a byte can't be read, -262 where there are too few.
 #[tactic(auto, unfolding(crate::specs::Encoding::decode_phys_entry))]
 #[inline(never)]
-pub(crate) fn decode_phys(
-    stack: &mut DataStack,
-    memory: &Memory,
-    tree: &Tree,
-    active: &Active,
-) -> Result<(), Throw>
-    ensures { Becomes (decode_phys_entry stack.old (site_of stack.old memory.now tree.now active.now))
-        (site_of stack.old memory.now tree.now active.now) (site_of stack.new memory.now tree.now active.now) result }
+pub(crate) fn decode_phys(board: &mut Board) -> Result<(), Throw>
+    ensures value { Becomes (decode_phys_entry board.old.stack board.old) board.old board.new result }
+    ensures console { board.new.console ≡ board.old.console }
 {
-    let (address, length) = stack.top_two()?;
-    let count = active_cells(memory, tree, active)?;
-    let (cells, rest) = match props::decode_phys(memory, Array { address, length }, count) {
+    let (address, length) = board.stack.top_two()?;
+    let count = active_cells(&board.memory, &board.tree, &board.active)?;
+    let (cells, rest) = match props::decode_phys(&board.memory, Array { address, length }, count) {
         Ok(found) => found,
         Err(fault) => return Err(array_throw(fault)),
     };
-    stack.room_for(cells.len())?;
-    stack.drop_top(2);
-    stack.push(rest.address);
-    stack.push(rest.length);
-    push_all(stack, cells.as_slice());
+    board.stack.room_for(cells.len())?;
+    board.stack.drop_top(2);
+    board.stack.push(rest.address);
+    board.stack.push(rest.length);
+    push_all(&mut board.stack, cells.as_slice());
     Ok(())
 }

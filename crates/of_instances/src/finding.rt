@@ -1,41 +1,33 @@
 ghost use Rattle.std.specs.Prelude.{◌≡◌};
 ghost use Rattle.of_stacks.specs.Stacks.{Becomes};
 ghost use Rattle.of_instances.specs.Finding.{get_my_entry, get_package_entry, next_entry};
-ghost use Rattle.of_instances.specs.Site.{site_of};
 
-use crate::active::Active;
 use crate::faults::of_tree;
 use crate::reading::{active_package, package_at, text_at};
+use of_board::Board;
 use of_cells::Cell;
-use of_memory::Memory;
-use of_nodes::Tree;
-use of_stacks::{DataStack, Throw};
+use of_stacks::Throw;
 
 /// `get-my-property` ( s n -- true, or p n false ) the value of a property of the active package; -259 without
 /// one, -9 where a byte can't be read.
 #[tactic(auto, unfolding(crate::specs::Finding::get_my_entry))]
 #[inline(never)]
-pub(crate) fn get_my_property(
-    stack: &mut DataStack,
-    memory: &Memory,
-    tree: &Tree,
-    active: &Active,
-) -> Result<(), Throw>
-    ensures { Becomes (get_my_entry stack.old (site_of stack.old memory.now tree.now active.now))
-        (site_of stack.old memory.now tree.now active.now) (site_of stack.new memory.now tree.now active.now) result }
+pub(crate) fn get_my_property(board: &mut Board) -> Result<(), Throw>
+    ensures value { Becomes (get_my_entry board.old.stack board.old) board.old board.new result }
+    ensures console { board.new.console ≡ board.old.console }
 {
-    let (address, length) = stack.top_two()?;
-    let package = active_package(tree, active)?;
-    let name = text_at(memory, address, length)?;
-    let Some(property) = of_tree(tree.property(package, name))? else {
-        stack.replace_two(Cell::TRUE);
+    let (address, length) = board.stack.top_two()?;
+    let package = active_package(&board.tree, &board.active)?;
+    let name = text_at(&board.memory, address, length)?;
+    let Some(property) = of_tree(board.tree.property(package, name))? else {
+        board.stack.replace_two(Cell::TRUE);
         return Ok(());
     };
-    stack.room_for(1)?;
-    stack.drop_top(2);
-    stack.push(property.value.address);
-    stack.push(property.value.length);
-    stack.push(Cell::ZERO);
+    board.stack.room_for(1)?;
+    board.stack.drop_top(2);
+    board.stack.push(property.value.address);
+    board.stack.push(property.value.length);
+    board.stack.push(Cell::ZERO);
     Ok(())
 }
 
@@ -43,27 +35,22 @@ pub(crate) fn get_my_property(
 /// there is no such node, -9 where a byte can't be read.
 #[tactic(auto, unfolding(crate::specs::Finding::get_package_entry))]
 #[inline(never)]
-pub(crate) fn get_package_property(
-    stack: &mut DataStack,
-    memory: &Memory,
-    tree: &Tree,
-    active: &Active,
-) -> Result<(), Throw>
-    ensures { Becomes (get_package_entry stack.old (site_of stack.old memory.now tree.now active.now))
-        (site_of stack.old memory.now tree.now active.now) (site_of stack.new memory.now tree.now active.now) result }
+pub(crate) fn get_package_property(board: &mut Board) -> Result<(), Throw>
+    ensures value { Becomes (get_package_entry board.old.stack board.old) board.old board.new result }
+    ensures console { board.new.console ≡ board.old.console }
 {
-    let (address, length, handle) = stack.top_three()?;
-    let package = package_at(tree, handle)?;
-    let name = text_at(memory, address, length)?;
-    let found = of_tree(tree.property(package, name))?;
-    stack.drop_top(3);
+    let (address, length, handle) = board.stack.top_three()?;
+    let package = package_at(&board.tree, handle)?;
+    let name = text_at(&board.memory, address, length)?;
+    let found = of_tree(board.tree.property(package, name))?;
+    board.stack.drop_top(3);
     let Some(property) = found else {
-        stack.push(Cell::TRUE);
+        board.stack.push(Cell::TRUE);
         return Ok(());
     };
-    stack.push(property.value.address);
-    stack.push(property.value.length);
-    stack.push(Cell::ZERO);
+    board.stack.push(property.value.address);
+    board.stack.push(property.value.length);
+    board.stack.push(Cell::ZERO);
     Ok(())
 }
 
@@ -71,26 +58,21 @@ pub(crate) fn get_package_property(
 /// the first where the name is empty; -263 where there is no such node, -9 where a byte can't be read.
 #[tactic(auto, unfolding(crate::specs::Finding::next_entry))]
 #[inline(never)]
-pub(crate) fn next_property(
-    stack: &mut DataStack,
-    memory: &Memory,
-    tree: &Tree,
-    active: &Active,
-) -> Result<(), Throw>
-    ensures { Becomes (next_entry stack.old (site_of stack.old memory.now tree.now active.now))
-        (site_of stack.old memory.now tree.now active.now) (site_of stack.new memory.now tree.now active.now) result }
+pub(crate) fn next_property(board: &mut Board) -> Result<(), Throw>
+    ensures value { Becomes (next_entry board.old.stack board.old) board.old board.new result }
+    ensures console { board.new.console ≡ board.old.console }
 {
-    let (address, length, handle) = stack.top_three()?;
-    let package = package_at(tree, handle)?;
-    let name = text_at(memory, address, length)?;
-    let next = of_tree(tree.next_property(package, name))?;
-    stack.drop_top(3);
+    let (address, length, handle) = board.stack.top_three()?;
+    let package = package_at(&board.tree, handle)?;
+    let name = text_at(&board.memory, address, length)?;
+    let next = of_tree(board.tree.next_property(package, name))?;
+    board.stack.drop_top(3);
     let Some(property) = next else {
-        stack.push(Cell::ZERO);
+        board.stack.push(Cell::ZERO);
         return Ok(());
     };
-    stack.push(property.name.address);
-    stack.push(property.name.length);
-    stack.push(Cell::TRUE);
+    board.stack.push(property.name.address);
+    board.stack.push(property.name.length);
+    board.stack.push(Cell::TRUE);
     Ok(())
 }

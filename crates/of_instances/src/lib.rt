@@ -1,7 +1,6 @@
 //! The words over the device tree: properties, packages and `new-device`.
 #![tactic(auto)]
 
-mod active;
 mod cells;
 mod encoding;
 mod faults;
@@ -12,7 +11,6 @@ mod reading;
 mod setting;
 mod tree_words;
 
-pub use active::{Active, NewDevice, NewDevices};
 pub use laws::{images_stay, tree_words_throw_listed};
 pub use property_words::run_properties_word;
 pub use tree_words::run_tree_word;

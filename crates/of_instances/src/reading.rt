@@ -1,8 +1,8 @@
 ghost use Rattle.std.specs.Prelude.{◌≡◌, ◌≤◌, length, Ok, Err, IfOk, MatchResult};
 ghost use Rattle.of_instances.specs.Reading.{cells_in, cells_of, package_at, package_in, text_at};
 
-use crate::active::Active;
 use crate::faults::{node_throw, of_tree};
+use of_board::Active;
 use of_cells::Cell;
 use of_memory::Memory;
 use of_nodes::{Phandle, Tree};
