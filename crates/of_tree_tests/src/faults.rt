@@ -1,6 +1,6 @@
 //! Words that throw, and leave all as it was.
 
-use crate::running::{Parts, differing};
+use crate::running::{Trial, differing};
 use of_stacks::{Stop, Throw};
 use std::test::Fail;
 
@@ -152,8 +152,8 @@ fn instances(rt: HostRuntime) -> Result<(), Fail> {
         "open-package $open-package close-package call-package $call-parent $call-method my-self my-parent \
         ihandle>phandle my-args set-args my-unit my-address my-space";
     for name in names.split_whitespace() {
-        let mut parts = Parts::new(rt.alloc())?;
-        assert_eq!(rt; parts.run(name), Err(Stop::Thrown(Throw(-256))), "{name}");
+        let mut trial = Trial::new(rt.alloc())?;
+        assert_eq!(rt; trial.run(name), Err(Stop::Thrown(Throw(-256))), "{name}");
     }
     Ok(())
 }

@@ -1,10 +1,13 @@
-//! Tests of the device tree, of property values, of instances and of the words over them, by their public calls.
+//! Tests of the device tree, of property values, of instances, of the board and of the words over it, by their public
+//! calls.
 #![tactic(auto)]
 
 #[cfg(test)]
 mod active;
 #[cfg(test)]
 mod calls;
+#[cfg(test)]
+mod console;
 #[cfg(test)]
 mod faults;
 #[cfg(test)]

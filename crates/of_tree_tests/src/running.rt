@@ -1,88 +1,102 @@
 //! How a line of words is run, and what is shown of what it leaves.
 
+use of_board::{Active, Board, Console};
 use of_cells::Cell;
 use of_fcodes::{Word, word_with_name};
-use of_instances::{Active, run_properties_word, run_tree_word};
+use of_format::Pictured;
+use of_instances::{run_properties_word, run_tree_word};
 use of_memory::Memory;
 use of_nodes::{Phandle, Tree};
 use of_stacks::{DataStack, Stop, Throw};
 use std::alloc::Global;
 use std::test::Fail;
 
-/// What the words run over.
+/// The board that the words run over, and what was there when the latest image began.
 #[derive(Drop)]
-pub(crate) struct Parts {
-    pub(crate) stack: DataStack,
-    pub(crate) memory: Memory,
-    pub(crate) tree: Tree,
-    pub(crate) active: Active,
+pub(crate) struct Trial {
+    pub(crate) board: Board,
+    /// How many `new-device`s had ever been opened.
+    ever: usize,
+    /// The active package.
+    before: Option<Phandle>,
 }
 
-impl Parts {
+impl Trial {
     /// The first tree, with no active package.
-    pub(crate) fn new(alloc: Global) -> Result<Parts, Fail> {
+    pub(crate) fn new(alloc: Global) -> Result<Trial, Fail> {
         let mut memory = Memory::new(alloc)?;
         let tree = Tree::new(alloc, &mut memory)?;
-        Ok(Parts {
-            stack: DataStack::new(),
-            memory,
-            tree,
-            active: Active::new(alloc),
+        Ok(Trial {
+            board: Board {
+                stack: DataStack::new(),
+                memory,
+                pictured: Pictured::new(),
+                console: Console::new(alloc),
+                tree,
+                active: Active::new(alloc),
+            },
+            ever: 0,
+            before: None,
         })
     }
 
     /// Runs the word of a name.
     pub(crate) fn run(&mut self, name: &str) -> Result<(), Stop> {
-        let Parts {
-            stack,
-            memory,
-            tree,
-            active,
-        } = self;
         match word_with_name(name.as_bytes()) {
-            Some(Word::Properties(word)) => run_properties_word(word, stack, memory, tree, active),
-            Some(Word::Tree(word)) => run_tree_word(word, stack, memory, tree, active),
+            Some(Word::Properties(word)) => run_properties_word(word, &mut self.board),
+            Some(Word::Tree(word)) => run_tree_word(word, &mut self.board),
             _ => Err(Stop::NoMemory),
         }
     }
 
+    /// Notes what is there when an image begins.
+    fn begin(&mut self) {
+        self.ever = self.board.active.new_devices.ever();
+        self.before = self.board.active.package;
+    }
+
     /// Puts a text at `here` and its address and length on the stack.
     fn push_text(&mut self, text: &str) -> Result<(), Stop> {
-        let Ok(address) = self.memory.append(text.as_bytes()) else {
+        let Ok(address) = self.board.memory.append(text.as_bytes()) else {
             return Err(Stop::NoMemory);
         };
-        self.stack.try_push(address)?;
-        self.stack.try_push(Cell(text.len() as u32))?;
+        self.board.stack.try_push(address)?;
+        self.board.stack.try_push(Cell(text.len() as u32))?;
         Ok(())
     }
 
     /// Runs what one word of a line stands for. `%1f` is a number, `"text` the address and the length of a text
     /// at `here`, `>1f` moves `here` up, `*1f` stands for so many cells of 0, and `@2` makes node 2 active; all
-    /// numbers are hexadecimal.
+    /// numbers are hexadecimal. `[` and `]` are the beginning and the end of an image.
     fn run_word(&mut self, word: &str) -> Result<(), Stop> {
         if let Some(text) = word.strip_prefix('"') {
             return self.push_text(text);
         }
         if let Some(digits) = word.strip_prefix('%') {
-            self.stack.try_push(Cell(number(digits)))?;
+            self.board.stack.try_push(Cell(number(digits)))?;
             return Ok(());
         }
         if let Some(digits) = word.strip_prefix('>') {
-            let _ = self.memory.allot(Cell(number(digits)));
+            let _ = self.board.memory.allot(Cell(number(digits)));
             return Ok(());
         }
         if let Some(digits) = word.strip_prefix('*') {
             for _ in 0..number(digits) {
-                self.stack.try_push(Cell::ZERO)?;
+                self.board.stack.try_push(Cell::ZERO)?;
             }
             return Ok(());
         }
         if let Some(digits) = word.strip_prefix('@') {
             let handle = number(digits).wrapping_mul(4).wrapping_add(0xd000_0000);
-            self.active.package = Some(Phandle(Cell(handle)));
+            self.board.active.package = Some(Phandle(Cell(handle)));
             return Ok(());
         }
-        self.run(word)
+        match word {
+            "[" => self.begin(),
+            "]" => self.board.active.cut_to(self.ever, self.before),
+            _ => return self.run(word),
+        }
+        Ok(())
     }
 
     /// Runs words in turn.
@@ -100,13 +114,13 @@ fn number(digits: &str) -> u32 {
 }
 
 /// The cells of the stack, or how many there are where they are more than 8, and what was thrown.
-pub(crate) fn left(alloc: Global, parts: &Parts, ended: Result<(), Stop>) -> Result<String, Fail> {
+pub(crate) fn left(alloc: Global, board: &Board, ended: Result<(), Stop>) -> Result<String, Fail> {
     let mut text = String::new(alloc);
-    let depth = parts.stack.depth();
+    let depth = board.stack.depth();
     if depth > 8 {
         text.push_str(&format!(in alloc; "{depth} cells ")?)?;
     } else {
-        for x in parts.stack.cells() {
+        for x in board.stack.cells() {
             text.push_str(&format!(in alloc; "{:x} ", x.0)?)?;
         }
     }
@@ -131,24 +145,24 @@ fn show_value(alloc: Global, text: &mut String, value: &[u8]) -> Result<(), Fail
 }
 
 /// The properties of the active package in their order.
-pub(crate) fn properties(alloc: Global, parts: &Parts) -> Result<String, Fail> {
+pub(crate) fn properties(alloc: Global, board: &Board) -> Result<String, Fail> {
     let mut text = String::new(alloc);
-    let Some(node) = parts.active.package else {
+    let Some(node) = board.active.package else {
         return Ok(text);
     };
     let mut name: &[u8] = &[];
     for _ in 0..9 {
-        let Ok(Some(property)) = parts.tree.next_property(node, name) else {
+        let Ok(Some(property)) = board.tree.next_property(node, name) else {
             return Ok(text);
         };
-        name = parts
+        name = board
             .memory
             .slice(property.name.address, property.name.length)?;
         for byte in name {
             text.push(char::from(*byte))?;
         }
         text.push('=')?;
-        let value = parts
+        let value = board
             .memory
             .slice(property.value.address, property.value.length)?;
         show_value(alloc, &mut text, value)?;
@@ -163,10 +177,10 @@ pub(crate) fn differing(alloc: Global, table: &str) -> Result<String, Fail> {
     let mut text = String::new(alloc);
     for line in table.lines() {
         let (words, wanted) = line.split_once('|').unwrap_or(("", ""));
-        let mut parts = Parts::new(alloc)?;
-        let ended = parts.run_all(words);
-        let stack = left(alloc, &parts, ended)?;
-        let properties = properties(alloc, &parts)?;
+        let mut trial = Trial::new(alloc)?;
+        let ended = trial.run_all(words);
+        let stack = left(alloc, &trial.board, ended)?;
+        let properties = properties(alloc, &trial.board)?;
         let given = format!(in alloc; "{}|{}", stack.trim_end(), properties.trim_end())?;
         if given.as_str() != wanted {
             text.push_str(&format!(in alloc; "{words}|{given}\n")?)?;

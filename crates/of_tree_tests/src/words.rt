@@ -1,6 +1,6 @@
 //! Words that don't throw.
 
-use crate::running::{Parts, differing};
+use crate::running::{Trial, differing};
 use of_cells::Cell;
 use of_instances::{images_stay, tree_words_throw_listed};
 use of_nodes::Phandle;
@@ -115,31 +115,57 @@ fn nodes(rt: HostRuntime) -> Result<(), Fail> {
     Ok(())
 }
 
-/// A method is found whatever the case of its name.
+/// Images, which begin at `[` and end at `]`: at the end each `new-device` that was opened in the image is open no
+/// more, also where the image finished older ones, and the package that was active before is active.
+const IMAGES: &str = "\
+@2 [ new-device ]||name=736c6f7400
+@2 new-device [ new-device ] finish-device||name=736c6f7400
+@2 new-device [ new-device new-device ] finish-device||name=736c6f7400
+@2 new-device [ finish-device ] finish-device|throws -259|
+@2 new-device [ finish-device new-device ] finish-device|throws -259|
+@2 new-device \"v \"x property [ finish-device new-device \"w \"x property ]||x=76
+@2 new-device new-device [ finish-device new-device ] finish-device||name=736c6f7400
+@2 new-device new-device [ finish-device new-device ] finish-device finish-device|throws -259|name=736c6f7400
+@2 new-device [ finish-device new-device ] new-device finish-device \"m model||model=6d00
+[ @2 new-device ] new-device|throws -259|
+";
+
 #[test]
-fn methods(rt: HostRuntime) -> Result<(), Fail> {
-    let mut parts = Parts::new(rt.alloc())?;
-    parts
-        .tree
-        .add_method(Phandle::of(2), b"open", Cell(0xc000_052c))?;
-    assert_eq!(rt; parts.run_all("\"OPEN %d0000008 find-method"), Ok(()));
-    assert_eq!(rt; parts.stack.top_two(), Ok((Cell(0xc000_052c), Cell::TRUE)));
+fn images(rt: HostRuntime) -> Result<(), Fail> {
+    assert_eq!(rt; differing(rt.alloc(), IMAGES)?.as_str(), "");
     Ok(())
 }
 
-/// There are at most 1,024 nodes, three of them from the beginning.
+/// A method is found whatever the case of its name.
+#[test]
+fn methods(rt: HostRuntime) -> Result<(), Fail> {
+    let mut trial = Trial::new(rt.alloc())?;
+    trial
+        .board
+        .tree
+        .add_method(Phandle::of(2), b"open", Cell(0xc000_052c))?;
+    assert_eq!(rt; trial.run_all("\"OPEN %d0000008 find-method"), Ok(()));
+    assert_eq!(rt;
+        trial.board.stack.top_two(),
+        Ok((Cell(0xc000_052c), Cell::TRUE))
+    );
+    Ok(())
+}
+
+/// There are at most 1,024 nodes, three of them from the beginning. A `new-device` that is refused isn't counted.
 #[test]
 fn many_nodes(rt: HostRuntime) -> Result<(), Fail> {
-    let mut parts = Parts::new(rt.alloc())?;
-    parts.active.package = Some(Phandle::of(2));
+    let mut trial = Trial::new(rt.alloc())?;
+    trial.board.active.package = Some(Phandle::of(2));
     for _ in 0..1021 {
-        assert_eq!(rt; parts.run("new-device"), Ok(()));
-        assert_eq!(rt; parts.run("finish-device"), Ok(()));
+        assert_eq!(rt; trial.run("new-device"), Ok(()));
+        assert_eq!(rt; trial.run("finish-device"), Ok(()));
     }
-    let ended = parts.run("new-device");
+    let ended = trial.run("new-device");
     assert_eq!(rt; ended, Err(Stop::Thrown(of_stacks::Throw(-8))));
-    assert_eq!(rt; parts.active.package, Some(Phandle::of(2)));
-    assert_eq!(rt; parts.active.new_devices.len(), 0);
+    assert_eq!(rt; trial.board.active.package, Some(Phandle::of(2)));
+    assert_eq!(rt; trial.board.active.new_devices.len(), 0);
+    assert_eq!(rt; trial.board.active.new_devices.ever(), 1021);
     Ok(())
 }
 

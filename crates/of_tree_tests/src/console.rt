@@ -1,0 +1,42 @@
+//! What is printed.
+
+use of_board::Console;
+use of_cells::Cell;
+use of_stacks::Throw;
+use std::test::Fail;
+
+#[test]
+fn texts(rt: HostRuntime) -> Result<(), Fail> {
+    let mut console = Console::new(rt.alloc());
+    assert_eq!(rt; console.bytes(), "".as_bytes());
+    console.print(b"ab")?;
+    console.print_spaced(b"12")?;
+    console.print_at_right(5, b"-1")?;
+    console.print_at_right(2, b"123")?;
+    console.print_at_right(-1, b"4")?;
+    assert_eq!(rt; console.bytes(), "ab12    -11234".as_bytes());
+    Ok(())
+}
+
+/// The bottom is printed first, each cell as a signed number.
+#[test]
+fn stacks(rt: HostRuntime) -> Result<(), Fail> {
+    let mut console = Console::new(rt.alloc());
+    console.print_stack(16, &[Cell(0x1a), Cell(0xffff_ffff)])?;
+    console.print_stack(10, &[Cell(26)])?;
+    assert_eq!(rt; console.bytes(), "1a -1 26 ".as_bytes());
+    Ok(())
+}
+
+/// Behind the room for it the text of a throw asks for no memory.
+#[test]
+fn faults(rt: HostRuntime) -> Result<(), Fail> {
+    let mut console = Console::new(rt.alloc());
+    console.make_ready()?;
+    console.print_fault(Throw(-4));
+    console.print(b"a")?;
+    console.print_fault(Throw(-259));
+    let printed = "fault -4: stack underflow\nafault -259: no such node\n";
+    assert_eq!(rt; console.bytes(), printed.as_bytes());
+    Ok(())
+}
