@@ -1,0 +1,4 @@
+pub mod Returns
+pub mod Turns
+pub mod Tokens
+pub mod Reading
