@@ -4,6 +4,7 @@
 -- Rests: behind which words nothing is due where nothing was.
 -- Endings: what calls on definitions leave of the whole state.
 -- Settled: the end of a step, item by item.
+-- StillRunning: what throws leaves what runs running.
 -- MethodLemmas: words that become methods of a package.
 -- Runs: runs, step by step.
 -- Strings: strings that are compiled.
@@ -15,6 +16,7 @@ pub mod TakenAtOnce
 pub mod Branch
 pub mod Endings
 pub mod Settled
+pub mod StillRunning
 pub mod MethodLemmas
 pub mod Runs
 pub mod Strings

@@ -31,26 +31,26 @@ unnamed (Some node) (Some name) xt nodes e = absurd cc
 pub known_nothing : {S : Type 0} (home : Option Phandle) (n : ℕ) (s : State S)
     → name_in (word_at s.words.dictionary n) ≡ None → known home n s ≡ s
 known_nothing home n s e =
-    ap (λ x. as_method x n s) (unnamed home (name_in (word_at s.words.dictionary n)) (xt_cell n) s.parts.tree e)
+    ap (λ x. as_method x n s) (unnamed home (name_in (word_at s.words.dictionary n)) (xt_cell n) s.board.tree e)
 
 -- the method was made before the word was
 method_first : {S : Type 0} (home : Option Phandle) (n : ℕ) (old new : State S) (former : Option Former)
     (name : List ℕ)
-    → MayMake home name (xt_cell n) former old.parts.tree new.parts.tree
-    → as_method (method_made home (Some name) (xt_cell n) old.parts.tree) n (with_tree old.parts.tree new)
+    → MayMake home name (xt_cell n) former old.board.tree new.board.tree
+    → as_method (method_made home (Some name) (xt_cell n) old.board.tree) n (with_tree old.board.tree new)
     ≡ hidden_if (is_some former) n new
 method_first home n old new None name h =
-    ap (λ x. as_method x n (with_tree old.parts.tree new)) h.0 ∙ ap (λ t. with_tree t new) (sym h.1)
-method_first home n old new (Some f) name h = ap (λ x. as_method x n (with_tree old.parts.tree new)) h.0
+    ap (λ x. as_method x n (with_tree old.board.tree new)) h.0 ∙ ap (λ t. with_tree t new) (sym h.1)
+method_first home n old new (Some f) name h = ap (λ x. as_method x n (with_tree old.board.tree new)) h.0
 
 pub known_done : {S : Type 0} (home : Option Phandle) (n : ℕ) (old new : State S) (former : Option Former)
     (name : List ℕ)
-    → MayMake home name (xt_cell n) former old.parts.tree new.parts.tree
+    → MayMake home name (xt_cell n) former old.board.tree new.board.tree
     → name_in (word_at new.words.dictionary n) ≡ Some name
-    → known home n (with_tree old.parts.tree new) ≡ hidden_if (is_some former) n new
+    → known home n (with_tree old.board.tree new) ≡ hidden_if (is_some former) n new
 known_done home n old new former name h e =
-    ap (λ (x : Option (List ℕ)). as_method (method_made home x (xt_cell n) old.parts.tree) n
-    (with_tree old.parts.tree new)) e
+    ap (λ (x : Option (List ℕ)). as_method (method_made home x (xt_cell n) old.board.tree) n
+    (with_tree old.board.tree new)) e
     ∙ method_first home n old new former name h
 
 -- ---- the number and the name of a word
@@ -103,10 +103,10 @@ nameless_known home (Some m) n a old new (Err NoMemory) e h k = k
 
 pub known_other : (d : DefiningWord) (s : State Coding) → opens d ≡ false
     → define_entry flat_calls d s
-    ≡ then_known s.parts.active.«package» (Some (length s.words.dictionary)) (word_defined flat_calls d s)
+    ≡ then_known s.board.active.«package» (Some (length s.words.dictionary)) (word_defined flat_calls d s)
 known_other d s e =
     let at : known_at_once d s.words.dictionary ≡ Some (length s.words.dictionary) = rw e refl in
-    ap (λ o. then_known s.parts.active.«package» o (word_defined flat_calls d s)) at
+    ap (λ o. then_known s.board.active.«package» o (word_defined flat_calls d s)) at
 
 pub nothing_or_next : (d : DefiningWord) (words : List (Option Word))
     → (known_at_once d words ≡ None) ⊎ (known_at_once d words ≡ Some (length words))
@@ -152,17 +152,17 @@ nameless_open home (Some n) a old new (Err NoMemory) none same h = h
 -- what is said over every tree is so of the tree that is there
 pub over_its_tree : (b : Bool) (a : State Coding → Outcome Coding) (old new : State Coding)
     (r : Result (Unit {0}) Stop)
-    → new.parts.tree ≡ old.parts.tree
+    → new.board.tree ≡ old.board.tree
     → ((t : List Node) → Ends b (a (with_tree t old)) (with_tree t old) (with_tree t new) r)
     → Ends b (a old) old new r
 over_its_tree b a old new r e h =
-    subst (λ t. Ends b (a old) old (with_tree t new) r) (sym e) (h old.parts.tree)
+    subst (λ t. Ends b (a old) old (with_tree t new) r) (sym e) (h old.board.tree)
 
 -- a word was made
 pub method_ends : (a : State Coding → Outcome Coding) (home : Option Phandle) (n : ℕ) (old new : State Coding)
     (former : Option Former) (name : List ℕ)
-    → MayMake home name (xt_cell n) former old.parts.tree new.parts.tree
-    → a old ≡ done (with_tree old.parts.tree new)
+    → MayMake home name (xt_cell n) former old.board.tree new.board.tree
+    → a old ≡ done (with_tree old.board.tree new)
     → name_in (word_at new.words.dictionary n) ≡ Some name
     → then_known home (Some n) (a old) ≡ done (hidden_if (is_some former) n new)
 method_ends a home n old new former name made h e =
@@ -171,8 +171,8 @@ method_ends a home n old new former name made h e =
 -- no word was made
 pub method_undone : (a : State Coding → Outcome Coding) (home : Option Phandle) (o : Option ℕ) (old new : State Coding)
     (stop : Stop)
-    → Ends {A = Unit {0}} true (a old) old (with_tree old.parts.tree new) (Err stop)
-    → Ends {A = Unit {0}} true (then_known home o (a old)) old (with_tree old.parts.tree new) (Err stop)
+    → Ends {A = Unit {0}} true (a old) old (with_tree old.board.tree new) (Err stop)
+    → Ends {A = Unit {0}} true (then_known home o (a old)) old (with_tree old.board.tree new) (Err stop)
 method_undone a home None old new stop h = h
 method_undone a home (Some n) old new (Thrown t) h = ap (then_known home (Some n)) h
 method_undone a home (Some n) old new NoMemory h = h

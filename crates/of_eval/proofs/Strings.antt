@@ -43,28 +43,28 @@ pub string_full : (s : State Coding) (a n : ℕ) → 65536 < length s.code.code.
     → acted flat_calls (Copies a n) s ≡ failed dictionary_overflow s
 unfolding acted
 string_full s a n h =
-    rw (string_coded s.parts.memory.here n s.code, no_room (length s.code.code.cells) h)
-    (refused (append_copied s.parts.memory a n []) (compiled (string_element s.parts.memory.here n) s.code) s)
+    rw (string_coded s.board.memory.here n s.code, no_room (length s.code.code.cells) h)
+    (refused (append_copied s.board.memory a n []) (compiled (string_element s.board.memory.here n) s.code) s)
 
 pub string_faulty : (s : State Coding) (a n : ℕ) (fault : MemFault) → length s.code.code.cells + 3 ≤ 65536
-    → append_copied s.parts.memory a n [] ≡ Err fault → acted flat_calls (Copies a n) s ≡ failed (throw_of fault) s
+    → append_copied s.board.memory a n [] ≡ Err fault → acted flat_calls (Copies a n) s ≡ failed (throw_of fault) s
 unfolding acted
 string_faulty s a n fault h e =
-    rw (string_coded s.parts.memory.here n s.code, has_room (length s.code.code.cells) h, e) refl
+    rw (string_coded s.board.memory.here n s.code, has_room (length s.code.code.cells) h, e) refl
 
 pub string_done : (s : State Coding) (a n : ℕ) (x : ℕ × DataSpace) (d : Coding) (r : Result (Unit {0}) Throw)
-    → length s.code.code.cells + 3 ≤ 65536 → append_copied s.parts.memory a n [] ≡ Ok x
-    → compiling (string_element s.parts.memory.here n) s.code ≡ record { coding = d; ended = r }
+    → length s.code.code.cells + 3 ≤ 65536 → append_copied s.board.memory a n [] ≡ Ok x
+    → compiling (string_element s.board.memory.here n) s.code ≡ record { coding = d; ended = r }
     → acted flat_calls (Copies a n) s
-    ≡ done (record s { code = d; parts = record s.parts { memory = rounded x.1 } })
+    ≡ done (record s { code = d; board = record s.board { memory = rounded x.1 } })
 unfolding acted
 string_done s a n x d r h e cd =
     let room = has_room (length s.code.code.cells) h in
-    let c = compiled (string_element s.parts.memory.here n) s.code in
+    let c = compiled (string_element s.board.memory.here n) s.code in
     let left : coded true c s.code ≡ record { coding = d; ended = r }
-    = ap (λ b. coded b c s.code) (sym room) ∙ sym (string_coded s.parts.memory.here n s.code) ∙ cd in
+    = ap (λ b. coded b c s.code) (sym room) ∙ sym (string_coded s.board.memory.here n s.code) ∙ cd in
     let same : c ≡ d = ap (λ (o : CodingOutcome). o.coding) left in
-    rw (string_coded s.parts.memory.here n s.code, room, e, same) refl
+    rw (string_coded s.board.memory.here n s.code, room, e, same) refl
 
 rounded_is : (m n : DataSpace) (r : Result Cell MemFault) → Answers r m n (zeros_allotted m 0) → n ≡ rounded m
 rounded_is m n (Ok a) h = sym (ap (rounded_to m) h)
@@ -73,14 +73,14 @@ rounded_is m n (Err fault) h = h.1 ∙ sym (ap (rounded_to m) h.0)
 pub string_ends :
     (s new : State Coding) (a n : ℕ) (x : ℕ × DataSpace) (c d : Coding) (m : DataSpace) (r : Result (Unit {0}) Throw)
     (z : Result Cell MemFault)
-    → length s.code.code.cells + 3 ≤ 65536 → append_copied s.parts.memory a n [] ≡ Ok x → c ≡ s.code
-    → compiling (string_element s.parts.memory.here n) c ≡ record { coding = d; ended = r }
+    → length s.code.code.cells + 3 ≤ 65536 → append_copied s.board.memory a n [] ≡ Ok x → c ≡ s.code
+    → compiling (string_element s.board.memory.here n) c ≡ record { coding = d; ended = r }
     → Answers z x.1 m (zeros_allotted x.1 0)
-    → new ≡ record s { code = d; parts = record s.parts { memory = m } }
+    → new ≡ record s { code = d; board = record s.board { memory = m } }
     → acted flat_calls (Copies a n) s ≡ done new
 unfolding acted
 string_ends s new a n x c d m r z h e same cd zeros en =
-    let cd2 = ap (compiling (string_element s.parts.memory.here n)) (sym same) ∙ cd in
+    let cd2 = ap (compiling (string_element s.board.memory.here n)) (sym same) ∙ cd in
     string_done s a n x d r h e cd2
-    ∙ ap (λ k. done (record s { code = d; parts = record s.parts { memory = k } })) (sym (rounded_is x.1 m z zeros))
+    ∙ ap (λ k. done (record s { code = d; board = record s.board { memory = k } })) (sym (rounded_is x.1 m z zeros))
     ∙ ap done (sym en)

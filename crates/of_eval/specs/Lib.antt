@@ -1,5 +1,3 @@
-pub mod Text
-pub mod Words
 pub mod State
 pub mod Acts
 pub mod ByteLoading
@@ -15,4 +13,3 @@ pub mod Loading
 pub mod Views
 pub mod Registers
 pub mod Unrolled
-pub mod Reading

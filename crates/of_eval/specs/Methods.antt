@@ -24,7 +24,7 @@ method_made (Some node) None xt nodes = None
 method_made None name xt nodes = None
 
 abbrev pub with_tree : {S : Type 0} → List Node → State S → State S
-with_tree nodes s = record s { parts = record s.parts { tree = nodes } }
+with_tree nodes s = record s { board = record s.board { tree = nodes } }
 
 -- no search of the dictionary finds word n, if it is a method
 abbrev pub hidden_if : {S : Type 0} → Bool → ℕ → State S → State S
@@ -42,7 +42,7 @@ xt_cell n = record { 0 = xt_of n }
 -- word n of a package was made, and can be found by its name from now on
 abbrev pub known : {S : Type 0} → Option Phandle → ℕ → State S → State S
 known home n s =
-    as_method (method_made home (name_in (word_at s.words.dictionary n)) (xt_cell n) s.parts.tree) n s
+    as_method (method_made home (name_in (word_at s.words.dictionary n)) (xt_cell n) s.board.tree) n s
 
 abbrev pub known_if : {S : Type 0} → Result (Unit {0}) Throw → Option Phandle → ℕ → State S → State S
 known_if (Ok x) home n s = known home n s

@@ -89,24 +89,22 @@ impl<C: CodeStore> Eval<C> {
     /// -8 where it finds no place among them. A throw changes nothing.
     #[tactic(auto, unfolding(crate::specs::Doing::worked))]
     fn load_image(&mut self, at: Cell) -> Result<(), Throw>
-        requires ready { self.old.parts.console.ready ≡ true }
-        requires operands { 2 ≤ length self.old.parts.stack }
+        requires operands { 2 ≤ length self.old.board.stack }
         requires room { length self.old.flow.items + 2 ≤ 256 }
-        ensures outcome { Leaves (worked flat_calls (copying self.old.parts.memory at.0 (drop 2 self.old.parts.stack))
+        ensures { Leaves (worked flat_calls (copying self.old.board.memory at.0 (drop 2 self.old.board.stack))
             self.old) self.new result }
-        ensures ready { self.new.parts.console.ready ≡ true }
     {
-        let start = start_at(&self.parts.memory, at);
-        let length = length_at(&self.parts.memory, at);
+        let start = start_at(&self.board.memory, at);
+        let length = length_at(&self.board.memory, at);
         let spread = spread_of(start);
         if let Err(fault) = self
-            .parts
+            .board
             .memory
             .image_push_from(at, Cell(length), Cell(spread))
         {
             return Err(throw_of(fault));
         }
-        self.parts.stack.drop_top(2);
+        self.board.stack.drop_top(2);
         self.flow.items.push(ReturnItem::Return(self.flow.next));
         self.flow.items.push(ReturnItem::Source(self.flow.reading));
         self.flow.reading = Reading {
@@ -127,16 +125,14 @@ impl<C: CodeStore> Eval<C> {
     /// nothing.
     #[tactic(auto, unfolding(crate::specs::Doing::worked))]
     pub(crate) fn byte_load(&mut self) -> Result<(), Throw>
-        requires ready { self.old.parts.console.ready ≡ true }
-        ensures outcome { Leaves (worked flat_calls (byte_load_act (front_of self.old)) self.old) self.new result }
-        ensures ready { self.new.parts.console.ready ≡ true }
+        ensures { Leaves (worked flat_calls (byte_load_act (front_of self.old)) self.old) self.new result }
     {
         if self.words.defining().is_some() {
             return Err(Throw::COMPILER_NESTING);
         }
-        let (at, fetch) = self.parts.stack.top_two()?;
+        let (at, fetch) = self.board.stack.top_two()?;
         let depth = self.flow.items.depth();
-        if let Some(fault) = loading_fault(&self.parts.memory, at, fetch, depth) {
+        if let Some(fault) = loading_fault(&self.board.memory, at, fetch, depth) {
             return Err(fault);
         }
         self.load_image(at)

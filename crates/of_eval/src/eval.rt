@@ -1,13 +1,13 @@
-use crate::flow::Flow;
-use crate::parts::Parts;
+use of_board::Board;
 use of_code::CodeStore;
 use of_compile::{Coding, Words};
+use of_flow::Flow;
 use std::marker::Model;
 
 /// The state of the machine, over a store of code.
 #[derive(Drop)]
 pub struct Eval<C: CodeStore> {
-    pub(crate) parts: Parts,
+    pub(crate) board: Board,
     pub(crate) flow: Flow,
     pub(crate) words: Words,
     pub(crate) coding: Coding<C>,
@@ -15,10 +15,14 @@ pub struct Eval<C: CodeStore> {
 
 // Clauses see a state whose code is cells.
 impl<C: CodeStore> Model for Eval<C> {
+    ghost use Rattle.std.specs.Prelude.{◌≡◌, true};
     ghost use Rattle.of_compile.specs.Coding.{Coding};
     ghost use Rattle.of_eval.specs.State.{State};
 
     ghost Value = { State Coding };
 
-    ghost view = { λ e. record { parts = e.parts; flow = e.flow; words = e.words; code = e.coding.coding } };
+    ghost view = { λ e. record { board = e.board; flow = e.flow; words = e.words; code = e.coding.coding } };
+
+    // what runs has room for the text of a throw
+    ghost invariant = { λ e. e.flow.is_running ≡ true → e.board.console.ready ≡ true };
 }

@@ -1,29 +1,21 @@
 //! The evaluator: what tokens, items and words make of the state of the machine, step by step.
 #![tactic(auto)]
 
-mod acting;
 mod byte_loading;
-mod console;
-mod control;
+mod defining_tokens;
 mod eval;
 mod executing;
-mod flow;
-mod heap;
-mod hot;
+mod fast_tokens;
+mod fast_words;
+mod laws;
 mod loading;
 mod methods;
-mod often;
-mod parts;
-mod printing;
 mod reading;
-mod reading_often;
-mod returns;
-mod settling;
 mod steps;
-mod token;
+mod throwing;
 mod tokens;
 mod views;
-mod words;
 
 pub use eval::Eval;
+pub use laws::throws_run_on;
 pub use steps::Pause;

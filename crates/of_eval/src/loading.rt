@@ -4,16 +4,14 @@ ghost use Rattle.of_memory.specs.Growth.{image_fits, image_pushed};
 ghost use Rattle.of_compile.specs.Coding.{coding_of};
 ghost use Rattle.of_eval.specs.Loading.{begun, cell_of, first_state};
 
-use crate::console::Console;
 use crate::eval::Eval;
-use crate::flow::Flow;
-use crate::parts::Parts;
-use crate::settling::NOTHING_READ;
+use crate::throwing::NOTHING_READ;
+use of_board::{Active, Board, Console};
 use of_cells::Cell;
 use of_code::CodeStore;
 use of_compile::{Coding, Words};
+use of_flow::Flow;
 use of_format::Pictured;
-use of_instances::Active;
 use of_memory::{MemFault, Memory};
 use of_nodes::{Phandle, Tree};
 use of_stacks::{Continuation, DataStack, Due, Input, Reading, ReturnItem, ReturnStack};
@@ -43,7 +41,7 @@ impl<C: CodeStore + Drop> Eval<C> {
         };
         let words = Words::new(alloc)?;
         Ok(Eval {
-            parts: Parts {
+            board: Board {
                 stack: DataStack::new(),
                 memory,
                 pictured: Pictured::new(),
@@ -73,29 +71,28 @@ impl<C: CodeStore> Eval<C> {
     /// Full where the image region has no room; then NoMemory. A refusal changes nothing.
     pub fn begin_image(&mut self, image: &[u8], node: Phandle) -> Result<(), MemFault>
         ensures begun { OnOk result
-            (self.new ≡ begun image.now node (image_pushed self.old.parts.memory image.now) self.old) }
-        ensures ready { OnOk result (self.new.parts.console.ready ≡ true) }
-        ensures room { OnOk result (image_fits self.old.parts.memory (length image.now) ≡ true) }
+            (self.new ≡ begun image.now node (image_pushed self.old.board.memory image.now) self.old) }
+        ensures room { OnOk result (image_fits self.old.board.memory (length image.now) ≡ true) }
         ensures refused { IfErr result (λ e. e ≡
-            (if image_fits self.old.parts.memory (length image.now) then MemFault.NoMemory else MemFault.Full)) }
+            (if image_fits self.old.board.memory (length image.now) then MemFault.NoMemory else MemFault.Full)) }
         ensures unchanged { OnErr result (self.new ≡ self.old) }
     {
-        if !self.parts.memory.image_fits(image.len()) {
+        if !self.board.memory.image_fits(image.len()) {
             return Err(MemFault::Full);
         }
-        if self.parts.console.make_ready().is_err() {
+        if self.board.console.make_ready().is_err() {
             return Err(MemFault::NoMemory);
         }
-        let _ = self.parts.memory.image_push(image);
+        let _ = self.board.memory.image_push(image);
         let outer = self.flow.reading;
-        let before = self.parts.active.package;
-        self.parts.active.package = Some(node);
+        let before = self.board.active.package;
+        self.board.active.package = Some(node);
         self.flow.items = ReturnStack::new();
         self.flow.items.push(ReturnItem::Caller(Due::Load {
             active: cell_of(before),
             my_self: self.flow.my_self,
             instance: Cell::ZERO,
-            new_devices: self.parts.active.new_devices.len(),
+            new_devices: self.board.active.new_devices.ever(),
         }));
         self.flow.items.push(ReturnItem::Source(outer));
         self.flow.reading = Reading {

@@ -7,19 +7,19 @@ ghost use Rattle.of_compile.specs.Elements.{CanBeStored, element_of, own_item};
 ghost use Rattle.of_compile.specs.declared.element.PlainItem.TheVariants as plain;
 ghost use Rattle.of_eval.specs.Acts.{Copies, Does, front_of, leaving};
 ghost use Rattle.of_eval.specs.Doing.{IsDone, acted, worked};
-ghost use Rattle.of_eval.specs.Executing.{execution, pushed};
-ghost use Rattle.of_eval.specs.Reading.{IsShort};
+ghost use Rattle.of_eval.specs.Executing.{execution};
+ghost use Rattle.of_flow.specs.Returns.{pushed};
+ghost use Rattle.of_flow.specs.Reading.{IsShort};
 ghost use Rattle.of_eval.specs.State.{Leaves, flat_calls};
 ghost use Rattle.of_eval.specs.Tokens.{appending, calling, compiling_act, control_element, control_token, named};
 ghost use Rattle.of_eval.specs.Tokens.{plain_act, storing, string_address, token_act};
 
-use crate::control::ControlWord;
 use crate::eval::Eval;
-use crate::token::Token;
 use of_cells::Cell;
 use of_code::{CAPACITY, CodeStore};
 use of_compile::{CompiledOperand, Element, PlainItem, TokenMaker, called, token_element};
 use of_fcodes::{FCode, StreamWord};
+use of_flow::{ControlWord, Token};
 use of_prims::throw_of;
 use of_stacks::{LoopExit, Stop, Throw};
 use of_stream::{HEADER_LENGTH, target_at};
@@ -91,10 +91,8 @@ impl<C: CodeStore> Eval<C> {
     /// A word of control with its offset.
     fn control(&mut self, word: ControlWord, by: i16, here: Spot) -> Result<(), Throw>
         requires position { here.position < 2 ^ 63 }
-        requires ready { self.old.parts.console.ready ≡ true }
-        ensures outcome { Leaves (acted flat_calls (control_token word by here (front_of self.old)) self.old)
+        ensures { Leaves (acted flat_calls (control_token word by here (front_of self.old)) self.old)
             self.new result }
-        ensures ready { self.new.parts.console.ready ≡ true }
     {
         let exit = LoopExit::Position(target_at(here.position, by).unwrap_or(0));
         self.turn_at(word, here.landing(by), exit)
@@ -103,13 +101,11 @@ impl<C: CodeStore> Eval<C> {
     /// `b(')` ( -- xt )
     #[tactic(auto, unfolding(crate::specs::Doing::worked))]
     fn tick(&mut self, code: FCode) -> Result<(), Throw>
-        requires ready { self.old.parts.console.ready ≡ true }
-        ensures outcome { Leaves (worked flat_calls (named (entry_in self.old.words.table code.0)
-            (λ xt. leaving (pushed (record { 0 = xt }) self.old.parts.stack))) self.old) self.new result }
-        ensures ready { self.new.parts.console.ready ≡ true }
+        ensures { Leaves (worked flat_calls (named (entry_in self.old.words.table code.0)
+            (λ xt. leaving (pushed (record { 0 = xt }) self.old.board.stack))) self.old) self.new result }
     {
         match self.words.table().get(code) {
-            Some(entry) => self.parts.stack.try_push(Cell(entry.xt)),
+            Some(entry) => self.board.stack.try_push(Cell(entry.xt)),
             None => Err(Throw::NOT_ASSIGNED),
         }
     }
@@ -117,15 +113,13 @@ impl<C: CodeStore> Eval<C> {
     /// `b(to)` ( x -- ) looks for its cell before it asks what its FCode names.
     #[tactic(auto, unfolding(crate::specs::Doing::worked))]
     fn store(&mut self, code: FCode) -> Result<(), Throw>
-        requires ready { self.old.parts.console.ready ≡ true }
-        ensures outcome { Leaves (worked flat_calls (storing (entry_in self.old.words.table code.0) self.old.words
-            self.old.parts.stack) self.old) self.new result }
-        ensures ready { self.new.parts.console.ready ≡ true }
+        ensures { Leaves (worked flat_calls (storing (entry_in self.old.words.table code.0) self.old.words
+            self.old.board.stack) self.old) self.new result }
     {
         match self.words.table().get(code) {
-            Some(entry) => self.words.store(Cell(entry.xt), &mut self.parts.stack),
+            Some(entry) => self.words.store(Cell(entry.xt), &mut self.board.stack),
             None => {
-                let _ = self.parts.stack.peek()?;
+                let _ = self.board.stack.peek()?;
                 Err(Throw::NOT_ASSIGNED)
             }
         }
@@ -135,10 +129,8 @@ impl<C: CodeStore> Eval<C> {
     #[inline(always)]
     #[tactic(auto, unfolding(crate::specs::Doing::acted, crate::specs::Doing::worked))]
     fn run_named(&mut self, code: FCode) -> Result<(), Stop>
-        requires ready { self.old.parts.console.ready ≡ true }
-        ensures outcome { IsDone (Does (named (entry_in self.old.words.table code.0)
+        ensures { IsDone (Does (named (entry_in self.old.words.table code.0)
             (λ xt. execution xt (front_of self.old)))) self.old self.new result }
-        ensures ready { self.new.parts.console.ready ≡ true }
     {
         let Some(entry) = self.words.table().get(code) else {
             return Err(Stop::Thrown(Throw::NOT_ASSIGNED));
@@ -154,12 +146,10 @@ impl<C: CodeStore> Eval<C> {
         requires behind { here.behind ≤ here.size }
         requires fits { here.begin.0 + here.size < 2 ^ 32 }
         requires short { IsShort token }
-        requires ready { self.old.parts.console.ready ≡ true }
-        ensures outcome { IsDone (token_act token here (front_of self.old)) self.old self.new result }
-        ensures ready { self.new.parts.console.ready ≡ true }
+        ensures { IsDone (token_act token here (front_of self.old)) self.old self.new result }
     {
         match token {
-            Token::Literal(x) => Ok(self.parts.stack.try_push(x)?),
+            Token::Literal(x) => Ok(self.board.stack.try_push(x)?),
             Token::Tick(code) => Ok(self.tick(code)?),
             Token::To(code) => Ok(self.store(code)?),
             Token::String(length) => {
@@ -174,7 +164,7 @@ impl<C: CodeStore> Eval<C> {
             Token::NewToken(code) => {
                 Ok(
                     self.words
-                        .announce(TokenMaker::New, code, &self.parts.memory)?,
+                        .announce(TokenMaker::New, code, &self.board.memory)?,
                 )
             }
             Token::Define(word) => self.define(word),
@@ -190,10 +180,8 @@ impl<C: CodeStore> Eval<C> {
     /// `b(')`: the execution token of the word that the FCode names.
     #[tactic(auto, unfolding(crate::specs::Doing::acted, crate::specs::Doing::worked))]
     fn compile_tick(&mut self, code: FCode) -> Result<(), Stop>
-        requires ready { self.old.parts.console.ready ≡ true }
-        ensures outcome { IsDone (Does (named (entry_in self.old.words.table code.0) (λ xt. appending
+        ensures { IsDone (Does (named (entry_in self.old.words.table code.0) (λ xt. appending
             (Plain (plain.Literal (record { 0 = xt }))) (front_of self.old)))) self.old self.new result }
-        ensures ready { self.new.parts.console.ready ≡ true }
     {
         match self.words.table().get(code) {
             Some(entry) => self.compile(Element::Plain(PlainItem::Literal(Cell(entry.xt)))),
@@ -204,10 +192,8 @@ impl<C: CodeStore> Eval<C> {
     /// `b(to)`: a store into the word that the FCode names.
     #[tactic(auto, unfolding(crate::specs::Doing::acted, crate::specs::Doing::worked))]
     fn compile_store(&mut self, code: FCode) -> Result<(), Stop>
-        requires ready { self.old.parts.console.ready ≡ true }
-        ensures outcome { IsDone (Does (named (entry_in self.old.words.table code.0) (λ xt. appending
+        ensures { IsDone (Does (named (entry_in self.old.words.table code.0) (λ xt. appending
             (Plain (plain.Store (record { 0 = xt }))) (front_of self.old)))) self.old self.new result }
-        ensures ready { self.new.parts.console.ready ≡ true }
     {
         match self.words.table().get(code) {
             Some(entry) => self.compile(Element::Plain(PlainItem::Store(Cell(entry.xt)))),
@@ -218,10 +204,8 @@ impl<C: CodeStore> Eval<C> {
     /// An FCode that names a word: an immediate word is executed, a call of another is appended.
     #[tactic(auto, unfolding(crate::specs::Doing::acted, crate::specs::Doing::worked))]
     fn call_named(&mut self, code: FCode) -> Result<(), Stop>
-        requires ready { self.old.parts.console.ready ≡ true }
-        ensures outcome { IsDone (Does (calling (entry_in self.old.words.table code.0) (front_of self.old)))
+        ensures { IsDone (Does (calling (entry_in self.old.words.table code.0) (front_of self.old)))
             self.old self.new result }
-        ensures ready { self.new.parts.console.ready ≡ true }
     {
         let Some(entry) = self.words.table().get(code) else {
             return Err(Stop::Thrown(Throw::NOT_ASSIGNED));
@@ -240,19 +224,17 @@ impl<C: CodeStore> Eval<C> {
     /// Copies a string that stands at an address to `here`, and appends its element.
     #[tactic(auto, using(crate::proofs::Strings::string_full, crate::proofs::Strings::string_faulty))]
     fn compile_string(&mut self, from: Cell, length: Cell) -> Result<(), Stop>
-        requires ready { self.old.parts.console.ready ≡ true }
-        ensures outcome { IsDone (Copies from.0 length.0) self.old self.new result }
-        ensures ready { self.new.parts.console.ready ≡ true }
+        ensures { IsDone (Copies from.0 length.0) self.old self.new result }
     {
-        let address = self.parts.memory.here();
+        let address = self.board.memory.here();
         if self.coding.code().end().cell as usize + 3 > CAPACITY {
             return Err(Stop::Thrown(Throw::DICTIONARY_OVERFLOW));
         }
         self.coding.reserve(1)?;
-        if let Err(fault) = self.parts.memory.append_copy(from, length, &[]) {
+        if let Err(fault) = self.board.memory.append_copy(from, length, &[]) {
             return Err(Stop::Thrown(throw_of(fault)));
         }
-        let _ = self.parts.memory.allot_zeros(Cell::ZERO);
+        let _ = self.board.memory.allot_zeros(Cell::ZERO);
         let _ = self
             .coding
             .compile(Element::Plain(PlainItem::String { address, length }));
@@ -266,9 +248,7 @@ impl<C: CodeStore> Eval<C> {
         requires behind { here.behind ≤ here.size }
         requires fits { here.begin.0 + here.size < 2 ^ 32 }
         requires short { IsShort token }
-        requires ready { self.old.parts.console.ready ≡ true }
-        ensures outcome { IsDone (compiling_act token here (front_of self.old)) self.old self.new result }
-        ensures ready { self.new.parts.console.ready ≡ true }
+        ensures { IsDone (compiling_act token here (front_of self.old)) self.old self.new result }
     {
         match token {
             Token::Literal(x) => self.compile(Element::Plain(PlainItem::Literal(x))),
@@ -300,9 +280,7 @@ impl<C: CodeStore> Eval<C> {
         requires behind { here.behind ≤ here.size }
         requires fits { here.begin.0 + here.size < 2 ^ 32 }
         requires short { IsShort token }
-        requires ready { self.old.parts.console.ready ≡ true }
-        ensures outcome { IsDone (plain_act token here (front_of self.old)) self.old self.new result }
-        ensures ready { self.new.parts.console.ready ≡ true }
+        ensures { IsDone (plain_act token here (front_of self.old)) self.old self.new result }
     {
         if self.flow.is_compiling {
             self.compile_token(token, here)

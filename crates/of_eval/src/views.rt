@@ -14,9 +14,9 @@ use of_stream::Stream;
 impl<C: CodeStore> Eval<C> {
     /// The cells of the data stack, the bottom first.
     pub fn stack(&self) -> &[Cell]
-        ensures { reverse result.now ≡ self.now.parts.stack }
+        ensures { reverse result.now ≡ self.now.board.stack }
     {
-        self.parts.stack.cells()
+        self.board.stack.cells()
     }
 
     /// How many items the return stack has.
@@ -28,30 +28,30 @@ impl<C: CodeStore> Eval<C> {
 
     /// The data space.
     pub fn memory(&self) -> &Memory
-        ensures { result.now ≡ self.now.parts.memory }
+        ensures { result.now ≡ self.now.board.memory }
     {
-        &self.parts.memory
+        &self.board.memory
     }
 
     /// The device tree.
     pub fn tree(&self) -> &Tree
-        ensures { result.now ≡ self.now.parts.tree }
+        ensures { result.now ≡ self.now.board.tree }
     {
-        &self.parts.tree
+        &self.board.tree
     }
 
     /// The active package, if there is one.
     pub fn active_package(&self) -> Option<Phandle>
-        ensures { result ≡ self.now.parts.active.«package» }
+        ensures { result ≡ self.now.board.active.«package» }
     {
-        self.parts.active.package
+        self.board.active.package
     }
 
     /// All bytes printed so far.
     pub fn console(&self) -> &[u8]
-        ensures { result.now ≡ self.now.parts.console.text }
+        ensures { result.now ≡ self.now.board.console.text }
     {
-        self.parts.console.bytes()
+        self.board.console.bytes()
     }
 
     /// Whether something runs.
@@ -82,7 +82,7 @@ impl<C: CodeStore> Eval<C> {
         ) else {
             return None;
         };
-        let image = self.parts.memory.latest_image();
+        let image = self.board.memory.latest_image();
         match (Stream { image }).token_at(position, size) {
             Ok((token, _)) => Some((position, token.code)),
             Err(_) => None,

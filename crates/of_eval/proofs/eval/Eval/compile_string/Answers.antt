@@ -7,15 +7,15 @@ use Rattle.of_eval.proofs.Strings.{string_ends}
 use Rattle.of_eval.proofs.eval.Eval.compile_string.Goals as goal
 
 -- src/tokens.rt:256:5
-pub returns-clause-outcome : goal.returns-clause-outcome
-returns-clause-outcome g c =
+pub returns : goal.returns
+returns g c =
     let s = c.args.self.now in
     let m = c.append_copy.new.self in
     let room : length s.code.code.cells + 3 ≤ 65536 = search rules in
-    let copied : append_copied s.parts.memory c.args.from.0 c.args.length.0 [] ≡ Ok (c.in_default.field-0.0, m)
+    let copied : append_copied s.board.memory c.args.from.0 c.args.length.0 [] ≡ Ok (c.in_default.field-0.0, m)
     = search rules in
     let same : c.reserve.new.self.coding ≡ s.code = search rules in
-    let coded : compiling (string_element s.parts.memory.here c.args.length.0) c.reserve.new.self.coding
+    let coded : compiling (string_element s.board.memory.here c.args.length.0) c.reserve.new.self.coding
     ≡ record { coding = c.compile.new.self.coding; ended = c.compile.result } = search rules in
     let zeros : Answers c.allot_zeros.result m c.allot_zeros.new.self (zeros_allotted m 0) = search rules in
     string_ends s _ c.args.from.0 c.args.length.0 (c.in_default.field-0.0, m) c.reserve.new.self.coding

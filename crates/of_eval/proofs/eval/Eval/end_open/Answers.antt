@@ -16,5 +16,5 @@ returns-in-Ok-clause-outcome g c = λ t.
     let becomes = subst (λ w. Becomes (closing_entry w before) (w, before) (words, after) (Ok tt))
     (ap (λ s. s.words) c.self.view_is) c.in-Ok.ensures.outcome in
     let left = subst (λ s. with_compiling false (record (with_words words (with_tree t s)) { code = after })
-    ≡ with_tree t c.set_compiling.new.self) c.self.view_is (sym (ap (with_tree t) c.set_compiling.ensures.state)) in
+    ≡ with_tree t c.set_compiling.new.self) c.self.view_is (sym (ap (with_tree t) c.set_compiling.ensures)) in
     closing_leaves (with_tree t old) words before after (Ok tt) code becomes ∙ ap done left

@@ -8,8 +8,8 @@ use Rattle.of_eval.proofs.Endings.{ends_when}
 use Rattle.of_eval.proofs.MethodLemmas.{its_open, method_ends, method_undone, nameless_open, over_its_tree, same_names}
 use Rattle.of_eval.proofs.eval.Eval.semicolon.Goals as goal
 
-pub returns-in_default-clause-outcome : goal.returns-in_default-clause-outcome
-returns-in_default-clause-outcome g c =
+pub returns-in_default : goal.returns-in_default
+returns-in_default g c =
     let old = c.args.self.now in
     let new = c.end_open.new.self in
     let o = old.words.defining in
@@ -21,8 +21,8 @@ returns-in_default-clause-outcome g c =
     (over_its_tree true (λ s. definition_ended flat_calls o s) old new c.end_open.result c.end_open.ensures.tree
     c.end_open.ensures.outcome))
 
-pub returns-in-Ok-clause-outcome : goal.returns-in-Ok-clause-outcome
-returns-in-Ok-clause-outcome g c =
+pub returns-in-Ok : goal.returns-in-Ok
+returns-in-Ok g c =
     let old = c.args.self.now in
     let o = old.words.defining in
     let n = c.in-Some.word.0 in
@@ -32,13 +32,13 @@ returns-in-Ok-clause-outcome g c =
     let tree = c.in-Ok.ensures.tree in
     let xt : c.xt.result ≡ xt_cell n = ap (λ k. record { 0 = k }) c.xt.ensures in
     let made =
-    subst (λ s. MayMake s.flow.home name c.xt.result former s.parts.tree new.parts.tree) c.self.view_is
-    (subst (λ t. MayMake c.self.inside.flow.home name c.xt.result former c.self.inside.parts.tree t)
+    subst (λ s. MayMake s.flow.home name c.xt.result former s.board.tree new.board.tree) c.self.view_is
+    (subst (λ t. MayMake c.self.inside.flow.home name c.xt.result former c.self.inside.board.tree t)
     (sym tree) c.in_ok-former.ensures.made) in
     let method =
-    subst (λ x. MayMake old.flow.home name x former old.parts.tree new.parts.tree) xt made in
-    let left = subst (λ s. definition_ended flat_calls s.words.defining (with_tree old.parts.tree s)
-    ≡ done (with_tree old.parts.tree new)) c.self.view_is (c.in-Ok.ensures.outcome old.parts.tree) in
+    subst (λ x. MayMake old.flow.home name x former old.board.tree new.board.tree) xt made in
+    let left = subst (λ s. definition_ended flat_calls s.words.defining (with_tree old.board.tree s)
+    ≡ done (with_tree old.board.tree new)) c.self.view_is (c.in-Ok.ensures.outcome old.board.tree) in
     let its = its_open n name old.words.dictionary o (c.in-Some.ensures.named
     ∙ ap (λ s. named_open s.words.dictionary s.words.defining) c.self.view_is) in
     let kept = subst (λ s. IfSome s.words.defining (λ k. name_in (word_at new.words.dictionary k)
@@ -47,10 +47,10 @@ returns-in-Ok-clause-outcome g c =
     ≡ name_in (word_at old.words.dictionary k))) its.0 kept in
     ap (λ x. then_known old.flow.home x (definition_ended flat_calls o old)) its.0
     ∙ (method_ends (λ s. definition_ended flat_calls o s) old.flow.home n old new former name method left (same ∙ its.1)
-    ∙ ap done (sym c.hide_method.ensures.state))
+    ∙ ap done (sym c.hide_method.ensures))
 
-pub returns-in-Some-named_open-clause-outcome : goal.returns-in-Some-named_open-clause-outcome
-returns-in-Some-named_open-clause-outcome g c =
+pub returns-in-Some-named_open : goal.returns-in-Some-named_open
+returns-in-Some-named_open g c =
     let old = c.args.self.now in
     let o = old.words.defining in
     let name = c.in-Some.name.now in
@@ -58,21 +58,21 @@ returns-in-Some-named_open-clause-outcome g c =
     let new = c.end_open-2.new.self in
     let stop = c.in-Err.stop in
     let left = subst
-    (λ s. Ends {A = Unit {0}} true (definition_ended flat_calls s.words.defining (with_tree old.parts.tree s))
-    (with_tree old.parts.tree s) (with_tree old.parts.tree new) (Err stop)) c.self.view_is
-    (c.in-Err.ensures.outcome old.parts.tree) in
+    (λ s. Ends {A = Unit {0}} true (definition_ended flat_calls s.words.defining (with_tree old.board.tree s))
+    (with_tree old.board.tree s) (with_tree old.board.tree new) (Err stop)) c.self.view_is
+    (c.in-Err.ensures.outcome old.board.tree) in
     let undone = method_undone (λ s. definition_ended flat_calls o s) old.flow.home o old new stop left in
     let words = ap (λ s. s.words) c.self-in-Err.view_is ∙ c.in-Err.ensures.stopped in
     let text = c.in-Some-named_open.name.now in
     let again = c.in-Some-named_open.ensures.named
     ∙ (ap (λ w. named_open w.dictionary w.defining) words ∙ sym c.in-Some.ensures.named) in
     let same = same_names c.in-Some.word.0 c.in-Some-named_open.field-0-0.0 name text again in
-    let made = subst (λ x. MayMake c.self.inside.flow.home x c.xt.result former c.self.inside.parts.tree
-    c.self-in-Err.inside.parts.tree) (sym same)
-    (subst (λ t. MayMake c.self.inside.flow.home name c.xt.result former c.self.inside.parts.tree t)
-    (sym (ap (λ s. s.parts.tree) c.self-in-Err.view_is ∙ c.in-Err.ensures.tree)) c.in_ok-former.ensures.made) in
-    let back = c.take_back.ensures c.self.inside.flow.home c.xt.result c.self.inside.parts.tree made
-    ∙ ap (λ s. s.parts.tree) c.self.view_is in
+    let made = subst (λ x. MayMake c.self.inside.flow.home x c.xt.result former c.self.inside.board.tree
+    c.self-in-Err.inside.board.tree) (sym same)
+    (subst (λ t. MayMake c.self.inside.flow.home name c.xt.result former c.self.inside.board.tree t)
+    (sym (ap (λ s. s.board.tree) c.self-in-Err.view_is ∙ c.in-Err.ensures.tree)) c.in_ok-former.ensures.made) in
+    let back = c.take_back.ensures c.self.inside.flow.home c.xt.result c.self.inside.board.tree made
+    ∙ ap (λ s. s.board.tree) c.self.view_is in
     let final = ap (λ s. with_tree c.take_back.new.tree s) c.self-in-Err.view_is ∙ ap (λ t. with_tree t new) back in
     let some : is_some o ≡ true = search rules in
     ends_when (is_some o) (semicolon_entry flat_calls o old) old _ (Err stop) some

@@ -1,5 +1,5 @@
 //! The end of a step: what is worked off beneath a finished word, and what a throw cuts.
-ghost use Rattle.std.specs.Prelude.{◌≡◌, [], true, false};
+ghost use Rattle.std.specs.Prelude.{◌≡◌, [], true, false, is_some};
 ghost use Rattle.of_stacks.specs.Returns.{has_due_top};
 ghost use Rattle.of_memory.specs.Growth.{with_state};
 ghost use Rattle.of_eval.specs.State.{Leaves, flat_calls, given_up, open_xt, with_compiling};
@@ -9,10 +9,10 @@ ghost use Rattle.of_eval.specs.Settling.{settled, source_ended, still_thrown, th
 
 use crate::eval::Eval;
 use crate::executing::is_opened;
-use crate::flow::Flow;
 use of_cells::Cell;
 use of_code::CodeStore;
 use of_compile::abandon_definition;
+use of_flow::Flow;
 use of_memory::Memory;
 use of_nodes::Phandle;
 use of_stacks::{
@@ -82,18 +82,16 @@ fn go_back(flow: &mut Flow)
 impl<C: CodeStore> Eval<C> {
     /// Words are compiled from now on, or executed.
     pub(crate) fn set_compiling(&mut self, compiling: bool)
-        requires ready { self.old.parts.console.ready ≡ true }
-        ensures state { self.new ≡ with_compiling compiling self.old }
-        ensures ready { self.new.parts.console.ready ≡ true }
+        ensures { self.new ≡ with_compiling compiling self.old }
     {
         self.flow.is_compiling = compiling;
-        self.parts.memory.set_state(compiling);
+        self.board.memory.set_state(compiling);
     }
 
     /// Gives up the open definition, if there is one.
     pub(crate) fn give_up(&mut self)
         ensures state { self.new ≡ given_up flat_calls self.old }
-        ensures console { self.new.parts.console ≡ self.old.parts.console }
+        ensures console { self.new.board.console ≡ self.old.board.console }
         ensures running { self.new.flow.is_running ≡ self.old.flow.is_running }
         ensures items { self.new.flow.items ≡ self.old.flow.items }
     {
@@ -102,14 +100,13 @@ impl<C: CodeStore> Eval<C> {
         }
         abandon_definition(&mut self.words, &mut self.coding);
         self.flow.is_compiling = false;
-        self.parts.memory.set_state(false);
+        self.board.memory.set_state(false);
     }
 
     /// Gives up the open definition, unless it was open then.
     fn give_up_since(&mut self, then: Option<Cell>)
-        requires ready { self.old.parts.console.ready ≡ true }
         ensures state { self.new ≡ given_up_since flat_calls then self.old }
-        ensures ready { self.new.parts.console.ready ≡ true }
+        ensures running { self.new.flow.is_running ≡ self.old.flow.is_running }
     {
         if !is_same(self.words.open_xt(), then) {
             self.give_up();
@@ -118,19 +115,17 @@ impl<C: CodeStore> Eval<C> {
 
     /// What is being read has ended: another reading goes on.
     fn read_on(&mut self, reading: Reading)
-        requires ready { self.old.parts.console.ready ≡ true }
         ensures state { self.new ≡ reading_on reading self.old }
-        ensures ready { self.new.parts.console.ready ≡ true }
+        ensures running { self.new.flow.is_running ≡ self.old.flow.is_running }
     {
-        give_back(self.flow.reading.input, &mut self.parts.memory);
+        give_back(self.flow.reading.input, &mut self.board.memory);
         self.flow.reading = reading;
     }
 
     /// The run of a loaded image has ended: words work where they did before.
     fn leave_load(&mut self, due: Due)
-        requires ready { self.old.parts.console.ready ≡ true }
         ensures state { self.new ≡ load_left due self.old }
-        ensures ready { self.new.parts.console.ready ≡ true }
+        ensures running { self.new.flow.is_running ≡ self.old.flow.is_running }
     {
         if let Due::Load {
             active,
@@ -138,35 +133,33 @@ impl<C: CodeStore> Eval<C> {
             ..
         } = due
         {
-            self.parts.active.cut_to(new_devices, package_of(active));
+            self.board.active.cut_to(new_devices, package_of(active));
         }
     }
 
     /// A handler takes a throw: control goes on behind its `catch` (Forth 2012, 9.6.1.2275).
     fn catch(&mut self, frame: ExceptionFrame, thrown: Throw)
-        requires ready { self.old.parts.console.ready ≡ true }
         ensures state { self.new ≡ caught flat_calls frame thrown self.old }
-        ensures ready { self.new.parts.console.ready ≡ true }
+        ensures running { self.new.flow.is_running ≡ self.old.flow.is_running }
     {
-        self.parts.stack.cut_to(frame.depth);
-        self.parts.stack.push(Cell(thrown.0.cast_unsigned()));
+        self.board.stack.cut_to(frame.depth);
+        self.board.stack.push(Cell(thrown.0.cast_unsigned()));
         self.flow.my_self = frame.my_self;
         self.flow.next = frame.resume;
-        self.flow.is_running = true;
         self.give_up_since(frame.opened);
     }
 
     /// No handler takes a throw: all that runs has ended, and the console gets its text.
     #[cold]
-    fn fall(&mut self, thrown: Throw)
-        requires ready { self.old.parts.console.ready ≡ true }
+    fn throw_uncaught(&mut self, thrown: Throw)
+        requires running { self.old.flow.is_running ≡ true }
         ensures state { self.new ≡ uncaught flat_calls thrown self.old }
         ensures ended { self.new.flow.is_running ≡ false }
         ensures empty { self.new.flow.items ≡ [] }
     {
-        self.parts.stack = DataStack::new();
-        self.parts.console.print_fault(thrown);
-        self.parts.active.finish_all();
+        self.board.stack = DataStack::new();
+        self.board.console.print_fault(thrown);
+        self.board.active.finish_all();
         self.flow.items = ReturnStack::new();
         self.flow.reading = NOTHING_READ;
         self.flow.is_running = false;
@@ -176,11 +169,10 @@ impl<C: CodeStore> Eval<C> {
     }
 
     /// Does what a throw does at an item that it cuts, and answers whether it goes on.
-    fn cut(&mut self, item: ReturnItem, thrown: Throw) -> Option<Throw>
-        requires ready { self.old.parts.console.ready ≡ true }
+    fn unwind_item(&mut self, item: ReturnItem, thrown: Throw) -> Option<Throw>
         ensures state { self.new ≡ cut_one flat_calls item thrown self.old }
         ensures left { result ≡ still_thrown item thrown }
-        ensures ready { self.new.parts.console.ready ≡ true }
+        ensures running { self.new.flow.is_running ≡ self.old.flow.is_running }
     {
         match item {
             ReturnItem::Handler(frame) => {
@@ -200,14 +192,12 @@ impl<C: CodeStore> Eval<C> {
     }
 
     /// Does what is due at an item beneath a finished word.
-    fn work_off(&mut self, item: ReturnItem)
-        requires ready { self.old.parts.console.ready ≡ true }
-        ensures state { self.new ≡ worked_one flat_calls item self.old }
-        ensures ready { self.new.parts.console.ready ≡ true }
+    fn pop_due(&mut self, item: ReturnItem)
+        ensures { self.new ≡ worked_one flat_calls item self.old }
     {
         match item {
             ReturnItem::Handler(frame) => {
-                if self.parts.stack.try_push(Cell::ZERO).is_err() {
+                if self.board.stack.try_push(Cell::ZERO).is_err() {
                     self.catch(frame, Throw::STACK_OVERFLOW);
                 }
             }
@@ -235,20 +225,19 @@ impl<C: CodeStore> Eval<C> {
 
     /// Ends a step: works off what is due beneath a finished word, or cuts the return stack where something was thrown.
     #[tactic(auto, using(crate::proofs::Settled::stays), unfolding(crate::specs::Settling::settled))]
-    pub(crate) fn settle(&mut self, thrown: Option<Throw>)
-        requires ready { self.old.parts.console.ready ≡ true }
+    pub(crate) fn finish_step(&mut self, thrown: Option<Throw>)
+        requires running { is_some thrown ≡ true → self.old.flow.is_running ≡ true }
         ensures state { self.new ≡ settled flat_calls self.old.flow.items thrown self.old }
         ensures rests { has_due_top self.new.flow.items ≡ false }
-        ensures ready { self.new.flow.is_running ≡ true → self.new.parts.console.ready ≡ true }
     {
         match thrown {
             Some(fault) => {
                 let Some(item) = self.flow.items.pop() else {
-                    self.fall(fault);
+                    self.throw_uncaught(fault);
                     return;
                 };
-                let left = self.cut(item, fault);
-                self.settle(left);
+                let left = self.unwind_item(item, fault);
+                self.finish_step(left);
             }
             None => {
                 let Some(item) = self.flow.items.peek() else {
@@ -258,17 +247,15 @@ impl<C: CodeStore> Eval<C> {
                     return;
                 }
                 let _ = self.flow.items.pop();
-                self.work_off(item);
-                self.settle(None);
+                self.pop_due(item);
+                self.finish_step(None);
             }
         }
     }
 
     /// What is being read has ended: what stood above its source is dropped (IEEE 1275-1994, `end0`).
     fn end_source(&mut self)
-        requires ready { self.old.parts.console.ready ≡ true }
-        ensures state { self.new ≡ source_ended self.old }
-        ensures ready { self.new.parts.console.ready ≡ true }
+        ensures { self.new ≡ source_ended self.old }
     {
         let reading = self.flow.items.end_source().unwrap_or(NOTHING_READ);
         self.read_on(reading);
@@ -279,9 +266,7 @@ impl<C: CodeStore> Eval<C> {
     ///
     /// -29 where a definition is open that was opened since it began; that is given up then.
     pub(crate) fn end_image(&mut self) -> Result<(), Throw>
-        requires ready { self.old.parts.console.ready ≡ true }
-        ensures outcome { Leaves (ended flat_calls self.old) self.new result }
-        ensures ready { self.new.parts.console.ready ≡ true }
+        ensures { Leaves (ended flat_calls self.old) self.new result }
     {
         let opened = self.words.open_xt();
         if opened.is_some() && !is_same(opened, self.flow.reading.opened) {

@@ -3,16 +3,16 @@ use Rattle.of_stacks.specs.Returns.{is_due, top_item}
 use Rattle.of_eval.specs.State.{flat_calls, with_items}
 use Rattle.of_eval.specs.Settling.{cut_one, settled, still_thrown, uncaught, worked_one}
 use Rattle.of_eval.proofs.Settled.{cuts_on, falls_on, stops_on, works_on}
-use Rattle.of_eval.proofs.eval.Eval.+settle.Goals as goal
+use Rattle.of_eval.proofs.eval.Eval.+finish_step.Goals as goal
 
 -- nothing is left to cut
 pub returns-in_default-clause-state : goal.returns-in_default-clause-state
 returns-in_default-clause-state g t c =
     let s = c.args.self.now in
     let empty : s.flow.items ≡ [] = search rules in
-    let fallen : c.fall.new.self ≡ uncaught flat_calls c.in-Some.fault s = search rules in
+    let fallen : c.throw_uncaught.new.self ≡ uncaught flat_calls c.in-Some.fault s = search rules in
     let thrown : c.args.thrown ≡ Some c.in-Some.fault = search rules in
-    falls_on flat_calls c.in-Some.fault c.args.thrown s c.fall.new.self empty fallen thrown
+    falls_on flat_calls c.in-Some.fault c.args.thrown s c.throw_uncaught.new.self empty fallen thrown
 
 -- nothing is left that could be due
 pub returns-in_default-peek-clause-state : goal.returns-in_default-peek-clause-state
@@ -28,14 +28,15 @@ returns-in-Some-pop-clause-state g t c =
     let s = c.args.self.now in
     let top : Some c.in-Some-pop.item ≡ top_item s.flow.items = search rules in
     let rest : c.pop.new.self ≡ drop 1 s.flow.items = search rules in
-    let cut : c.cut-left.new.self ≡ cut_one flat_calls c.in-Some-pop.item c.in-Some.fault (with_items c.pop.new.self s)
-    = search rules in
-    let left : c.cut-left.result ≡ still_thrown c.in-Some-pop.item c.in-Some.fault = search rules in
-    let on : c.settle.new.self ≡ settled flat_calls c.cut-left.new.self.flow.items c.cut-left.result c.cut-left.new.self
+    let cut : c.unwind_item-left.new.self
+    ≡ cut_one flat_calls c.in-Some-pop.item c.in-Some.fault (with_items c.pop.new.self s) = search rules in
+    let left : c.unwind_item-left.result ≡ still_thrown c.in-Some-pop.item c.in-Some.fault = search rules in
+    let on : c.finish_step.new.self
+    ≡ settled flat_calls c.unwind_item-left.new.self.flow.items c.unwind_item-left.result c.unwind_item-left.new.self
     = search rules in
     let thrown : c.args.thrown ≡ Some c.in-Some.fault = search rules in
-    cuts_on flat_calls c.pop.new.self c.in-Some-pop.item c.in-Some.fault c.cut-left.result c.args.thrown s
-    c.cut-left.new.self c.settle.new.self top rest cut left on thrown
+    cuts_on flat_calls c.pop.new.self c.in-Some-pop.item c.in-Some.fault c.unwind_item-left.result c.args.thrown s
+    c.unwind_item-left.new.self c.finish_step.new.self top rest cut left on thrown
 
 -- an item is worked off
 pub returns-else-not-is_due-clause-state : goal.returns-else-not-is_due-clause-state
@@ -44,10 +45,10 @@ returns-else-not-is_due-clause-state g t c =
     let top : Some c.in-Some-peek.item ≡ top_item s.flow.items = search rules in
     let due : is_due c.in-Some-peek.item ≡ true = search rules in
     let rest : c.pop-in-None.new.self ≡ drop 1 s.flow.items = search rules in
-    let work : c.work_off.new.self ≡ worked_one flat_calls c.in-Some-peek.item (with_items c.pop-in-None.new.self s)
+    let work : c.pop_due.new.self ≡ worked_one flat_calls c.in-Some-peek.item (with_items c.pop-in-None.new.self s)
     = search rules in
-    let on : c.settle-in-None.new.self ≡ settled flat_calls c.work_off.new.self.flow.items None c.work_off.new.self
+    let on : c.finish_step-in-None.new.self ≡ settled flat_calls c.pop_due.new.self.flow.items None c.pop_due.new.self
     = search rules in
     let thrown : c.args.thrown ≡ None = search rules in
-    works_on flat_calls c.pop-in-None.new.self c.in-Some-peek.item c.args.thrown s c.work_off.new.self
-    c.settle-in-None.new.self top due rest work on thrown
+    works_on flat_calls c.pop-in-None.new.self c.in-Some-peek.item c.args.thrown s c.pop_due.new.self
+    c.finish_step-in-None.new.self top due rest work on thrown

@@ -16,12 +16,12 @@ ghost use Rattle.of_eval.specs.Doing.{IsWorked, acted, read_at};
 ghost use Rattle.of_eval.specs.Items.{control_act};
 ghost use Rattle.of_eval.specs.Tokens.{at_position, leave_act};
 
-use crate::control::{ControlWord, run_control};
 use crate::eval::Eval;
 use crate::methods::{Former, make_method, take_back};
 use of_code::CodeStore;
 use of_compile::{DefiningWord, Element, end_definition};
 use of_dict::OwnWord;
+use of_flow::{ControlWord, run_control};
 use of_stacks::{Continuation, Input, LoopExit, Stop, Throw};
 use of_stream::HEADER_LENGTH;
 
@@ -30,24 +30,22 @@ impl<C: CodeStore> Eval<C> {
 
     /// Makes a word, which is no method yet.
     fn make_word(&mut self, word: DefiningWord) -> Result<(), Stop>
-        requires ready { self.old.parts.console.ready ≡ true }
         ensures outcome { (t : List Node) → Ends (may_define self.old.words)
             (word_defined flat_calls word (with_tree t self.old)) (with_tree t self.old) (with_tree t self.new) result }
         ensures named { OnOk result (named_next self.old.words.dictionary (name_pending self.old.words.pending)
             ≡ named_at self.new.words.dictionary (length self.old.words.dictionary)) }
         ensures stopped { OnErr result (self.new.words ≡ self.old.words) }
         ensures nested { may_define self.old.words ≡ false → result ≡ Err (Thrown compiler_nesting) }
-        ensures tree { self.new.parts.tree ≡ self.old.parts.tree }
-        ensures ready { self.new.parts.console.ready ≡ true }
+        ensures tree { self.new.board.tree ≡ self.old.board.tree }
     {
         self.words.define(
             word,
             self.coding.code(),
-            &mut self.parts.stack,
-            &mut self.parts.memory,
+            &mut self.board.stack,
+            &mut self.board.memory,
         )?;
         if word == DefiningWord::Colon {
-            self.flow.home = self.parts.active.package;
+            self.flow.home = self.board.active.package;
             self.set_compiling(true);
         }
         Ok(())
@@ -55,10 +53,8 @@ impl<C: CodeStore> Eval<C> {
 
     /// A defining word: `b(:)` to `b(field)`. Its word becomes a method, unless it opens a definition.
     pub(crate) fn define(&mut self, word: DefiningWord) -> Result<(), Stop>
-        requires ready { self.old.parts.console.ready ≡ true }
-        ensures outcome { Ends (may_define self.old.words) (define_entry flat_calls word self.old) self.old self.new
+        ensures { Ends (may_define self.old.words) (define_entry flat_calls word self.old) self.old self.new
             result }
-        ensures ready { self.new.parts.console.ready ≡ true }
     {
         if word == DefiningWord::Colon {
             return self.make_word(word);
@@ -69,8 +65,8 @@ impl<C: CodeStore> Eval<C> {
         let Some((next, name)) = self.words.named_next() else {
             return self.make_word(word);
         };
-        let home = self.parts.active.package;
-        let former = make_method(&mut self.parts.tree, home, name, next.xt())?;
+        let home = self.board.active.package;
+        let former = make_method(&mut self.board.tree, home, name, next.xt())?;
         match self.make_word(word) {
             Ok(()) => {
                 self.hide_method(next, former);
@@ -78,7 +74,7 @@ impl<C: CodeStore> Eval<C> {
             }
             Err(stop) => {
                 if let Some((_, name)) = self.words.named_next() {
-                    take_back(&mut self.parts.tree, name, former);
+                    take_back(&mut self.board.tree, name, former);
                 }
                 Err(stop)
             }
@@ -87,9 +83,7 @@ impl<C: CodeStore> Eval<C> {
 
     /// Leaves a word that became a method out of every search of the dictionary.
     fn hide_method(&mut self, word: OwnWord, former: Option<Former>)
-        requires ready { self.old.parts.console.ready ≡ true }
-        ensures state { self.new ≡ hidden_if (is_some former) word.0 self.old }
-        ensures ready { self.new.parts.console.ready ≡ true }
+        ensures { self.new ≡ hidden_if (is_some former) word.0 self.old }
     {
         if former.is_some() {
             self.words.hide(word);
@@ -99,14 +93,12 @@ impl<C: CodeStore> Eval<C> {
     /// Ends the open definition, whose word is no method yet.
     #[tactic(auto, using(crate::proofs::Endings::closing_leaves))]
     fn end_open(&mut self) -> Result<(), Stop>
-        requires ready { self.old.parts.console.ready ≡ true }
         ensures outcome { (t : List Node) → Ends true (definition_ended flat_calls self.old.words.defining
             (with_tree t self.old)) (with_tree t self.old) (with_tree t self.new) result }
         ensures named { IfSome self.old.words.defining (λ n. name_in (word_at self.new.words.dictionary n)
             ≡ name_in (word_at self.old.words.dictionary n)) }
         ensures stopped { OnErr result (self.new.words ≡ self.old.words) }
-        ensures tree { self.new.parts.tree ≡ self.old.parts.tree }
-        ensures ready { self.new.parts.console.ready ≡ true }
+        ensures tree { self.new.board.tree ≡ self.old.board.tree }
     {
         self.coding.reserve(1)?;
         match end_definition(&mut self.words, &mut self.coding) {
@@ -121,10 +113,8 @@ impl<C: CodeStore> Eval<C> {
     /// `b(;)` ( -- ) ends the open definition, whose word becomes a method of the package that was active at its
     /// `b(:)`.
     pub(crate) fn semicolon(&mut self) -> Result<(), Stop>
-        requires ready { self.old.parts.console.ready ≡ true }
-        ensures outcome { Ends (is_some self.old.words.defining)
+        ensures { Ends (is_some self.old.words.defining)
             (semicolon_entry flat_calls self.old.words.defining self.old) self.old self.new result }
-        ensures ready { self.new.parts.console.ready ≡ true }
     {
         if self.words.defining().is_none() {
             return Err(Stop::Thrown(Throw::COMPILER_NESTING));
@@ -133,7 +123,7 @@ impl<C: CodeStore> Eval<C> {
             return self.end_open();
         };
         let home = self.flow.home;
-        let former = make_method(&mut self.parts.tree, home, name, word.xt())?;
+        let former = make_method(&mut self.board.tree, home, name, word.xt())?;
         match self.end_open() {
             Ok(()) => {
                 self.hide_method(word, former);
@@ -141,7 +131,7 @@ impl<C: CodeStore> Eval<C> {
             }
             Err(stop) => {
                 if let Some((_, name)) = self.words.named_open() {
-                    take_back(&mut self.parts.tree, name, former);
+                    take_back(&mut self.board.tree, name, former);
                 }
                 Err(stop)
             }
@@ -152,10 +142,8 @@ impl<C: CodeStore> Eval<C> {
     #[tactic(auto, unfolding(crate::specs::Doing::worked))]
     pub(crate) fn compile(&mut self, element: Element) -> Result<(), Stop>
         requires storable { CanBeStored (own_item (element_of element)) }
-        requires ready { self.old.parts.console.ready ≡ true }
-        ensures outcome { IsWorked (Appends (element_of element) self.old.parts.stack) self.old self.new result }
-        ensures parts { self.new.parts ≡ self.old.parts }
-        ensures ready { self.new.parts.console.ready ≡ true }
+        ensures outcome { IsWorked (Appends (element_of element) self.old.board.stack) self.old self.new result }
+        ensures board { self.new.board ≡ self.old.board }
     {
         self.coding.reserve_for(element)?;
         self.coding.compile(element)?;
@@ -166,9 +154,7 @@ impl<C: CodeStore> Eval<C> {
 
     /// Goes on at a position of what is being read.
     fn go_to(&mut self, position: usize)
-        requires ready { self.old.parts.console.ready ≡ true }
-        ensures state { self.new ≡ read_at position self.old }
-        ensures ready { self.new.parts.console.ready ≡ true }
+        ensures { self.new ≡ read_at position self.old }
     {
         self.flow.reading.input = match self.flow.reading.input {
             Input::Image { size, .. } => Input::Image { size, position },
@@ -185,16 +171,14 @@ impl<C: CodeStore> Eval<C> {
         target: Option<usize>,
         exit: LoopExit,
     ) -> Result<(), Throw>
-        requires ready { self.old.parts.console.ready ≡ true }
-        ensures outcome { Leaves (acted flat_calls (control_act word (at_position target) exit self.old.parts.stack
+        ensures { Leaves (acted flat_calls (control_act word (at_position target) exit self.old.board.stack
             self.old.flow.items) self.old) self.new result }
-        ensures ready { self.new.parts.console.ready ≡ true }
     {
         let goes = run_control(
             word,
             target.is_some(),
             exit,
-            &mut self.parts.stack,
+            &mut self.board.stack,
             &mut self.flow.items,
         )?;
         if goes && let Some(position) = target {
@@ -208,10 +192,8 @@ impl<C: CodeStore> Eval<C> {
     /// -26 where no loop is on top, -257 where its end isn't in the image.
     #[tactic(auto, unfolding(crate::specs::Doing::acted, crate::specs::Doing::worked))]
     pub(crate) fn leave(&mut self, size: usize) -> Result<(), Throw>
-        requires ready { self.old.parts.console.ready ≡ true }
-        ensures outcome { Leaves (acted flat_calls (leave_act size self.old.parts.stack
+        ensures { Leaves (acted flat_calls (leave_act size self.old.board.stack
             (loop_on_top self.old.flow.items)) self.old) self.new result }
-        ensures ready { self.new.parts.console.ready ≡ true }
     {
         let found = self.flow.items.top_loop()?;
         match found.exit {
