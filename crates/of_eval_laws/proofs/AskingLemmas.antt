@@ -19,8 +19,8 @@ use Rattle.of_fcodes.specs.Tokens.{entry_in}
 use Rattle.of_stream.specs.Decoding.{Argument, Named, Nothing}
 use Rattle.of_compile.specs.Defining.{may_define}
 use Rattle.of_compile.specs.Words.{WordsState}
-use Rattle.of_eval.specs.declared.token.Token.{Token}
-use Rattle.of_eval.specs.declared.token.Token.TheVariants as token
+use Rattle.of_flow.specs.declared.token.Token.{Token}
+use Rattle.of_flow.specs.declared.token.Token.TheVariants as token
 use Rattle.of_eval.specs.declared.tokens.Spot.{Spot}
 use Rattle.of_eval.specs.Acts.{Act, Front, WordAct, front_of}
 use Rattle.of_eval.specs.Acts as act
@@ -29,7 +29,8 @@ use Rattle.of_eval.specs.Executing.{Plan, guarded, plan_in}
 use Rattle.of_eval.specs.Items.{item_act}
 use Rattle.of_eval.specs.State.{State, with_stack}
 use Rattle.of_eval.specs.Steps.{item_grows_in, typed_grows}
-use Rattle.of_eval.specs.Tokens.{Plain, act_of, announcing, compiling_act, plain_token, token_act, typed}
+use Rattle.of_eval.specs.Tokens.{act_of, announcing, compiling_act, token_act}
+use Rattle.of_flow.specs.Tokens.{Plain, typed, typed_word}
 use Rattle.of_eval_laws.specs.Asking.{MemoryIsAsked, Runs}
 use Rattle.of_eval_laws.specs.Listed.{plan_of_item, plan_with}
 use Rattle.of_eval_laws.proofs.Walk.{IsAct, Turns, item_acts, typed_acts}
@@ -180,9 +181,9 @@ announced (Err t) s w = refl
 
 name_none : {S : Type 0} (w : Option Word) (k : FCode) (name : List ℕ) (code : FCode) (here : Spot) (s : State S)
     → typed_grows (typed w k (Named name code)) here s ≡ false
-unfolding plain_token
-name_none (Some (word.Stream stream.NamedToken)) k name code here s = announced _ s.parts.stack s.words
-name_none (Some (word.Stream stream.ExternalToken)) k name code here s = announced _ s.parts.stack s.words
+unfolding typed_word
+name_none (Some (word.Stream stream.NamedToken)) k name code here s = announced _ s.board.stack s.words
+name_none (Some (word.Stream stream.ExternalToken)) k name code here s = announced _ s.board.stack s.words
 name_none (Some (word.Stream w)) k name code here s = still_none token.Stray here s refl
 name_none w k name code here s = still_none token.Stray here s refl
 
@@ -203,7 +204,7 @@ runs (item.Call xt) s e = (xt, inr refl, e)
 runs i s e = absurd (item_none i s refl e)
 
 pub memory_is_asked : {S : Type 0} → MemoryIsAsked S
-unfolding plain_token
+unfolding typed_word
 memory_is_asked = record {
   end0 = λ k here s. still_none token.End here s refl;
   end1 = λ k here s. still_none token.End here s refl;

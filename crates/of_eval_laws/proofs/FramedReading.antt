@@ -23,21 +23,23 @@ use Rattle.of_nodes.specs.declared.phandles.Phandle.{Phandle}
 use Rattle.of_dict.specs.Words.{xt_of}
 use Rattle.of_compile.specs.declared.defining.DefiningWord.{DefiningWord}
 use Rattle.of_compile.specs.Defining.{Making, defining_entry, making, opens}
-use Rattle.of_eval.specs.declared.flow.Flow.{Flow}
-use Rattle.of_eval.specs.declared.parts.Parts.{Parts}
+use Rattle.of_flow.specs.declared.control_state.Flow.{Flow}
+use Rattle.of_board.specs.declared.board.Board.{Board}
 use Rattle.of_eval.specs.Acts.{Act, Ends, To, WordAct, front_of}
 use Rattle.of_eval.specs.Acts as act
 use Rattle.of_eval.specs.Defining.{by_making, closed_if, define_entry, definition_ended, known_at_once, opened}
 use Rattle.of_eval.specs.Defining.{semicolon_entry, string_kept, string_put, string_refused, word_defined}
 use Rattle.of_eval.specs.Doing.{acted, appended, executed, gone, input_at, worked}
 use Rattle.of_eval.specs.Doing as doing
-use Rattle.of_eval.specs.Executing.{found, guarded, plan_in}
+use Rattle.of_eval.specs.Executing.{guarded, plan_in}
+use Rattle.of_flow.specs.Returns.{found}
 use Rattle.of_eval.specs.Items.{item_act}
 use Rattle.of_eval.specs.Methods.{then_known}
-use Rattle.of_eval.specs.State.{Answered, Calls, Outcome, State, by_code, by_parts, with_items, with_stack}
+use Rattle.of_eval.specs.State.{Answered, Calls, Outcome, State, by_code, by_board, with_items, with_stack}
 use Rattle.of_eval.specs.Steps.{found_token, item_done, read_on, token_due}
-use Rattle.of_eval.specs.Tokens.{act_of, spot_in, typed_of}
-use Rattle.of_eval.specs.Words.{word_entry}
+use Rattle.of_eval.specs.Tokens.{act_of, spot_in}
+use Rattle.of_flow.specs.Tokens.{typed_of}
+use Rattle.of_words.specs.Words.{word_entry}
 use Rattle.of_eval_laws.specs.Frames.{KeepsReading, KeepsSize, ends_image, size_aside, size_in}
 use Rattle.of_eval_laws.specs.Listed.{plan_of_item}
 use Rattle.of_eval_laws.proofs.MethodLemmas.{known_flow}
@@ -75,8 +77,8 @@ making_reads r d (Err t) s h = inl h
 define_reads : {S : Type 0} (r : Reading) (c : Calls S) (d : DefiningWord) (s : State S) → s.flow.reading ≡ r
     → Reads r (define_entry c d s)
 define_reads r c d s h =
-    known_reads r s.parts.active.«package» (known_at_once d s.words.dictionary) (word_defined c d s)
-    (making_reads r d (defining_entry d (c.ends_at s.code) (making s.words s.parts.stack s.parts.memory)) s h)
+    known_reads r s.board.active.«package» (known_at_once d s.words.dictionary) (word_defined c d s)
+    (making_reads r d (defining_entry d (c.ends_at s.code) (making s.words s.board.stack s.board.memory)) s h)
 
 closed_reads : {S : Type 0} (r : Reading) (code : S) (ended : Result (Unit {0}) Throw) (s : State S)
     → s.flow.reading ≡ r
@@ -111,9 +113,9 @@ kept_reads r a (Err fault) s h = refused_reads r a.ended _ s h
 
 -- ---- acts
 
-parts_reads : {S : Type 0} (m : Result Parts Throw) (s : State S) → Reads s.flow.reading (by_parts m s)
-parts_reads (Ok x) s = inl refl
-parts_reads (Err t) s = inl refl
+board_reads : {S : Type 0} (m : Result Board Throw) (s : State S) → Reads s.flow.reading (by_board m s)
+board_reads (Ok x) s = inl refl
+board_reads (Err t) s = inl refl
 
 appended_reads : {S : Type 0} (code : S) (ended : Result (Unit {0}) Throw) (cells : List Cell) (s : State S)
     → Reads s.flow.reading (appended (record { code = code; ended = ended }) cells s)
@@ -130,7 +132,7 @@ unfolding worked
 worked_reads c (act.Fails t) s = inl refl
 worked_reads c (act.Raises t cells) s = inl refl
 worked_reads c (act.Leaves cells) s = inl refl
-worked_reads c (act.Works w) s = parts_reads (word_entry w s.parts) s
+worked_reads c (act.Works w) s = board_reads (word_entry w s.board) s
 worked_reads c (act.Moves cells move to) s =
     gone_reads to (with_stack cells (with_items (doing.moved move s.flow.items) s))
 worked_reads c (act.Knows w cells) s = inl refl
@@ -145,7 +147,7 @@ acted_reads : {S : Type 0} (c : Calls S) (a : Act) (s : State S) → IsAct (free
 unfolding acted
 acted_reads c (act.Does a) s h = worked_reads c a s
 acted_reads c (act.Goes cells move n) s h = absurd h.0
-acted_reads c (act.Copies a n) s h = kept_reads s.flow.reading _ (append_copied s.parts.memory a n []) s refl
+acted_reads c (act.Copies a n) s h = kept_reads s.flow.reading _ (append_copied s.board.memory a n []) s refl
 acted_reads c (act.Makes d) s h = define_reads s.flow.reading c d s refl
 acted_reads c act.Closes s h = semicolon_reads s.flow.reading c s.words.defining s refl
 acted_reads c act.Ends s h = absurd h
@@ -194,7 +196,7 @@ found_sized : {S : Type 0} (c : Calls S) (x : Token) (next : ℕ) (size : Offset
     → Sized (size_behind x.code.0 size) (found_token c (Some (x, next)) size position s)
 found_sized {S} c x next size position s e =
     let on = read_on (size_behind x.code.0 size) next s in
-    let here = spot_in s.parts.memory position next in
+    let here = spot_in s.board.memory position next in
     let R = free S in
     let T = reading_turns S (Unit {0}) in
     acted_sized (size_behind x.code.0 size) c (act_of (typed_of x) here (front_of on)) on
@@ -212,7 +214,7 @@ found_sized {S} c x next size position s e =
 
 pub token_sized : {S : Type 0} (c : Calls S) (x : Token) (next : ℕ) (size : OffsetSize) (position : ℕ) (s : State S)
     → ends_image (word_numbered x.code.0) ≡ false
-    → token_from (latest_image s.parts.memory) position size ≡ Some (x, next)
+    → token_from (latest_image s.board.memory) position size ≡ Some (x, next)
     → Sized (size_behind x.code.0 size) (token_due c (input.Image size position) s)
 token_sized c x next size position s e found =
     subst (λ f. Sized (size_behind x.code.0 size) (found_token c f size position s)) (sym found)

@@ -8,14 +8,14 @@ use Rattle.of_stacks.specs.declared.return_item.ReturnItem.{ReturnItem}
 use Rattle.of_stacks.specs.declared.return_item.ReturnItem.TheVariants.{Caller, Handler, Loop, Return, Source, User}
 use Rattle.of_stacks.specs.declared.throws.Throw.{Throw}
 use Rattle.of_stacks.specs.Returns.{has_due_top, return_on_top}
-use Rattle.of_eval.specs.declared.flow.Flow.{Flow}
-use Rattle.of_eval.specs.declared.parts.Parts.{Parts}
+use Rattle.of_flow.specs.declared.control_state.Flow.{Flow}
+use Rattle.of_board.specs.declared.board.Board.{Board}
 use Rattle.of_eval.specs.Acts.{Move, To, WordAct, front_of}
 use Rattle.of_eval.specs.Acts as act
 use Rattle.of_eval.specs.Doing.{appended, executed, worked}
 use Rattle.of_eval.specs.Executing.{execution, frame_of, guarded, plan_in}
-use Rattle.of_eval.specs.State.{Calls, State, by_parts, with_stack}
-use Rattle.of_eval.specs.Words.{word_entry}
+use Rattle.of_eval.specs.State.{Calls, State, by_board, with_stack}
+use Rattle.of_words.specs.Words.{word_entry}
 use Rattle.of_eval_laws.specs.Frames.{ExecutingLeaves, drops_item, last_word}
 use Rattle.of_eval_laws.proofs.WalkFree.{keeping}
 use Rattle.of_eval_laws.proofs.WalkWords.{IsCellOnTop, IsLoopOnTop, IsWork, Rules, execution_works}
@@ -77,9 +77,9 @@ stays d s u e = (
   inl (ap (λ (f : Flow). f.items) e, ap (λ (f : Flow). f.next) e, ap (λ (f : Flow). f.reading) e),
 )
 
-parts_flow : {S : Type 0} (m : Result Parts Throw) (s : State S) → (by_parts m s).state.flow ≡ s.flow
-parts_flow (Ok x) s = refl
-parts_flow (Err t) s = refl
+board_flow : {S : Type 0} (m : Result Board Throw) (s : State S) → (by_board m s).state.flow ≡ s.flow
+board_flow (Ok x) s = refl
+board_flow (Err t) s = refl
 
 appended_flow : {S : Type 0} (code : S) (ended : Result (Unit {0}) Throw) (cells : List Cell) (s : State S)
     → (appended (record { code = code; ended = ended }) cells s).state.flow ≡ s.flow
@@ -129,7 +129,7 @@ worked_leaves d c (act.Fails t) s h = stays d s s refl
 worked_leaves d c (act.Raises t cells) s h = stays d s (with_stack cells s) refl
 worked_leaves d c (act.Leaves cells) s h = stays d s (with_stack cells s) refl
 worked_leaves d c (act.Works w) s h =
-    stays d s (by_parts (word_entry w s.parts) s).state (parts_flow (word_entry w s.parts) s)
+    stays d s (by_board (word_entry w s.board) s).state (board_flow (word_entry w s.board) s)
 worked_leaves d c (act.Moves cells move to) s h = moved_leaves d cells move to c s h
 worked_leaves d c (act.Knows w cells) s h = stays d s (worked c (act.Knows w cells) s).state refl
 worked_leaves d c (act.Appends e cells) s h =

@@ -9,10 +9,11 @@ use Rattle.of_stacks.specs.declared.return_item.ReturnItem.{ReturnItem}
 use Rattle.of_stacks.specs.declared.throws.Throw.{Throw}
 use Rattle.of_stacks.specs.Loops.{loop_on_top, passes_limit}
 use Rattle.of_stacks.specs.Throws.{image_ended, return_stack_overflow}
-use Rattle.of_eval.specs.declared.control.ControlWord.{ControlWord}
-use Rattle.of_eval.specs.declared.control.ControlWord.TheVariants as control
+use Rattle.of_flow.specs.declared.control.ControlWord.{ControlWord}
+use Rattle.of_flow.specs.declared.control.ControlWord.TheVariants as control
 use Rattle.of_eval.specs.Acts.{Act, Behind, Does, Drops, Fails, Goes, Keeps, Leaves, Move, Moves, Next, Pushes, Turns}
-use Rattle.of_eval.specs.Items.{Position, Target, There, control_act, going, loop_item, one, turning}
+use Rattle.of_eval.specs.Items.{Position, Target, There, control_act, going, turning}
+use Rattle.of_flow.specs.Turns.{loop_item, one}
 use Rattle.of_eval_laws.specs.Frames.{thrown_by, without_target}
 
 -- an act whose target isn't in the image, by that whose target is

@@ -41,21 +41,20 @@ use Rattle.of_prims.specs.Prims.{in_space, on_stack, prim_entry}
 use Rattle.of_prims.specs.Text.{text_entry}
 use Rattle.of_instances.specs.Images.{ImagesStay, KeepsImages}
 use Rattle.of_instances.specs.PropertyWords.{properties_entry}
-use Rattle.of_instances.specs.Site.{Site}
 use Rattle.of_instances.specs.TreeWords.{tree_entry}
-use Rattle.of_eval.specs.declared.parts.Parts.{Parts}
-use Rattle.of_eval.specs.declared.printing.Signs.{Signs}
-use Rattle.of_eval.specs.declared.printing.Signs.TheVariants.{Signed, Unsigned}
+use Rattle.of_board.specs.declared.board.Board.{Board}
+use Rattle.of_words.specs.declared.printing.Signs.{Signs}
+use Rattle.of_words.specs.declared.printing.Signs.TheVariants.{Signed, Unsigned}
 use Rattle.of_eval_laws.specs.Images.{ImagesStand}
-use Rattle.of_eval.specs.Words.{alloc_entry, block_taken, data_in, dot_stack_entry, emit_entry, number_entry}
-use Rattle.of_eval.specs.Words.{printing_entry, right_entry, site_in, type_entry, type_read, with_data, with_site}
-use Rattle.of_eval.specs.Words.{word_entry}
+use Rattle.of_words.specs.Words.{alloc_entry, block_taken, data_in, dot_stack_entry, emit_entry, number_entry}
+use Rattle.of_words.specs.Words.{printing_entry, right_entry, type_entry, type_read, with_data}
+use Rattle.of_words.specs.Words.{word_entry}
 use Rattle.of_eval_laws.specs.Sound.{AreBytes}
 use Rattle.of_eval_laws.proofs.FramedMemory.{DataStands, SpaceStands, low_small, memory_stands, text_stands}
 use Rattle.of_eval_laws.proofs.FramedSpace.{AddressStands, Given, Stands, below_stands, free_is, images_kept}
 use Rattle.of_eval_laws.proofs.FramedSpace.{kept_stands}
 use Rattle.of_eval_laws.proofs.FramedSpace.{same}
-use Rattle.of_eval_laws.proofs.SoundSites.{properties_sound, tree_sound}
+use Rattle.of_eval_laws.proofs.SoundTree.{properties_sound, tree_sound}
 use Rattle.of_eval_laws.proofs.SoundSpace.{byte_more, bytes_joined, bytes_same, heap_sound, no_bytes, taken_laid}
 
 -- ---- pictured text
@@ -221,50 +220,50 @@ prim_stands g (primitive.Text w) d sound =
     space_stands d (text_entry w d.stack d.memory) (text_stands g w d.stack d.memory sound)
 prim_stands g (primitive.Numbers w) d sound = numbers_stand w d.stack d.memory d.pictured sound
 
-abbrev pub PartsStand : DataSpace → Result Parts Throw → Type 0
-PartsStand m (Ok x) = Stands m x.memory
-PartsStand m (Err t) = Unit {0}
+abbrev pub BoardStands : DataSpace → Result Board Throw → Type 0
+BoardStands m (Ok x) = Stands m x.memory
+BoardStands m (Err t) = Unit {0}
 
-pub data_stands : (m : Parts) (r : Result Data Throw) → DataStands m.memory r → PartsStand m.memory (with_data m r)
+pub data_stands : (m : Board) (r : Result Data Throw) → DataStands m.memory r → BoardStands m.memory (with_data m r)
 data_stands m (Ok d) h = h
 data_stands m (Err t) h = tt
 
 -- ---- the words that print
 
-number_stands : (signs : Signs) (base : Result ℕ Throw) (s : List Cell) (m : Parts) → IsSound m.memory
-    → PartsStand m.memory (number_entry signs base s m)
+number_stands : (signs : Signs) (base : Result ℕ Throw) (s : List Cell) (m : Board) → IsSound m.memory
+    → BoardStands m.memory (number_entry signs base s m)
 number_stands signs base [] m sound = tt
 number_stands signs (Ok base) (x ∷ s) m sound = same m.memory sound
 number_stands signs (Err t) (x ∷ s) m sound = tt
 
-right_stands : (signs : Signs) (base : Result ℕ Throw) (s : List Cell) (m : Parts) → IsSound m.memory
-    → PartsStand m.memory (right_entry signs base s m)
+right_stands : (signs : Signs) (base : Result ℕ Throw) (s : List Cell) (m : Board) → IsSound m.memory
+    → BoardStands m.memory (right_entry signs base s m)
 right_stands signs base [] m sound = tt
 right_stands signs base (width ∷ []) m sound = tt
 right_stands signs (Ok base) (width ∷ x ∷ s) m sound = same m.memory sound
 right_stands signs (Err t) (width ∷ x ∷ s) m sound = tt
 
-dot_stands : (base : Result ℕ Throw) (s : List Cell) (m : Parts) → IsSound m.memory
-    → PartsStand m.memory (dot_stack_entry base s m)
+dot_stands : (base : Result ℕ Throw) (s : List Cell) (m : Board) → IsSound m.memory
+    → BoardStands m.memory (dot_stack_entry base s m)
 dot_stands base [] m sound = same m.memory sound
 dot_stands (Ok base) (x ∷ s) m sound = same m.memory sound
 dot_stands (Err t) (x ∷ s) m sound = tt
 
-emit_stands : (s : List Cell) (m : Parts) → IsSound m.memory → PartsStand m.memory (emit_entry s m)
+emit_stands : (s : List Cell) (m : Board) → IsSound m.memory → BoardStands m.memory (emit_entry s m)
 emit_stands [] m sound = tt
 emit_stands (char ∷ s) m sound = same m.memory sound
 
-read_stands : (r : Result (List ℕ) MemFault) (s : List Cell) (m : Parts) → IsSound m.memory
-    → PartsStand m.memory (type_read r s m)
+read_stands : (r : Result (List ℕ) MemFault) (s : List Cell) (m : Board) → IsSound m.memory
+    → BoardStands m.memory (type_read r s m)
 read_stands (Ok text) s m sound = same m.memory sound
 read_stands (Err fault) s m sound = tt
 
-type_stands : (s : List Cell) (m : Parts) → IsSound m.memory → PartsStand m.memory (type_entry s m)
+type_stands : (s : List Cell) (m : Board) → IsSound m.memory → BoardStands m.memory (type_entry s m)
 type_stands [] m sound = tt
 type_stands (n ∷ []) m sound = tt
 type_stands (n ∷ a ∷ s) m sound = read_stands (read_bytes m.memory a.0 n.0) s m sound
 
-printing_stands : (w : PrintingWord) (m : Parts) → IsSound m.memory → PartsStand m.memory (printing_entry w m)
+printing_stands : (w : PrintingWord) (m : Board) → IsSound m.memory → BoardStands m.memory (printing_entry w m)
 printing_stands printing.Dot m sound = number_stands Signed (base_in m.memory) m.stack m sound
 printing_stands printing.UnsignedDot m sound = number_stands Unsigned (base_in m.memory) m.stack m sound
 printing_stands printing.DotRight m sound = right_stands Signed (base_in m.memory) m.stack m sound
@@ -289,13 +288,13 @@ zeroed_stands m n (Some a) e sound =
           kept.2 (taken_laid heap_start heap_limit m.heap a n free sound.heap),
     )
 
-block_stands : (m : Parts) (r : Result (ℕ × DataSpace) MemFault) (s : List Cell) → AddressStands m.memory r
-    → PartsStand m.memory (block_taken r s m)
+block_stands : (m : Board) (r : Result (ℕ × DataSpace) MemFault) (s : List Cell) → AddressStands m.memory r
+    → BoardStands m.memory (block_taken r s m)
 block_stands m (Ok x) s h = h
 block_stands m (Err fault) s h = tt
 
-pub alloc_stands : (s : List Cell) (m : Parts) → IsSound m.memory
-    → PartsStand m.memory (alloc_entry s m)
+pub alloc_stands : (s : List Cell) (m : Board) → IsSound m.memory
+    → BoardStands m.memory (alloc_entry s m)
 alloc_stands [] m sound = tt
 alloc_stands (n ∷ s) m sound =
     block_stands m (heap_taken m.memory n.0) s
@@ -303,13 +302,13 @@ alloc_stands (n ∷ s) m sound =
 
 -- ---- all words
 
-site_stands : (m : Parts) (r : Result Site Throw) → ((s : Site) → r ≡ Ok s → KeepsImages m.memory s.memory)
-    → ((s : Site) → r ≡ Ok s → IsSound s.memory) → PartsStand m.memory (with_site m r)
-site_stands m (Ok s) h sound = kept_stands m.memory s.memory (h s refl) (sound s refl)
-site_stands m (Err t) h sound = tt
+tree_stands : (m : Board) (r : Result Board Throw) → ((s : Board) → r ≡ Ok s → KeepsImages m.memory s.memory)
+    → ((s : Board) → r ≡ Ok s → IsSound s.memory) → BoardStands m.memory r
+tree_stands m (Ok s) h sound = kept_stands m.memory s.memory (h s refl) (sound s refl)
+tree_stands m (Err t) h sound = tt
 
-pub word_stands : (g : Given) (i : ImagesStay) (w : Word) (m : Parts) → IsSound m.memory
-    → PartsStand m.memory (word_entry w m)
+pub word_stands : (g : Given) (i : ImagesStay) (w : Word) (m : Board) → IsSound m.memory
+    → BoardStands m.memory (word_entry w m)
 word_stands g i (word.Primitive w) m sound =
     data_stands m (prim_entry w (data_in m)) (prim_stands g w (data_in m) sound)
 word_stands g i (word.Printing w) m sound = printing_stands w m sound
@@ -320,19 +319,17 @@ word_stands g i (word.Returns w) m sound = tt
 word_stands g i (word.Dictionary w) m sound = tt
 word_stands g i (word.Throws w) m sound = tt
 word_stands g i (word.Properties w) m sound =
-    site_stands m (properties_entry w (site_in m)) (λ s e. i.properties w (site_in m) s sound e)
-    (λ s e. properties_sound w (site_in m) s sound e)
+    tree_stands m (properties_entry w m) (λ s e. i.properties w m s sound e) (λ s e. properties_sound w m s sound e)
 word_stands g i (word.Tree w) m sound =
-    site_stands m (tree_entry w (site_in m)) (λ s e. i.tree w (site_in m) s sound e)
-    (λ s e. tree_sound w (site_in m) s sound e)
+    tree_stands m (tree_entry w m) (λ s e. i.tree w m s sound e) (λ s e. tree_sound w m s sound e)
 word_stands g i (word.Devices w) m sound = tt
 word_stands g i (word.Console w) m sound = tt
 word_stands g i (word.Parsing w) m sound = tt
 word_stands g i (word.Compiling w) m sound = tt
 
-pub left_stands : (m : DataSpace) (r : Result Parts Throw) (after : Parts) → r ≡ Ok after → PartsStand m r
+pub left_stands : (m : DataSpace) (r : Result Board Throw) (after : Board) → r ≡ Ok after → BoardStands m r
     → Stands m after.memory
-left_stands m r after e h = subst (λ x. PartsStand m x) e h
+left_stands m r after e h = subst (λ x. BoardStands m x) e h
 
 pub images_stand : Given → ImagesStay → ImagesStand
 images_stand g i w m after sound e =

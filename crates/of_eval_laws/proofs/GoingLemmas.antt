@@ -30,7 +30,8 @@ use Rattle.of_eval.specs.Acts.{Act, Behind, Does, Drops, Fails, Keeps, Moves, Pu
 use Rattle.of_eval.specs.Doing.{acted, executed, worked}
 use Rattle.of_eval.specs.Executing.{Catch, Execute, Plan, Stops, act_of_plan, executable, execution, frame_of, plan}
 use Rattle.of_eval.specs.Executing.{plan_at, plan_behind, planned, pushing, returning, runner_of}
-use Rattle.of_eval.specs.Items.{beginning, control_act, going, item_act, leave_item, loop_item, one, staying, there}
+use Rattle.of_eval.specs.Items.{beginning, control_act, going, item_act, leave_item, staying, there}
+use Rattle.of_flow.specs.Turns.{loop_item, one}
 use Rattle.of_eval.specs.Items.{turning}
 use Rattle.of_eval.specs.Settling.{ended, going_back, is_same, or_nothing, reading_on, source_ended}
 use Rattle.of_eval.specs.State.{Calls, Outcome, State, done, failed, with_items, with_next, with_stack}
@@ -141,7 +142,7 @@ stepped_by passes to step l cells =
 
 loops_by : {S : Type 0} (c : Calls S) (to : Place) (s : State S) (l : LoopParameters) (r : List ReturnItem)
     → item_done c (item.Loop to) (with_items (Loop l ∷ r) s)
-    ≡ acted c (stepped_by (passes_limit l.index l.limit one) to one l s.parts.stack) (with_items (Loop l ∷ r) s)
+    ≡ acted c (stepped_by (passes_limit l.index l.limit one) to one l s.board.stack) (with_items (Loop l ∷ r) s)
 unfolding item_act control_act stepped_by
 loops_by c to s l r = refl
 
@@ -200,9 +201,9 @@ items_go = record {
   asks = asks_loop;
   skips = skips_loop;
   repeats = λ c to s l r e. loops_by c to s l r
-      ∙ repeats_at c (passes_limit l.index l.limit one) to one l s.parts.stack s.parts.stack r s e;
+      ∙ repeats_at c (passes_limit l.index l.limit one) to one l s.board.stack s.board.stack r s e;
   ends = λ c to s l r e. loops_by c to s l r
-      ∙ ends_at c (passes_limit l.index l.limit one) to one l s.parts.stack s.parts.stack r s e;
+      ∙ ends_at c (passes_limit l.index l.limit one) to one l s.board.stack s.board.stack r s e;
   repeats_by = λ c to s l step cells r e. adds_by c to s l step cells r
       ∙ repeats_at c (passes_limit l.index l.limit step) to step l (step ∷ cells) cells r s e;
   ends_by = λ c to s l step cells r e. adds_by c to s l step cells r
@@ -234,7 +235,7 @@ no_case c s = refl
 no_loop : {S : Type 0} (c : Calls S) (to : Place) (s : State S) → loop_on_top s.flow.items ≡ Err loop_unavailable
     → Throws c (item.Loop to) s loop_unavailable
 unfolding item_act control_act acted worked
-no_loop c to s e = ap (λ x. acted c (turning (Some (there to)) one s.parts.stack x) s) e
+no_loop c to s e = ap (λ x. acted c (turning (Some (there to)) one s.board.stack x) s) e
 
 no_loop_by : {S : Type 0} (c : Calls S) (to : Place) (s : State S) (step : Cell) (cells : List Cell)
     → loop_on_top s.flow.items ≡ Err loop_unavailable
@@ -246,12 +247,12 @@ no_loop_by c to s step cells e =
 no_loop_left : {S : Type 0} (c : Calls S) (to : Place) (s : State S) → loop_on_top s.flow.items ≡ Err loop_unavailable
     → Throws c (item.Leave to) s loop_unavailable
 unfolding item_act acted worked
-no_loop_left c to s e = ap (λ x. acted c (leave_item to s.parts.stack x) s) e
+no_loop_left c to s e = ap (λ x. acted c (leave_item to s.board.stack x) s) e
 
 no_return : {S : Type 0} (c : Calls S) (s : State S) → return_on_top s.flow.items ≡ Err return_stack_imbalance
     → Throws c item.Return s return_stack_imbalance
 unfolding item_act acted worked
-no_return c s e = ap (λ x. worked c (returning x s.parts.stack) s) e
+no_return c s e = ap (λ x. worked c (returning x s.board.stack) s) e
 
 pub items_throw : {S : Type 0} → ItemsThrow S
 items_throw = record {
@@ -396,11 +397,11 @@ ends_go_back = record {
         ap (λ o. o.state.flow.next) is,
         ap (λ o. o.state.flow.reading) is,
         ap (λ o. o.state.flow.is_running) is,
-        ap (λ o. o.state.parts.stack) is,
-        ap (λ o. o.state.parts.pictured) is,
-        ap (λ o. o.state.parts.console) is,
-        ap (λ o. o.state.parts.tree) is,
-        ap (λ o. o.state.parts.active) is,
+        ap (λ o. o.state.board.stack) is,
+        ap (λ o. o.state.board.pictured) is,
+        ap (λ o. o.state.board.console) is,
+        ap (λ o. o.state.board.tree) is,
+        ap (λ o. o.state.board.active) is,
         ap (λ o. o.state.words) is,
         ap (λ o. o.state.code) is,
       );

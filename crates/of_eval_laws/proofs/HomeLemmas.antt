@@ -12,7 +12,7 @@ use Rattle.of_eval.specs.State.{Calls, State}
 use Rattle.of_eval_laws.specs.Homes.{NamesStayHome, with_package}
 
 made_home : {S : Type 0} (r : Result Making Throw) (s : State S) → (by_making defining.Colon r s).ended ≡ Ok tt
-    → (by_making defining.Colon r s).state.flow.home ≡ s.parts.active.«package»
+    → (by_making defining.Colon r s).state.flow.home ≡ s.board.active.«package»
 made_home (Ok g) s e = refl
 made_home (Err t) s e = absurd cc
 
@@ -25,7 +25,7 @@ method_same None n other s = refl
 known_same : {S : Type 0} (home : Option Phandle) (n : ℕ) (other : Option Phandle) (s : State S)
     → known home n (with_package other s) ≡ with_package other (known home n s)
 known_same home n other s =
-    method_same (method_made home (name_in (word_at s.words.dictionary n)) (xt_cell n) s.parts.tree) n other s
+    method_same (method_made home (name_in (word_at s.words.dictionary n)) (xt_cell n) s.board.tree) n other s
 
 ended_same : {S : Type 0} (ended : Result (Unit {0}) Throw) (code : S) (home : Option Phandle) (n : ℕ)
     (other : Option Phandle) (s : State S)
@@ -49,11 +49,11 @@ ends_same c (Some n) other s = refl
 pub names_stay_home : {S : Type 0} → NamesStayHome S
 names_stay_home = record {
   kept = λ c s e.
-      made_home (defining_entry defining.Colon (c.ends_at s.code) (making s.words s.parts.stack s.parts.memory)) s e;
+      made_home (defining_entry defining.Colon (c.ends_at s.code) (making s.words s.board.stack s.board.memory)) s e;
   anywhere = λ c o other s.
       let same = semicolon_same c o other s in (
         ends_same c o other s,
-        ap (λ t. t.parts.tree) same,
+        ap (λ t. t.board.tree) same,
         ap (λ t. t.words) same,
         ap (λ t. t.code) same,
       );

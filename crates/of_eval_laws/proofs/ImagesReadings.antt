@@ -16,12 +16,12 @@ use Rattle.of_nodes.specs.declared.tree.Node.{Node}
 use Rattle.of_nodes.specs.Nodes.{first_tree, named_child, then_child, with_node}
 use Rattle.of_nodes.specs.declared.properties.Property.{Property}
 use Rattle.of_nodes.specs.Properties.{new_property, property_set, set_to}
-use Rattle.of_eval.specs.declared.parts.Parts.{Parts}
+use Rattle.of_board.specs.declared.board.Board.{Board}
 use Rattle.of_eval.specs.Loading.{begun, first_state, made_or_none}
 use Rattle.of_eval.specs.Settling.{settled, thrown_in}
-use Rattle.of_eval.specs.State.{Calls, State, with_parts}
+use Rattle.of_eval.specs.State.{Calls, State, with_board}
 use Rattle.of_eval.specs.Steps.{due, settled_of, stepped, steps_from}
-use Rattle.of_eval.specs.Words.{word_entry}
+use Rattle.of_words.specs.Words.{word_entry}
 use Rattle.of_eval_laws.specs.Readings.{HasItsImages, ImagesAreReadings, is_image, kept_readings}
 use Rattle.of_eval_laws.specs.Sound.{HasSoundSpace}
 use Rattle.of_eval_laws.specs.Throws.{image_more}
@@ -120,7 +120,7 @@ no_image (input.Text position) n e = refl
 no_image (input.Image size position) n e = absurd cc
 
 begun_reads : {S : Type 0} (image : List ℕ) (node : Phandle) (r : Result (ℕ × DataSpace) MemFault) (s : State S)
-    → MayStand s.parts.memory r → Reads s → s.flow.is_running ≡ false → Reads (begun image node r s)
+    → MayStand s.board.memory r → Reads s → s.flow.is_running ≡ false → Reads (begun image node r s)
 begun_reads image node (Err fault) s more h stopped = h
 begun_reads image node (Ok x) s more h stopped =
     let i = s.flow.reading.input in
@@ -159,21 +159,21 @@ told s h = record { as_many = h.0.0; inside = h.0.1; idle = h.1 }
 heard : {S : Type 0} (s : State S) → HasItsImages s → Reads s
 heard s h = ((h.as_many, h.inside), h.idle)
 
-word_reads : {S : Type 0} (l : Laws) (w : Word) (after : Parts) (s : State S) → HasSoundSpace s → Reads s
-    → word_entry w s.parts ≡ Ok after → Reads (with_parts after s)
+word_reads : {S : Type 0} (l : Laws) (w : Word) (after : Board) (s : State S) → HasSoundSpace s → Reads s
+    → word_entry w s.board ≡ Ok after → Reads (with_board after s)
 word_reads l w after s sound h e =
-    let m = s.parts.memory in
-    let kept = left_stands m (word_entry w s.parts) after e (word_stands l.given l.tree w s.parts sound) in
+    let m = s.board.memory in
+    let kept = left_stands m (word_entry w s.board) after e (word_stands l.given l.tree w s.board sound) in
     (subst (λ x. Counted x s.flow.reading.input s.flow.items) (sym kept.0) h.0, h.1)
 
 pub images_are_readings : Laws → (S : Type 0) → ImagesAreReadings S
 images_are_readings l S = record {
   first = λ code. told (first_state code) (first_reads code);
   begun = λ image node s h stopped.
-      told (begun image node (image_pushed s.parts.memory image) s)
-      (begun_reads image node (image_pushed s.parts.memory image) s (pushed_stands s.parts.memory image) (heard s h)
+      told (begun image node (image_pushed s.board.memory image) s)
+      (begun_reads image node (image_pushed s.board.memory image) s (pushed_stands s.board.memory image) (heard s h)
       stopped);
-  words = λ w after s sound h e. told (with_parts after s) (word_reads l w after s sound (heard s h) e);
+  words = λ w after s sound h e. told (with_board after s) (word_reads l w after s sound (heard s h) e);
   done = λ c s sound h run.
       told (due c s.flow.next s).state (due_reads l c s.flow.next s sound ((heard s h).0, run));
   fallen = λ c t s h e. none_left c t s (heard s h) e;

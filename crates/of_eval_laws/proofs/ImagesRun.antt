@@ -45,50 +45,50 @@ kept_then true m after last r (inr (full, inl e)) st = inl (1, all_run after las
 kept_then true m after last r (inr (full, inr one)) st = inr (goes_on m after last r (inr (full, one)) st)
 
 settles : {S : Type 0} (b : Bool) (c : Calls S) (m : DataSpace) (e : Result (Unit {0}) Throw) (s : State S)
-    → IsSound m → KeptBy b m s.parts.memory e
-    → StepLeaves m (settled c s.flow.items (thrown_in e) s).parts.memory
+    → IsSound m → KeptBy b m s.board.memory e
+    → StepLeaves m (settled c s.flow.items (thrown_in e) s).board.memory
 settles b c m (Ok x) s r h =
-    kept_then b m s.parts.memory (settled c s.flow.items None s).parts.memory r h
-    (worked_off c s.flow.items s (kept_sound b m s.parts.memory h))
+    kept_then b m s.board.memory (settled c s.flow.items None s).board.memory r h
+    (worked_off c s.flow.items s (kept_sound b m s.board.memory h))
 settles b c m (Err t) s r h =
     inl
-    (then_end m s.parts.memory (settled c s.flow.items (Some t) s).parts.memory 0 (all_run m s.parts.memory r.images h)
+    (then_end m s.board.memory (settled c s.flow.items (Some t) s).board.memory 0 (all_run m s.board.memory r.images h)
     (cut_off c s.flow.items t s h.2).1)
 
 nothing_ends : {S : Type 0} (c : Calls S) (m : DataSpace) (e : Result (Unit {0}) Throw) (s : State S) → IsSound m
-    → e ≡ Ok tt → KeptBy false m s.parts.memory e
-    → GoOn m (settled c s.flow.items (thrown_in e) s).parts.memory
+    → e ≡ Ok tt → KeptBy false m s.board.memory e
+    → GoOn m (settled c s.flow.items (thrown_in e) s).board.memory
 nothing_ends c m (Ok x) s r done h =
-    goes_on m s.parts.memory (settled c s.flow.items None s).parts.memory r h
-    (worked_off c s.flow.items s (kept_sound false m s.parts.memory h))
+    goes_on m s.board.memory (settled c s.flow.items None s).board.memory r h
+    (worked_off c s.flow.items s (kept_sound false m s.board.memory h))
 nothing_ends c m (Err t) s r done h = absurd cc
 
 -- ---- one step, or none where nothing runs
 
-either : {S : Type 0} (P : DataSpace → Type 0) (b : Bool) (x y : State S) → P x.parts.memory → P y.parts.memory
-    → P (if b then x else y).parts.memory
+either : {S : Type 0} (P : DataSpace → Type 0) (b : Bool) (x y : State S) → P x.board.memory → P y.board.memory
+    → P (if b then x else y).board.memory
 either P true x y hx hy = hx
 either P false x y hx hy = hy
 
-step_leaves : {S : Type 0} (l : Laws) (c : Calls S) (s : State S) → IsSound s.parts.memory
-    → StepLeaves s.parts.memory (stepped c s).parts.memory
+step_leaves : {S : Type 0} (l : Laws) (c : Calls S) (s : State S) → IsSound s.board.memory
+    → StepLeaves s.board.memory (stepped c s).board.memory
 unfolding stepped
 step_leaves l c s sound =
     let o = due c s.flow.next s in
-    either (λ x. StepLeaves s.parts.memory x) s.flow.is_running (settled_of c o) s
-    (settles (is_at_end s.flow.next s) c s.parts.memory o.ended o.state sound
+    either (λ x. StepLeaves s.board.memory x) s.flow.is_running (settled_of c o) s
+    (settles (is_at_end s.flow.next s) c s.board.memory o.ended o.state sound
     (due_leaves l c s.flow.next s sound))
     (inr (inl refl))
 
-step_goes_on : {S : Type 0} (l : Laws) (c : Calls S) (s : State S) → IsSound s.parts.memory
+step_goes_on : {S : Type 0} (l : Laws) (c : Calls S) (s : State S) → IsSound s.board.memory
     → is_at_end s.flow.next s ≡ false
-    → (due c s.flow.next s).ended ≡ Ok tt → GoOn s.parts.memory (stepped c s).parts.memory
+    → (due c s.flow.next s).ended ≡ Ok tt → GoOn s.board.memory (stepped c s).board.memory
 unfolding stepped
 step_goes_on l c s sound inside done =
     let o = due c s.flow.next s in
-    either (λ x. GoOn s.parts.memory x) s.flow.is_running (settled_of c o) s
-    (nothing_ends c s.parts.memory o.ended o.state sound done
-    (subst (λ b. KeptBy b s.parts.memory o.state.parts.memory o.ended) inside (due_leaves l c s.flow.next s sound)))
+    either (λ x. GoOn s.board.memory x) s.flow.is_running (settled_of c o) s
+    (nothing_ends c s.board.memory o.ended o.state sound done
+    (subst (λ b. KeptBy b s.board.memory o.state.board.memory o.ended) inside (due_leaves l c s.flow.next s sound)))
     (inl refl)
 
 -- ---- any number of steps
@@ -108,15 +108,15 @@ run_then m after last (k, begun, e) (inr (inr (image, h))) = (k, image ∷ begun
 
 -- what is so of a state that some steps lead to
 abbrev IsLater : {S : Type 0} → DataSpace → State S → Type 0
-IsLater m s = HasSoundSpace s × OthersRun m s.parts.memory
+IsLater m s = HasSoundSpace s × OthersRun m s.board.memory
 
 steps_run : {S : Type 0} (l : Laws) (c : Calls S) (n : ℕ) (s after : State S) → HasSoundSpace s
-    → steps_from c n s ≡ Some after → OthersRun s.parts.memory after.parts.memory
+    → steps_from c n s ≡ Some after → OthersRun s.board.memory after.board.memory
 steps_run l c n s after sound e =
-    (steps_keep (λ x. IsLater s.parts.memory x) c
+    (steps_keep (λ x. IsLater s.board.memory x) c
     (λ x h. (
       step_sound l c x h.0,
-      run_then s.parts.memory x.parts.memory (stepped c x).parts.memory h.1 (step_leaves l c x h.0),
+      run_then s.board.memory x.board.memory (stepped c x).board.memory h.1 (step_leaves l c x h.0),
     ))
     n s after (sound, (0, [], refl)) e).1
 
@@ -124,11 +124,11 @@ steps_run l c n s after sound e =
 
 pub images_run : Laws → (S : Type 0) → ImagesRun S
 images_run l S = record {
-  begun = λ image node a m s sound e. (pushed l.pushes s.parts.memory m image a sound e).1;
+  begun = λ image node a m s sound e. (pushed l.pushes s.board.memory m image a sound e).1;
   given_back = λ n m sound. popped_ends n m sound;
   done = λ c s sound.
       let o = due c s.flow.next s in
-      due_left (is_at_end s.flow.next s) s.parts.memory o.state.parts.memory o.ended sound.images
+      due_left (is_at_end s.flow.next s) s.board.memory o.state.board.memory o.ended sound.images
       (due_leaves l c s.flow.next s sound);
   settled = λ c items thrown s sound. end_leaves c items thrown s sound;
   go_on = λ c s sound inside done. step_goes_on l c s sound inside done;

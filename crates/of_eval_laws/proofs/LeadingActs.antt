@@ -22,13 +22,13 @@ use Rattle.of_dict.specs.Words.{xt_of}
 use Rattle.of_compile.specs.DictionaryWords.{kind_at, set_token_entry, store_entry, stored_kind, token_set, with_kind}
 use Rattle.of_compile.specs.DictionaryWords.{with_stored}
 use Rattle.of_compile.specs.Words.{WordsState, number_faults, numbered, own_number}
-use Rattle.of_eval.specs.declared.parts.Parts.{Parts}
+use Rattle.of_board.specs.declared.board.Board.{Board}
 use Rattle.of_eval.specs.Acts.{Act, Move, To, WordAct}
 use Rattle.of_eval.specs.Acts as act
 use Rattle.of_eval.specs.Doing.{appended, worked}
 use Rattle.of_eval.specs.Executing.{guarded}
-use Rattle.of_eval.specs.State.{Calls, State, by_parts, open_xt, with_stack}
-use Rattle.of_eval.specs.Words.{word_entry}
+use Rattle.of_eval.specs.State.{Calls, State, by_board, open_xt, with_stack}
+use Rattle.of_words.specs.Words.{word_entry}
 use Rattle.of_eval_laws.specs.Returning.{IsPosition, Leads, LeadsBack, is_code, is_outer}
 use Rattle.of_eval_laws.proofs.LeadingEnds.{due_too, none_due}
 use Rattle.of_eval_laws.proofs.Walk.{Turns}
@@ -177,8 +177,8 @@ module _ (image : List ℕ) (outer : Reading) where
     Known = λ s w. w.defining ≡ s.words.defining;
     Loads = λ s m. s.words.defining ≡ None;
     aims = λ n s a. tt;
-    stores = λ xt x s p e. store_open xt s.words s.parts.stack x e;
-    sets = λ x s p e. set_open s.words s.parts.stack x e;
+    stores = λ xt x s p e. store_open xt s.words s.board.stack x e;
+    sets = λ x s p e. set_open s.words s.board.stack x e;
     announces = λ k name w s p e. number_open k name s.words w e;
     loads = λ a n spread x s p shut e. shut_by s.words.defining shut;
   }
@@ -292,10 +292,10 @@ module _ (image : List ℕ) (outer : Reading) where
       (in_code s.flow.reading code true None s.flow.items h.2.0.0 h.2.0.1) in
       ((p.0.0.0, x.0), (λ o. p.0.1 (sym x.1 ∙ o)))
 
-  parts_lead : {S : Type 0} (r : Result Parts Throw) (s : State S) → Leads image outer s
-      → Leads image outer (by_parts r s).state
-  parts_lead (Ok x) s h = h
-  parts_lead (Err t) s h = h
+  board_lead : {S : Type 0} (r : Result Board Throw) (s : State S) → Leads image outer s
+      → Leads image outer (by_board r s).state
+  board_lead (Ok x) s h = h
+  board_lead (Err t) s h = h
 
   appended_leads : {S : Type 0} (code : S) (e : Result (Unit {0}) Throw) (cells : List Cell) (s : State S)
       → Leads image outer s → Leads image outer (appended (record { code = code; ended = e }) cells s).state
@@ -308,7 +308,7 @@ module _ (image : List ℕ) (outer : Reading) where
   worked_leads code c (act.Fails t) s h p = p.0
   worked_leads code c (act.Raises t cells) s h p = p.0
   worked_leads code c (act.Leaves cells) s h p = p.0
-  worked_leads code c (act.Works w) s h p = parts_lead (word_entry w s.parts) s p.0
+  worked_leads code c (act.Works w) s h p = board_lead (word_entry w s.board) s p.0
   worked_leads code c (act.Moves cells move to) s h p = move_leads code cells move to c s h p
   worked_leads code c (act.Knows w cells) s h p = (p.0.0, (λ o. h ∙ p.0.1 o))
   worked_leads code c (act.Appends e cells) s h p =

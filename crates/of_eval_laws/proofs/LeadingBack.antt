@@ -15,7 +15,7 @@ use Rattle.of_stacks.specs.declared.return_item.ReturnItem.TheVariants.{Return, 
 use Rattle.of_stacks.specs.Throws.{compiler_nesting}
 use Rattle.of_stacks.specs.Unwinding.{beneath_source, latest_source}
 use Rattle.of_dict.specs.Words.{xt_of}
-use Rattle.of_eval.specs.declared.flow.Flow.{Flow}
+use Rattle.of_flow.specs.declared.control_state.Flow.{Flow}
 use Rattle.of_eval.specs.State.{Calls, State, done, failed, given_up}
 use Rattle.of_eval.specs.Settling.{ended, going_back, is_same, or_nothing, reading_on, source_ended}
 use Rattle.of_eval_laws.specs.Returning.{IsDue, IsRead, Leads, LeadsBack, is_code, is_outer, is_return_top}

@@ -116,7 +116,7 @@ module _ (image : List ℕ) (outer : Reading) where
       → IsReady (Handler h ∷ r) s
       → IsReady r
       (if b then caught c h stack_overflow (with_items r s)
-      else record (with_items r s) { parts = record s.parts { stack = record { 0 = 0 } ∷ s.parts.stack } })
+      else record (with_items r s) { board = record s.board { stack = record { 0 = 0 } ∷ s.board.stack } })
   unfolding latest_source
   worked_ready c h r s true x =
       let m = resumed h stack_overflow (with_items r s) in

@@ -26,7 +26,7 @@ use Rattle.of_nodes.specs.declared.phandles.Phandle.{Phandle}
 use Rattle.of_dict.specs.Words.{xt_of}
 use Rattle.of_compile.specs.declared.defining.DefiningWord.{DefiningWord}
 use Rattle.of_compile.specs.Defining.{Making, defining_entry, making, opens}
-use Rattle.of_eval.specs.declared.flow.Flow.{Flow}
+use Rattle.of_flow.specs.declared.control_state.Flow.{Flow}
 use Rattle.of_eval.specs.Acts.{Act, Move, front_of}
 use Rattle.of_eval.specs.Acts as act
 use Rattle.of_eval.specs.Defining.{by_making, closed_if, define_entry, definition_ended, known_at_once, opened}
@@ -40,7 +40,8 @@ use Rattle.of_eval.specs.Methods.{then_known}
 use Rattle.of_eval.specs.Settling.{settled, thrown_in}
 use Rattle.of_eval.specs.State.{Answered, Calls, Outcome, State, by_code, with_next}
 use Rattle.of_eval.specs.Steps.{due, found_token, item_done, item_due, read_on, settled_of, stepped, token_due}
-use Rattle.of_eval.specs.Tokens.{act_of, spot_in, typed_of}
+use Rattle.of_eval.specs.Tokens.{act_of, spot_in}
+use Rattle.of_flow.specs.Tokens.{typed_of}
 use Rattle.of_eval_laws.specs.Listed.{plan_of_item}
 use Rattle.of_eval_laws.specs.Returning.{IsImage, IsRead, Leads, LeadsOn, StackLeadsBack, is_back}
 use Rattle.of_eval_laws.specs.Returning.{is_code, is_outer, is_read_on, reads_nothing}
@@ -76,7 +77,7 @@ making_goes : {S : Type 0} (d : DefiningWord) (g : Result Making Throw) (s : Sta
     → GoesOn s (by_making d g s).state
 making_goes d (Ok g) s =
     opened_goes (opens d)
-    (record s { words = g.words; parts = record s.parts { stack = g.stack; memory = g.memory } })
+    (record s { words = g.words; board = record s.board { stack = g.stack; memory = g.memory } })
 making_goes d (Err t) s = (refl, refl, refl)
 
 known_goes : {S : Type 0} (home : Option Phandle) (o : Option ℕ) (s : State S) (a : Outcome S) → GoesOn s a.state
@@ -87,8 +88,8 @@ known_goes home (Some n) s a h =
 
 define_goes : {S : Type 0} (c : Calls S) (d : DefiningWord) (s : State S) → GoesOn s (define_entry c d s).state
 define_goes c d s =
-    known_goes s.parts.active.«package» (known_at_once d s.words.dictionary) s (word_defined c d s)
-    (making_goes d (defining_entry d (c.ends_at s.code) (making s.words s.parts.stack s.parts.memory)) s)
+    known_goes s.board.active.«package» (known_at_once d s.words.dictionary) s (word_defined c d s)
+    (making_goes d (defining_entry d (c.ends_at s.code) (making s.words s.board.stack s.board.memory)) s)
 
 closed_goes : {S : Type 0} (code : S) (e : Result (Unit {0}) Throw) (s : State S)
     → GoesOn s (by_code (record { code = code; ended = e }) (closed_if e s)).state
@@ -202,7 +203,7 @@ module _ (image : List ℕ) (outer : Reading) where
   acted_leads code c (act.Goes cells move n) s h p r i =
       on_with s (acted c (act.Goes cells move n) s).state code p i h.0
       (still_image n s.flow.reading.input p.0.0.0.0, p.0.0.0.1) refl (turn_leads code move s h.1 h.2 r)
-  acted_leads code c (act.Copies a n) s h p r i = kept_leads _ (append_copied s.parts.memory a n []) s p.0
+  acted_leads code c (act.Copies a n) s h p r i = kept_leads _ (append_copied s.board.memory a n []) s p.0
   acted_leads code c (act.Makes d) s h p r i = goes_on s (define_entry c d s).state p.0 (i h) (define_goes c d s)
   acted_leads code c act.Closes s h p r i =
       goes_on s (semicolon_entry c s.words.defining s).state p.0 (i h) (semicolon_goes c s.words.defining s)
@@ -279,7 +280,7 @@ module _ (image : List ℕ) (outer : Reading) where
   found_leads c None size position s h = (inner_runs s h).0.0
   found_leads {S} c (Some x) size position s h =
       let on = read_on (size_behind x.0.code.0 size) x.1 s in
-      let here = spot_in s.parts.memory position x.1 in
+      let here = spot_in s.board.memory position x.1 in
       let R = leading image outer S false in
       let T = leading_turns image outer S false in
       let inner : Inner on = record {
@@ -305,7 +306,7 @@ module _ (image : List ℕ) (outer : Reading) where
   token_leads : {S : Type 0} (c : Calls S) (i : Input) (s : State S) → Inner s
       → Leads image outer (token_due c i s).state
   token_leads c (input.Image size position) s h =
-      found_leads c (token_from (latest_image s.parts.memory) position size) size position s h
+      found_leads c (token_from (latest_image s.board.memory) position size) size position s h
   token_leads c (input.Text position) s h = (inner_runs s h).0.0
   token_leads c input.Nothing s h = (inner_runs s h).0.0
 

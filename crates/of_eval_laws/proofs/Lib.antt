@@ -7,7 +7,7 @@
 -- ListedFaults, ListedWords, Raised: the law `steps_throw_listed`, from one fault of several up to a step.
 -- Mismatch: the law `mismatch_is_no_body`.
 -- Frames, FramedTurns, FramedReading, FramedStack: the law `frames_hold`.
--- SoundSpace, SoundSites: what writes leaves a data space sound, from bytes up to words over the device tree.
+-- SoundSpace, SoundTree: what writes leaves a data space sound, from bytes up to words over the device tree.
 -- FramedSpace, FramedMemory, FramedWriting: the law `images_stand`, and that the data space stays sound.
 -- ThrowsSettle: the law `throws_settle`.
 -- LeadingEnds, LeadingBack, LeadingActs, LeadingSteps: the law `stack_leads_back`, from what is worked off or caught
@@ -46,7 +46,7 @@ pub mod FramedTurns
 pub mod FramedReading
 pub mod FramedStack
 pub mod SoundSpace
-pub mod SoundSites
+pub mod SoundTree
 pub mod FramedSpace
 pub mod FramedMemory
 pub mod FramedWriting

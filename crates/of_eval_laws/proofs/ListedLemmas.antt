@@ -18,15 +18,12 @@ use Rattle.of_prims.specs.Data.{Data}
 use Rattle.of_prims.specs.Listed.{ThrowListedNumbers}
 use Rattle.of_prims.specs.Prims.{prim_entry}
 use Rattle.of_instances.specs.Listed.{ThrowListedNumbers as TreeWordsListed}
-use Rattle.of_instances.specs.PropertyWords.{properties_entry}
-use Rattle.of_instances.specs.Site.{Site}
-use Rattle.of_instances.specs.TreeWords.{tree_entry}
-use Rattle.of_eval.specs.declared.parts.Parts.{Parts}
-use Rattle.of_eval.specs.declared.printing.Signs.{Signs}
-use Rattle.of_eval.specs.declared.printing.Signs.TheVariants.{Signed, Unsigned}
-use Rattle.of_eval.specs.Words.{number_entry, right_entry, dot_stack_entry, emit_entry, type_read, type_entry}
-use Rattle.of_eval.specs.Words.{block_taken, alloc_entry, printing_entry, with_data, data_in, site_in, with_site}
-use Rattle.of_eval.specs.Words.{word_entry}
+use Rattle.of_board.specs.declared.board.Board.{Board}
+use Rattle.of_words.specs.declared.printing.Signs.{Signs}
+use Rattle.of_words.specs.declared.printing.Signs.TheVariants.{Signed, Unsigned}
+use Rattle.of_words.specs.Words.{number_entry, right_entry, dot_stack_entry, emit_entry, type_read, type_entry}
+use Rattle.of_words.specs.Words.{block_taken, alloc_entry, printing_entry, with_data, data_in}
+use Rattle.of_words.specs.Words.{word_entry}
 use Rattle.of_eval_laws.specs.Listed.{WordsThrowListed}
 
 base_if : (b : Bool) (n : ℕ) → ThrowsListed (refused_if b invalid_argument n)
@@ -37,14 +34,14 @@ base_if false n = tt
 bases : (m : DataSpace) → ThrowsListed (base_in m)
 bases m = base_if _ _
 
-numbers : (signs : Signs) (b : Result ℕ Throw) (s : List Cell) (m : Parts) → ThrowsListed b
+numbers : (signs : Signs) (b : Result ℕ Throw) (s : List Cell) (m : Board) → ThrowsListed b
     → ThrowsListed (number_entry signs b s m)
 unfolding is_listed listed_numbers
 numbers signs b [] m h = refl
 numbers signs (Ok b) (x ∷ s) m h = tt
 numbers signs (Err t) (x ∷ s) m h = h
 
-rights : (signs : Signs) (b : Result ℕ Throw) (s : List Cell) (m : Parts) → ThrowsListed b
+rights : (signs : Signs) (b : Result ℕ Throw) (s : List Cell) (m : Board) → ThrowsListed b
     → ThrowsListed (right_entry signs b s m)
 unfolding is_listed listed_numbers
 rights signs b [] m h = refl
@@ -52,28 +49,28 @@ rights signs b (width ∷ []) m h = refl
 rights signs (Ok b) (width ∷ x ∷ s) m h = tt
 rights signs (Err t) (width ∷ x ∷ s) m h = h
 
-stacks : (b : Result ℕ Throw) (s : List Cell) (m : Parts) → ThrowsListed b → ThrowsListed (dot_stack_entry b s m)
+stacks : (b : Result ℕ Throw) (s : List Cell) (m : Board) → ThrowsListed b → ThrowsListed (dot_stack_entry b s m)
 stacks b [] m h = tt
 stacks (Ok b) (x ∷ s) m h = tt
 stacks (Err t) (x ∷ s) m h = h
 
-emits : (s : List Cell) (m : Parts) → ThrowsListed (emit_entry s m)
+emits : (s : List Cell) (m : Board) → ThrowsListed (emit_entry s m)
 unfolding is_listed listed_numbers
 emits [] m = refl
 emits (char ∷ s) m = tt
 
-types_read : ThrowListedNumbers → (r : Result (List ℕ) MemFault) (s : List Cell) (m : Parts)
+types_read : ThrowListedNumbers → (r : Result (List ℕ) MemFault) (s : List Cell) (m : Board)
     → ThrowsListed (type_read r s m)
 types_read law (Ok text) s m = tt
 types_read law (Err fault) s m = law.faults fault
 
-types : ThrowListedNumbers → (s : List Cell) (m : Parts) → ThrowsListed (type_entry s m)
+types : ThrowListedNumbers → (s : List Cell) (m : Board) → ThrowsListed (type_entry s m)
 unfolding is_listed listed_numbers
 types law [] m = refl
 types law (n ∷ []) m = refl
 types law (n ∷ a ∷ s) m = types_read law (read_bytes m.memory a.0 n.0) s m
 
-prints : ThrowListedNumbers → (w : PrintingWord) (m : Parts) → ThrowsListed (printing_entry w m)
+prints : ThrowListedNumbers → (w : PrintingWord) (m : Board) → ThrowsListed (printing_entry w m)
 prints law printing.Dot m = numbers Signed (base_in m.memory) m.stack m (bases m.memory)
 prints law printing.UnsignedDot m = numbers Unsigned (base_in m.memory) m.stack m (bases m.memory)
 prints law printing.DotRight m = rights Signed (base_in m.memory) m.stack m (bases m.memory)
@@ -83,31 +80,27 @@ prints law printing.Emit m = emits m.stack m
 prints law printing.«Type» m = types law m.stack m
 prints law printing.CarriageReturn m = tt
 
-takes : ThrowListedNumbers → (r : Result (ℕ × DataSpace) MemFault) (s : List Cell) (m : Parts)
+takes : ThrowListedNumbers → (r : Result (ℕ × DataSpace) MemFault) (s : List Cell) (m : Board)
     → ThrowsListed (block_taken r s m)
 takes law (Ok taken) s m = tt
 takes law (Err fault) s m = law.faults fault
 
-allocates : ThrowListedNumbers → (s : List Cell) (m : Parts) → ThrowsListed (alloc_entry s m)
+allocates : ThrowListedNumbers → (s : List Cell) (m : Board) → ThrowsListed (alloc_entry s m)
 unfolding is_listed listed_numbers
 allocates law [] m = refl
 allocates law (n ∷ s) m = takes law (heap_taken m.memory n.0) s m
 
-with : (m : Parts) (r : Result Data Throw) → ThrowsListed r → ThrowsListed (with_data m r)
+with : (m : Board) (r : Result Data Throw) → ThrowsListed r → ThrowsListed (with_data m r)
 with m (Ok d) h = tt
 with m (Err t) h = h
 
-with_tree : (m : Parts) (r : Result Site Throw) → ThrowsListed r → ThrowsListed (with_site m r)
-with_tree m (Ok s) h = tt
-with_tree m (Err t) h = h
-
-words : ThrowListedNumbers → TreeWordsListed → (w : Word) (m : Parts) → ThrowsListed (word_entry w m)
+words : ThrowListedNumbers → TreeWordsListed → (w : Word) (m : Board) → ThrowsListed (word_entry w m)
 unfolding is_listed listed_numbers
 words law tree (Primitive w) m = with m (prim_entry w (data_in m)) (law.words w (data_in m))
 words law tree (Printing w) m = prints law w m
 words law tree (Heap AllocMem) m = allocates law m.stack m
-words law tree (Properties w) m = with_tree m (properties_entry w (site_in m)) (tree.properties w (site_in m))
-words law tree (Tree w) m = with_tree m (tree_entry w (site_in m)) (tree.tree w (site_in m))
+words law tree (Properties w) m = tree.properties w m
+words law tree (Tree w) m = tree.tree w m
 words law tree _ m = refl
 
 pub words_throw_listed : ThrowListedNumbers → TreeWordsListed → WordsThrowListed

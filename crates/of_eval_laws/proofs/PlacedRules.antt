@@ -129,8 +129,8 @@ placed = record (keeping Definitions (λ s. AllPlaced s) (λ cells s p. (p, guar
   return = λ s p. p.goes_on;
   returns = λ to s p e. return_placed (finished_end s.code) s.flow.items to p.goes_back e;
   begins = λ start xt s p e z. own_begins (own_number xt) xt start s refl (ap (λ k. code_start k) e) z p;
-  stores = λ xt x s p e. store_placed xt s.parts.stack x s e p;
-  sets = λ x s p e. set_placed s.parts.stack x s e p;
+  stores = λ xt x s p e. store_placed xt s.board.stack x s e p;
+  sets = λ x s p e. set_placed s.board.stack x s e p;
   announces = λ k name w s p e.
       announced_when (counting (number_faults s.words k name))
       (record s.words { pending = Some (record { code = k; name = name }) }) w s e p;

@@ -39,7 +39,7 @@ use Rattle.of_compile.specs.Coding.{Coding, Outcome as CodingOutcome, compiled a
 use Rattle.of_compile.specs.Coding.{fits}
 use Rattle.of_compile.specs.Defining.{Making, making}
 use Rattle.of_compile.specs.Elements.{own_item}
-use Rattle.of_eval.specs.declared.parts.Parts.{Parts}
+use Rattle.of_board.specs.declared.board.Board.{Board}
 use Rattle.of_eval.specs.Acts.{Act, Closes, Fails, WordAct, front_of}
 use Rattle.of_eval.specs.Acts as act
 use Rattle.of_eval.specs.Defining.{by_making, define_entry, known_at_once, semicolon_entry, string_compiled}
@@ -49,10 +49,11 @@ use Rattle.of_eval.specs.Executing.{guarded, plan_in}
 use Rattle.of_eval.specs.Items.{item_act}
 use Rattle.of_eval.specs.Methods.{then_known}
 use Rattle.of_eval.specs.Settling.{ended, is_same}
-use Rattle.of_eval.specs.State.{Answered, Calls, Outcome, State, by_parts, flat_calls, open_xt, with_next, with_stack}
+use Rattle.of_eval.specs.State.{Answered, Calls, Outcome, State, by_board, flat_calls, open_xt, with_next, with_stack}
 use Rattle.of_eval.specs.Steps.{due, found_token, item_done, item_due, read_on, token_due}
-use Rattle.of_eval.specs.Tokens.{act_of, spot_in, typed_of}
-use Rattle.of_eval.specs.Words.{word_entry}
+use Rattle.of_eval.specs.Tokens.{act_of, spot_in}
+use Rattle.of_flow.specs.Tokens.{typed_of}
+use Rattle.of_words.specs.Words.{word_entry}
 use Rattle.of_eval_laws.specs.Structured.{structured_calls}
 use Rattle.of_eval_laws.specs.Listed.{Raises, StepsThrowListed, WordsThrowListed, cell_next, cell_of, closes}
 use Rattle.of_eval_laws.specs.Listed.{closes_next, plan_fetched, plan_of_item, plan_read, plan_with, token_of}
@@ -92,7 +93,7 @@ ends_weaker taken (Err t) (inr h) = inr (inl (refl, h))
 abbrev Lists : {S : Type 0} → Outcome S → Type 0
 Lists o = ThrowsListed o.ended
 
--- what is known of the parts of a step
+-- what is known of the board of a step
 record Laws (S : Type 0) (c : Calls S) : Type 0 where
   calls : CallsThrowListed S c
   words : WordsThrowListed
@@ -117,9 +118,9 @@ listing_turns S law taken ends =
 
 -- ---- acts of words
 
-parts_left : {S : Type 0} (r : Result Parts Throw) (s : State S) → ThrowsListed r → Lists (by_parts r s)
-parts_left (Ok p) s h = tt
-parts_left (Err t) s h = h
+board_left : {S : Type 0} (r : Result Board Throw) (s : State S) → ThrowsListed r → Lists (by_board r s)
+board_left (Ok p) s h = tt
+board_left (Err t) s h = h
 
 worked_raises : {S : Type 0} (c : Calls S) (l : Laws S c) (taken : Option Cell) (ends : Bool) (a : WordAct)
     (s : State S) → IsWork (listing S l.faults taken) s a → Raised taken ends (worked c a s)
@@ -128,7 +129,7 @@ worked_raises c l taken ends (act.Fails t) s h = inl h
 worked_raises c l taken ends (act.Raises t cells) s h = inr (inr h)
 worked_raises c l taken ends (act.Leaves cells) s h = tt
 worked_raises c l taken ends (act.Works w) s h =
-    weaker taken ends _ (parts_left (word_entry w s.parts) s (l.words.words w s.parts))
+    weaker taken ends _ (board_left (word_entry w s.board) s (l.words.words w s.board))
 worked_raises c l taken ends (act.Moves cells move to) s h = tt
 worked_raises c l taken ends (act.Knows w cells) s h = tt
 worked_raises c l taken ends (act.Appends e cells) s h = weaker taken ends _ (l.calls.element e s.code)
@@ -149,8 +150,8 @@ knows home (Some n) a h = h
 
 defines : {S : Type 0} (c : Calls S) (d : DefiningWord) (s : State S) → Lists (define_entry c d s)
 defines c d s =
-    knows s.parts.active.«package» (known_at_once d s.words.dictionary) (word_defined c d s)
-    (makings d _ s (defining_listed d (c.ends_at s.code) (making s.words s.parts.stack s.parts.memory)))
+    knows s.board.active.«package» (known_at_once d s.words.dictionary) (word_defined c d s)
+    (makings d _ s (defining_listed d (c.ends_at s.code) (making s.words s.board.stack s.board.memory)))
 
 semicolons : {S : Type 0} (c : Calls S) → CallsThrowListed S c → (n : Option ℕ) (s : State S)
     → EndsListed (semicolon_entry c n s).ended
@@ -176,8 +177,8 @@ keeps law a (Err fault) s h = refuses a.ended (throw_of fault) s h (law.faults f
 strings : {S : Type 0} (c : Calls S) → CallsThrowListed S c → ThrowListedNumbers → (a n : ℕ) (s : State S)
     → Lists (string_compiled c a n s)
 strings c h law a n s =
-    keeps law (c.element (string_element s.parts.memory.here n) s.code) (append_copied s.parts.memory a n []) s
-    (h.element (string_element s.parts.memory.here n) s.code)
+    keeps law (c.element (string_element s.board.memory.here n) s.code) (append_copied s.board.memory a n []) s
+    (h.element (string_element s.board.memory.here n) s.code)
 
 ends_if : {S : Type 0} (b : Bool) (o p : Outcome S) → Lists o → Lists p → Lists (if b then o else p)
 ends_if true o p ho hp = ho
@@ -208,15 +209,15 @@ acted_raises c l taken last act.Ends s h = weaker taken last _ (ends c s)
 
 founds : {S : Type 0} (c : Calls S) → Laws S c → (f : Option (Token × ℕ)) (size : OffsetSize) (position : ℕ)
     (s : State S)
-    → Raised (cell_of (plan_read (token_of f) s.words.table s.flow.is_compiling (plan_in s)) s.parts.stack)
+    → Raised (cell_of (plan_read (token_of f) s.words.table s.flow.is_compiling (plan_in s)) s.board.stack)
     (closes (token_of f)) (found_token c f size position s)
 unfolding is_listed listed_numbers
 founds c l None size position s = inl refl
 founds {S} c l (Some x) size position s =
     let on = read_on (size_behind x.0.code.0 size) x.1 s in
-    let here = spot_in s.parts.memory position x.1 in
+    let here = spot_in s.board.memory position x.1 in
     let taken =
-    cell_of (plan_read (Some x.0) s.words.table s.flow.is_compiling (plan_in s)) s.parts.stack in
+    cell_of (plan_read (Some x.0) s.words.table s.flow.is_compiling (plan_in s)) s.board.stack in
     let R = listing S l.faults taken in
     let T = listing_turns S l.faults taken (closes (Some x.0)) in
     acted_raises c l taken (closes (Some x.0)) (act_of (typed_of x.0) here (front_of on)) on
@@ -236,27 +237,27 @@ founds {S} c l (Some x) size position s =
     })))
 
 tokens : {S : Type 0} (c : Calls S) → Laws S c → (i : Input) (s : State S)
-    → Raised (cell_of (plan_read (token_read i s) s.words.table s.flow.is_compiling (plan_in s)) s.parts.stack)
+    → Raised (cell_of (plan_read (token_read i s) s.words.table s.flow.is_compiling (plan_in s)) s.board.stack)
     (closes (token_read i s)) (token_due c i s)
 unfolding is_listed listed_numbers
 tokens c l (input.Image size position) s =
-    founds c l (token_from (latest_image s.parts.memory) position size) size position s
+    founds c l (token_from (latest_image s.board.memory) position size) size position s
 tokens c l (input.Text position) s = inl refl
 tokens c l input.Nothing s = inl refl
 
 -- ---- items
 
 items : {S : Type 0} (c : Calls S) → Laws S c → (i : Item) (s : State S)
-    → Raised (cell_of (plan_of_item i (plan_in s)) s.parts.stack) false (item_done c i s)
+    → Raised (cell_of (plan_of_item i (plan_in s)) s.board.stack) false (item_done c i s)
 items {S} c l i s =
-    let taken = cell_of (plan_of_item i (plan_in s)) s.parts.stack in
+    let taken = cell_of (plan_of_item i (plan_in s)) s.board.stack in
     acted_raises c l taken false (item_act i (front_of s)) s
     (item_acts (listing S l.faults taken) (listing_turns S l.faults taken false) i s
     (anywhere (listing S l.faults taken) (λ n x. tt) (target_of i) s) tt
     (all_executed (listing S l.faults taken) tt (plan_of_item i (plan_in s)) s tt tt (λ y e. (y, e, refl))))
 
 fetches : {S : Type 0} (c : Calls S) → Laws S c → (f : Option (Item × Place)) (s : State S)
-    → Raised (cell_of (plan_fetched f (plan_in s)) s.parts.stack) false (item_due c f s)
+    → Raised (cell_of (plan_fetched f (plan_in s)) s.board.stack) false (item_due c f s)
 unfolding is_listed listed_numbers
 fetches c l None s = inl refl
 fetches c l (Some x) s = items c l x.0 (with_next (continuation.Code x.1.cell) s)

@@ -35,7 +35,7 @@ use Rattle.of_compile.specs.declared.defining.DefiningWord.{DefiningWord}
 use Rattle.of_compile.specs.declared.words.Pending.{Pending}
 use Rattle.of_compile.specs.Defining.{Made, defining_faults, made_by, making, opens, word_made}
 use Rattle.of_compile.specs.Words.{WordsState}
-use Rattle.of_eval.specs.declared.parts.Parts.{Parts}
+use Rattle.of_board.specs.declared.board.Board.{Board}
 use Rattle.of_eval.specs.Acts.{Act, Move, To, WordAct, front_of}
 use Rattle.of_eval.specs.Acts as act
 use Rattle.of_eval.specs.Defining.{by_making, closed_if, define_entry, definition_ended, known_at_once, opened, rounded}
@@ -47,15 +47,16 @@ use Rattle.of_eval.specs.Executing.{guarded, plan_in}
 use Rattle.of_eval.specs.Items.{item_act}
 use Rattle.of_eval.specs.Methods.{as_method, known_if, method_made, then_known, xt_cell}
 use Rattle.of_eval.specs.Settling.{ended, is_same}
-use Rattle.of_eval.specs.State.{Answered, Calls, Outcome, State, by_parts, open_xt, with_items}
+use Rattle.of_eval.specs.State.{Answered, Calls, Outcome, State, by_board, open_xt, with_items}
 use Rattle.of_eval.specs.State.{with_next, with_stack}
 use Rattle.of_eval.specs.Steps.{due, found_token, item_due, read_on, token_due}
-use Rattle.of_eval.specs.Tokens.{act_of, spot_in, typed_of}
-use Rattle.of_eval.specs.Words.{word_entry}
+use Rattle.of_eval.specs.Tokens.{act_of, spot_in}
+use Rattle.of_flow.specs.Tokens.{typed_of}
+use Rattle.of_words.specs.Words.{word_entry}
 use Rattle.of_eval_laws.specs.Listed.{plan_of_item}
 use Rattle.of_eval_laws.specs.Readings.{BeganInside, is_image, kept_readings}
 use Rattle.of_eval_laws.specs.Throws.{image_more}
-use Rattle.of_eval_laws.proofs.FramedWriting.{PartsStand, word_stands}
+use Rattle.of_eval_laws.proofs.FramedWriting.{BoardStands, word_stands}
 use Rattle.of_eval_laws.proofs.ReadingsEnds.{Counted, Goes, Reads, given_up_reads, rests, source_reads}
 use Rattle.of_eval_laws.proofs.RunningWords.{Laws}
 use Rattle.of_eval_laws.proofs.Walk.{IsAct, Turns, item_acts, typed_acts}
@@ -107,8 +108,8 @@ counting_rules S = record (free S) {
   Item = λ s i. IsNoSource i;
   user = λ x s p. tt;
   return = λ s p. tt;
-  Loads = λ s m. OneMore s.parts.memory m;
-  loads = λ a n spread x s p shut e. copied_stands s.parts.memory a n spread x e;
+  Loads = λ s m. OneMore s.board.memory m;
+  loads = λ a n spread x s p shut e. copied_stands s.board.memory a n spread x e;
 }
 
 abbrev counting_turns : (S : Type 0) → Turns (counting_rules S)
@@ -208,7 +209,7 @@ moved_input n (input.Image size position) = refl
 -- ---- defining and compiling
 
 -- other images of the same number
-same_images : {S : Type 0} (ends : List ℕ) (s : State S) → ends ≡ s.parts.memory.images → Goes s
+same_images : {S : Type 0} (ends : List ℕ) (s : State S) → ends ≡ s.board.memory.images → Goes s
     → Counted ends s.flow.reading.input s.flow.items × (s.flow.is_running ≡ true)
 same_images ends s e h = (subst (λ x. Counted x s.flow.reading.input s.flow.items) (sym e) h.0, h.1)
 
@@ -219,7 +220,7 @@ method_reads (Some nodes) n s h = h
 known_reads : {S : Type 0} (r : Result (Unit {0}) Throw) (home : Option Phandle) (n : ℕ) (s : State S) → Goes s
     → Goes (known_if r home n s)
 known_reads (Ok x) home n s h =
-    method_reads (method_made home (name_in (word_at s.words.dictionary n)) (xt_cell n) s.parts.tree) n s h
+    method_reads (method_made home (name_in (word_at s.words.dictionary n)) (xt_cell n) s.board.tree) n s h
 known_reads (Err t) home n s h = h
 
 then_reads : {S : Type 0} (home : Option Phandle) (o : Option ℕ) (a : Outcome S) → Goes a.state
@@ -239,18 +240,18 @@ made_images d (Some p) (Some x) w cells m = refl
 
 making_reads : {S : Type 0} (d : DefiningWord) (f : Option Throw) (x : Option Made) (s : State S) → Goes s
     → Goes
-    (by_making d (unless f (word_made d (making s.words s.parts.stack s.parts.memory) s.words.pending x)) s).state
+    (by_making d (unless f (word_made d (making s.words s.board.stack s.board.memory) s.words.pending x)) s).state
 making_reads d (Some t) x s h = h
 making_reads d None x s h =
     opened_reads (opens d) _
-    (same_images _ s (made_images d s.words.pending x s.words s.parts.stack s.parts.memory) h)
+    (same_images _ s (made_images d s.words.pending x s.words s.board.stack s.board.memory) h)
 
 define_reads : {S : Type 0} (c : Calls S) (d : DefiningWord) (s : State S) → Goes s
     → Goes (define_entry c d s).state
 define_reads c d s h =
-    let x = made_by d (c.ends_at s.code) (aligned s.parts.memory.here) s.parts.stack in
-    then_reads s.parts.active.«package» (known_at_once d s.words.dictionary) (word_defined c d s)
-    (making_reads d (counting (defining_faults (making s.words s.parts.stack s.parts.memory) x)) x s h)
+    let x = made_by d (c.ends_at s.code) (aligned s.board.memory.here) s.board.stack in
+    then_reads s.board.active.«package» (known_at_once d s.words.dictionary) (word_defined c d s)
+    (making_reads d (counting (defining_faults (making s.words s.board.stack s.board.memory) x)) x s h)
 
 closed_reads : {S : Type 0} (e : Result (Unit {0}) Throw) (s : State S) → Goes s → Goes (closed_if e s)
 closed_reads (Ok x) s h = h
@@ -284,7 +285,7 @@ read_aside m (Ok xs) = bytes_if (nat_le (m.here + length (xs ++ [])) data_limit)
 read_aside m (Err fault) = tt
 
 put_reads : {S : Type 0} (e : Result (Unit {0}) Throw) (code : S) (m : DataSpace) (s : State S)
-    → m.images ≡ s.parts.memory.images → Goes s → Goes (string_put e code m s).state
+    → m.images ≡ s.board.memory.images → Goes s → Goes (string_put e code m s).state
 put_reads (Ok x) code m s e h = same_images (rounded m).images s (rounded_images m ∙ e) h
 put_reads (Err t) code m s e h = h
 
@@ -294,21 +295,21 @@ refused_reads (Ok x) t s h = h
 refused_reads (Err first) t s h = h
 
 string_reads : {S : Type 0} (a : Answered S) (r : Result (ℕ × DataSpace) MemFault) (s : State S)
-    → IsAside s.parts.memory r → Goes s → Goes (string_kept a r s).state
+    → IsAside s.board.memory r → Goes s → Goes (string_kept a r s).state
 string_reads a (Ok x) s e h = put_reads a.ended a.code x.1 s e h
 string_reads a (Err fault) s e h = refused_reads a.ended _ s h
 
 -- ---- acts of words
 
-parts_read : {S : Type 0} (r : Result Parts Throw) (s : State S) → PartsStand s.parts.memory r → Goes s
-    → Goes (by_parts r s).state
-parts_read (Ok p) s stands h = same_images p.memory.images s stands.0 h
-parts_read (Err t) s stands h = h
+board_read : {S : Type 0} (r : Result Board Throw) (s : State S) → BoardStands s.board.memory r → Goes s
+    → Goes (by_board r s).state
+board_read (Ok p) s stands h = same_images p.memory.images s stands.0 h
+board_read (Err t) s stands h = h
 
-ordinary_reads : {S : Type 0} (l : Laws) (w : Word) (s : State S) → IsSound s.parts.memory → Goes s
-    → Goes (by_parts (word_entry w s.parts) s).state
+ordinary_reads : {S : Type 0} (l : Laws) (w : Word) (s : State S) → IsSound s.board.memory → Goes s
+    → Goes (by_board (word_entry w s.board) s).state
 ordinary_reads l w s sound h =
-    parts_read (word_entry w s.parts) s (word_stands l.given l.tree w s.parts sound) h
+    board_read (word_entry w s.board) s (word_stands l.given l.tree w s.board sound) h
 
 appended_reads : {S : Type 0} (code : S) (e : Result (Unit {0}) Throw) (cells : List Cell) (s : State S) → Goes s
     → Goes (appended (record { code = code; ended = e }) cells s).state
@@ -320,7 +321,7 @@ gone_reads act.Behind s h = h
 gone_reads (act.Next to) s h = h
 
 worked_reads : {S : Type 0} (l : Laws) (c : Calls S) (a : WordAct) (s : State S) → IsWork (counting_rules S) s a
-    → IsSound s.parts.memory → Goes s → Goes (worked c a s).state
+    → IsSound s.board.memory → Goes s → Goes (worked c a s).state
 unfolding worked
 worked_reads l c (act.Fails t) s w sound h = h
 worked_reads l c (act.Raises t cells) s w sound h = h
@@ -328,7 +329,7 @@ worked_reads l c (act.Leaves cells) s w sound h = h
 worked_reads l c (act.Works x) s w sound h = ordinary_reads l x s sound h
 worked_reads l c (act.Moves cells move to) s w sound h =
     gone_reads to (with_stack cells (with_items (doing.moved move s.flow.items) s))
-    (moved_kept s.parts.memory.images s.flow.reading.input move to s w.0 w.2 h.0, h.1)
+    (moved_kept s.board.memory.images s.flow.reading.input move to s w.0 w.2 h.0, h.1)
 worked_reads l c (act.Knows x cells) s w sound h = h
 worked_reads l c (act.Appends e cells) s w sound h =
     appended_reads (c.element e s.code).code (c.element e s.code).ended cells s h
@@ -349,21 +350,21 @@ ended_reads c s h =
     (given_up_reads c s (rests s h)) (source_reads s h)
 
 acted_reads : {S : Type 0} (l : Laws) (c : Calls S) (a : Act) (s : State S)
-    → IsAct (counting_rules S) (counting_turns S) s a → IsSound s.parts.memory → Goes s
+    → IsAct (counting_rules S) (counting_turns S) s a → IsSound s.board.memory → Goes s
     → Reads (acted c a s).state
 unfolding acted
 acted_reads l c (act.Does a) s w sound h = rests (worked c a s).state (worked_reads l c a s w sound h)
 acted_reads l c (act.Goes cells move n) s w sound h =
     let i = s.flow.reading.input in
     rests (read_at n (with_stack cells (with_items (doing.moved move s.flow.items) s))) (
-      alike_kept s.parts.memory.images (input_at n i) i (doing.moved move s.flow.items) (moved_input n i)
-          (turned_kept s.parts.memory.images i move s.flow.items w.2 h.0),
+      alike_kept s.board.memory.images (input_at n i) i (doing.moved move s.flow.items) (moved_input n i)
+          (turned_kept s.board.memory.images i move s.flow.items w.2 h.0),
       h.1,
     )
 acted_reads l c (act.Copies a n) s w sound h =
     rests (string_compiled c a n s).state
-    (string_reads _ (append_copied s.parts.memory a n []) s
-    (read_aside s.parts.memory (read_bytes s.parts.memory a n)) h)
+    (string_reads _ (append_copied s.board.memory a n []) s
+    (read_aside s.board.memory (read_bytes s.board.memory a n)) h)
 acted_reads l c (act.Makes d) s w sound h = rests (define_entry c d s).state (define_reads c d s h)
 acted_reads l c act.Closes s w sound h =
     rests (semicolon_entry c s.words.defining s).state
@@ -373,7 +374,7 @@ acted_reads l c act.Ends s w sound h = ended_reads c s h
 
 -- ---- what comes next
 
-item_reads : {S : Type 0} (l : Laws) (c : Calls S) (x : Option (Item × Place)) (s : State S) → IsSound s.parts.memory
+item_reads : {S : Type 0} (l : Laws) (c : Calls S) (x : Option (Item × Place)) (s : State S) → IsSound s.board.memory
     → Goes s → Reads (item_due c x s).state
 item_reads l c None s sound h = rests s h
 item_reads {S} l c (Some x) s sound h =
@@ -385,12 +386,12 @@ item_reads {S} l c (Some x) s sound h =
     sound h
 
 found_reads : {S : Type 0} (l : Laws) (c : Calls S) (x : Option (Token × ℕ)) (size : OffsetSize) (position : ℕ)
-    (s : State S) → is_image s.flow.reading.input ≡ true → IsSound s.parts.memory → Goes s
+    (s : State S) → is_image s.flow.reading.input ≡ true → IsSound s.board.memory → Goes s
     → Reads (found_token c x size position s).state
 found_reads l c None size position s e sound h = rests s h
 found_reads {S} l c (Some x) size position s e sound h =
     let on = read_on (size_behind x.0.code.0 size) x.1 s in
-    let here = spot_in s.parts.memory position x.1 in
+    let here = spot_in s.board.memory position x.1 in
     let R = counting_rules S in
     let T = counting_turns S in
     acted_reads l c (act_of (typed_of x.0) here (front_of on)) on
@@ -405,16 +406,16 @@ found_reads {S} l c (Some x) size position s e sound h =
       executes = all_executed R tt _ on tt tt (λ y e. tt);
     })))
     sound
-    (alike_kept s.parts.memory.images on.flow.reading.input s.flow.reading.input s.flow.items (sym e) h.0, h.1)
+    (alike_kept s.board.memory.images on.flow.reading.input s.flow.reading.input s.flow.items (sym e) h.0, h.1)
 
 token_reads : {S : Type 0} (l : Laws) (c : Calls S) (i : Input) (s : State S) → s.flow.reading.input ≡ i
-    → IsSound s.parts.memory → Goes s → Reads (token_due c i s).state
+    → IsSound s.board.memory → Goes s → Reads (token_due c i s).state
 token_reads l c (input.Image size position) s e sound h =
-    found_reads l c (token_from (latest_image s.parts.memory) position size) size position s (ap is_image e) sound h
+    found_reads l c (token_from (latest_image s.board.memory) position size) size position s (ap is_image e) sound h
 token_reads l c (input.Text position) s e sound h = rests s h
 token_reads l c input.Nothing s e sound h = rests s h
 
-pub due_reads : {S : Type 0} (l : Laws) (c : Calls S) (to : Continuation) (s : State S) → IsSound s.parts.memory
+pub due_reads : {S : Type 0} (l : Laws) (c : Calls S) (to : Continuation) (s : State S) → IsSound s.board.memory
     → Goes s → Reads (due c to s).state
 due_reads l c continuation.Source s sound h = token_reads l c s.flow.reading.input s refl sound h
 due_reads l c (continuation.Code n) s sound h = item_reads l c (c.fetch s.code (record { cell = n })) s sound h

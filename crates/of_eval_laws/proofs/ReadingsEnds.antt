@@ -14,7 +14,7 @@ use Rattle.of_stacks.specs.Throws.{stack_overflow}
 use Rattle.of_stacks.specs.Unwinding.{beneath_source, latest_handler, latest_source}
 use Rattle.of_memory.specs.DataSpace.{DataSpace}
 use Rattle.of_memory.specs.Growth.{without_image}
-use Rattle.of_eval.specs.declared.flow.Flow.{Flow}
+use Rattle.of_flow.specs.declared.control_state.Flow.{Flow}
 use Rattle.of_eval.specs.State.{Calls, State, given_up, open_xt, with_items}
 use Rattle.of_eval.specs.Settling.{caught, fallen, given_back, going_back, is_full, is_same}
 use Rattle.of_eval.specs.Settling.{load_left, or_nothing, reading_on, resumed, settled, source_ended, uncaught}
@@ -36,11 +36,11 @@ Rests running n = running ≡ false → n ≡ 0
 
 abbrev pub Reads : {S : Type 0} → State S → Type 0
 Reads s =
-    Counted s.parts.memory.images s.flow.reading.input s.flow.items × Rests s.flow.is_running (readings s.flow)
+    Counted s.board.memory.images s.flow.reading.input s.flow.items × Rests s.flow.is_running (readings s.flow)
 
 -- something runs
 abbrev pub Goes : {S : Type 0} → State S → Type 0
-Goes s = Counted s.parts.memory.images s.flow.reading.input s.flow.items × (s.flow.is_running ≡ true)
+Goes s = Counted s.board.memory.images s.flow.reading.input s.flow.items × (s.flow.is_running ≡ true)
 
 pub rests : {S : Type 0} (s : State S) → Goes s → Reads s
 rests s (h, run) = (h, (λ e. absurd cc))
@@ -113,8 +113,8 @@ back_reads ends (Caller d ∷ items) f h run none = (h, (λ e. none refl))
 pub source_reads : {S : Type 0} (s : State S) → Goes s → Reads (source_ended s)
 source_reads s h =
     let o = reading_on (or_nothing (latest_source s.flow.items)) s in
-    back_reads o.parts.memory.images (beneath_source s.flow.items) o.flow
-    (source_cut s.parts.memory s.flow.reading.input s.flow.items h.0) h.1
+    back_reads o.board.memory.images (beneath_source s.flow.items) o.flow
+    (source_cut s.board.memory s.flow.reading.input s.flow.items h.0) h.1
     (source_rests s.flow.reading.input s.flow.items h.0.1)
 
 -- ---- items that are cut or worked off
@@ -122,13 +122,13 @@ source_reads s h =
 -- the return stack has these items, and as many images stand as are read
 abbrev IsAt : {S : Type 0} → List ReturnItem → State S → Type 0
 IsAt items s =
-    (s.flow.items ≡ items) × Counted s.parts.memory.images s.flow.reading.input items
+    (s.flow.items ≡ items) × Counted s.board.memory.images s.flow.reading.input items
     × Rests s.flow.is_running (image_more s.flow.reading.input (kept_readings items))
 
 reads_at : {S : Type 0} (items : List ReturnItem) (s : State S) → IsAt items s → Reads s
 reads_at items s h =
     subst
-    (λ r. Counted s.parts.memory.images s.flow.reading.input r
+    (λ r. Counted s.board.memory.images s.flow.reading.input r
     × Rests s.flow.is_running (image_more s.flow.reading.input (kept_readings r)))
     (sym h.0) (h.1, h.2)
 
@@ -148,7 +148,7 @@ caught_at : {S : Type 0} (c : Calls S) (f : ExceptionFrame) (t : Throw) (items :
     → IsAt items s → IsAt items (caught c f t s)
 caught_at c f t items s h =
     let r = resumed f t s in
-    let going : IsAt items r = (h.0, h.1, (λ e. absurd cc)) in
+    let going : IsAt items r = (h.0, h.1, h.2) in
     either items (is_same (open_xt r) f.opened) r (given_up c r) going (given_up_at c items r going)
 
 load_at : {S : Type 0} (d : Due) (items : List ReturnItem) (s : State S) → IsAt items s → IsAt items (load_left d s)
@@ -184,7 +184,7 @@ source_at : {S : Type 0} (r : Reading) (items : List ReturnItem) (s : State S) �
 source_at r items s h = (
   refl,
   (
-    back_counted s.flow.reading.input s.parts.memory (image_more r.input (kept_readings items)) h.1.0,
+    back_counted s.flow.reading.input s.board.memory (image_more r.input (kept_readings items)) h.1.0,
     h.1.1.1,
   ),
   (λ e. none_beneath s.flow.reading.input (image_more r.input (kept_readings items)) (h.2 e)),
@@ -212,7 +212,7 @@ settled_reads c (Some t) s h = cut_off c s.flow.items t s (refl, h.0, h.1)
 
 -- no image stands
 abbrev IsBare : {S : Type 0} → State S → Type 0
-IsBare s = s.parts.memory.images ≡ []
+IsBare s = s.board.memory.images ≡ []
 
 none_long : (ends : List ℕ) → length ends ≡ 0 → ends ≡ []
 none_long [] e = refl
@@ -226,7 +226,7 @@ all_cut : {S : Type 0} (c : Calls S) (items : List ReturnItem) (t : Throw) (s : 
     → latest_handler items ≡ None → IsBare (settled c items (Some t) s)
 unfolding settled latest_handler
 all_cut c [] t s h e =
-    let none = none_long s.parts.memory.images (fallen_at t s h).1.0 in
+    let none = none_long s.board.memory.images (fallen_at t s h).1.0 in
     bare_if (is_some s.words.defining) _ (fallen t s) none none
 all_cut c (Return to ∷ items) t s h e = all_cut c items t (with_items items s) (refl, h.1, h.2) e
 all_cut c (Loop l ∷ items) t s h e = all_cut c items t (with_items items s) (refl, h.1, h.2) e
@@ -238,5 +238,5 @@ all_cut c (Caller d ∷ items) t s h e =
     all_cut c items t (load_left d (with_items items s)) (load_at d items (with_items items s) (refl, h.1, h.2)) e
 
 pub none_left : {S : Type 0} (c : Calls S) (t : Throw) (s : State S) → Reads s → latest_handler s.flow.items ≡ None
-    → (settled c s.flow.items (Some t) s).parts.memory.images ≡ []
+    → (settled c s.flow.items (Some t) s).board.memory.images ≡ []
 none_left c t s h e = all_cut c s.flow.items t s (refl, h.0, h.1) e

@@ -28,60 +28,60 @@ use Rattle.of_eval_laws.proofs.SoundSpace.{popped_sound}
 
 -- a state in which the images stand
 abbrev pub StateStands : {S : Type 0} → DataSpace → State S → Type 0
-StateStands m s = Stands m s.parts.memory
+StateStands m s = Stands m s.board.memory
 
 either : {S : Type 0} (m : DataSpace) (b : Bool) (x y : State S) → StateStands m x → StateStands m y
     → StateStands m (if b then x else y)
 either m true x y hx hy = hx
 either m false x y hx hy = hy
 
-pub given_up_stands : {S : Type 0} (c : Calls S) (s : State S) → IsSound s.parts.memory
-    → StateStands s.parts.memory (given_up c s)
+pub given_up_stands : {S : Type 0} (c : Calls S) (s : State S) → IsSound s.board.memory
+    → StateStands s.board.memory (given_up c s)
 given_up_stands c s sound =
-    either s.parts.memory (is_some s.words.defining) _ s (state_stands s.parts.memory false sound)
-    (same s.parts.memory sound)
+    either s.board.memory (is_some s.words.defining) _ s (state_stands s.board.memory false sound)
+    (same s.board.memory sound)
 
-since_stands : {S : Type 0} (c : Calls S) (o : Option Cell) (s : State S) → IsSound s.parts.memory
-    → StateStands s.parts.memory (given_up_since c o s)
+since_stands : {S : Type 0} (c : Calls S) (o : Option Cell) (s : State S) → IsSound s.board.memory
+    → StateStands s.board.memory (given_up_since c o s)
 since_stands c o s sound =
-    either s.parts.memory (is_same (open_xt s) o) s (given_up c s) (same s.parts.memory sound)
+    either s.board.memory (is_same (open_xt s) o) s (given_up c s) (same s.board.memory sound)
     (given_up_stands c s sound)
 
 caught_stands : {S : Type 0} (c : Calls S) (h : ExceptionFrame) (t : Throw) (s : State S)
-    → IsSound s.parts.memory → StateStands s.parts.memory (caught c h t s)
+    → IsSound s.board.memory → StateStands s.board.memory (caught c h t s)
 caught_stands c h t s sound = since_stands c h.opened _ sound
 
-load_stands : {S : Type 0} (d : Due) (s : State S) → IsSound s.parts.memory
-    → StateStands s.parts.memory (load_left d s)
-load_stands (due.Load active me instance count) s sound = same s.parts.memory sound
-load_stands (due.Method me) s sound = same s.parts.memory sound
-load_stands (due.Open me instance) s sound = same s.parts.memory sound
-load_stands (due.Close me instance) s sound = same s.parts.memory sound
+load_stands : {S : Type 0} (d : Due) (s : State S) → IsSound s.board.memory
+    → StateStands s.board.memory (load_left d s)
+load_stands (due.Load active me instance count) s sound = same s.board.memory sound
+load_stands (due.Method me) s sound = same s.board.memory sound
+load_stands (due.Open me instance) s sound = same s.board.memory sound
+load_stands (due.Close me instance) s sound = same s.board.memory sound
 
 -- ---- what is due
 
 worked_stands : {S : Type 0} (c : Calls S) (item : ReturnItem) (s : State S)
-    → IsSound s.parts.memory → StateStands s.parts.memory (worked_one c item s)
+    → IsSound s.board.memory → StateStands s.board.memory (worked_one c item s)
 worked_stands c (Handler h) s sound =
-    either s.parts.memory (is_full s) _ _ (caught_stands c h stack_overflow s sound)
-    (same s.parts.memory sound)
+    either s.board.memory (is_full s) _ _ (caught_stands c h stack_overflow s sound)
+    (same s.board.memory sound)
 worked_stands c (Caller d) s sound = load_stands d _ sound
-worked_stands c (Source r) s sound = same s.parts.memory sound
-worked_stands c (Return to) s sound = same s.parts.memory sound
-worked_stands c (Loop l) s sound = same s.parts.memory sound
-worked_stands c (User x) s sound = same s.parts.memory sound
+worked_stands c (Source r) s sound = same s.board.memory sound
+worked_stands c (Return to) s sound = same s.board.memory sound
+worked_stands c (Loop l) s sound = same s.board.memory sound
+worked_stands c (User x) s sound = same s.board.memory sound
 
-pub worked_off : {S : Type 0} (c : Calls S) (items : List ReturnItem) (s : State S) → IsSound s.parts.memory
-    → StateStands s.parts.memory (settled c items None s)
+pub worked_off : {S : Type 0} (c : Calls S) (items : List ReturnItem) (s : State S) → IsSound s.board.memory
+    → StateStands s.board.memory (settled c items None s)
 unfolding settled
-worked_off c [] s r = same s.parts.memory r
+worked_off c [] s r = same s.board.memory r
 worked_off c (item ∷ items) s r =
     let next = worked_one c item (with_items items s) in
     let kept = worked_stands c item (with_items items s) r in
-    either s.parts.memory (is_due item) (settled c items None next) s
-    (then_stands s.parts.memory next.parts.memory (settled c items None next).parts.memory kept
+    either s.board.memory (is_due item) (settled c items None next) s
+    (then_stands s.board.memory next.board.memory (settled c items None next).board.memory kept
     (worked_off c items next kept.2))
-    (same s.parts.memory r)
+    (same s.board.memory r)
 
 -- ---- what is thrown
 
@@ -109,21 +109,21 @@ back_ends input.Nothing m last s h = h
 back_ends (input.Text n) m last s h = h
 back_ends (input.Image size n) m last s h = (h.0, then_end m (image_popped m) last 1 (popped m s).1 h.1)
 
-uncaught_ends : {S : Type 0} (c : Calls S) (t : Throw) (s : State S) → IsSound s.parts.memory
-    → SomeEnded s.parts.memory (uncaught c t s).parts.memory
-uncaught_ends c t s r = none_end s.parts.memory (uncaught c t s).parts.memory r (given_up_stands c (fallen t s) r)
+uncaught_ends : {S : Type 0} (c : Calls S) (t : Throw) (s : State S) → IsSound s.board.memory
+    → SomeEnded s.board.memory (uncaught c t s).board.memory
+uncaught_ends c t s r = none_end s.board.memory (uncaught c t s).board.memory r (given_up_stands c (fallen t s) r)
 
 caught_ends : {S : Type 0} (c : Calls S) (h : ExceptionFrame) (t : Throw) (items : List ReturnItem) (s : State S)
-    → IsSound s.parts.memory → SomeEnded s.parts.memory (settled c items None (caught c h t s)).parts.memory
+    → IsSound s.board.memory → SomeEnded s.board.memory (settled c items None (caught c h t s)).board.memory
 caught_ends c h t items s r =
     let next = caught c h t s in
     let kept = caught_stands c h t s r in
-    none_end s.parts.memory (settled c items None next).parts.memory r
-    (then_stands s.parts.memory next.parts.memory (settled c items None next).parts.memory kept
+    none_end s.board.memory (settled c items None next).board.memory r
+    (then_stands s.board.memory next.board.memory (settled c items None next).board.memory kept
     (worked_off c items next kept.2))
 
-pub cut_off : {S : Type 0} (c : Calls S) (items : List ReturnItem) (t : Throw) (s : State S) → IsSound s.parts.memory
-    → SomeEnded s.parts.memory (settled c items (Some t) s).parts.memory
+pub cut_off : {S : Type 0} (c : Calls S) (items : List ReturnItem) (t : Throw) (s : State S) → IsSound s.board.memory
+    → SomeEnded s.board.memory (settled c items (Some t) s).board.memory
 unfolding settled
 cut_off c [] t s r = uncaught_ends c t s r
 cut_off c (Return to ∷ items) t s r = cut_off c items t (with_items items s) r
@@ -133,8 +133,8 @@ cut_off c (Handler h ∷ items) t s r = caught_ends c h t items (with_items item
 cut_off c (Source x ∷ items) t s r =
     let i = s.flow.reading.input in
     let next = reading_on x (with_items items s) in
-    back_ends i s.parts.memory (settled c items (Some t) next).parts.memory r
-    (cut_off c items t next (back_sound i s.parts.memory r))
+    back_ends i s.board.memory (settled c items (Some t) next).board.memory r
+    (cut_off c items t next (back_sound i s.board.memory r))
 cut_off c (Caller (due.Load active me instance count) ∷ items) t s r =
     cut_off c items t (load_left (due.Load active me instance count) (with_items items s)) r
 cut_off c (Caller (due.Method me) ∷ items) t s r = cut_off c items t (with_items items s) r
@@ -154,12 +154,12 @@ popped_ends (suc n) m r =
 -- ---- the end of a step
 
 pub end_leaves : {S : Type 0} (c : Calls S) (items : List ReturnItem) (thrown : Option Throw) (s : State S)
-    → IsSound s.parts.memory → EndLeaves s.parts.memory (settled c items thrown s).parts.memory thrown
+    → IsSound s.board.memory → EndLeaves s.board.memory (settled c items thrown s).board.memory thrown
 end_leaves c items None s r =
-    all_run s.parts.memory (settled c items None s).parts.memory r.images (worked_off c items s r)
+    all_run s.board.memory (settled c items None s).board.memory r.images (worked_off c items s r)
 end_leaves c items (Some t) s r = (cut_off c items t s r).1
 
 pub settled_sound : {S : Type 0} (c : Calls S) (items : List ReturnItem) (thrown : Option Throw) (s : State S)
-    → IsSound s.parts.memory → IsSound (settled c items thrown s).parts.memory
+    → IsSound s.board.memory → IsSound (settled c items thrown s).board.memory
 settled_sound c items None s r = (worked_off c items s r).2
 settled_sound c items (Some t) s r = (cut_off c items t s r).0

@@ -47,7 +47,8 @@ use Rattle.of_eval.specs.Methods.{as_method, known_if, method_made, then_known, 
 use Rattle.of_eval.specs.Settling.{ended, given_back, is_same}
 use Rattle.of_eval.specs.State.{Answered, Calls, Outcome, State, by_code, open_xt, with_items, with_next, with_stack}
 use Rattle.of_eval.specs.Steps.{due, found_token, item_due, read_on, token_due}
-use Rattle.of_eval.specs.Tokens.{act_of, spot_in, typed_of}
+use Rattle.of_eval.specs.Tokens.{act_of, spot_in}
+use Rattle.of_flow.specs.Tokens.{typed_of}
 use Rattle.of_eval_laws.specs.Listed.{plan_of_item}
 use Rattle.of_eval_laws.specs.Running.{OneBegins, is_at_end, reading_ends, token_ends}
 use Rattle.of_eval_laws.proofs.FramedMemory.{append_stands}
@@ -71,9 +72,9 @@ Begins m after = Laws → IsSound after × OneBegins m after
 
 -- a data space that is sound stays so while words run, and one image more may run
 abbrev running_rules : (S : Type 0) → Rules S
-running_rules S = record (keeping S (λ s. IsSound s.parts.memory) (λ cells s p. (p, p))) {
-  Loads = λ s m. Begins s.parts.memory m;
-  loads = λ a n spread x s p shut e l. image_begins l s.parts.memory a n spread x p e;
+running_rules S = record (keeping S (λ s. IsSound s.board.memory) (λ cells s p. (p, p))) {
+  Loads = λ s m. Begins s.board.memory m;
+  loads = λ a n spread x s p shut e l. image_begins l s.board.memory a n spread x p e;
 }
 
 -- and where an image ends, that is by `end0` or `end1`
@@ -94,10 +95,10 @@ zeros_stand m n sound fits =
     (omega (arith, below, length-replicate {A = ℕ} n 0)) in
     (kept.0, kept.1, zeros_sound m n sound fits)
 
-opened_stands : {S : Type 0} (m : DataSpace) (b : Bool) (s : State S) → Stands m s.parts.memory
-    → Stands m (opened b s).parts.memory
+opened_stands : {S : Type 0} (m : DataSpace) (b : Bool) (s : State S) → Stands m s.board.memory
+    → Stands m (opened b s).board.memory
 opened_stands m true s h =
-    then_stands m s.parts.memory (opened true s).parts.memory h (state_stands s.parts.memory true h.2)
+    then_stands m s.board.memory (opened true s).board.memory h (state_stands s.board.memory true h.2)
 opened_stands m false s h = h
 
 made_stands : (d : DefiningWord) (q : Option Pending) (x : Option Made) (w : WordsState) (cells : List Cell)
@@ -109,20 +110,20 @@ made_stands d (Some p) (Some x) w cells m sound e =
     zeros_stand m x.bytes sound (ltb-false data_limit (aligned m.here + x.bytes) e)
 
 making_leaves : {S : Type 0} (d : DefiningWord) (f : Option Throw) (x : Option Made) (s : State S)
-    → IsSound s.parts.memory → (f ≡ None → has_no_bytes s.parts.memory x ≡ false)
-    → Leaves false s.parts.memory
-    (by_making d (unless f (word_made d (making s.words s.parts.stack s.parts.memory) s.words.pending x)) s)
-making_leaves d (Some t) x s r h = same s.parts.memory r
+    → IsSound s.board.memory → (f ≡ None → has_no_bytes s.board.memory x ≡ false)
+    → Leaves false s.board.memory
+    (by_making d (unless f (word_made d (making s.words s.board.stack s.board.memory) s.words.pending x)) s)
+making_leaves d (Some t) x s r h = same s.board.memory r
 making_leaves d None x s r h =
     inl
-    (opened_stands s.parts.memory (opens d) _
-    (made_stands d s.words.pending x s.words s.parts.stack s.parts.memory r (h refl)))
+    (opened_stands s.board.memory (opens d) _
+    (made_stands d s.words.pending x s.words s.board.stack s.board.memory r (h refl)))
 
 has_bytes : {S : Type 0} (s : State S) (x : Option Made)
-    → counting (defining_faults (making s.words s.parts.stack s.parts.memory) x) ≡ None
-    → has_no_bytes s.parts.memory x ≡ false
+    → counting (defining_faults (making s.words s.board.stack s.board.memory) x) ≡ None
+    → has_no_bytes s.board.memory x ≡ false
 has_bytes s x e =
-    let fifth = fault_if (has_no_bytes s.parts.memory x) dictionary_overflow ∷ [] in
+    let fifth = fault_if (has_no_bytes s.board.memory x) dictionary_overflow ∷ [] in
     let fourth = fault_if (nat_le capacity (length s.words.dictionary)) dictionary_overflow ∷ fifth in
     let third = fault_if (is_none x) stack_underflow ∷ fourth in
     let second = fault_if (is_none s.words.pending) compiler_nesting ∷ third in
@@ -130,17 +131,17 @@ has_bytes s x e =
     let after = found_none (is_none s.words.pending) compiler_nesting third rest.1 in
     let later = found_none (is_none x) stack_underflow fourth after.1 in
     let last = found_none (nat_le capacity (length s.words.dictionary)) dictionary_overflow fifth later.1 in
-    (found_none (has_no_bytes s.parts.memory x) dictionary_overflow [] last.1).0
+    (found_none (has_no_bytes s.board.memory x) dictionary_overflow [] last.1).0
 
 method_memory : {S : Type 0} (x : Option (List Node)) (n : ℕ) (s : State S)
-    → (as_method x n s).parts.memory ≡ s.parts.memory
+    → (as_method x n s).board.memory ≡ s.board.memory
 method_memory None n s = refl
 method_memory (Some nodes) n s = refl
 
 known_memory : {S : Type 0} (r : Result (Unit {0}) Throw) (home : Option Phandle) (n : ℕ) (s : State S)
-    → (known_if r home n s).parts.memory ≡ s.parts.memory
+    → (known_if r home n s).board.memory ≡ s.board.memory
 known_memory (Ok x) home n s =
-    method_memory (method_made home (name_in (word_at s.words.dictionary n)) (xt_cell n) s.parts.tree) n s
+    method_memory (method_made home (name_in (word_at s.words.dictionary n)) (xt_cell n) s.board.tree) n s
 known_memory (Err t) home n s = refl
 
 then_leaves : {S : Type 0} (m : DataSpace) (home : Option Phandle) (o : Option ℕ) (a : Outcome S) → Leaves false m a
@@ -148,22 +149,22 @@ then_leaves : {S : Type 0} (m : DataSpace) (home : Option Phandle) (o : Option �
 then_leaves m home None a h = h
 then_leaves m home (Some n) a h = subst (λ x. KeptBy false m x a.ended) (sym (known_memory a.ended home n a.state)) h
 
-define_leaves : {S : Type 0} (c : Calls S) (d : DefiningWord) (s : State S) → IsSound s.parts.memory
-    → Leaves false s.parts.memory (define_entry c d s)
+define_leaves : {S : Type 0} (c : Calls S) (d : DefiningWord) (s : State S) → IsSound s.board.memory
+    → Leaves false s.board.memory (define_entry c d s)
 define_leaves c d s r =
-    let x = made_by d (c.ends_at s.code) (aligned s.parts.memory.here) s.parts.stack in
-    then_leaves s.parts.memory s.parts.active.«package» (known_at_once d s.words.dictionary) (word_defined c d s)
-    (making_leaves d (counting (defining_faults (making s.words s.parts.stack s.parts.memory) x)) x s r
+    let x = made_by d (c.ends_at s.code) (aligned s.board.memory.here) s.board.stack in
+    then_leaves s.board.memory s.board.active.«package» (known_at_once d s.words.dictionary) (word_defined c d s)
+    (making_leaves d (counting (defining_faults (making s.words s.board.stack s.board.memory) x)) x s r
     (has_bytes s x))
 
-closed_leaves : {S : Type 0} (e : Result (Unit {0}) Throw) (code : S) (s : State S) → IsSound s.parts.memory
-    → Leaves false s.parts.memory (by_code (record { code = code; ended = e }) (closed_if e s))
-closed_leaves (Ok x) code s r = inl (state_stands s.parts.memory false r)
-closed_leaves (Err t) code s r = same s.parts.memory r
+closed_leaves : {S : Type 0} (e : Result (Unit {0}) Throw) (code : S) (s : State S) → IsSound s.board.memory
+    → Leaves false s.board.memory (by_code (record { code = code; ended = e }) (closed_if e s))
+closed_leaves (Ok x) code s r = inl (state_stands s.board.memory false r)
+closed_leaves (Err t) code s r = same s.board.memory r
 
-semicolon_leaves : {S : Type 0} (c : Calls S) (o : Option ℕ) (s : State S) → IsSound s.parts.memory
-    → Leaves false s.parts.memory (definition_ended c o s)
-semicolon_leaves c None s r = same s.parts.memory r
+semicolon_leaves : {S : Type 0} (c : Calls S) (o : Option ℕ) (s : State S) → IsSound s.board.memory
+    → Leaves false s.board.memory (definition_ended c o s)
+semicolon_leaves c None s r = same s.board.memory r
 semicolon_leaves c (Some n) s r =
     let a = c.semicolon (record { 0 = xt_of n }) s.code in closed_leaves a.ended a.code s r
 
@@ -183,17 +184,17 @@ rounded_stands : (m : DataSpace) → IsSound m → Stands m (rounded m)
 rounded_stands m sound = rounded_if (nat_le (aligned m.here + 0) data_limit) m refl sound
 
 put_leaves : {S : Type 0} (e : Result (Unit {0}) Throw) (code : S) (m : DataSpace) (s : State S)
-    → IsSound s.parts.memory → Stands s.parts.memory m → Leaves false s.parts.memory (string_put e code m s)
-put_leaves (Ok x) code m s r h = inl (then_stands s.parts.memory m (rounded m) h (rounded_stands m h.2))
-put_leaves (Err t) code m s r h = same s.parts.memory r
+    → IsSound s.board.memory → Stands s.board.memory m → Leaves false s.board.memory (string_put e code m s)
+put_leaves (Ok x) code m s r h = inl (then_stands s.board.memory m (rounded m) h (rounded_stands m h.2))
+put_leaves (Err t) code m s r h = same s.board.memory r
 
-refused_leaves : {S : Type 0} (e : Result (Unit {0}) Throw) (t : Throw) (s : State S) → IsSound s.parts.memory
-    → Leaves false s.parts.memory (string_refused e t s)
-refused_leaves (Ok x) t s r = same s.parts.memory r
-refused_leaves (Err first) t s r = same s.parts.memory r
+refused_leaves : {S : Type 0} (e : Result (Unit {0}) Throw) (t : Throw) (s : State S) → IsSound s.board.memory
+    → Leaves false s.board.memory (string_refused e t s)
+refused_leaves (Ok x) t s r = same s.board.memory r
+refused_leaves (Err first) t s r = same s.board.memory r
 
 kept_leaves : {S : Type 0} (a : Answered S) (r : Result (ℕ × DataSpace) MemFault) (s : State S)
-    → IsSound s.parts.memory → AddressStands s.parts.memory r → Leaves false s.parts.memory (string_kept a r s)
+    → IsSound s.board.memory → AddressStands s.board.memory r → Leaves false s.board.memory (string_kept a r s)
 kept_leaves a (Ok x) s r h = put_leaves a.ended a.code x.1 s r h
 kept_leaves a (Err fault) s r h = refused_leaves a.ended _ s r
 
@@ -204,11 +205,11 @@ back_kept input.Nothing m r = inl (same m r)
 back_kept (input.Text n) m r = inl (same m r)
 back_kept (input.Image size n) m r = (let p = popped m r in inr (p.0, inl p.1))
 
-ended_leaves : {S : Type 0} (c : Calls S) (s : State S) → IsSound s.parts.memory
-    → Leaves true s.parts.memory (ended c s)
+ended_leaves : {S : Type 0} (c : Calls S) (s : State S) → IsSound s.board.memory
+    → Leaves true s.board.memory (ended c s)
 ended_leaves c s r =
-    either true s.parts.memory (is_some s.words.defining && not (is_same (open_xt s) s.flow.reading.opened)) _ _
-    (given_up_stands c s r) (back_kept s.flow.reading.input s.parts.memory r)
+    either true s.board.memory (is_some s.words.defining && not (is_same (open_xt s) s.flow.reading.opened)) _ _
+    (given_up_stands c s r) (back_kept s.flow.reading.input s.board.memory r)
 
 -- ---- acts
 
@@ -221,66 +222,66 @@ weaken_by true m after (Ok x) (inr h) = inr (h.0, inr h.1)
 weaken_by true m after (Err t) h = h
 
 weaken : {S : Type 0} (b : Bool) (m : DataSpace) (o : Outcome S) → Leaves false m o → Leaves b m o
-weaken b m o h = weaken_by b m o.state.parts.memory o.ended h
+weaken b m o h = weaken_by b m o.state.board.memory o.ended h
 
 appended_leaves : {S : Type 0} (code : S) (e : Result (Unit {0}) Throw) (cells : List Cell) (s : State S)
-    → IsSound s.parts.memory
-    → Leaves false s.parts.memory (appended (record { code = code; ended = e }) cells s)
-appended_leaves code (Ok x) cells s sound = left s.parts.memory sound
-appended_leaves code (Err t) cells s sound = same s.parts.memory sound
+    → IsSound s.board.memory
+    → Leaves false s.board.memory (appended (record { code = code; ended = e }) cells s)
+appended_leaves code (Ok x) cells s sound = left s.board.memory sound
+appended_leaves code (Err t) cells s sound = same s.board.memory sound
 
-gone_leaves : {S : Type 0} (to : To) (s : State S) → IsSound s.parts.memory
-    → Kept false s.parts.memory (gone to s).parts.memory
-gone_leaves act.Behind s sound = left s.parts.memory sound
-gone_leaves (act.Next to) s sound = left s.parts.memory sound
+gone_leaves : {S : Type 0} (to : To) (s : State S) → IsSound s.board.memory
+    → Kept false s.board.memory (gone to s).board.memory
+gone_leaves act.Behind s sound = left s.board.memory sound
+gone_leaves (act.Next to) s sound = left s.board.memory sound
 
 worked_leaves : {S : Type 0} (l : Laws) (c : Calls S) (a : WordAct) (s : State S) → IsWork (running_rules S) s a
-    → IsSound s.parts.memory → Leaves false s.parts.memory (worked c a s)
+    → IsSound s.board.memory → Leaves false s.board.memory (worked c a s)
 unfolding worked
-worked_leaves l c (act.Fails t) s h sound = same s.parts.memory sound
-worked_leaves l c (act.Raises t cells) s h sound = same s.parts.memory sound
-worked_leaves l c (act.Leaves cells) s h sound = left s.parts.memory sound
+worked_leaves l c (act.Fails t) s h sound = same s.board.memory sound
+worked_leaves l c (act.Raises t cells) s h sound = same s.board.memory sound
+worked_leaves l c (act.Leaves cells) s h sound = left s.board.memory sound
 worked_leaves l c (act.Works w) s h sound = ordinary l w s sound
 worked_leaves l c (act.Moves cells move to) s h sound =
     gone_leaves to (with_stack cells (with_items (doing.moved move s.flow.items) s)) sound
-worked_leaves l c (act.Knows w cells) s h sound = left s.parts.memory sound
+worked_leaves l c (act.Knows w cells) s h sound = left s.board.memory sound
 worked_leaves l c (act.Appends e cells) s h sound =
     appended_leaves (c.element e s.code).code (c.element e s.code).ended cells s sound
 worked_leaves l c (act.Loads size m cells) s h sound = inr (h l)
 worked_leaves l c (act.Takes cells a) s h sound = worked_leaves l c a (with_stack cells s) h sound
 worked_leaves l c (act.Guards cells a) s h sound = worked_leaves l c a (guarded cells s) h sound
 
-ends_leave : {S : Type 0} (at_end : Bool) (c : Calls S) (s : State S) → at_end ≡ true → IsSound s.parts.memory
-    → Leaves at_end s.parts.memory (ended c s)
+ends_leave : {S : Type 0} (at_end : Bool) (c : Calls S) (s : State S) → at_end ≡ true → IsSound s.board.memory
+    → Leaves at_end s.board.memory (ended c s)
 ends_leave true c s e r = ended_leaves c s r
 ends_leave false c s e r = absurd cc
 
 acted_leaves : {S : Type 0} (l : Laws) (c : Calls S) (at_end : Bool) (a : Act) (s : State S)
-    → IsAct (running_rules S) (running_turns S at_end) s a → IsSound s.parts.memory
-    → Leaves at_end s.parts.memory (acted c a s)
+    → IsAct (running_rules S) (running_turns S at_end) s a → IsSound s.board.memory
+    → Leaves at_end s.board.memory (acted c a s)
 unfolding acted
 acted_leaves l c at_end (act.Does a) s h sound =
-    weaken at_end s.parts.memory (worked c a s) (worked_leaves l c a s h sound)
+    weaken at_end s.board.memory (worked c a s) (worked_leaves l c a s h sound)
 acted_leaves l c at_end (act.Goes cells move n) s h sound =
-    weaken_by at_end s.parts.memory s.parts.memory (Ok tt) (left s.parts.memory sound)
+    weaken_by at_end s.board.memory s.board.memory (Ok tt) (left s.board.memory sound)
 acted_leaves l c at_end (act.Copies a n) s h sound =
-    weaken at_end s.parts.memory (string_compiled c a n s)
-    (kept_leaves _ (append_copied s.parts.memory a n []) s sound
-    (copied_stands s.parts.memory (read_fault s.parts.memory a n One) (bytes_from s.parts.memory a n) sound
-    (bytes_part s.parts.memory.bytes (place_of a) n sound.small)))
+    weaken at_end s.board.memory (string_compiled c a n s)
+    (kept_leaves _ (append_copied s.board.memory a n []) s sound
+    (copied_stands s.board.memory (read_fault s.board.memory a n One) (bytes_from s.board.memory a n) sound
+    (bytes_part s.board.memory.bytes (place_of a) n sound.small)))
 acted_leaves l c at_end (act.Makes d) s h sound =
-    weaken at_end s.parts.memory (define_entry c d s) (define_leaves c d s sound)
+    weaken at_end s.board.memory (define_entry c d s) (define_leaves c d s sound)
 acted_leaves l c at_end act.Closes s h sound =
-    weaken at_end s.parts.memory (semicolon_entry c s.words.defining s)
-    (then_leaves s.parts.memory s.flow.home s.words.defining _
+    weaken at_end s.board.memory (semicolon_entry c s.words.defining s)
+    (then_leaves s.board.memory s.flow.home s.words.defining _
     (semicolon_leaves c s.words.defining s sound))
 acted_leaves l c at_end act.Ends s h sound = ends_leave at_end c s h sound
 
 -- ---- items
 
 item_due_leaves : {S : Type 0} (l : Laws) (c : Calls S) (x : Option (Item × Place)) (s : State S)
-    → IsSound s.parts.memory → Leaves false s.parts.memory (item_due c x s)
-item_due_leaves l c None s sound = same s.parts.memory sound
+    → IsSound s.board.memory → Leaves false s.board.memory (item_due c x s)
+item_due_leaves l c None s sound = same s.board.memory sound
 item_due_leaves {S} l c (Some x) s sound =
     let on = with_next (continuation.Code x.1.cell) s in
     let R = running_rules S in
@@ -292,11 +293,11 @@ item_due_leaves {S} l c (Some x) s sound =
 -- ---- tokens
 
 found_leaves : {S : Type 0} (l : Laws) (c : Calls S) (x : Option (Token × ℕ)) (size : OffsetSize) (position : ℕ)
-    (s : State S) → IsSound s.parts.memory → Leaves (token_ends x) s.parts.memory (found_token c x size position s)
-found_leaves l c None size position s sound = same s.parts.memory sound
+    (s : State S) → IsSound s.board.memory → Leaves (token_ends x) s.board.memory (found_token c x size position s)
+found_leaves l c None size position s sound = same s.board.memory sound
 found_leaves {S} l c (Some x) size position s sound =
     let on = read_on (size_behind x.0.code.0 size) x.1 s in
-    let here = spot_in s.parts.memory position x.1 in
+    let here = spot_in s.board.memory position x.1 in
     let R = running_rules S in
     let T = running_turns S (token_ends (Some x)) in
     acted_leaves l c (token_ends (Some x)) (act_of (typed_of x.0) here (front_of on)) on
@@ -312,16 +313,16 @@ found_leaves {S} l c (Some x) size position s sound =
     })))
     sound
 
-token_leaves : {S : Type 0} (l : Laws) (c : Calls S) (i : Input) (s : State S) → IsSound s.parts.memory
-    → Leaves (reading_ends s.parts.memory i) s.parts.memory (token_due c i s)
+token_leaves : {S : Type 0} (l : Laws) (c : Calls S) (i : Input) (s : State S) → IsSound s.board.memory
+    → Leaves (reading_ends s.board.memory i) s.board.memory (token_due c i s)
 token_leaves l c (input.Image size position) s sound =
-    found_leaves l c (token_from (latest_image s.parts.memory) position size) size position s sound
-token_leaves l c (input.Text position) s sound = same s.parts.memory sound
-token_leaves l c input.Nothing s sound = same s.parts.memory sound
+    found_leaves l c (token_from (latest_image s.board.memory) position size) size position s sound
+token_leaves l c (input.Text position) s sound = same s.board.memory sound
+token_leaves l c input.Nothing s sound = same s.board.memory sound
 
 -- ---- what comes next
 
-pub due_leaves : {S : Type 0} (l : Laws) (c : Calls S) (to : Continuation) (s : State S) → IsSound s.parts.memory
-    → Leaves (is_at_end to s) s.parts.memory (due c to s)
+pub due_leaves : {S : Type 0} (l : Laws) (c : Calls S) (to : Continuation) (s : State S) → IsSound s.board.memory
+    → Leaves (is_at_end to s) s.board.memory (due c to s)
 due_leaves l c continuation.Source s sound = token_leaves l c s.flow.reading.input s sound
 due_leaves l c (continuation.Code n) s sound = item_due_leaves l c (c.fetch s.code (record { cell = n })) s sound

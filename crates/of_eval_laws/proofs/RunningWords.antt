@@ -11,13 +11,13 @@ use Rattle.of_memory.specs.Growth.{image_pushed, image_pushed_from}
 use Rattle.of_memory.specs.Images.{LatestIsPushed}
 use Rattle.of_memory.specs.Regions.{place_of}
 use Rattle.of_instances.specs.Images.{ImagesStay}
-use Rattle.of_eval.specs.declared.parts.Parts.{Parts}
-use Rattle.of_eval.specs.State.{Outcome, State, by_parts}
-use Rattle.of_eval.specs.Words.{word_entry}
+use Rattle.of_board.specs.declared.board.Board.{Board}
+use Rattle.of_eval.specs.State.{Outcome, State, by_board}
+use Rattle.of_words.specs.Words.{word_entry}
 use Rattle.of_eval_laws.specs.Running.{LatestEnd, OneBegins}
 use Rattle.of_eval_laws.specs.Sound.{AreBytes}
 use Rattle.of_eval_laws.proofs.FramedSpace.{Given, Stands, same}
-use Rattle.of_eval_laws.proofs.FramedWriting.{PartsStand, word_stands}
+use Rattle.of_eval_laws.proofs.FramedWriting.{BoardStands, word_stands}
 use Rattle.of_eval_laws.proofs.SoundSpace.{bytes_apart}
 use Rattle.of_eval_laws.proofs.RunningBytes.{pushed}
 
@@ -41,7 +41,7 @@ KeptBy b m after (Ok x) = Kept b m after
 KeptBy b m after (Err t) = Stands m after
 
 abbrev pub Leaves : {S : Type 0} → Bool → DataSpace → Outcome S → Type 0
-Leaves b m o = KeptBy b m o.state.parts.memory o.ended
+Leaves b m o = KeptBy b m o.state.board.memory o.ended
 
 pub left : (m : DataSpace) → IsSound m → Kept false m m
 left m sound = inl (same m sound)
@@ -53,14 +53,14 @@ either b m false x y p q = q
 
 -- ---- ordinary words
 
-parts_leave : {S : Type 0} (r : Result Parts Throw) (s : State S) → IsSound s.parts.memory
-    → PartsStand s.parts.memory r → Leaves false s.parts.memory (by_parts r s)
-parts_leave (Ok p) s sound h = inl h
-parts_leave (Err t) s sound h = same s.parts.memory sound
+board_leave : {S : Type 0} (r : Result Board Throw) (s : State S) → IsSound s.board.memory
+    → BoardStands s.board.memory r → Leaves false s.board.memory (by_board r s)
+board_leave (Ok p) s sound h = inl h
+board_leave (Err t) s sound h = same s.board.memory sound
 
-pub ordinary : {S : Type 0} (l : Laws) (w : Word) (s : State S) → IsSound s.parts.memory
-    → Leaves false s.parts.memory (by_parts (word_entry w s.parts) s)
-ordinary l w s sound = parts_leave (word_entry w s.parts) s sound (word_stands l.given l.tree w s.parts sound)
+pub ordinary : {S : Type 0} (l : Laws) (w : Word) (s : State S) → IsSound s.board.memory
+    → Leaves false s.board.memory (by_board (word_entry w s.board) s)
+ordinary l w s sound = board_leave (word_entry w s.board) s sound (word_stands l.given l.tree w s.board sound)
 
 -- ---- `byte-load`
 

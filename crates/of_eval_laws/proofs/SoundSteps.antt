@@ -8,12 +8,12 @@ use Rattle.of_memory.specs.DataSpace.{DataSpace, IsSound}
 use Rattle.of_memory.specs.Growth.{image_pushed}
 use Rattle.of_nodes.specs.declared.phandles.Phandle.{Phandle}
 use Rattle.of_stacks.specs.declared.throws.Throw.{Throw}
-use Rattle.of_eval.specs.declared.parts.Parts.{Parts}
+use Rattle.of_board.specs.declared.board.Board.{Board}
 use Rattle.of_eval.specs.Loading.{begun}
 use Rattle.of_eval.specs.Settling.{thrown_in}
 use Rattle.of_eval.specs.State.{Calls, State}
 use Rattle.of_eval.specs.Steps.{due, settled_of, stepped, steps_from}
-use Rattle.of_eval.specs.Words.{word_entry}
+use Rattle.of_words.specs.Words.{word_entry}
 use Rattle.of_eval_laws.specs.Running.{is_at_end}
 use Rattle.of_eval_laws.specs.Sound.{AreBytes, HasSoundSpace, SpaceStaysSound}
 use Rattle.of_eval_laws.proofs.FramedWriting.{left_stands, word_stands}
@@ -21,7 +21,7 @@ use Rattle.of_eval_laws.proofs.RunningBytes.{pushed}
 use Rattle.of_eval_laws.proofs.RunningEnds.{settled_sound}
 use Rattle.of_eval_laws.proofs.RunningTokens.{due_leaves}
 use Rattle.of_eval_laws.proofs.RunningWords.{Kept, KeptBy, Laws}
-use Rattle.of_eval_laws.proofs.SoundSites.{first_sound}
+use Rattle.of_eval_laws.proofs.SoundTree.{first_sound}
 
 -- ---- what comes next
 
@@ -37,15 +37,15 @@ due_sound : {S : Type 0} (l : Laws) (c : Calls S) (s : State S) → HasSoundSpac
     → HasSoundSpace (due c s.flow.next s).state
 due_sound l c s sound =
     let o = due c s.flow.next s in
-    left_sound (is_at_end s.flow.next s) s.parts.memory o.state.parts.memory o.ended
+    left_sound (is_at_end s.flow.next s) s.board.memory o.state.board.memory o.ended
     (due_leaves l c s.flow.next s sound)
 
 -- ---- a load
 
 begun_sound : {S : Type 0} (l : Laws) (image : List ℕ) (node : Phandle) (r : Result (ℕ × DataSpace) MemFault)
-    (s : State S) → image_pushed s.parts.memory image ≡ r → HasSoundSpace s → AreBytes image
+    (s : State S) → image_pushed s.board.memory image ≡ r → HasSoundSpace s → AreBytes image
     → HasSoundSpace (begun image node r s)
-begun_sound l image node (Ok x) s e sound small = (pushed l.pushes s.parts.memory x.1 image x.0 sound e).0 small
+begun_sound l image node (Ok x) s e sound small = (pushed l.pushes s.board.memory x.1 image x.0 sound e).0 small
 begun_sound l image node (Err fault) s e sound small = sound
 
 -- ---- steps
@@ -83,7 +83,7 @@ steps_keep P c step (suc n) s after h e =
 
 -- ---- the law
 
-word_sound : (l : Laws) (w : Word) (m after : Parts) → IsSound m.memory → word_entry w m ≡ Ok after
+word_sound : (l : Laws) (w : Word) (m after : Board) → IsSound m.memory → word_entry w m ≡ Ok after
     → IsSound after.memory
 word_sound l w m after sound e =
     (left_stands m.memory (word_entry w m) after e (word_stands l.given l.tree w m sound)).2
@@ -92,7 +92,7 @@ pub space_stays_sound : Laws → (S : Type 0) → SpaceStaysSound S
 space_stays_sound l S = record {
   first = λ code. first_sound;
   begun = λ image node s sound small.
-      begun_sound l image node (image_pushed s.parts.memory image) s refl sound small;
+      begun_sound l image node (image_pushed s.board.memory image) s refl sound small;
   words = λ w m after sound e. word_sound l w m after sound e;
   done = λ c s sound. due_sound l c s sound;
   settled = λ c items thrown s sound. settled_sound c items thrown s sound;

@@ -3,8 +3,8 @@ use Rattle.std.proofs.Common.{◌≡◌, Bool, true, false, Result, Ok, Err, ref
 use Rattle.of_stacks.specs.declared.throws.Throw.{Throw}
 use Rattle.of_compile.specs.Structured.{Definitions}
 use Rattle.of_compile.specs.Coding.{Coding}
-use Rattle.of_eval.specs.declared.parts.Parts.{Parts}
-use Rattle.of_eval.specs.State.{Outcome, State, by_parts}
+use Rattle.of_board.specs.declared.board.Board.{Board}
+use Rattle.of_eval.specs.State.{Outcome, State, by_board}
 use Rattle.of_eval_laws.specs.Structured.{flat_outcome, flat_state}
 
 pub state_if : (b : Bool) (p q : State Coding) (x y : State Definitions) → p ≡ flat_state x → q ≡ flat_state y
@@ -18,7 +18,7 @@ pub outcome_if :
 outcome_if true p q x y hp hq = hp
 outcome_if false p q x y hp hq = hq
 
-pub parts_flat : (r : Result Parts Throw) (s : State Definitions)
-    → by_parts r (flat_state s) ≡ flat_outcome (by_parts r s)
-parts_flat (Ok p) s = refl
-parts_flat (Err t) s = refl
+pub board_flat : (r : Result Board Throw) (s : State Definitions)
+    → by_board r (flat_state s) ≡ flat_outcome (by_board r s)
+board_flat (Ok p) s = refl
+board_flat (Err t) s = refl

@@ -68,9 +68,9 @@ reads_lowest (Caller d ∷ higher) lower r now e = reads_lowest higher lower r n
 -- the state without these items, over the rest
 abbrev cut_state : {S : Type 0} → List ReturnItem → List ReturnItem → State S → State S
 cut_state above rest s = record s {
-  parts = record s.parts {
-    memory = images_popped (images_ended s.flow.reading.input above) s.parts.memory;
-    active = left_through above s.parts.active;
+  board = record s.board {
+    memory = images_popped (images_ended s.flow.reading.input above) s.board.memory;
+    active = left_through above s.board.active;
   };
   flow = record s.flow { items = rest; reading = reading_then above s.flow.reading };
 }
@@ -83,7 +83,7 @@ popped_more (input.Image size position) n m = refl
 
 -- the state with this data space
 abbrev with_memory : {S : Type 0} → DataSpace → State S → State S
-with_memory m s = record s { parts = record s.parts { memory = m } }
+with_memory m s = record s { board = record s.board { memory = m } }
 
 cuts_through : {S : Type 0} (c : Calls S) (above rest : List ReturnItem) (t : Throw) (s : State S)
     → latest_handler above ≡ None → s.flow.items ≡ above ++ rest
@@ -98,7 +98,7 @@ cuts_through c (Handler h ∷ above) rest t s none e = absurd cc
 cuts_through c (Source r ∷ above) rest t s none e =
     cuts_through c above rest t (reading_on r (with_items (above ++ rest) s)) none refl
     ∙ ap (λ m. settled c rest (Some t) (with_memory m (cut_state (Source r ∷ above) rest s)))
-    (popped_more s.flow.reading.input (images_ended r.input above) s.parts.memory)
+    (popped_more s.flow.reading.input (images_ended r.input above) s.board.memory)
 cuts_through c (Caller (due.Load active me instance count) ∷ above) rest t s none e =
     let load = Caller (due.Load active me instance count) ∷ [] in
     cuts_through c above rest t (cut_state load (above ++ rest) s) none refl
@@ -149,12 +149,12 @@ all_closed (Some n) w e = refl
 -- what is left of a state whose words, code and compiling are those from before, and whose data space this is
 leaves : {S : Type 0} (c : Calls S) (b : Bool) (s m : State S) → m.words ≡ s.words → m.code ≡ s.code
     → m.flow.is_compiling ≡ s.flow.is_compiling
-    → LeavesDefinition c b m.parts.memory s (if b then closed c m else m)
+    → LeavesDefinition c b m.board.memory s (if b then closed c m else m)
 leaves c b s m ew ec ef = record {
   words = branches (λ x. x.words) b _ _ _ _ (ap abandoned ew) ew;
   code = branches (λ x. x.code) b _ _ _ _ (ap c.abandon ec) ec;
   compiling = branches (λ x. x.flow.is_compiling) b _ _ _ _ refl ef;
-  memory = branches (λ x. x.parts.memory) b _ _ _ _ refl refl;
+  memory = branches (λ x. x.board.memory) b _ _ _ _ refl refl;
 }
 
 -- ---- a throw that none takes
@@ -166,17 +166,17 @@ ends_all c t s =
     let b = is_some s.words.defining in
     let left = leaves c b s m refl refl refl in
     record {
-      stack = either (λ x. x.parts.stack) b (closed c m) m _ refl refl;
+      stack = either (λ x. x.board.stack) b (closed c m) m _ refl refl;
       items = either (λ x. x.flow.items) b (closed c m) m _ refl refl;
       running = either (λ x. x.flow.is_running) b (closed c m) m _ refl refl;
       next = either (λ x. x.flow.next) b (closed c m) m _ refl refl;
       reading = either (λ x. x.flow.reading) b (closed c m) m _ refl refl;
       my_self = either (λ x. x.flow.my_self) b (closed c m) m _ refl refl;
       closed = ap (λ w. w.defining) left.words ∙ all_closed s.words.defining s.words refl;
-      console = either (λ x. x.parts.console) b (closed c m) m _ refl refl;
-      active = either (λ x. x.parts.active) b (closed c m) m _ refl refl;
-      tree = either (λ x. x.parts.tree) b (closed c m) m _ refl refl;
-      pictured = either (λ x. x.parts.pictured) b (closed c m) m _ refl refl;
+      console = either (λ x. x.board.console) b (closed c m) m _ refl refl;
+      active = either (λ x. x.board.active) b (closed c m) m _ refl refl;
+      tree = either (λ x. x.board.tree) b (closed c m) m _ refl refl;
+      pictured = either (λ x. x.board.pictured) b (closed c m) m _ refl refl;
       definition = left;
     }
 
@@ -204,7 +204,7 @@ goes_on c t above h beneath s =
     let b = is_opened_since h.opened s in
     let left = leaves c b s m refl refl refl in
     record {
-      stack = either (λ x. x.parts.stack) b (closed c m) m _ refl refl;
+      stack = either (λ x. x.board.stack) b (closed c m) m _ refl refl;
       items = either (λ x. x.flow.items) b (closed c m) m _ refl refl;
       next = either (λ x. x.flow.next) b (closed c m) m _ refl refl;
       running = either (λ x. x.flow.is_running) b (closed c m) m _ refl refl;
@@ -218,10 +218,10 @@ goes_on c t above h beneath s =
       opened =
           ap (λ w. w.defining) left.words
           ∙ given_closed (is_same (open_xt s) h.opened) s.words.defining s.words refl;
-      active = either (λ x. x.parts.active) b (closed c m) m _ refl refl;
-      console = either (λ x. x.parts.console) b (closed c m) m _ refl refl;
-      tree = either (λ x. x.parts.tree) b (closed c m) m _ refl refl;
-      pictured = either (λ x. x.parts.pictured) b (closed c m) m _ refl refl;
+      active = either (λ x. x.board.active) b (closed c m) m _ refl refl;
+      console = either (λ x. x.board.console) b (closed c m) m _ refl refl;
+      tree = either (λ x. x.board.tree) b (closed c m) m _ refl refl;
+      pictured = either (λ x. x.board.pictured) b (closed c m) m _ refl refl;
       definition = left;
     }
 
@@ -259,7 +259,7 @@ full_caught c h r s e = rw e refl
 nought_left : {S : Type 0} (c : Calls S) (h : ExceptionFrame) (r : List ReturnItem) (s : State S) → is_full s ≡ false
     → settled c (Handler h ∷ r) None s
     ≡ settled c r None
-    (record (with_items r s) { parts = record s.parts { stack = record { 0 = 0 } ∷ s.parts.stack } })
+    (record (with_items r s) { board = record s.board { stack = record { 0 = 0 } ∷ s.board.stack } })
 unfolding settled
 nought_left c h r s e = rw e refl
 

@@ -30,10 +30,10 @@ use Rattle.of_control.specs.Element as element
 use Rattle.of_compile.specs.declared.element.PlainItem.{PlainItem}
 use Rattle.of_compile.specs.Tokens.{called, offset_element}
 use Rattle.of_compile.specs.Words.{WordsState, is_word}
-use Rattle.of_eval.specs.declared.control.ControlWord.{ControlWord}
-use Rattle.of_eval.specs.declared.control.ControlWord.TheVariants as control
-use Rattle.of_eval.specs.declared.token.Token.{Token}
-use Rattle.of_eval.specs.declared.token.Token.TheVariants as token
+use Rattle.of_flow.specs.declared.control.ControlWord.{ControlWord}
+use Rattle.of_flow.specs.declared.control.ControlWord.TheVariants as control
+use Rattle.of_flow.specs.declared.token.Token.{Token}
+use Rattle.of_flow.specs.declared.token.Token.TheVariants as token
 use Rattle.of_eval.specs.declared.tokens.Spot.{Spot}
 use Rattle.of_eval.specs.Acts.{Appends, unless}
 use Rattle.of_eval.specs.Acts.{Act, Behind, Does, Drops, Fails, Keeps, Leaves, Moves, Pushes, Raises, Turns, WordAct}
@@ -42,11 +42,13 @@ use Rattle.of_eval.specs.Doing.{acted, appended, executed, worked}
 use Rattle.of_eval.specs.Executing.{Plan, Written, act_of_plan, comma_act, dictionary_act, execution, plan_in}
 use Rattle.of_eval.specs.Executing.{throw_act}
 use Rattle.of_eval.specs.Executing.{written_act}
-use Rattle.of_eval.specs.Items.{Position, beginning, control_act, going, loop_item, one, staying}
+use Rattle.of_eval.specs.Items.{Position, beginning, control_act, going, staying}
+use Rattle.of_flow.specs.Turns.{loop_item, one}
 use Rattle.of_eval.specs.State.{Calls, State, done, failed, with_items, with_stack}
 use Rattle.of_eval.specs.Steps.{plain_done}
 use Rattle.of_eval.specs.Tokens.{at_position, compiling_act, control_element, exit_at, exit_in}
-use Rattle.of_eval.specs.Tokens.{plain_token, token_act}
+use Rattle.of_eval.specs.Tokens.{token_act}
+use Rattle.of_flow.specs.Tokens.{typed_word}
 use Rattle.of_eval_laws.specs.Going.{on}
 use Rattle.of_eval_laws.proofs.GoingLemmas.{if_is, if_not, other}
 use Rattle.of_eval_laws.specs.Tokens.{Goes, ThrowTakes, TokensAreTyped, TokensCompile, TokensGo, reading, stream_word}
@@ -54,7 +56,7 @@ use Rattle.of_eval_laws.specs.Tokens.{Goes, ThrowTakes, TokensAreTyped, TokensCo
 -- ---- FCodes
 
 pub tokens_are_typed : TokensAreTyped
-unfolding plain_token row_numbered rows first_rows second_rows third_rows fourth_rows fifth_rows sixth_rows seventh_rows
+unfolding typed_word row_numbered rows first_rows second_rows third_rows fourth_rows fifth_rows sixth_rows seventh_rows
 tokens_are_typed = record {
   end0 = refl;
   literal = λ x. refl;
@@ -100,11 +102,11 @@ interprets c t here s e = ap (λ a. acted c a s) (if_not s.flow.is_compiling _ _
 lands : {S : Type 0} (c : Calls S) (w : ControlWord) (by : ℤ) (here : Spot) (s : State S) (o : Option ℕ)
     → s.flow.is_compiling ≡ false → landing here.size here.position by ≡ o
     → plain_done c (token.Control w by) here s
-    ≡ acted c (control_act w (at_position o) (exit_at here.position by) s.parts.stack s.flow.items) s
+    ≡ acted c (control_act w (at_position o) (exit_at here.position by) s.board.stack s.flow.items) s
 unfolding token_act
 lands c w by here s o e l =
     interprets c (token.Control w by) here s e
-    ∙ ap (λ t. acted c (control_act w (at_position t) (exit_at here.position by) s.parts.stack s.flow.items) s) l
+    ∙ ap (λ t. acted c (control_act w (at_position t) (exit_at here.position by) s.board.stack s.flow.items) s) l
 
 -- a goal that is chosen
 chosen : {S : Type 0} (c : Calls S) (s : State S) (a b : Act) → a ≡ b → acted c a s ≡ acted c b s
@@ -168,10 +170,10 @@ repeats_loop : {S : Type 0} (c : Calls S) (s : State S) (l : LoopParameters) (r 
 unfolding control_act acted worked
 repeats_loop c s k r e on here by size p to l =
     let before = reading size p (with_items (Loop k ∷ r) s) in
-    let goes = going (Some (Position to)) s.parts.stack (Turns (record k { index = plus k.index one })) in
+    let goes = going (Some (Position to)) s.board.stack (Turns (record k { index = plus k.index one })) in
     lands c control.Loop by here before (Some to) e l
     ∙ chosen c before _ goes
-    (if_not (passes_limit k.index k.limit one) (Does (Moves s.parts.stack Drops Behind)) goes on)
+    (if_not (passes_limit k.index k.limit one) (Does (Moves s.board.stack Drops Behind)) goes on)
 
 leaves_loop : {S : Type 0} (c : Calls S) (here : Spot) (size : OffsetSize) (p e : ℕ) (s : State S)
     (l : LoopParameters) (r : List ReturnItem) → s.flow.is_compiling ≡ false → l.exit ≡ exit.Position e
@@ -182,8 +184,8 @@ unfolding token_act acted worked
 leaves_loop c here size p e s l r i x w =
     let before = reading size p (with_items (Loop l ∷ r) s) in
     interprets c token.Leave here before i
-    ∙ ap (λ o. acted c (going (exit_in here.size o) s.parts.stack Drops) before) x
-    ∙ ap (λ o. acted c (going (at_position o) s.parts.stack Drops) before) w
+    ∙ ap (λ o. acted c (going (exit_in here.size o) s.board.stack Drops) before) x
+    ∙ ap (λ o. acted c (going (at_position o) s.board.stack Drops) before) w
 
 another_goes : {S : Type 0} (c : Calls S) (s : State S) (y x : Cell) (cells : List Cell) → s.flow.is_compiling ≡ false
     → (x.0 ≡ y.0 → ⊥) → Goes c control.Of (with_stack (y ∷ x ∷ cells) s) (with_stack (x ∷ cells) s)
@@ -260,7 +262,7 @@ known_call w n x cells d k =
 
 comma_of : {S : Type 0} (c : Calls S) (xt : ℕ) (s : State S) (n : ℕ) (x : Cell) (cells : List Cell)
     → plan_in s xt ≡ Written (word.Dictionary dictionary.CompileComma) → s.words.defining ≡ Some n
-    → is_word s.words.dictionary x.0 ≡ true → s.parts.stack ≡ x ∷ cells
+    → is_word s.words.dictionary x.0 ≡ true → s.board.stack ≡ x ∷ cells
     → executed c xt s ≡ appended (c.element (element.Plain (called x)) s.code) cells s
 unfolding written_act dictionary_act worked
 comma_of c xt s n x cells p d k e =
@@ -273,8 +275,8 @@ unfolding compiling_act acted worked
 tokens_compile = record {
   control = λ c w by here s k e d compiling named is put.
       ap (λ a. acted c a s) (if_is s.flow.is_compiling _ _ compiling)
-      ∙ ap (λ x. appended (c.element x s.code) s.parts.stack s) (element_is w by here.position k e named is)
-      ∙ ap (λ a. appended a s.parts.stack s) put;
+      ∙ ap (λ x. appended (c.element x s.code) s.board.stack s) (element_is w by here.position k e named is)
+      ∙ ap (λ a. appended a s.board.stack s) put;
   call = λ c xt s n x cells d p opened known e put.
       comma_of c xt s n x cells p opened known e ∙ ap (λ a. appended a cells s) put;
 }
@@ -282,7 +284,7 @@ tokens_compile = record {
 -- ---- `throw`
 
 throw_of : {S : Type 0} (c : Calls S) (xt : ℕ) (s : State S) (n : Cell) (cells : List Cell)
-    → plan_in s xt ≡ Written (word.Throws throws.Throw) → s.parts.stack ≡ n ∷ cells
+    → plan_in s xt ≡ Written (word.Throws throws.Throw) → s.board.stack ≡ n ∷ cells
     → executed c xt s ≡ worked c (if n.0 == 0 then Leaves cells else Raises (record { 0 = signed n }) cells) s
 unfolding written_act
 throw_of c xt s n cells p e =

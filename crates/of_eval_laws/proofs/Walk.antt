@@ -25,20 +25,22 @@ use Rattle.of_fcodes.specs.Tokens.{entry_in}
 use Rattle.of_stream.specs.Targets.{landing, within_tokens}
 use Rattle.of_compile.specs.DictionaryWords.{store_entry}
 use Rattle.of_compile.specs.Words.{WordsState, is_debugging, is_word, numbered}
-use Rattle.of_eval.specs.declared.control.ControlWord.{ControlWord}
-use Rattle.of_eval.specs.declared.control.ControlWord.TheVariants as control
-use Rattle.of_eval.specs.declared.token.Token.{Token}
-use Rattle.of_eval.specs.declared.token.Token.TheVariants as token
+use Rattle.of_flow.specs.declared.control.ControlWord.{ControlWord}
+use Rattle.of_flow.specs.declared.control.ControlWord.TheVariants as control
+use Rattle.of_flow.specs.declared.token.Token.{Token}
+use Rattle.of_flow.specs.declared.token.Token.TheVariants as token
 use Rattle.of_eval.specs.declared.tokens.Spot.{Spot}
 use Rattle.of_eval.specs.Acts.{Act, Move, WordAct, front_of, knowing, leaving}
 use Rattle.of_eval.specs.Acts as act
 use Rattle.of_eval.specs.Executing.{Plan, plan_in}
 use Rattle.of_eval.specs.Items.{Position, Target, There, beginning, control_act, control_item, going, item_act}
-use Rattle.of_eval.specs.Items.{leave_item, loop_item, one, there, turning}
+use Rattle.of_eval.specs.Items.{leave_item, there, turning}
+use Rattle.of_flow.specs.Turns.{loop_item, one}
 use Rattle.of_eval.specs.State.{State}
-use Rattle.of_eval.specs.Tokens.{Typed, act_of, announcing, at_position, calling, compiling_act, exit_at, exit_in}
+use Rattle.of_eval.specs.Tokens.{act_of, announcing, at_position, calling, compiling_act, exit_at, exit_in}
+use Rattle.of_flow.specs.Tokens.{Typed}
 use Rattle.of_eval.specs.Tokens.{leave_act, named, plain_act, storing, string_address, token_act}
-use Rattle.of_eval.specs.Tokens as typed
+use Rattle.of_flow.specs.Tokens as typed
 use Rattle.of_eval_laws.specs.Listed.{plan_named, plan_of_item}
 use Rattle.of_eval_laws.proofs.ListedFaults.{loop_listed, numbered_listed, return_listed, within_listed}
 use Rattle.of_eval_laws.proofs.WalkWords.{AimsAt, Executes, Fits, IsMove, IsTurn, IsWork, Rules, if_works}
@@ -164,7 +166,7 @@ case_acts R T (x ∷ cells) to e r s = tt
 jump_acts : {S : Type 0} (R : Rules S) (T : Turns R) (w : ControlWord) (to : Place) (s : State S)
     → R.Aims s to.cell → T.Stands s → IsAct R T s (control_item w to (front_of s))
 jump_acts R T w to s l p =
-    control_acts R T w (Some (there to)) (exit.Code to.cell) s.parts.stack s l (T.goes_exit to.cell s p l) p
+    control_acts R T w (Some (there to)) (exit.Code to.cell) s.board.stack s l (T.goes_exit to.cell s p l) p
 
 leave_item_acts : {S : Type 0} (R : Rules S) (T : Turns R) (to : Place) (cells : List Cell)
     (r : Result LoopParameters Throw) (s : State S) → R.Aims s to.cell → R.Drops s → loop_on_top s.flow.items ≡ r
@@ -182,16 +184,16 @@ pub item_acts : {S : Type 0} (R : Rules S) (T : Turns R) (i : Item) (s : State S
 unfolding item_act
 item_acts R T (item.Operation xt) s l p h = h xt.0 refl
 item_acts R T (item.Call xt) s l p h = h xt.0 refl
-item_acts R T (item.Literal x) s l p h = pushed_works R x s.parts.stack s
-item_acts R T (item.String a n) s l p h = leaving_works R _ s (within_listed (n ∷ a ∷ s.parts.stack))
+item_acts R T (item.Literal x) s l p h = pushed_works R x s.board.stack s
+item_acts R T (item.String a n) s l p h = leaving_works R _ s (within_listed (n ∷ a ∷ s.board.stack))
 item_acts R T (item.Store xt) s l p h = store_works R xt.0 s (T.held s p)
 item_acts R T (item.Leave to) s l p h =
-    leave_item_acts R T to s.parts.stack (loop_on_top s.flow.items) s l (T.drop s (T.held s p)) refl
+    leave_item_acts R T to s.board.stack (loop_on_top s.flow.items) s l (T.drop s (T.held s p)) refl
     (loop_listed s.flow.items)
-item_acts R T item.EndCase s l p h = case_acts R T s.parts.stack _ _ _ s
+item_acts R T item.EndCase s l p h = case_acts R T s.board.stack _ _ _ s
 item_acts R T item.Return s l p h =
     let q = T.held s p in
-    returning_works R (return_on_top s.flow.items) s.parts.stack s q (T.drop s q) refl (return_listed s.flow.items)
+    returning_works R (return_on_top s.flow.items) s.board.stack s q (T.drop s q) refl (return_listed s.flow.items)
 item_acts R T (item.Branch to) s l p h = jump_acts R T control.Branch to s l p
 item_acts R T (item.BranchIfZero to) s l p h = jump_acts R T control.BranchIfZero to s l p
 item_acts R T (item.Do to) s l p h = jump_acts R T control.Do to s l p
@@ -227,9 +229,9 @@ announcing_works R (Ok w) cells s l h = h w refl
 announcing_works R (Err t) cells s l h = R.fails t l
 
 numbered_works : {S : Type 0} (R : Rules S) (k : FCode) (name : Option (List ℕ)) (s : State S) → R.Held s
-    → IsWork R s (announcing (numbered k name s.words) s.parts.stack)
+    → IsWork R s (announcing (numbered k name s.words) s.board.stack)
 numbered_works R k name s p =
-    announcing_works R (numbered k name s.words) s.parts.stack s (numbered_listed k name s.words)
+    announcing_works R (numbered k name s.words) s.board.stack s (numbered_listed k name s.words)
     (λ w e. R.announces k name w s p e)
 
 named_works : {S : Type 0} (R : Rules S) (e : Option TokenEntry) (a : ℕ → WordAct) (s : State S)
@@ -239,7 +241,7 @@ named_works R None a s h = R.fails _ refl
 named_works R (Some e) a s h = h e refl
 
 storing_works : {S : Type 0} (R : Rules S) (e : Option TokenEntry) (cells : List Cell) (s : State S) → R.Held s
-    → s.parts.stack ≡ cells → IsWork R s (storing e s.words cells)
+    → s.board.stack ≡ cells → IsWork R s (storing e s.words cells)
 unfolding is_listed listed_numbers
 storing_works R None [] s p c = R.fails _ refl
 storing_works R None (x ∷ cells) s p c = R.fails _ refl
@@ -275,20 +277,20 @@ pub record MayDo {S : Type 0} (R : Rules S) (T : Turns R) (t : Token) (compiling
 pub token_acts : {S : Type 0} (R : Rules S) (T : Turns R) (t : Token) (here : Spot) (s : State S) → T.Stands s
     → MayDo R T t false s → IsAct R T s (token_act t here (front_of s))
 unfolding token_act is_listed listed_numbers
-token_acts R T (token.Literal x) here s p m = pushed_works R x s.parts.stack s
+token_acts R T (token.Literal x) here s p m = pushed_works R x s.board.stack s
 token_acts R T (token.Tick k) here s p m =
-    named_works R (entry_in s.words.table k.0) _ s (λ e i. pushed_works R (record { 0 = e.xt }) s.parts.stack s)
+    named_works R (entry_in s.words.table k.0) _ s (λ e i. pushed_works R (record { 0 = e.xt }) s.board.stack s)
 token_acts R T (token.To k) here s p m =
-    storing_works R (entry_in s.words.table k.0) s.parts.stack s (T.held s p) refl
+    storing_works R (entry_in s.words.table k.0) s.board.stack s (T.held s p) refl
 token_acts R T (token.String n) here s p m =
     leaving_works R _ s
-    (within_listed (record { 0 = n } ∷ record { 0 = string_address here n } ∷ s.parts.stack))
+    (within_listed (record { 0 = n } ∷ record { 0 = string_address here n } ∷ s.board.stack))
 token_acts R T (token.Control w by) here s p m =
-    control_acts R T w (at_position (landing here.size here.position by)) (exit_at here.position by) s.parts.stack s
+    control_acts R T w (at_position (landing here.size here.position by)) (exit_at here.position by) s.board.stack s
     (position_target R T (landing here.size here.position by) s m.positions) (T.exit_at _ s p) p
 token_acts R T token.Leave here s p m =
-    leave_acts R T here.size s.parts.stack (loop_on_top s.flow.items) s m.positions p refl (loop_listed s.flow.items)
-token_acts R T token.EndCase here s p m = case_acts R T s.parts.stack _ _ _ s
+    leave_acts R T here.size s.board.stack (loop_on_top s.flow.items) s m.positions p refl (loop_listed s.flow.items)
+token_acts R T token.EndCase here s p m = case_acts R T s.board.stack _ _ _ s
 token_acts R T (token.NewToken k) here s p m = numbered_works R k None s (T.held s p)
 token_acts R T (token.Define d) here s p m = m.makes refl
 token_acts R T token.Semicolon here s p m = m.closes refl
@@ -353,5 +355,5 @@ pub typed_acts : {S : Type 0} (R : Rules S) (T : Turns R) (t : Typed) (here : Sp
     → TypedMayDo R T t s.flow.is_compiling s → IsAct R T s (act_of t here (front_of s))
 typed_acts R T (typed.Plain t) here s p m = plain_acts R T t here s p m
 typed_acts R T (typed.NamedToken name k) here s p m =
-    numbered_works R k (if is_debugging s.parts.memory then Some name else None) s (T.held s p)
+    numbered_works R k (if is_debugging s.board.memory then Some name else None) s (T.held s p)
 typed_acts R T (typed.ExternalToken name k) here s p m = numbered_works R k (Some name) s (T.held s p)

@@ -10,11 +10,11 @@ use Rattle.of_fcodes.specs.Tokens.{entry_in}
 use Rattle.of_stream.specs.Decoding.{Argument, Code, Literal, Named, Nothing, Offset, String}
 use Rattle.of_compile.specs.declared.defining.DefiningWord.{DefiningWord}
 use Rattle.of_compile.specs.declared.defining.DefiningWord.TheVariants as defining
-use Rattle.of_eval.specs.declared.token.Token.{Token}
-use Rattle.of_eval.specs.declared.token.Token.TheVariants as token
+use Rattle.of_flow.specs.declared.token.Token.{Token}
+use Rattle.of_flow.specs.declared.token.Token.TheVariants as token
 use Rattle.of_eval.specs.Executing.{plan_in}
 use Rattle.of_eval.specs.State.{State}
-use Rattle.of_eval.specs.Tokens.{ExternalToken, NamedToken, Typed, by_name, by_nothing, plain_token, typed, typed_word}
+use Rattle.of_flow.specs.Tokens.{ExternalToken, NamedToken, Plain, Typed, by_name, by_nothing, typed, typed_word}
 use Rattle.of_eval_laws.specs.Frames.{ends_image}
 use Rattle.of_eval_laws.specs.Listed.{is_semicolon, plan_named, plan_with}
 use Rattle.of_eval_laws.proofs.Walk.{MayDo, Turns, TypedMayDo}
@@ -117,10 +117,16 @@ defining_may R T w k a d b s h =
     behind R T (token.Define d) a b s h.positions h.appends
     (λ e. making R T d b s h.positions h.appends (h.makes e))
 
+-- the token that carries no name, if it is one
+abbrev plain_in : Typed → Token
+plain_in (Plain t) = t
+plain_in (NamedToken name k) = token.Stray
+plain_in (ExternalToken name k) = token.Stray
+
 -- the words of the stream that end what is read, make a word or end a definition; no other does
 stream_may : {S : Type 0} (R : Rules S) (T : Turns R) (w : StreamWord) (k : FCode) (a : Argument) (b : Bool)
     (s : State S) → IsAllowed R T (Some (word.Stream w)) k a b s → TypedMayDo R T (typed_word w a) b s
-unfolding plain_token
+unfolding typed_word
 stream_may R T stream.End0 k a b s h =
     behind R T token.End a b s h.positions h.appends (λ e. ending R T b s h.positions h.appends (h.ends refl))
 stream_may R T stream.End1 k a b s h =
@@ -140,12 +146,12 @@ stream_may R T stream.NamedToken k a b s h =
     name_may R T NamedToken a b s (λ n x. tt) (mild R T token.Stray b s h.positions h.appends refl)
 stream_may R T stream.ExternalToken k a b s h =
     name_may R T ExternalToken a b s (λ n x. tt) (mild R T token.Stray b s h.positions h.appends refl)
-stream_may R T w k Nothing b s h = mild R T (plain_token w Nothing) b s h.positions h.appends refl
-stream_may R T w k (Named n x) b s h = mild R T (plain_token w (Named n x)) b s h.positions h.appends refl
-stream_may R T w k (Literal x) b s h = mild R T (plain_token w (Literal x)) b s h.positions h.appends refl
-stream_may R T w k (String t) b s h = mild R T (plain_token w (String t)) b s h.positions h.appends refl
-stream_may R T w k (Code x) b s h = mild R T (plain_token w (Code x)) b s h.positions h.appends refl
-stream_may R T w k (Offset by) b s h = mild R T (plain_token w (Offset by)) b s h.positions h.appends refl
+stream_may R T w k Nothing b s h = mild R T (plain_in (typed_word w Nothing)) b s h.positions h.appends refl
+stream_may R T w k (Named n x) b s h = mild R T (plain_in (typed_word w (Named n x))) b s h.positions h.appends refl
+stream_may R T w k (Literal x) b s h = mild R T (plain_in (typed_word w (Literal x))) b s h.positions h.appends refl
+stream_may R T w k (String t) b s h = mild R T (plain_in (typed_word w (String t))) b s h.positions h.appends refl
+stream_may R T w k (Code x) b s h = mild R T (plain_in (typed_word w (Code x))) b s h.positions h.appends refl
+stream_may R T w k (Offset by) b s h = mild R T (plain_in (typed_word w (Offset by))) b s h.positions h.appends refl
 
 word_may : {S : Type 0} (R : Rules S) (T : Turns R) (k : FCode) (a : Argument) (b : Bool) (s : State S) → T.Positions
     → (b ≡ true → R.Appends s)

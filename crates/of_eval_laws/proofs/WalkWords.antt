@@ -39,8 +39,10 @@ use Rattle.of_eval.specs.Acts.{Move, To, WordAct, front_of, knowing, leaving}
 use Rattle.of_eval.specs.Acts as act
 use Rattle.of_eval.specs.ByteLoading.{copying, length_at, load_act, loading, loading_faults, spread_of, start_at}
 use Rattle.of_eval.specs.Executing.{Catch, Execute, Own, Plan, Stops, Written, act_of_plan, comma_act, comma_faults}
-use Rattle.of_eval.specs.Executing.{dictionary_act, dropping, execution, found, guarded, is_opened, own_act, plan_in}
-use Rattle.of_eval.specs.Executing.{product_entry, pushed, pushing, returning, returns_act, throw_act, throws_act}
+use Rattle.of_eval.specs.Executing.{dictionary_act, dropping, execution, guarded, is_opened, own_act, plan_in}
+use Rattle.of_flow.specs.Returns.{found}
+use Rattle.of_eval.specs.Executing.{product_entry, pushing, returning, returns_act, throw_act, throws_act}
+use Rattle.of_flow.specs.Returns.{pushed}
 use Rattle.of_eval.specs.Executing.{unlooping, written_act}
 use Rattle.of_eval.specs.State.{State, open_xt, with_stack}
 use Rattle.of_eval_laws.specs.Frames.{drops_item, last_word}
@@ -85,10 +87,10 @@ pub record Rules (S : Type 0) : Type 1 where
   pub aims : (n : ℕ) (s : State S) → Aims s n → Target s (continuation.Code n)
   -- words are known that come of a store, of `set-token` or of a number for the next word
   pub stores :
-      (xt : ℕ) (x : WordsState × List Cell) (s : State S) → Held s → store_entry xt s.words s.parts.stack ≡ Ok x →
+      (xt : ℕ) (x : WordsState × List Cell) (s : State S) → Held s → store_entry xt s.words s.board.stack ≡ Ok x →
       Known s x.0
   pub sets :
-      (x : WordsState × List Cell) (s : State S) → Held s → set_token_entry s.words s.parts.stack ≡ Ok x → Known s x.0
+      (x : WordsState × List Cell) (s : State S) → Held s → set_token_entry s.words s.board.stack ≡ Ok x → Known s x.0
   pub announces :
       (k : FCode) (name : Option (List ℕ)) (w : WordsState) (s : State S) → Held s → numbered k name s.words ≡ Ok w →
       Known s w
@@ -97,7 +99,7 @@ pub record Rules (S : Type 0) : Type 1 where
   -- an image was copied, where no definition is open
   pub loads :
       (a n spread : ℕ) (x : ℕ × DataSpace) (s : State S) → Held s → is_some s.words.defining ≡ false →
-      image_pushed_from s.parts.memory a n spread ≡ Ok x → Loads s x.1
+      image_pushed_from s.board.memory a n spread ≡ Ok x → Loads s x.1
   -- `execute` and `catch` leave the state so
   pub takes : (cells : List Cell) (s : State S) → Held s → Held (with_stack cells s)
   pub guards : (cells : List Cell) (s : State S) → Held s → Held (guarded cells s)
@@ -188,9 +190,9 @@ knowing_works R (Ok x) s l h = h x refl
 knowing_works R (Err t) s l h = R.fails t l
 
 pub store_works : {S : Type 0} (R : Rules S) (xt : ℕ) (s : State S) → R.Held s
-    → IsWork R s (knowing (store_entry xt s.words s.parts.stack))
+    → IsWork R s (knowing (store_entry xt s.words s.board.stack))
 store_works R xt s p =
-    knowing_works R (store_entry xt s.words s.parts.stack) s (store_listed xt s.words s.parts.stack)
+    knowing_works R (store_entry xt s.words s.board.stack) s (store_listed xt s.words s.board.stack)
     (λ x e. R.stores xt x s p e)
 
 pub pushing_works : {S : Type 0} (R : Rules S) (item : ReturnItem) (r : List ReturnItem) (cells : List Cell) (to : To)
@@ -213,9 +215,9 @@ unfolding is_listed listed_numbers
 own_works R None xt s e p = R.fails _ refl
 own_works R (Some (kind.Colon start)) xt s e p =
     if_works R (is_opened (open_xt s) xt) _ _ s (λ z. R.fails _ refl)
-    (λ z. pushing_works R (Return s.flow.next) s.flow.items s.parts.stack (act.Next (continuation.Code start)) s
+    (λ z. pushing_works R (Return s.flow.next) s.flow.items s.board.stack (act.Next (continuation.Code start)) s
     (R.return s p) (R.begins start xt s p e z) refl)
-own_works R (Some k) xt s e p = leaving_works R (product_entry k s.parts.stack) s (products k s.parts.stack)
+own_works R (Some k) xt s e p = leaving_works R (product_entry k s.board.stack) s (products k s.board.stack)
 
 -- ---- the return stack
 
@@ -304,9 +306,9 @@ loading_works R size (Ok x) cells s h = h x refl
 loading_works R size (Err fault) cells s h = R.faults fault
 
 copying_works : {S : Type 0} (R : Rules S) (a : ℕ) (cells : List Cell) (s : State S) → R.Held s
-    → is_some s.words.defining ≡ false → IsWork R s (copying s.parts.memory a cells)
+    → is_some s.words.defining ≡ false → IsWork R s (copying s.board.memory a cells)
 copying_works R a cells s p shut =
-    let m = s.parts.memory in
+    let m = s.board.memory in
     loading_works R (first_size (start_at m a ∷ []))
     (image_pushed_from m a (length_at m a) (spread_of (start_at m a))) cells s
     (λ x e. R.loads a (length_at m a) (spread_of (start_at m a)) x s p shut e)
@@ -317,8 +319,8 @@ unfolding is_listed listed_numbers
 load_works R [] s p shut = R.fails _ refl
 load_works R (fetch ∷ []) s p shut = R.fails _ refl
 load_works R (fetch ∷ a ∷ cells) s p shut =
-    unless_works R (counting (loading_faults s.parts.memory a fetch (length s.flow.items)))
-    (copying s.parts.memory a.0 cells) s (loading_fault s.parts.memory a fetch (length s.flow.items))
+    unless_works R (counting (loading_faults s.board.memory a fetch (length s.flow.items)))
+    (copying s.board.memory a.0 cells) s (loading_fault s.board.memory a fetch (length s.flow.items))
     (λ e. copying_works R a.0 cells s p shut)
 
 -- ---- all words
@@ -326,25 +328,25 @@ load_works R (fetch ∷ a ∷ cells) s p shut =
 dictionary_works : {S : Type 0} (R : Rules S) → R.Runs → (w : DictionaryWord) (s : State S) → R.Held s
     → IsWork R s (dictionary_act w (front_of s))
 unfolding dictionary_act is_listed listed_numbers
-dictionary_works R r dictionary.FromBody s p = leaving_works R _ s (from_body_listed s.words s.parts.stack)
-dictionary_works R r dictionary.ToBody s p = leaving_works R _ s (to_body_listed s.words s.parts.stack)
-dictionary_works R r dictionary.GetToken s p = leaving_works R _ s (get_token_listed s.words s.parts.stack)
+dictionary_works R r dictionary.FromBody s p = leaving_works R _ s (from_body_listed s.words s.board.stack)
+dictionary_works R r dictionary.ToBody s p = leaving_works R _ s (to_body_listed s.words s.board.stack)
+dictionary_works R r dictionary.GetToken s p = leaving_works R _ s (get_token_listed s.words s.board.stack)
 dictionary_works R r dictionary.SetToken s p =
-    knowing_works R (set_token_entry s.words s.parts.stack) s (set_token_listed s.words s.parts.stack)
+    knowing_works R (set_token_entry s.words s.board.stack) s (set_token_listed s.words s.board.stack)
     (λ x e. R.sets x s p e)
-dictionary_works R r dictionary.State s p = pushed_works R _ s.parts.stack s
-dictionary_works R r dictionary.CompileComma s p = comma_works R r s.parts.stack s p
-dictionary_works R r dictionary.Behavior s p = leaving_works R _ s (behavior_listed s.words s.parts.stack)
+dictionary_works R r dictionary.State s p = pushed_works R _ s.board.stack s
+dictionary_works R r dictionary.CompileComma s p = comma_works R r s.board.stack s p
+dictionary_works R r dictionary.Behavior s p = leaving_works R _ s (behavior_listed s.words s.board.stack)
 dictionary_works R r dictionary.ByteLoad s p =
-    if_works R (is_some s.words.defining) _ _ s (λ e. R.fails _ refl) (λ e. load_works R s.parts.stack s p e)
+    if_works R (is_some s.words.defining) _ _ s (λ e. R.fails _ refl) (λ e. load_works R s.board.stack s p e)
 dictionary_works R r w s p = R.fails _ refl
 
 written_works : {S : Type 0} (R : Rules S) → R.Runs → (w : Word) (s : State S) → R.Held s
-    → (drops_item (Some w) ≡ true → R.Drops s) → MayRaise R (Some (Written w)) s.parts.stack
+    → (drops_item (Some w) ≡ true → R.Drops s) → MayRaise R (Some (Written w)) s.board.stack
     → IsWork R s (written_act w (front_of s))
 unfolding written_act is_listed listed_numbers
-written_works R r (word.Returns w) s p d h = returns_works R w s.parts.stack s p d
-written_works R r (word.Throws w) s p d h = throws_work R w s.parts.stack s h
+written_works R r (word.Returns w) s p d h = returns_works R w s.board.stack s p d
+written_works R r (word.Throws w) s p d h = throws_work R w s.board.stack s h
 written_works R r (word.Dictionary w) s p d h = dictionary_works R r w s p
 written_works R r (word.Stream w) s p d h = R.fails _ refl
 written_works R r (word.Parsing w) s p d h = R.fails _ refl
@@ -352,7 +354,7 @@ written_works R r (word.Compiling w) s p d h = R.fails _ refl
 written_works R r w s p d h = R.works r w
 
 plan_works : {S : Type 0} (R : Rules S) → R.Runs → (q : Plan) (s : State S) → StopsListed q → R.Held s
-    → (drops_item (last_word q) ≡ true → R.Drops s) → MayRaise R (Some q) s.parts.stack
+    → (drops_item (last_word q) ≡ true → R.Drops s) → MayRaise R (Some q) s.board.stack
     → IsWork R s (act_of_plan q (front_of s))
 unfolding act_of_plan
 plan_works R r (Stops t) s l p d h = R.fails t l
@@ -365,17 +367,17 @@ plan_works R r (Catch cells q) s l p d h =
 
 -- executing a word
 pub execution_works : {S : Type 0} (R : Rules S) → R.Runs → (xt : ℕ) (s : State S) → R.Held s
-    → (drops_item (last_word (plan_in s xt)) ≡ true → R.Drops s) → MayRaise R (Some (plan_in s xt)) s.parts.stack
+    → (drops_item (last_word (plan_in s xt)) ≡ true → R.Drops s) → MayRaise R (Some (plan_in s xt)) s.board.stack
     → IsWork R s (execution xt (front_of s))
 unfolding execution
 execution_works R r xt s p d h =
-    plan_works R r (plan_in s xt) s (plan_stops s.words (length s.flow.items) s.parts.stack xt) p d h
+    plan_works R r (plan_in s xt) s (plan_stops s.words (length s.flow.items) s.board.stack xt) p d h
 
 -- where a plan is carried out, what its word comes to is what the law asks
 abbrev pub Executes : {S : Type 0} → Rules S → Option Plan → State S → Type 0
 Executes R p s = (xt : ℕ) → p ≡ Some (plan_in s xt) → IsWork R s (execution xt (front_of s))
 
 pub all_executed : {S : Type 0} (R : Rules S) → R.Runs → (p : Option Plan) (s : State S) → R.Held s → R.Drops s
-    → MayRaise R p s.parts.stack → Executes R p s
+    → MayRaise R p s.board.stack → Executes R p s
 all_executed R r p s h d raises xt e =
-    execution_works R r xt s h (λ z. d) (λ x c. raises x (ap (λ o. cell_of o s.parts.stack) e ∙ c))
+    execution_works R r xt s h (λ z. d) (λ x c. raises x (ap (λ o. cell_of o s.board.stack) e ∙ c))

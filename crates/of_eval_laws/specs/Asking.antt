@@ -14,7 +14,7 @@ use Rattle.of_eval.specs.declared.tokens.Spot.{Spot}
 use Rattle.of_eval.specs.Doing.{executed_grows}
 use Rattle.of_eval.specs.State.{State}
 use Rattle.of_eval.specs.Steps.{item_grows_in, typed_grows}
-use Rattle.of_eval.specs.Tokens.{typed, typed_of}
+use Rattle.of_flow.specs.Tokens.{typed, typed_of}
 
 -- a token of the stream asks for no memory, whatever the state, compiled or not
 abbrev pub AsksForNone : Type 0 → StreamWord → Type 0

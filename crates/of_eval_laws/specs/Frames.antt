@@ -1,4 +1,4 @@
--- What parts of a step leave as it was: what is read, with which size of offsets, and the return stack (IEEE 1275-1994,
+-- What board of a step leave as it was: what is read, with which size of offsets, and the return stack (IEEE 1275-1994,
 -- 5.2.2, 5.3.3.1; Forth 2012, 3.2.3.3).
 use Rattle.std.specs.Prelude.{◌≡◌, ◌⊎◌, ℕ, Bool, true, false, List, [], ◌∷◌, drop, Option, Some, None, Ok}
 use Rattle.of_cells.specs.declared.cells.Cell.{Cell}
@@ -24,9 +24,9 @@ use Rattle.of_stream.specs.declared.stream.OffsetSize.{OffsetSize}
 use Rattle.of_stream.specs.Decoding.{Token, token_from}
 use Rattle.of_stream.specs.Sizes.{size_behind}
 use Rattle.of_memory.specs.Images.{latest_image}
-use Rattle.of_eval.specs.declared.control.ControlWord.{ControlWord}
-use Rattle.of_eval.specs.declared.control.ControlWord.TheVariants as control
-use Rattle.of_eval.specs.declared.flow.Flow.{Flow}
+use Rattle.of_flow.specs.declared.control.ControlWord.{ControlWord}
+use Rattle.of_flow.specs.declared.control.ControlWord.TheVariants as control
+use Rattle.of_flow.specs.declared.control_state.Flow.{Flow}
 use Rattle.of_eval.specs.Acts.{Act, Does, Fails, Goes, Moves, Next}
 use Rattle.of_eval.specs.Doing.{executed}
 use Rattle.of_eval.specs.Executing.{Catch, Execute, Own, Plan, Stops, Written, plan_in}
@@ -164,7 +164,7 @@ drops_item w = false
 
 -- ---- the law
 
--- What parts of a step leave as it was, over any code of definitions.
+-- What board of a step leave as it was, over any code of definitions.
 pub record FramesHold (S : Type 0) : Type 0 where
   -- Executing a word leaves the items and what is read as they were, but for handlers and one item on top, or begins an
   -- image; it drops one item only where the word that runs at last drops one.
@@ -179,7 +179,7 @@ pub record FramesHold (S : Type 0) : Type 0 where
   pub tokens_keep_size :
       (c : Calls S) (x : Token) (next : ℕ) (size : OffsetSize) (position : ℕ) (s : State S) →
       ends_image (word_numbered x.code.0) ≡ false →
-      token_from (latest_image s.parts.memory) position size ≡ Some (x, next) →
+      token_from (latest_image s.board.memory) position size ≡ Some (x, next) →
       KeepsSize (size_behind x.code.0 size) (token_due c (input.Image size position) s).state.flow
   -- And that is the size that it was read with, unless it is `offset16`.
   pub size_kept : (code : ℕ) (size : OffsetSize) → (code ≡ 0xcc → ⊥) → size_behind code size ≡ size

@@ -37,7 +37,7 @@ use Rattle.of_compile.specs.RunsLaw.{IsReached}
 use Rattle.of_compile.specs.Words.{WordsState, is_word}
 use Rattle.of_eval.specs.Doing.{executed}
 use Rattle.of_eval.specs.Executing.{executable}
-use Rattle.of_eval.specs.Items.{loop_item, one}
+use Rattle.of_flow.specs.Turns.{loop_item, one}
 use Rattle.of_eval.specs.Loading.{begun, load_caller}
 use Rattle.of_eval.specs.Settling.{ended, is_same}
 use Rattle.of_eval.specs.State.{Calls, State, done, failed, given_up, open_xt, with_items, with_next, with_stack}
@@ -221,9 +221,9 @@ pub record EndsGoBack (S : Type 0) : Type 0 where
       s.flow.items ≡ above ++ Source r ∷ Return to ∷ beneath → latest_source above ≡ None → has_opened s ≡ false →
       let o = ended c s in
       (o.ended ≡ Ok tt) × (o.state.flow.items ≡ beneath) × (o.state.flow.next ≡ to) × (o.state.flow.reading ≡ r)
-      × (o.state.flow.is_running ≡ s.flow.is_running) × (o.state.parts.stack ≡ s.parts.stack)
-      × (o.state.parts.pictured ≡ s.parts.pictured) × (o.state.parts.console ≡ s.parts.console)
-      × (o.state.parts.tree ≡ s.parts.tree) × (o.state.parts.active ≡ s.parts.active) × (o.state.words ≡ s.words)
+      × (o.state.flow.is_running ≡ s.flow.is_running) × (o.state.board.stack ≡ s.board.stack)
+      × (o.state.board.pictured ≡ s.board.pictured) × (o.state.board.console ≡ s.board.console)
+      × (o.state.board.tree ≡ s.board.tree) × (o.state.board.active ≡ s.board.active) × (o.state.words ≡ s.words)
       × (o.state.code ≡ s.code)
   pub gives_up : (c : Calls S) (s : State S) → has_opened s ≡ true → ended c s ≡ failed compiler_nesting (given_up c s)
 
@@ -235,10 +235,10 @@ pub record LoadsBegin (S : Type 0) : Type 0 where
   pub begun :
       (image : List ℕ) (node : Phandle) (a : ℕ) (m : DataSpace) (s : State S) →
       let o = begun image node (Ok (a, m)) s in
-      (o.flow.items ≡ Source s.flow.reading ∷ load_caller s ∷ []) × (o.parts.active.«package» ≡ Some node)
-      × (o.parts.memory ≡ m) × (o.flow.is_running ≡ true) × (o.flow.next ≡ continuation.Source)
-      × (o.parts.stack ≡ s.parts.stack) × (o.parts.pictured ≡ s.parts.pictured) × (o.parts.tree ≡ s.parts.tree)
-      × (o.parts.console.text ≡ s.parts.console.text) × (o.words ≡ s.words) × (o.code ≡ s.code)
+      (o.flow.items ≡ Source s.flow.reading ∷ load_caller s ∷ []) × (o.board.active.«package» ≡ Some node)
+      × (o.board.memory ≡ m) × (o.flow.is_running ≡ true) × (o.flow.next ≡ continuation.Source)
+      × (o.board.stack ≡ s.board.stack) × (o.board.pictured ≡ s.board.pictured) × (o.board.tree ≡ s.board.tree)
+      × (o.board.console.text ≡ s.board.console.text) × (o.words ≡ s.words) × (o.code ≡ s.code)
       × (o.flow.is_compiling ≡ s.flow.is_compiling) × (o.flow.my_self ≡ s.flow.my_self)
-      × (o.flow.home ≡ s.flow.home) × (o.parts.active.new_devices ≡ s.parts.active.new_devices)
+      × (o.flow.home ≡ s.flow.home) × (o.board.active.new_devices ≡ s.board.active.new_devices)
       × (has_opened o ≡ false)

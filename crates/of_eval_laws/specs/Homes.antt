@@ -8,18 +8,18 @@ use Rattle.of_eval.specs.State.{Calls, State}
 -- the same state while another package is active
 abbrev pub with_package : {S : Type 0} → Option Phandle → State S → State S
 with_package node s =
-    record s { parts = record s.parts { active = record s.parts.active { «package» = node } } }
+    record s { board = record s.board { active = record s.board.active { «package» = node } } }
 
 -- A definition's name belongs to the package that was active at its `b(:)`.
 pub record NamesStayHome (S : Type 0) : Type 0 where
   -- `b(:)` keeps the package that is active
   pub kept :
       (c : Calls S) (s : State S) → (define_entry c defining.Colon s).ended ≡ Ok tt →
-      (define_entry c defining.Colon s).state.flow.home ≡ s.parts.active.«package»
+      (define_entry c defining.Colon s).state.flow.home ≡ s.board.active.«package»
   -- and whatever package is active at its `b(;)`, that makes the same methods and words
   pub anywhere :
       (c : Calls S) (o : Option ℕ) (node : Option Phandle) (s : State S) →
       let here = semicolon_entry c o s in
       let there = semicolon_entry c o (with_package node s) in
-      (there.ended ≡ here.ended) × (there.state.parts.tree ≡ here.state.parts.tree)
+      (there.ended ≡ here.ended) × (there.state.board.tree ≡ here.state.board.tree)
       × (there.state.words ≡ here.state.words) × (there.state.code ≡ here.state.code)

@@ -24,16 +24,16 @@ use Rattle.of_stream.specs.Decoding.{Argument, Nothing, Token, token_from}
 use Rattle.of_memory.specs.Images.{latest_image}
 use Rattle.of_compile.specs.Structured.{Definitions}
 use Rattle.of_compile.specs.Coding.{Coding}
-use Rattle.of_eval.specs.declared.parts.Parts.{Parts}
+use Rattle.of_board.specs.declared.board.Board.{Board}
 use Rattle.of_eval.specs.Executing.{Catch, Execute, Plan, Written, plan_in}
 use Rattle.of_eval.specs.State.{Calls, State, flat_calls}
 use Rattle.of_eval.specs.Steps.{due}
-use Rattle.of_eval.specs.Words.{word_entry}
+use Rattle.of_words.specs.Words.{word_entry}
 use Rattle.of_eval_laws.specs.Structured.{structured_calls}
 
 -- the throws of the table are listed
 pub record WordsThrowListed : Type 0 where
-  pub words : (w : Word) (m : Parts) → ThrowsListed (word_entry w m)
+  pub words : (w : Word) (m : Board) → ThrowsListed (word_entry w m)
 
 -- ---- what comes next
 
@@ -43,7 +43,7 @@ token_of None = None
 token_of (Some x) = Some x.0
 
 abbrev pub token_read : {S : Type 0} → Input → State S → Option Token
-token_read (input.Image size position) s = token_of (token_from (latest_image s.parts.memory) position size)
+token_read (input.Image size position) s = token_of (token_from (latest_image s.board.memory) position size)
 token_read (input.Text position) s = None
 token_read input.Nothing s = None
 
@@ -94,7 +94,7 @@ cell_of (Some p) cells = cell_in p cells
 
 -- the cell that `throw` takes next, if it runs next
 abbrev pub cell_next : {S : Type 0} → Calls S → Continuation → State S → Option Cell
-cell_next c to s = cell_of (plan_next c to s) s.parts.stack
+cell_next c to s = cell_of (plan_next c to s) s.board.stack
 
 -- a word of the stream ends a definition
 abbrev pub is_semicolon : Option Word → Bool

@@ -54,7 +54,7 @@ start_at words n = code_start (kind_in (word_at words n))
 
 -- ---- a state
 
--- what is so of these parts of a state
+-- what is so of these board of a state
 pub record ArePlaced
     (to : Continuation) (items : List ReturnItem) (is_compiling : Bool) (words : List (Option Word))
     (defining : Option ℕ) (code : Definitions) : Type 0 where

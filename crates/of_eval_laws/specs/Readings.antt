@@ -10,13 +10,13 @@ use Rattle.of_stacks.specs.Unwinding.{latest_handler}
 use Rattle.of_fcodes.specs.declared.words.Word.{Word}
 use Rattle.of_memory.specs.Growth.{image_pushed}
 use Rattle.of_nodes.specs.declared.phandles.Phandle.{Phandle}
-use Rattle.of_eval.specs.declared.flow.Flow.{Flow}
-use Rattle.of_eval.specs.declared.parts.Parts.{Parts}
+use Rattle.of_flow.specs.declared.control_state.Flow.{Flow}
+use Rattle.of_board.specs.declared.board.Board.{Board}
 use Rattle.of_eval.specs.Loading.{begun, first_state}
 use Rattle.of_eval.specs.Settling.{settled}
-use Rattle.of_eval.specs.State.{Calls, State, with_parts}
+use Rattle.of_eval.specs.State.{Calls, State, with_board}
 use Rattle.of_eval.specs.Steps.{due, stepped, steps_from}
-use Rattle.of_eval.specs.Words.{word_entry}
+use Rattle.of_words.specs.Words.{word_entry}
 use Rattle.of_eval_laws.specs.Returning.{is_return_top}
 use Rattle.of_eval_laws.specs.Sound.{HasSoundSpace}
 use Rattle.of_eval_laws.specs.Throws.{image_more}
@@ -60,7 +60,7 @@ BeganInside now (Caller d ∷ items) = BeganInside now items
 -- The images that stand are those that are being read:
 pub record HasItsImages {S : Type 0} (s : State S) : Type 0 where
   -- they are as many
-  pub as_many : length s.parts.memory.images ≡ readings s.flow
+  pub as_many : length s.board.memory.images ≡ readings s.flow
   -- each has a source beneath it, which is cut where it ends
   pub inside : BeganInside s.flow.reading.input s.flow.items
   -- and none is read where nothing runs
@@ -74,11 +74,11 @@ pub record ImagesAreReadings (S : Type 0) : Type 0 where
   -- an image that begins where nothing runs, or finds no room
   pub begun :
       (image : List ℕ) (node : Phandle) (s : State S) → HasItsImages s → s.flow.is_running ≡ false →
-      HasItsImages (begun image node (image_pushed s.parts.memory image) s)
+      HasItsImages (begun image node (image_pushed s.board.memory image) s)
   -- an ordinary word
   pub words :
-      (w : Word) (after : Parts) (s : State S) → HasSoundSpace s → HasItsImages s →
-      word_entry w s.parts ≡ Ok after → HasItsImages (with_parts after s)
+      (w : Word) (after : Board) (s : State S) → HasSoundSpace s → HasItsImages s →
+      word_entry w s.board ≡ Ok after → HasItsImages (with_board after s)
   -- a token or an item where something runs, whatever it throws
   pub done :
       (c : Calls S) (s : State S) → HasSoundSpace s → HasItsImages s → s.flow.is_running ≡ true →
@@ -86,7 +86,7 @@ pub record ImagesAreReadings (S : Type 0) : Type 0 where
   -- a throw that no `catch` takes leaves none
   pub fallen :
       (c : Calls S) (t : Throw) (s : State S) → HasItsImages s → latest_handler s.flow.items ≡ None →
-      (settled c s.flow.items (Some t) s).parts.memory.images ≡ []
+      (settled c s.flow.items (Some t) s).board.memory.images ≡ []
   -- the end of a step
   pub settled :
       (c : Calls S) (thrown : Option Throw) (s : State S) → HasItsImages s →

@@ -16,7 +16,7 @@ use Rattle.of_stacks.specs.Unwinding.{latest_handler, latest_source}
 use Rattle.of_stream.specs.Targets.{within_tokens}
 use Rattle.of_memory.specs.DataSpace.{DataSpace}
 use Rattle.of_nodes.specs.declared.phandles.Phandle.{Phandle}
-use Rattle.of_eval.specs.declared.flow.Flow.{Flow}
+use Rattle.of_flow.specs.declared.control_state.Flow.{Flow}
 use Rattle.of_eval.specs.Doing.{executed}
 use Rattle.of_eval.specs.Loading.{image_begun}
 use Rattle.of_eval.specs.Settling.{settled}

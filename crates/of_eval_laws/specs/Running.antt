@@ -54,7 +54,7 @@ reading_ends m input.Nothing = false
 
 -- whether what comes next is the end of an image
 abbrev pub is_at_end : {S : Type 0} → Continuation → State S → Bool
-is_at_end continuation.Source s = reading_ends s.parts.memory s.flow.reading.input
+is_at_end continuation.Source s = reading_ends s.board.memory s.flow.reading.input
 is_at_end (continuation.Code n) s = false
 
 -- ---- what becomes of the images
@@ -105,31 +105,31 @@ EndLeaves m after (Some t) = SomeEnd m after
 pub record ImagesRun (S : Type 0) : Type 0 where
   -- An image that begins runs on top of the others, from the address on that was answered, with its own bytes.
   pub begun :
-      (image : List ℕ) (node : Phandle) (a : ℕ) (m : DataSpace) (s : State S) → IsSound s.parts.memory →
-      image_pushed s.parts.memory image ≡ Ok (a, m) →
-      running (begun image node (Ok (a, m)) s).parts.memory
-      ≡ record { begin = a; bytes = image } ∷ running s.parts.memory
+      (image : List ℕ) (node : Phandle) (a : ℕ) (m : DataSpace) (s : State S) → IsSound s.board.memory →
+      image_pushed s.board.memory image ≡ Ok (a, m) →
+      running (begun image node (Ok (a, m)) s).board.memory
+      ≡ record { begin = a; bytes = image } ∷ running s.board.memory
   -- Of the images that a throw gives back the latest end, as many as it gives back.
   pub given_back : (n : ℕ) (m : DataSpace) → IsSound m → LatestEnd n m (images_popped n m)
   -- What a token or an item does leaves the images as they were; it may begin one, and at its end it ends the latest.
   pub done :
-      (c : Calls S) (s : State S) → IsSound s.parts.memory →
+      (c : Calls S) (s : State S) → IsSound s.board.memory →
       let o = due c s.flow.next s in
-      DueLeaves (is_at_end s.flow.next s) s.parts.memory o.state.parts.memory o.ended
+      DueLeaves (is_at_end s.flow.next s) s.board.memory o.state.board.memory o.ended
   -- The end of a step leaves them as they were, but for those that a throw ends.
   pub settled :
-      (c : Calls S) (items : List ReturnItem) (thrown : Option Throw) (s : State S) → IsSound s.parts.memory →
-      EndLeaves s.parts.memory (settled c items thrown s).parts.memory thrown
+      (c : Calls S) (items : List ReturnItem) (thrown : Option Throw) (s : State S) → IsSound s.board.memory →
+      EndLeaves s.board.memory (settled c items thrown s).board.memory thrown
   -- In a step that isn't the end of an image and throws nothing they go on.
   pub go_on :
-      (c : Calls S) (s : State S) → IsSound s.parts.memory →
+      (c : Calls S) (s : State S) → IsSound s.board.memory →
       is_at_end s.flow.next s ≡ false → (due c s.flow.next s).ended ≡ Ok tt →
-      GoOn s.parts.memory (stepped c s).parts.memory
+      GoOn s.board.memory (stepped c s).board.memory
   -- In each step they go on, or some of the latest end: an image that still runs has the bytes that it had.
   pub step :
-      (c : Calls S) (s : State S) → IsSound s.parts.memory →
-      SomeEnd s.parts.memory (stepped c s).parts.memory ⊎ GoOn s.parts.memory (stepped c s).parts.memory
+      (c : Calls S) (s : State S) → IsSound s.board.memory →
+      SomeEnd s.board.memory (stepped c s).board.memory ⊎ GoOn s.board.memory (stepped c s).board.memory
   -- So it is over any number of steps.
   pub steps :
-      (c : Calls S) (n : ℕ) (s after : State S) → IsSound s.parts.memory → steps_from c n s ≡ Some after →
-      OthersRun s.parts.memory after.parts.memory
+      (c : Calls S) (n : ℕ) (s after : State S) → IsSound s.board.memory → steps_from c n s ≡ Some after →
+      OthersRun s.board.memory after.board.memory

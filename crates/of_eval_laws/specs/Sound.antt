@@ -8,12 +8,12 @@ use Rattle.of_fcodes.specs.declared.words.Word.{Word}
 use Rattle.of_memory.specs.DataSpace.{IsSound}
 use Rattle.of_memory.specs.Growth.{image_pushed}
 use Rattle.of_nodes.specs.declared.phandles.Phandle.{Phandle}
-use Rattle.of_eval.specs.declared.parts.Parts.{Parts}
+use Rattle.of_board.specs.declared.board.Board.{Board}
 use Rattle.of_eval.specs.Loading.{begun, first_state}
 use Rattle.of_eval.specs.Settling.{settled}
 use Rattle.of_eval.specs.State.{Calls, State}
 use Rattle.of_eval.specs.Steps.{due, stepped, steps_from}
-use Rattle.of_eval.specs.Words.{word_entry}
+use Rattle.of_words.specs.Words.{word_entry}
 
 -- each is a byte
 abbrev pub AreBytes : List ℕ → Type 0
@@ -21,7 +21,7 @@ AreBytes xs = All (λ b. b < 256) xs
 
 -- a state whose data space is sound
 abbrev pub HasSoundSpace : {S : Type 0} → State S → Type 0
-HasSoundSpace s = IsSound s.parts.memory
+HasSoundSpace s = IsSound s.board.memory
 
 -- The data space is sound at first, and all that is done leaves it so, over any code of definitions.
 pub record SpaceStaysSound (S : Type 0) : Type 0 where
@@ -29,9 +29,9 @@ pub record SpaceStaysSound (S : Type 0) : Type 0 where
   -- an image that begins, or finds no room
   pub begun :
       (image : List ℕ) (node : Phandle) (s : State S) → HasSoundSpace s → AreBytes image →
-      HasSoundSpace (begun image node (image_pushed s.parts.memory image) s)
+      HasSoundSpace (begun image node (image_pushed s.board.memory image) s)
   -- an ordinary word
-  pub words : (w : Word) (m after : Parts) → IsSound m.memory → word_entry w m ≡ Ok after → IsSound after.memory
+  pub words : (w : Word) (m after : Board) → IsSound m.memory → word_entry w m ≡ Ok after → IsSound after.memory
   -- a token or an item, whatever it throws
   pub done : (c : Calls S) (s : State S) → HasSoundSpace s → HasSoundSpace (due c s.flow.next s).state
   -- the end of a step

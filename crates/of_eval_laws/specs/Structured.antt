@@ -36,7 +36,7 @@ structured_calls = record {
 
 -- the state with its definitions as cells
 abbrev pub flat_state : State Definitions → State Coding
-flat_state s = record { parts = s.parts; flow = s.flow; words = s.words; code = flat_of s.code }
+flat_state s = record { board = s.board; flow = s.flow; words = s.words; code = flat_of s.code }
 
 abbrev pub flat_outcome : Outcome Definitions → Outcome Coding
 flat_outcome o = record { state = flat_state o.state; ended = o.ended }

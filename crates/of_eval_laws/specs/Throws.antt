@@ -19,9 +19,9 @@ use Rattle.of_stacks.specs.Unwinding.{latest_handler, latest_source, number_cell
 use Rattle.of_memory.specs.DataSpace.{DataSpace}
 use Rattle.of_memory.specs.Growth.{image_popped, with_state}
 use Rattle.of_compile.specs.Defining.{abandoned}
-use Rattle.of_instances.specs.Active.{all_finished, image_left}
-use Rattle.of_instances.specs.declared.active.Active.{Active}
-use Rattle.of_eval.specs.Text.{fault_printed}
+use Rattle.of_board.specs.Active.{all_finished, image_left}
+use Rattle.of_board.specs.declared.active.Active.{Active}
+use Rattle.of_board.specs.Text.{fault_printed}
 use Rattle.of_eval.specs.State.{Calls, State, open_xt, with_items}
 use Rattle.of_eval.specs.Settling.{caller_self, is_full, is_same, load_left, nothing_read, package_of, settled}
 
@@ -90,14 +90,14 @@ pub record LeavesDefinition {S : Type 0} (c : Calls S) (given_up : Bool) (freed 
   -- words are executed then
   pub compiling : after.flow.is_compiling ≡ (if given_up then false else before.flow.is_compiling)
   -- and `state` is false; but for that the bytes are as they were, without those of the images that ended
-  pub memory : after.parts.memory ≡ (if given_up then with_state freed false else freed)
+  pub memory : after.board.memory ≡ (if given_up then with_state freed false else freed)
 
 -- ---- a throw that none takes
 
 -- All that runs has ended.
 pub record EndsAll {S : Type 0} (c : Calls S) (t : Throw) (before after : State S) : Type 0 where
   -- both stacks are empty
-  pub stack : after.parts.stack ≡ []
+  pub stack : after.board.stack ≡ []
   pub items : after.flow.items ≡ []
   -- nothing runs
   pub running : after.flow.is_running ≡ false
@@ -109,16 +109,16 @@ pub record EndsAll {S : Type 0} (c : Calls S) (t : Throw) (before after : State 
   -- no definition is open
   pub closed : after.words.defining ≡ None
   -- the console has the text of the throw
-  pub console : after.parts.console ≡ fault_printed before.parts.console t
+  pub console : after.board.console ≡ fault_printed before.board.console t
   -- each open `new-device` is finished
-  pub active : after.parts.active ≡ all_finished (left_through before.flow.items before.parts.active)
+  pub active : after.board.active ≡ all_finished (left_through before.flow.items before.board.active)
   -- the tree and the pictured text are as they were
-  pub tree : after.parts.tree ≡ before.parts.tree
-  pub pictured : after.parts.pictured ≡ before.parts.pictured
+  pub tree : after.board.tree ≡ before.board.tree
+  pub pictured : after.board.pictured ≡ before.board.pictured
   -- the open definition is given up, and so are the images whose reading ended
   pub definition :
       LeavesDefinition c (is_some before.words.defining)
-      (images_popped (images_ended before.flow.reading.input before.flow.items) before.parts.memory) before after
+      (images_popped (images_ended before.flow.reading.input before.flow.items) before.board.memory) before after
 
 -- ---- a throw that a `catch` takes
 
@@ -126,12 +126,13 @@ pub record EndsAll {S : Type 0} (c : Calls S) (t : Throw) (before after : State 
 pub record GoesOnBehind {S : Type 0} (c : Calls S) (t : Throw) (above : List ReturnItem) (h : ExceptionFrame)
     (beneath : List ReturnItem) (before after : State S) : Type 0 where
   -- the data stack has the depth that it had without the token that `catch` took, with the number of the throw on top
-  pub stack : after.parts.stack ≡ number_cell t ∷ to_depth h.depth before.parts.stack
+  pub stack : after.board.stack ≡ number_cell t ∷ to_depth h.depth before.board.stack
   -- the handler and what stood above it are gone
   pub items : after.flow.items ≡ beneath
   -- control goes on behind the `catch`
   pub next : after.flow.next ≡ h.resume
-  pub running : after.flow.is_running ≡ true
+  -- and what ran runs on
+  pub running : after.flow.is_running ≡ before.flow.is_running
   -- the current instance is that of the `catch`
   pub my_self : after.flow.my_self ≡ h.my_self
   -- what is read is what the lowest source that was cut set aside
@@ -144,15 +145,15 @@ pub record GoesOnBehind {S : Type 0} (c : Calls S) (t : Throw) (above : List Ret
   pub opened :
       after.words.defining ≡ (if is_same (open_xt before) h.opened then before.words.defining else None)
   -- words work where they did before the loads that were cut
-  pub active : after.parts.active ≡ left_through above before.parts.active
+  pub active : after.board.active ≡ left_through above before.board.active
   -- the console, the tree and the pictured text are as they were
-  pub console : after.parts.console ≡ before.parts.console
-  pub tree : after.parts.tree ≡ before.parts.tree
-  pub pictured : after.parts.pictured ≡ before.parts.pictured
+  pub console : after.board.console ≡ before.board.console
+  pub tree : after.board.tree ≡ before.board.tree
+  pub pictured : after.board.pictured ≡ before.board.pictured
   -- a definition that was opened since is given up, and so are the images whose reading ended
   pub definition :
       LeavesDefinition c (is_opened_since h.opened before)
-      (images_popped (images_ended before.flow.reading.input above) before.parts.memory) before after
+      (images_popped (images_ended before.flow.reading.input above) before.board.memory) before after
 
 -- A state comes of what is due beneath the `catch` behind which control goes on.
 pub record IsCaught {S : Type 0} (c : Calls S) (t : Throw) (above : List ReturnItem) (h : ExceptionFrame)
@@ -175,7 +176,7 @@ pub record ThrowsSettle (S : Type 0) : Type 0 where
       (c : Calls S) (h : ExceptionFrame) (r : List ReturnItem) (s : State S) → is_full s ≡ false →
       settled c (Handler h ∷ r) None s
       ≡ settled c r None
-      (record (with_items r s) { parts = record s.parts { stack = record { 0 = 0 } ∷ s.parts.stack } })
+      (record (with_items r s) { board = record s.board { stack = record { 0 = 0 } ∷ s.board.stack } })
   -- Where there is none, it catches that.
   pub no_room :
       (c : Calls S) (h : ExceptionFrame) (r : List ReturnItem) (s : State S) → is_full s ≡ true →

@@ -26,17 +26,17 @@ use Rattle.of_compile.specs.declared.defining.DefiningWord.TheVariants as defini
 use Rattle.of_compile.specs.declared.element.PlainItem.{PlainItem}
 use Rattle.of_compile.specs.Tokens.{called, offset_element}
 use Rattle.of_compile.specs.Words.{is_word}
-use Rattle.of_eval.specs.declared.control.ControlWord.{ControlWord}
-use Rattle.of_eval.specs.declared.control.ControlWord.TheVariants as control
-use Rattle.of_eval.specs.declared.token.Token.{Token}
-use Rattle.of_eval.specs.declared.token.Token.TheVariants as token
+use Rattle.of_flow.specs.declared.control.ControlWord.{ControlWord}
+use Rattle.of_flow.specs.declared.control.ControlWord.TheVariants as control
+use Rattle.of_flow.specs.declared.token.Token.{Token}
+use Rattle.of_flow.specs.declared.token.Token.TheVariants as token
 use Rattle.of_eval.specs.declared.tokens.Spot.{Spot}
 use Rattle.of_eval.specs.Doing.{executed}
 use Rattle.of_eval.specs.Executing.{Written, plan_in}
-use Rattle.of_eval.specs.Items.{loop_item, one}
+use Rattle.of_flow.specs.Turns.{loop_item, one}
 use Rattle.of_eval.specs.State.{Calls, State, done, failed, with_items, with_stack}
 use Rattle.of_eval.specs.Steps.{plain_done}
-use Rattle.of_eval.specs.Tokens.{ExternalToken, NamedToken, Plain, Typed, typed_of}
+use Rattle.of_flow.specs.Tokens.{ExternalToken, NamedToken, Plain, Typed, typed_of}
 use Rattle.of_eval_laws.specs.Going.{on}
 
 -- ---- FCodes
@@ -166,7 +166,7 @@ pub record TokensCompile (S : Type 0) : Type 0 where
   pub call :
       (c : Calls S) (xt : ℕ) (s : State S) (n : ℕ) (x : Cell) (cells : List Cell) (d : S) →
       plan_in s xt ≡ Written (word.Dictionary dictionary.CompileComma) → s.words.defining ≡ Some n →
-      is_word s.words.dictionary x.0 ≡ true → s.parts.stack ≡ x ∷ cells →
+      is_word s.words.dictionary x.0 ≡ true → s.board.stack ≡ x ∷ cells →
       c.element (element.Plain (called x)) s.code ≡ record { code = d; ended = Ok tt } →
       executed c xt s ≡ done (record (with_stack cells s) { code = d })
 
@@ -174,9 +174,9 @@ pub record TokensCompile (S : Type 0) : Type 0 where
 pub record ThrowTakes (S : Type 0) : Type 0 where
   pub takes :
       (c : Calls S) (xt : ℕ) (s : State S) (n : Cell) (cells : List Cell) → (n.0 ≡ 0 → ⊥) →
-      plan_in s xt ≡ Written (word.Throws throws.Throw) → s.parts.stack ≡ n ∷ cells →
+      plan_in s xt ≡ Written (word.Throws throws.Throw) → s.board.stack ≡ n ∷ cells →
       executed c xt s ≡ failed (record { 0 = signed n }) (with_stack cells s)
   pub zero :
       (c : Calls S) (xt : ℕ) (s : State S) (n : Cell) (cells : List Cell) → n.0 ≡ 0 →
-      plan_in s xt ≡ Written (word.Throws throws.Throw) → s.parts.stack ≡ n ∷ cells →
+      plan_in s xt ≡ Written (word.Throws throws.Throw) → s.board.stack ≡ n ∷ cells →
       executed c xt s ≡ done (with_stack cells s)

@@ -64,7 +64,7 @@ pub fn mismatch_is_no_body()
     ensures { MismatchIsNoBody }
 {}
 
-/// Parts of a step leave as it was what is read, the size of its offsets, and the items of the return stack, but for
+/// Board of a step leave as it was what is read, the size of its offsets, and the items of the return stack, but for
 /// what executing a word pushes or drops, which is said exactly, and the target of a word of control counts only where
 /// control goes there, after all else.
 #[tactic(auto, using(crate::proofs::Frames::targets, crate::proofs::Frames::frames_hold))]

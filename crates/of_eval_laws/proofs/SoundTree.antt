@@ -34,7 +34,7 @@ use Rattle.of_props.specs.declared.fault.PropFault.{PropFault}
 use Rattle.of_props.specs.declared.fault.PropFault.TheVariants.{Address}
 use Rattle.of_props.specs.Decoding.{int_decoded, phys_decoded, string_decoded}
 use Rattle.of_props.specs.Encoding.{as_array, copy_encoded, encoded, phys_bytes, phys_encoded}
-use Rattle.of_instances.specs.declared.active.Active.{Active}
+use Rattle.of_board.specs.declared.active.Active.{Active}
 use Rattle.of_instances.specs.Encoding.{array, cells_left, decode_int_entry, decode_phys_entry, decode_string_entry}
 use Rattle.of_instances.specs.Encoding.{encode_bytes_entry, encode_int_entry, encode_phys_entry, encode_plus_entry}
 use Rattle.of_instances.specs.Encoding.{encode_string_entry, encoded_left, int_left, joined_left, phys_left, phys_read}
@@ -47,7 +47,8 @@ use Rattle.of_instances.specs.Reading.{active_package, cells_of, package_at, tex
 use Rattle.of_instances.specs.Setting.{delete_entry, deleted_left, property_cut, property_entry, property_made}
 use Rattle.of_instances.specs.Setting.{property_put as property_made_by, reg_entry, reg_made, reg_put, set_left}
 use Rattle.of_instances.specs.Setting.{string_entry, string_made}
-use Rattle.of_instances.specs.Site.{Site, with_room}
+use Rattle.of_board.specs.declared.board.Board.{Board}
+use Rattle.of_instances.specs.Left.{with_room}
 use Rattle.of_instances.specs.TreeWords.{active_left, child_entry, find_method_entry, find_package_entry, found_left}
 use Rattle.of_instances.specs.TreeWords.{handle_left, method_left, method_of, new_device_entry, opened_left}
 use Rattle.of_instances.specs.TreeWords.{package_left, peer_entry, tree_entry}
@@ -56,20 +57,20 @@ use Rattle.of_eval_laws.specs.Sound.{AreBytes}
 use Rattle.of_eval_laws.proofs.SoundSpace.{bytes_joined, bytes_part, bytes_tested, fresh_sound, grown_sound, high_bytes}
 use Rattle.of_eval_laws.proofs.SoundSpace.{no_bytes, put_sound}
 
--- what is left of a site has a sound data space
-abbrev IsLeft : Result Site Throw → Type 0
+-- what is left of the board has a sound data space
+abbrev IsLeft : Result Board Throw → Type 0
 IsLeft (Ok w) = IsSound w.memory
 IsLeft (Err t) = Unit {0}
 
-if_left : (b : Bool) (x y : Result Site Throw) → IsLeft x → IsLeft y → IsLeft (if b then x else y)
+if_left : (b : Bool) (x y : Result Board Throw) → IsLeft x → IsLeft y → IsLeft (if b then x else y)
 if_left true x y h k = h
 if_left false x y h k = k
 
-room_if : (b : Bool) (w : Site) → IsSound w.memory → IsLeft (refused_if b stack_overflow w)
+room_if : (b : Bool) (w : Board) → IsSound w.memory → IsLeft (refused_if b stack_overflow w)
 room_if true w h = tt
 room_if false w h = h
 
-room_left : (r : Result Site Throw) → IsLeft r → IsLeft (with_room r)
+room_left : (r : Result Board Throw) → IsLeft r → IsLeft (with_room r)
 room_left (Ok w) h = room_if (nat_lt 256 (length w.stack)) w h
 room_left (Err t) h = tt
 
@@ -219,12 +220,12 @@ copies m a n tail s small =
     copy_if (are_readable m a.0 n.0) m (bytes_from m a.0 n.0 ++ tail) s
     (bytes_joined (bytes_from m a.0 n.0) tail (bytes_part m.bytes (place_of a.0) n.0 s.small) small)
 
-leaves : (s : List Cell) (w : Site) (r : Result (Array × DataSpace) PropFault) → IsArray r
+leaves : (s : List Cell) (w : Board) (r : Result (Array × DataSpace) PropFault) → IsArray r
     → IsLeft (encoded_left s w (of_array r))
 leaves s w (Ok x) h = h
 leaves s w (Err fault) h = tt
 
-encode_int : (s : List Cell) (w : Site) → IsSound w.memory → IsLeft (encode_int_entry s w)
+encode_int : (s : List Cell) (w : Board) → IsSound w.memory → IsLeft (encode_int_entry s w)
 unfolding encode_int_entry
 encode_int [] w sound = tt
 encode_int (x ∷ s) w sound =
@@ -235,12 +236,12 @@ encode_int (x ∷ s) w sound =
 zero_byte : AreBytes (0 ∷ [])
 zero_byte = bytes_tested (0 ∷ []) refl
 
-encode_string : (s : List Cell) (w : Site) → IsSound w.memory → IsLeft (encode_string_entry s w)
+encode_string : (s : List Cell) (w : Board) → IsSound w.memory → IsLeft (encode_string_entry s w)
 unfolding encode_string_entry
 encode_string (n ∷ a ∷ s) w sound = leaves s w _ (copies w.memory a n (0 ∷ []) sound zero_byte)
 encode_string _ w sound = tt
 
-encode_bytes : (s : List Cell) (w : Site) → IsSound w.memory → IsLeft (encode_bytes_entry s w)
+encode_bytes : (s : List Cell) (w : Board) → IsSound w.memory → IsLeft (encode_bytes_entry s w)
 unfolding encode_bytes_entry
 encode_bytes (n ∷ a ∷ s) w sound = leaves s w _ (copies w.memory a n [] sound no_bytes)
 encode_bytes _ w sound = tt
@@ -249,7 +250,7 @@ phys_small : (cells : List Cell) → AreBytes (phys_bytes cells)
 phys_small [] = no_bytes
 phys_small (c ∷ cells) = bytes_joined (bytes_high_first 4 c.0) (phys_bytes cells) (high_bytes 4 c.0) (phys_small cells)
 
-phys : (s : List Cell) (w : Site) (r : Result ℕ Throw) → IsSound w.memory → IsLeft (phys_left s w r)
+phys : (s : List Cell) (w : Board) (r : Result ℕ Throw) → IsSound w.memory → IsLeft (phys_left s w r)
 phys s w (Ok count) sound =
     let r = phys_encoded w.memory (take count s) in
     if_left (nat_lt (length s) count) (Err stack_underflow) (with_room (encoded_left (drop count s) w (of_array r))) tt
@@ -257,85 +258,85 @@ phys s w (Ok count) sound =
     (leaves (drop count s) w r (encodes w.memory (phys_bytes (take count s)) sound (phys_small (take count s)))))
 phys s w (Err t) sound = tt
 
-encode_phys : (s : List Cell) (w : Site) → IsSound w.memory → IsLeft (encode_phys_entry s w)
+encode_phys : (s : List Cell) (w : Board) → IsSound w.memory → IsLeft (encode_phys_entry s w)
 unfolding encode_phys_entry
 encode_phys [] w sound = tt
 encode_phys (hi ∷ s) w sound = phys (hi ∷ s) w _ sound
 
 -- ---- what leaves memory as it is
 
-joins : (s : List Cell) (w : Site) (r : Result Array Throw) → IsSound w.memory → IsLeft (joined_left s w r)
+joins : (s : List Cell) (w : Board) (r : Result Array Throw) → IsSound w.memory → IsLeft (joined_left s w r)
 joins s w (Ok p) sound = sound
 joins s w (Err t) sound = tt
 
-encode_plus : (s : List Cell) (w : Site) → IsSound w.memory → IsLeft (encode_plus_entry s w)
+encode_plus : (s : List Cell) (w : Board) → IsSound w.memory → IsLeft (encode_plus_entry s w)
 unfolding encode_plus_entry
 encode_plus (k ∷ q ∷ n ∷ p ∷ s) w sound = joins s w _ sound
 encode_plus _ w sound = tt
 
-ints : (s : List Cell) (w : Site) (r : Result (Cell × Array) Throw) → IsSound w.memory → IsLeft (int_left s w r)
+ints : (s : List Cell) (w : Board) (r : Result (Cell × Array) Throw) → IsSound w.memory → IsLeft (int_left s w r)
 ints s w (Ok x) sound = sound
 ints s w (Err t) sound = tt
 
-decode_int : (s : List Cell) (w : Site) → IsSound w.memory → IsLeft (decode_int_entry s w)
+decode_int : (s : List Cell) (w : Board) → IsSound w.memory → IsLeft (decode_int_entry s w)
 unfolding decode_int_entry
 decode_int (n ∷ p ∷ s) w sound =
     let r = of_array (int_decoded w.memory (array p n)) in room_left (int_left s w r) (ints s w r sound)
 decode_int _ w sound = tt
 
-strings : (s : List Cell) (w : Site) (r : Result (Array × Array) Throw) → IsSound w.memory → IsLeft (string_left s w r)
+strings : (s : List Cell) (w : Board) (r : Result (Array × Array) Throw) → IsSound w.memory → IsLeft (string_left s w r)
 strings s w (Ok x) sound = sound
 strings s w (Err t) sound = tt
 
-decode_string : (s : List Cell) (w : Site) → IsSound w.memory → IsLeft (decode_string_entry s w)
+decode_string : (s : List Cell) (w : Board) → IsSound w.memory → IsLeft (decode_string_entry s w)
 unfolding decode_string_entry
 decode_string (n ∷ p ∷ s) w sound =
     let r = of_array (string_decoded w.memory (array p n)) in room_left (string_left s w r) (strings s w r sound)
 decode_string _ w sound = tt
 
-cells : (s : List Cell) (w : Site) (r : Result (List Cell × Array) Throw) → IsSound w.memory
+cells : (s : List Cell) (w : Board) (r : Result (List Cell × Array) Throw) → IsSound w.memory
     → IsLeft (cells_left s w r)
 cells s w (Ok x) sound = sound
 cells s w (Err t) sound = tt
 
-reads : (s : List Cell) (w : Site) (p : Array) (r : Result ℕ Throw) → IsSound w.memory → IsLeft (phys_read s w p r)
+reads : (s : List Cell) (w : Board) (p : Array) (r : Result ℕ Throw) → IsSound w.memory → IsLeft (phys_read s w p r)
 reads s w p (Ok count) sound =
     let r = of_array (phys_decoded w.memory p count) in room_left (cells_left s w r) (cells s w r sound)
 reads s w p (Err t) sound = tt
 
-decode_phys : (s : List Cell) (w : Site) → IsSound w.memory → IsLeft (decode_phys_entry s w)
+decode_phys : (s : List Cell) (w : Board) → IsSound w.memory → IsLeft (decode_phys_entry s w)
 unfolding decode_phys_entry
 decode_phys (n ∷ p ∷ s) w sound = reads s w (array p n) _ sound
 decode_phys _ w sound = tt
 
-deletes : (s : List Cell) (w : Site) (r : Result (Unit {0} × List Node) Throw) → IsSound w.memory
+deletes : (s : List Cell) (w : Board) (r : Result (Unit {0} × List Node) Throw) → IsSound w.memory
     → IsLeft (deleted_left s w r)
 deletes s w (Ok x) sound = sound
 deletes s w (Err t) sound = tt
 
-cuts : (s : List Cell) (w : Site) (ph : Result Phandle Throw) (name : Result (List ℕ) Throw) → IsSound w.memory
+cuts : (s : List Cell) (w : Board) (ph : Result Phandle Throw) (name : Result (List ℕ) Throw) → IsSound w.memory
     → IsLeft (property_cut s w ph name)
 cuts s w (Err t) name sound = tt
 cuts s w (Ok ph) (Err t) sound = tt
 cuts s w (Ok ph) (Ok name) sound = deletes s w _ sound
 
-delete : (s : List Cell) (w : Site) → IsSound w.memory → IsLeft (delete_entry s w)
+delete : (s : List Cell) (w : Board) → IsSound w.memory → IsLeft (delete_entry s w)
 unfolding delete_entry
 delete (n ∷ a ∷ s) w sound = cuts s w (active_package w) (text_at w.memory a n) sound
 delete _ w sound = tt
 
-values : (s : List Cell) (w : Site) (r : Result (Option Property) Throw) → IsSound w.memory → IsLeft (value_left s w r)
+values : (s : List Cell) (w : Board) (r : Result (Option Property) Throw) → IsSound w.memory → IsLeft (value_left s w r)
 values s w (Ok None) sound = sound
 values s w (Ok (Some p)) sound = sound
 values s w (Err t) sound = tt
 
-finds : (s : List Cell) (w : Site) (ph : Result Phandle Throw) (name : Result (List ℕ) Throw) → IsSound w.memory
+finds : (s : List Cell) (w : Board) (ph : Result Phandle Throw) (name : Result (List ℕ) Throw) → IsSound w.memory
     → IsLeft (value_found s w ph name)
 finds s w (Err t) name sound = tt
 finds s w (Ok ph) (Err t) sound = tt
 finds s w (Ok ph) (Ok name) sound = values s w _ sound
 
-get_my : (s : List Cell) (w : Site) → IsSound w.memory → IsLeft (get_my_entry s w)
+get_my : (s : List Cell) (w : Board) → IsSound w.memory → IsLeft (get_my_entry s w)
 unfolding get_my_entry
 get_my (n ∷ a ∷ s) w sound =
     let ph = active_package w in
@@ -343,35 +344,35 @@ get_my (n ∷ a ∷ s) w sound =
     room_left (value_found s w ph name) (finds s w ph name sound)
 get_my _ w sound = tt
 
-get_package : (s : List Cell) (w : Site) → IsSound w.memory → IsLeft (get_package_entry s w)
+get_package : (s : List Cell) (w : Board) → IsSound w.memory → IsLeft (get_package_entry s w)
 unfolding get_package_entry
 get_package (ph ∷ n ∷ a ∷ s) w sound = finds s w (package_at w.tree ph) (text_at w.memory a n) sound
 get_package _ w sound = tt
 
-names : (s : List Cell) (w : Site) (r : Result (Option Property) Throw) → IsSound w.memory → IsLeft (name_left s w r)
+names : (s : List Cell) (w : Board) (r : Result (Option Property) Throw) → IsSound w.memory → IsLeft (name_left s w r)
 names s w (Ok None) sound = sound
 names s w (Ok (Some p)) sound = sound
 names s w (Err t) sound = tt
 
-nexts : (s : List Cell) (w : Site) (ph : Result Phandle Throw) (name : Result (List ℕ) Throw) → IsSound w.memory
+nexts : (s : List Cell) (w : Board) (ph : Result Phandle Throw) (name : Result (List ℕ) Throw) → IsSound w.memory
     → IsLeft (name_found s w ph name)
 nexts s w (Err t) name sound = tt
 nexts s w (Ok ph) (Err t) sound = tt
 nexts s w (Ok ph) (Ok name) sound = names s w _ sound
 
-next : (s : List Cell) (w : Site) → IsSound w.memory → IsLeft (next_entry s w)
+next : (s : List Cell) (w : Board) → IsSound w.memory → IsLeft (next_entry s w)
 unfolding next_entry
 next (ph ∷ n ∷ a ∷ s) w sound = nexts s w (package_at w.tree ph) (text_at w.memory a n) sound
 next _ w sound = tt
 
 -- ---- setting properties
 
-sets : (s : List Cell) (w : Site) (r : Result (List Node × DataSpace) NodeFault) → AreNodes r
+sets : (s : List Cell) (w : Board) (r : Result (List Node × DataSpace) NodeFault) → AreNodes r
     → IsLeft (set_left s w (of_tree r))
 sets s w (Ok x) h = h
 sets s w (Err fault) h = tt
 
-put_at : (s : List Cell) (w : Site) (ph : Phandle) (name xs : List ℕ) → IsSound w.memory → AreBytes name → AreBytes xs
+put_at : (s : List Cell) (w : Board) (ph : Phandle) (name xs : List ℕ) → IsSound w.memory → AreBytes name → AreBytes xs
     → IsLeft (property_made_by s w ph name xs)
 put_at s w ph name xs sound n small =
     sets s w (tree_property_set w.memory w.tree ph name xs)
@@ -390,35 +391,35 @@ text : (m : DataSpace) (a n : Cell) → IsSound m → IsText (text_at m a n)
 text m a n s =
     text_if (read_fault m a.0 n.0 One) (bytes_from m a.0 n.0) (bytes_part m.bytes (place_of a.0) n.0 s.small)
 
-makes : (s : List Cell) (w : Site) (ph : Result Phandle Throw) (value name : Result (List ℕ) Throw)
+makes : (s : List Cell) (w : Board) (ph : Result Phandle Throw) (value name : Result (List ℕ) Throw)
     → IsSound w.memory → IsText value → IsText name → IsLeft (property_made s w ph value name)
 makes s w (Err t) value name sound h k = tt
 makes s w (Ok ph) (Err t) name sound h k = tt
 makes s w (Ok ph) (Ok value) (Err t) sound h k = tt
 makes s w (Ok ph) (Ok value) (Ok name) sound h k = put_at s w ph name value sound k h
 
-property : (s : List Cell) (w : Site) → IsSound w.memory → IsLeft (property_entry s w)
+property : (s : List Cell) (w : Board) → IsSound w.memory → IsLeft (property_entry s w)
 unfolding property_entry
 property (n ∷ a ∷ k ∷ p ∷ s) w sound =
     makes s w (active_package w) (text_at w.memory p k) (text_at w.memory a n) sound (text w.memory p k sound)
     (text w.memory a n sound)
 property _ w sound = tt
 
-texts : (name : List ℕ) (s : List Cell) (w : Site) (ph : Result Phandle Throw) (r : Result (List ℕ) Throw)
+texts : (name : List ℕ) (s : List Cell) (w : Board) (ph : Result Phandle Throw) (r : Result (List ℕ) Throw)
     → IsSound w.memory → AreBytes name → IsText r → IsLeft (string_made name s w ph r)
 texts name s w (Err t) r sound n h = tt
 texts name s w (Ok ph) (Err t) sound n h = tt
 texts name s w (Ok ph) (Ok xs) sound n h =
     put_at s w ph name (xs ++ 0 ∷ []) sound n (bytes_joined xs (0 ∷ []) h zero_byte)
 
-string : (name : List ℕ) (s : List Cell) (w : Site) → IsSound w.memory → AreBytes name
+string : (name : List ℕ) (s : List Cell) (w : Board) → IsSound w.memory → AreBytes name
     → IsLeft (string_entry name s w)
 unfolding string_entry
 string name (n ∷ a ∷ s) w sound small =
     texts name s w (active_package w) (text_at w.memory a n) sound small (text w.memory a n sound)
 string name _ w sound small = tt
 
-regs : (size : Cell) (s : List Cell) (w : Site) (ph : Phandle) (r : Result ℕ Throw) → IsSound w.memory
+regs : (size : Cell) (s : List Cell) (w : Board) (ph : Phandle) (r : Result ℕ Throw) → IsSound w.memory
     → IsLeft (reg_put size s w ph r)
 regs size s w ph (Ok count) sound =
     let xs = phys_bytes (take count s ++ size ∷ []) in
@@ -427,19 +428,19 @@ regs size s w ph (Ok count) sound =
     (phys_small (take count s ++ size ∷ [])))
 regs size s w ph (Err t) sound = tt
 
-reg_makes : (size : Cell) (s : List Cell) (w : Site) (ph : Result Phandle Throw) → IsSound w.memory
+reg_makes : (size : Cell) (s : List Cell) (w : Board) (ph : Result Phandle Throw) → IsSound w.memory
     → IsLeft (reg_made size s w ph)
 reg_makes size s w (Ok ph) sound = regs size s w ph (cells_of w.memory w.tree ph) sound
 reg_makes size s w (Err t) sound = tt
 
-reg : (s : List Cell) (w : Site) → IsSound w.memory → IsLeft (reg_entry s w)
+reg : (s : List Cell) (w : Board) → IsSound w.memory → IsLeft (reg_entry s w)
 unfolding reg_entry
 reg (size ∷ hi ∷ s) w sound = reg_makes size (hi ∷ s) w (active_package w) sound
 reg _ w sound = tt
 
 -- ---- the group Properties
 
-properties : (p : PropertiesWord) (w : Site) → IsSound w.memory → IsLeft (properties_entry p w)
+properties : (p : PropertiesWord) (w : Board) → IsSound w.memory → IsLeft (properties_entry p w)
 unfolding properties_entry
 properties word.Property w sound = property w.stack w sound
 properties word.EncodeInt w sound = encode_int w.stack w sound
@@ -461,72 +462,73 @@ properties word.GetPackageProperty w sound = get_package w.stack w sound
 properties word.DeleteProperty w sound = delete w.stack w sound
 properties word.NextProperty w sound = next w.stack w sound
 
-left : (r : Result Site Throw) (w : Site) → r ≡ Ok w → IsLeft r → IsSound w.memory
+left : (r : Result Board Throw) (w : Board) → r ≡ Ok w → IsLeft r → IsSound w.memory
 left r w e h = subst (λ x. IsLeft x) e h
 
-pub properties_sound : (p : PropertiesWord) (w after : Site) → IsSound w.memory → properties_entry p w ≡ Ok after
+pub properties_sound : (p : PropertiesWord) (w after : Board) → IsSound w.memory → properties_entry p w ≡ Ok after
     → IsSound after.memory
 properties_sound p w after sound e = left (properties_entry p w) after e (properties p w sound)
 
 -- ---- the group Tree
 
-opens : (w : Site) (ph : Phandle) (r : Result (Phandle × List Node) Throw) → IsSound w.memory
+opens : (w : Board) (ph : Phandle) (r : Result (Phandle × List Node) Throw) → IsSound w.memory
     → IsLeft (opened_left w ph r)
 opens w ph (Ok x) sound = sound
 opens w ph (Err t) sound = tt
 
-new_device : (w : Site) (ph : Option Phandle) → IsSound w.memory → IsLeft (new_device_entry w ph)
+new_device : (w : Board) (ph : Option Phandle) → IsSound w.memory → IsLeft (new_device_entry w ph)
 unfolding new_device_entry
 new_device w None sound = tt
 new_device w (Some ph) sound = opens w ph _ sound
 
-actives : (w : Site) (r : Result Active Throw) → IsSound w.memory → IsLeft (active_left w r)
+actives : (w : Board) (r : Result Active Throw) → IsSound w.memory → IsLeft (active_left w r)
 actives w (Ok a) sound = sound
 actives w (Err t) sound = tt
 
-handles : (s : List Cell) (w : Site) (r : Result (Option Phandle) Throw) → IsSound w.memory → IsLeft (handle_left s w r)
+handles : (s : List Cell) (w : Board) (r : Result (Option Phandle) Throw) → IsSound w.memory
+    → IsLeft (handle_left s w r)
 handles s w (Ok x) sound = sound
 handles s w (Err t) sound = tt
 
-child : (s : List Cell) (w : Site) → IsSound w.memory → IsLeft (child_entry s w)
+child : (s : List Cell) (w : Board) → IsSound w.memory → IsLeft (child_entry s w)
 unfolding child_entry
 child [] w sound = tt
 child (x ∷ s) w sound = handles s w _ sound
 
-peer : (s : List Cell) (w : Site) → IsSound w.memory → IsLeft (peer_entry s w)
+peer : (s : List Cell) (w : Board) → IsSound w.memory → IsLeft (peer_entry s w)
 unfolding peer_entry
 peer [] w sound = tt
 peer (x ∷ s) w sound = if_left (x.0 == 0) _ _ sound (handles s w _ sound)
 
-founds : (s : List Cell) (w : Site) (x : Option Cell) → IsSound w.memory → IsLeft (found_left s w x)
+founds : (s : List Cell) (w : Board) (x : Option Cell) → IsSound w.memory → IsLeft (found_left s w x)
 founds s w None sound = sound
 founds s w (Some x) sound = sound
 
-packages : (s : List Cell) (w : Site) (r : Result (List ℕ) Throw) → IsSound w.memory → IsLeft (package_left s w r)
+packages : (s : List Cell) (w : Board) (r : Result (List ℕ) Throw) → IsSound w.memory → IsLeft (package_left s w r)
 packages s w (Ok path) sound = founds s w _ sound
 packages s w (Err t) sound = tt
 
-find_package : (s : List Cell) (w : Site) → IsSound w.memory → IsLeft (find_package_entry s w)
+find_package : (s : List Cell) (w : Board) → IsSound w.memory → IsLeft (find_package_entry s w)
 unfolding find_package_entry
 find_package (n ∷ a ∷ s) w sound = packages s w (text_at w.memory a n) sound
 find_package _ w sound = tt
 
-methods : (s : List Cell) (w : Site) (r : Result (Option Cell) Throw) → IsSound w.memory → IsLeft (method_left s w r)
+methods : (s : List Cell) (w : Board) (r : Result (Option Cell) Throw) → IsSound w.memory → IsLeft (method_left s w r)
 methods s w (Ok x) sound = founds s w x sound
 methods s w (Err t) sound = tt
 
-method_finds : (s : List Cell) (w : Site) (ph : Result Phandle Throw) (name : Result (List ℕ) Throw)
+method_finds : (s : List Cell) (w : Board) (ph : Result Phandle Throw) (name : Result (List ℕ) Throw)
     → IsSound w.memory → IsLeft (method_of s w ph name)
 method_finds s w (Err t) name sound = tt
 method_finds s w (Ok ph) (Err t) sound = tt
 method_finds s w (Ok ph) (Ok name) sound = methods s w _ sound
 
-find_method : (s : List Cell) (w : Site) → IsSound w.memory → IsLeft (find_method_entry s w)
+find_method : (s : List Cell) (w : Board) → IsSound w.memory → IsLeft (find_method_entry s w)
 unfolding find_method_entry
 find_method (ph ∷ n ∷ a ∷ s) w sound = method_finds s w (package_at w.tree ph) (text_at w.memory a n) sound
 find_method _ w sound = tt
 
-tree : (p : TreeWord) (w : Site) → IsSound w.memory → IsLeft (tree_entry p w)
+tree : (p : TreeWord) (w : Board) → IsSound w.memory → IsLeft (tree_entry p w)
 unfolding tree_entry
 tree node.NewDevice w sound = new_device w w.active.«package» sound
 tree node.FinishDevice w sound = actives w _ sound
@@ -549,5 +551,5 @@ tree node.MyUnit w sound = tt
 tree node.MyAddress w sound = tt
 tree node.MySpace w sound = tt
 
-pub tree_sound : (p : TreeWord) (w after : Site) → IsSound w.memory → tree_entry p w ≡ Ok after → IsSound after.memory
+pub tree_sound : (p : TreeWord) (w after : Board) → IsSound w.memory → tree_entry p w ≡ Ok after → IsSound after.memory
 tree_sound p w after sound e = left (tree_entry p w) after e (tree p w sound)
