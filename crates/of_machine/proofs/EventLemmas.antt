@@ -36,13 +36,13 @@ loaded_flat : (o : Option Phandle) (image : List ℕ) (m : MachineState Definiti
 loaded_flat None image m = refl
 loaded_flat (Some node) image m =
     ap (λ (s : State Coding). record { eval = s; steps = m.steps })
-    (begun_flat image node (image_pushed m.eval.parts.memory image) m.eval)
+    (begun_flat image node (image_pushed m.eval.board.memory image) m.eval)
 
 loaded_placed : (o : Option Phandle) (image : List ℕ) (m : MachineState Definitions) → StatesStayPlaced
     → AllPlaced m.eval → AllPlaced (loaded_for m image o).eval
 loaded_placed None image m stay placed = placed
 loaded_placed (Some node) image m stay placed =
-    begun_placed image node (image_pushed m.eval.parts.memory image) m.eval stay placed
+    begun_placed image node (image_pushed m.eval.board.memory image) m.eval stay placed
 
 unless_flat : (o : Option Refusal) (m : MachineState Definitions) (image path : List ℕ)
     → loaded_unless o (flat_machine m) image path ≡ flat_machine (loaded_unless o m image path)

@@ -10,7 +10,7 @@ use Rattle.of_nodes.specs.declared.properties.Property.{Property}
 use Rattle.of_nodes.specs.declared.tree.Node.{Node}
 use Rattle.of_nodes.specs.Nodes.{first_tree, named_child, then_child, with_node}
 use Rattle.of_nodes.specs.Properties.{new_property, set_to}
-use Rattle.of_eval.specs.Loading.{first_parts, made_or_none}
+use Rattle.of_eval.specs.Loading.{first_board, made_or_none}
 
 -- what a call leaves keeps the images
 abbrev PutKeeps : {A : Type 0} → DataSpace → Result (A × DataSpace) MemFault → Type 0
@@ -90,5 +90,5 @@ made_keeps (Ok x) h = h ∙ none_fresh
 made_keeps (Err fault) h = none_fresh
 
 -- no image stands in the data space at first
-pub first_images : first_parts.memory.images ≡ []
+pub first_images : first_board.memory.images ≡ []
 first_images = made_keeps (first_tree fresh) (tree_keeps fresh)

@@ -11,7 +11,7 @@ use Rattle.of_compile.specs.Structured.{Definitions, flat_of}
 use Rattle.of_compile.specs.Coding.{Coding}
 use Rattle.of_eval.specs.State.{State, flat_calls}
 use Rattle.of_eval.specs.Steps.{stepped, steps_from}
-use Rattle.of_eval.specs.Loading.{first_parts, first_state}
+use Rattle.of_eval.specs.Loading.{first_board, first_state}
 use Rattle.of_eval_laws.specs.Structured.{StepsAgree, structured_calls, no_definitions}
 use Rattle.of_eval_laws.specs.Placed.{AllPlaced, StatesStayPlaced}
 use Rattle.of_machine.specs.declared.answers.Refusal.{Refusal}
@@ -42,9 +42,9 @@ short_by image false e h = refl
 
 -- an image that is accepted finds room on a new machine
 pub fits_first : (image : List ℕ) → image_refusal image ≡ None
-    → image_fits (flat_machine (idle no_definitions)).eval.parts.memory (length image) ≡ true
+    → image_fits (flat_machine (idle no_definitions)).eval.board.memory (length image) ≡ true
 fits_first image accepted =
-    fits_empty first_parts.memory (length image) first_images
+    fits_empty first_board.memory (length image) first_images
     (short_by image (nat_lt 0x40000 (length image)) refl accepted)
 
 -- ---- runs over cells
@@ -133,7 +133,7 @@ feeds_agree (suc n) f agree stay placed =
 pub runs_agree : StepsAgree → StatesStayPlaced → RunsAgree
 runs_agree agree stay image lines answers calls n =
     let first : State Definitions = first_state no_definitions in
-    let pushed = image_pushed first.parts.memory image in
+    let pushed = image_pushed first.board.memory image in
     let f = beginning no_definitions image lines answers calls in
     let from : beginning (flat_of no_definitions) image lines answers calls ≡ flat_feed f =
     ap (λ s. record { machine = record { eval = s; steps = 0 }; lines = lines; answers = answers; calls = calls })

@@ -65,11 +65,11 @@ HasMoved old new = (old.steps ≤ new.steps) × (steps_from flat_calls (new.step
 
 -- a machine with an image that has just been loaded for a node
 abbrev pub loaded : {S : Type 0} → MachineState S → List ℕ → Phandle → MachineState S
-loaded m image node = record m { eval = begun image node (image_pushed m.eval.parts.memory image) m.eval }
+loaded m image node = record m { eval = begun image node (image_pushed m.eval.board.memory image) m.eval }
 
 -- the node at a path, if there is one
 abbrev pub node_at : {S : Type 0} → MachineState S → List ℕ → Option Phandle
-node_at m path = found m.eval.parts.memory m.eval.parts.tree path
+node_at m path = found m.eval.board.memory m.eval.board.tree path
 
 -- a machine with an image that has just been loaded for the node that was found
 abbrev pub loaded_for : {S : Type 0} → MachineState S → List ℕ → Option Phandle → MachineState S
@@ -107,7 +107,7 @@ abbrev pub load_refusal : {S : Type 0} → MachineState S → List ℕ → List 
 load_refusal m image path =
     if is_running m then Some Busy
     else or_next (image_refusal image)
-    (or_next (node_refusal (node_at m path)) (room_refusal (image_fits m.eval.parts.memory (length image))))
+    (or_next (node_refusal (node_at m path)) (room_refusal (image_fits m.eval.board.memory (length image))))
 
 -- a refusal is for that reason, or for memory where there is no other
 abbrev pub Refuses : Option Refusal → Refusal → Type 0

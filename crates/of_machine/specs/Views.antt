@@ -45,7 +45,7 @@ own_or_written None name = option_map (λ (w : Word). record { 0 = written_xt w 
 -- written one
 abbrev pub xt_named : {S : Type 0} → State S → List ℕ → Option Cell
 xt_named s name =
-    option_or (active_method s.parts.tree s.parts.active.«package» name)
+    option_or (active_method s.board.tree s.board.active.«package» name)
     (own_or_written (found s.words.dictionary name) name)
 
 -- the execution token that an FCode names

@@ -31,16 +31,12 @@ pub struct Machine<C: CodeStore> {
 
 // Clauses see a state of the machine whose definitions are cells.
 impl<C: CodeStore> Model for Machine<C> {
-    ghost use Rattle.std.specs.Prelude.{◌≡◌, true};
     ghost use Rattle.of_compile.specs.Coding.{Coding};
     ghost use Rattle.of_machine.specs.States.{MachineState};
 
     ghost Value = { MachineState Coding };
 
     ghost view = { λ m. record { eval = m.eval; steps = m.steps } };
-
-    // what runs has a console that is ready for a throw
-    ghost invariant = { λ m. m.eval.flow.is_running ≡ true → m.eval.parts.console.ready ≡ true };
 }
 
 /// The image, with its header read.
@@ -145,10 +141,10 @@ impl<C: CodeStore> Machine<C> {
     /// ImageTooLong where the image region has no room left, then NoMemory; a refusal changes nothing.
     pub(crate) fn begin(&mut self, image: &[u8], node: Phandle) -> Result<(), Refusal>
         requires idle { self.old.eval.flow.is_running ≡ false }
-        ensures room { OnOk result (image_fits self.old.eval.parts.memory (length image.now) ≡ true) }
+        ensures room { OnOk result (image_fits self.old.eval.board.memory (length image.now) ≡ true) }
         ensures ok { OnOk result (self.new ≡ loaded self.old image.now node) }
         ensures err { IfErr result (λ e.
-            Refuses (room_refusal (image_fits self.old.eval.parts.memory (length image.now))) e) }
+            Refuses (room_refusal (image_fits self.old.eval.board.memory (length image.now))) e) }
         ensures unchanged { OnErr result (self.new ≡ self.old) }
     {
         match self.eval.begin_image(image, node) {

@@ -13,14 +13,14 @@ use of_nodes::Tree;
 impl<C: CodeStore> Machine<C> {
     /// The cells of the data stack, the bottom first.
     pub fn stack(&self) -> &[Cell]
-        ensures { reverse result.now ≡ self.now.eval.parts.stack }
+        ensures { reverse result.now ≡ self.now.eval.board.stack }
     {
         self.eval.stack()
     }
 
     /// The byte at an address of the data space, if it can be read.
     pub fn byte(&self, addr: Cell) -> Option<u8>
-        ensures { result ≡ byte_of self.now.eval.parts.memory addr.0 }
+        ensures { result ≡ byte_of self.now.eval.board.memory addr.0 }
     {
         match self.eval.memory().read8(addr) {
             Ok(byte) => Some(byte),
@@ -30,21 +30,21 @@ impl<C: CodeStore> Machine<C> {
 
     /// The data space.
     pub fn memory(&self) -> &Memory
-        ensures { result.now ≡ self.now.eval.parts.memory }
+        ensures { result.now ≡ self.now.eval.board.memory }
     {
         self.eval.memory()
     }
 
     /// The device tree (IEEE 1275-1994, 3.2.1).
     pub fn tree(&self) -> &Tree
-        ensures { result.now ≡ self.now.eval.parts.tree }
+        ensures { result.now ≡ self.now.eval.board.tree }
     {
         self.eval.tree()
     }
 
     /// All bytes printed so far.
     pub fn console(&self) -> &[u8]
-        ensures { result.now ≡ self.now.eval.parts.console.text }
+        ensures { result.now ≡ self.now.eval.board.console.text }
     {
         self.eval.console()
     }
@@ -65,7 +65,7 @@ impl<C: CodeStore> Machine<C> {
 
     /// The execution token of the method that a name has in the active package, if there is one.
     fn active_method(&self, name: &[u8]) -> Option<Cell>
-        ensures { result ≡ active_method self.now.eval.parts.tree self.now.eval.parts.active.«package» name.now }
+        ensures { result ≡ active_method self.now.eval.board.tree self.now.eval.board.active.«package» name.now }
     {
         let Some(package) = self.eval.active_package() else {
             return None;
