@@ -5,8 +5,8 @@ ghost use Rattle.std.specs.Prelude.{◌≤◌};
 use of_cells::Cell;
 use of_code::{CodeStore, Item, ListCode, Place};
 use of_compile::{
-    Coding, Element, PlainItem, structures_are_flat, compiles_reading, definitions_come_and_go,
-    places_are_numbered, runs_by_structure,
+    Coding, Element, PlainItem, compiles_reading, definitions_come_and_go, places_are_numbered,
+    runs_by_structure, structures_are_flat,
 };
 use of_stacks::Throw;
 use std::alloc::Global;

@@ -19,6 +19,7 @@ a6 16fffd|fault -26: loop parameters unavailable$
 /// `execute`, `catch` and defers: three in a row, full stacks, and words that aren't executed.
 const EXECUTING: &str = "\
 b50800 bc b50801 bc 111e c30800 110800 c30801 a6 a7 0801 9d 00|3 
+b50800 bc b50801 bc b50802 bc 111e c30800 110800 c30801 110801 c30802 a6 a7 0802 9d 00|3 
 10000000ff a5 170000 19 15fffe 117b 0217 9d 00|0 
 10000000fd a6 30 a6 1f 47 34 14fff9 46 117b 0217 9d 00|0 
 10c0000528 1d|fault -14: compile-only word$

@@ -53,10 +53,10 @@ two-whiles|f108097e00000028b50800b7b14714000fa61f47a73d14000613fff3b2b2c21000000
 #[test]
 fn images(rt: HostRuntime) -> Result<(), Fail> {
     for line in IMAGES.lines() {
-        let mut parts = line.split('|');
-        let name = parts.next().unwrap_or("");
-        let image = bytes_of(rt.alloc(), parts.next().unwrap_or(""))?;
-        let wanted = parts.next().unwrap_or("");
+        let mut board = line.split('|');
+        let name = board.next().unwrap_or("");
+        let image = bytes_of(rt.alloc(), board.next().unwrap_or(""))?;
+        let wanted = board.next().unwrap_or("");
         assert_eq!(rt; shown(rt.alloc(), &image, 999)?.as_str(), wanted, "{name}");
     }
     Ok(())
@@ -187,10 +187,10 @@ b50801 b7 1000000800 da 46 1d c2 110801 a4 1000000801 db b50800 b7 0801|800|none
 /// The first line whose image leaves its number with something else; nothing where there is none.
 fn other_number(alloc: Global, lines: &str) -> Result<String, Fail> {
     for line in lines.lines() {
-        let mut parts = line.split('|');
-        let tokens = parts.next().unwrap_or("");
-        let code = u16::from_str_radix(parts.next().unwrap_or(""), 16)?;
-        let wanted = u32::from_str_radix(parts.next().unwrap_or(""), 16).ok();
+        let mut board = line.split('|');
+        let tokens = board.next().unwrap_or("");
+        let code = u16::from_str_radix(board.next().unwrap_or(""), 16)?;
+        let wanted = u32::from_str_radix(board.next().unwrap_or(""), 16).ok();
         let image = bytes_of(alloc, &format!(in alloc; "f108000000000000{tokens}")?)?;
         if number_left(alloc, &image, code)? != wanted {
             return Ok(line.to_string(alloc)?);

@@ -4,6 +4,8 @@
 #[cfg(test)]
 mod byte_loading;
 #[cfg(test)]
+mod flow;
+#[cfg(test)]
 mod going;
 #[cfg(test)]
 mod images;

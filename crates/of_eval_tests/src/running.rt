@@ -11,7 +11,7 @@ use std::test::Fail;
 
 /// Makes so many steps at most, the first by itself, and answers how many were made.
 fn run(eval: &mut Eval<ListCode>, limit: u64) -> Result<u64, Fail>
-    requires ready { eval.old.flow.is_running ≡ true → eval.old.parts.console.ready ≡ true }
+    requires ready { eval.old.flow.is_running ≡ true → eval.old.board.console.ready ≡ true }
 {
     if limit == 0 || !eval.is_running() {
         return Ok(0);

@@ -15,6 +15,8 @@ mod instances;
 #[cfg(test)]
 mod nodes;
 #[cfg(test)]
+mod ordinary;
+#[cfg(test)]
 mod properties;
 #[cfg(test)]
 mod running;

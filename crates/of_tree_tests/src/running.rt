@@ -45,7 +45,8 @@ impl Trial {
         match word_with_name(name.as_bytes()) {
             Some(Word::Properties(word)) => run_properties_word(word, &mut self.board),
             Some(Word::Tree(word)) => run_tree_word(word, &mut self.board),
-            _ => Err(Stop::NoMemory),
+            Some(word) => of_words::run_word(word, &mut self.board),
+            None => Err(Stop::NoMemory),
         }
     }
 
