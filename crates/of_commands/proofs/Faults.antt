@@ -76,8 +76,8 @@ fault_of_run file f (inr none) = inr (inl (inr (inr (inl none))))
 -- what a run prints was printed, or a part of it
 pub run_printed : (known : Option (List ℕ)) (limit : ℕ) (m : MachineState Coding) (e : End)
     (old new : Option (List ℕ)) (r : Result Status Fault) → IfSome known (λ file. RunsFile file limit m e)
-    → IfOk r (λ s. (s ≡ end_status e) × Appends old new m.eval.parts.console.text)
-    → OnErr r (AppendsPart old new m.eval.parts.console.text) → IfErr r (λ f. IsUnwritten f ⊎ (f ≡ fault.NoMemory))
+    → IfOk r (λ s. (s ≡ end_status e) × Appends old new m.eval.board.console.text)
+    → OnErr r (AppendsPart old new m.eval.board.console.text) → IfErr r (λ f. IsUnwritten f ⊎ (f ≡ fault.NoMemory))
     → IfSome known (λ file. Prints file limit old new r)
 run_printed None limit m e old new r runs all part why = tt
 run_printed (Some file) limit m e old new (Ok s) runs all part why = (m, (e, runs, sym all.0), all.1)

@@ -99,13 +99,13 @@ end_status end.LimitReached = status.LimitReached
 abbrev pub PrintsRun : List ℕ → ℕ → Option (List ℕ) → Option (List ℕ) → Status → Type 0
 PrintsRun file limit old new s =
     (m : MachineState Coding) × ((e : End) × RunsFile file limit m e × (end_status e ≡ s))
-    × Appends old new m.eval.parts.console.text
+    × Appends old new m.eval.board.console.text
 
 -- nothing was printed, or the first console bytes of the run
 abbrev pub PrintsPart : List ℕ → ℕ → Option (List ℕ) → Option (List ℕ) → Type 0
 PrintsPart file limit old new = Keeps old new
     ⊎ ((m : MachineState Coding) × ((e : End) × RunsFile file limit m e)
-    × AppendsPart old new m.eval.parts.console.text)
+    × AppendsPart old new m.eval.board.console.text)
 
 -- a write failed
 abbrev pub IsUnwritten : Fault → Type 0

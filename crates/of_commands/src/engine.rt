@@ -108,9 +108,9 @@ fn print_end<W: Write, E: Write>(
     errors: &mut Messages<E>,
 ) -> Result<Status, Fault>
     ensures ok { IfOk result (λ s. (s ≡ end_status end) × Appends (W.contents out.old) (W.contents out.new)
-        machine.now.eval.parts.console.text) }
+        machine.now.eval.board.console.text) }
     ensures err { OnErr result (AppendsPart (W.contents out.old) (W.contents out.new)
-        machine.now.eval.parts.console.text) }
+        machine.now.eval.board.console.text) }
     ensures fault { IfErr result (λ f. IsUnwritten f ⊎ (f ≡ Fault.NoMemory)) }
     ensures silent { explain ≡ false → errors.new ≡ errors.old }
 {
