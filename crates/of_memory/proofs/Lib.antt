@@ -16,4 +16,7 @@ pub mod Grown
 pub mod Ranges
 pub mod Joined
 pub mod Latest
+pub mod Ended
 pub mod PropertyRegion
+pub mod SoundChanges
+pub mod ImageRegion

@@ -1,7 +1,7 @@
 -- What stays true of a data space when its bytes change.
 use Rattle.std.proofs.Common.{◌≡◌, ℕ, List, length}
 use Rattle.of_memory.specs.Regions.{byte_count}
-use Rattle.of_memory.proofs.Splices.{AreBytes}
+use Rattle.of_memory.specs.SoundChanges.{AreBytes}
 use Rattle.of_memory.specs.DataSpace.{DataSpace, IsSound}
 
 pub sound_bytes :

@@ -1,9 +1,9 @@
 -- Lists put into the list of all bytes, one after another.
 use Rattle.std.proofs.Common.{◌≡◌, ℕ, ◌+◌, ◌≤◌, List, ◌++◌, length, take, drop, get_or, ◌⊎◌, inl, inr, ◌<◌, ◌-◌, arith}
 use Rattle.std.proofs.lemmas.List.{places, same_lists, length-take, length-drop}
-use Rattle.std.specs.List.{All}
 use Rattle.std.proofs.lemmas.Bool.{cases_lt}
 use Rattle.of_memory.specs.DataSpace.{splice}
+use Rattle.of_memory.specs.SoundChanges.{AreBytes}
 
 -- one behind another
 pub splice_behind :
@@ -20,10 +20,6 @@ splice_apart l xs ys i j apart fits = same_lists _ _ (grind (arith, places)) (λ
 -- a part of a list that lies in it has its whole length
 pub part_length : (l : List ℕ) (i n : ℕ) → i + n ≤ length l → length (take n (drop i l)) ≡ n
 part_length l i n fits = omega (arith, length-take n (drop i l), length-drop i l)
-
--- each element is a byte
-abbrev pub AreBytes : List ℕ → Type 0
-AreBytes xs = All (λ b. b < 256) xs
 
 in_splice :
     (l ys : List ℕ) (i k d : ℕ) → i + length ys ≤ length l → i ≤ k → k < i + length ys

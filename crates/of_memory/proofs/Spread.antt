@@ -5,7 +5,7 @@ use Rattle.std.proofs.lemmas.List.{get_or_default}
 use Rattle.of_memory.specs.DataSpace.{DataSpace}
 use Rattle.of_memory.specs.declared.width.Width.TheVariants.{One}
 use Rattle.of_memory.proofs.Nothing.{no_read_fault}
-use Rattle.of_memory.proofs.Splices.{AreBytes}
+use Rattle.of_memory.specs.SoundChanges.{AreBytes}
 use Rattle.of_memory.specs.Access.{every, spread_over, read_spread}
 
 pub over_some : (n s : ℕ) → 0 < n → spread_over n s ≡ (n - 1) * s + 1

@@ -11,3 +11,5 @@ pub mod BlockCalls
 pub mod Laws
 pub mod RangeLaws
 pub mod PropertyRegion
+pub mod SoundChanges
+pub mod ImageRegion

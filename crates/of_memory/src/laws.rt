@@ -1,7 +1,9 @@
+ghost use Rattle.of_memory.specs.ImageRegion.{ImagesChangeByImagesAlone};
 ghost use Rattle.of_memory.specs.Images.{LatestIsPushed};
 ghost use Rattle.of_memory.specs.Laws.{WritesChangeTheirBytes, ReadsGiveTheBytes, SpreadsGiveTheBytes};
 ghost use Rattle.of_memory.specs.PropertyRegion.{PropertiesChangeByPutsAlone};
 ghost use Rattle.of_memory.specs.RangeLaws.{PartsAreGood, FaultsStay, RangesArePlaced, ScratchIsOpen, WritesJoin};
+ghost use Rattle.of_memory.specs.SoundChanges.{ChangesStaySound};
 
 /// A write to bytes that can be read changes exactly these bytes of the map from address to byte.
 #[tactic(auto, using(crate::proofs::Bytes::writes_change_their_bytes))]
@@ -62,4 +64,17 @@ pub fn latest_is_pushed()
 #[tactic(auto, using(crate::proofs::PropertyRegion::properties_change_by_puts_alone))]
 pub fn properties_change_by_puts_alone()
     ensures { PropertiesChangeByPutsAlone }
+{}
+
+/// A data space is sound at first: it has all its bytes, what is taken of each region lies there, and no two of its
+/// blocks or images meet. Each change leaves a sound one sound.
+#[tactic(auto, using(crate::proofs::SoundChanges::changes_stay_sound))]
+pub fn changes_stay_sound()
+    ensures { ChangesStaySound }
+{}
+
+/// The images that run, and the bytes of the image region, change by pushes and pops of images alone
+/// (IEEE 1275-1994, 5.2.2).
+pub fn images_change_by_images_alone()
+    ensures { ImagesChangeByImagesAlone }
 {}

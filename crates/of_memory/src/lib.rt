@@ -12,9 +12,9 @@ mod width;
 
 pub use fault::MemFault;
 pub use laws::{
-    faults_stay, latest_is_pushed, parts_are_good, properties_change_by_puts_alone,
-    ranges_are_placed, reads_give_the_bytes, scratch_is_open, spreads_give_the_bytes,
-    writes_change_their_bytes, writes_join,
+    changes_stay_sound, faults_stay, images_change_by_images_alone, latest_is_pushed,
+    parts_are_good, properties_change_by_puts_alone, ranges_are_placed, reads_give_the_bytes,
+    scratch_is_open, spreads_give_the_bytes, writes_change_their_bytes, writes_join,
 };
 pub use memory::Memory;
 pub use width::Width;
