@@ -164,6 +164,17 @@ closed_by t m (Some k) = closed_at t m k (get_or t.made k None)
 abbrev pub closed : InstanceTable → DataSpace → Cell → Result (Unit {0} × (InstanceTable × DataSpace)) InstanceFault
 closed t m ih = closed_by t m (number_of (length t.made) ih)
 
+-- what a release left, or what there was before one that was refused
+abbrev pub release_left :
+    InstanceTable → DataSpace → Result (Unit {0} × (InstanceTable × DataSpace)) InstanceFault
+    → InstanceTable × DataSpace
+release_left t m (Ok x) = x.1
+release_left t m (Err fault) = (t, m)
+
+-- without the instance of an ihandle, or the same where it is that of no live instance
+abbrev pub released : InstanceTable → DataSpace → Cell → InstanceTable × DataSpace
+released t m ih = release_left t m (closed t m ih)
+
 -- ---- other arguments
 
 -- four cells that begin with the first of these, and else are 0

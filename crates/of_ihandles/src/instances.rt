@@ -4,7 +4,7 @@ ghost use Rattle.of_ihandles.specs.Blocks.{span};
 ghost use Rattle.of_ihandles.specs.InstanceOutcomes.{Adds, Answers};
 ghost use Rattle.of_ihandles.specs.Instances.{argument_span, arguments_set, closed, found, ihandle_of, lengths_of};
 ghost use Rattle.of_ihandles.specs.Instances.{most_instances, no_instances, number_of, opened, package_of};
-ghost use Rattle.of_ihandles.specs.Instances.{parent_of};
+ghost use Rattle.of_ihandles.specs.Instances.{parent_of, released};
 ghost use Rattle.of_ihandles.specs.Instances.{slot_block, slot_read, slot_stored, slotted, unit_of, units};
 ghost use Rattle.of_ihandles.specs.Slots.{size_of, slots_of};
 
@@ -282,8 +282,8 @@ impl Instances {
     /// arguments, and one for each slot of the package, which begins as its template. The unit is four cells of 0.
     /// The package and the parent are kept as they are given, whether or not there are such.
     ///
-    /// Full, if there were 65,536 openings, whatever memory there is, or a block finds no room; or NoMemory. Then nothing
-    /// changes, in memory either.
+    /// Full, if there were 65,536 openings, whatever memory there is, or a block finds no room; or NoMemory. Then
+    /// nothing changes, in memory either.
     #[tactic(auto, using(crate::proofs::Opening::opening))]
     pub fn open(
         &mut self,
@@ -335,6 +335,15 @@ impl Instances {
         instance.arguments.give(memory);
         instance.slots.give(memory);
         Ok(())
+    }
+
+    /// Releases an instance as `close` does, and nothing where it was released already (IEEE 1275-1994, annex A,
+    /// `finish-device`).
+    pub fn release(&mut self, memory: &mut Memory, ihandle: Cell)
+        ensures { released self.old memory.old ihandle ≡ (self.new, memory.new) }
+    {
+        // An instance that was released already is none to release.
+        let _ = self.close(memory, ihandle);
     }
 
     /// Gives an instance other arguments, which are copied, and another unit (IEEE 1275-1994, annex A, `set-args`):
