@@ -41,7 +41,7 @@ unfolding read_fault
 reads m a zero w from to even = refl
 reads m a (suc n) w from to even = rw (some_bytes n, all_read m a (suc n) from to, even) refl
 
-writes :
+pub writes :
     (m : DataSpace) (a n : ℕ) (w : Width) → instance_start ≤ a → a + n ≤ instance_limit → a % bytes_in w ≡ 0
     → write_fault m a n w ≡ None
 unfolding write_fault

@@ -54,7 +54,7 @@ written_back m b ys here few e =
     let p = place_in_region b.address.0 here.from (omega (arith, here.to)) in
     splice_back m.bytes ys (place_of b.address.0) (omega (arith, p, here.to, few)) e
 
-template_short : (t : Template) (b : Span) → length (template_bytes t) ≤ rounded b.length.0
+pub template_short : (t : Template) (b : Span) → length (template_bytes t) ≤ rounded b.length.0
 template_short (Value x) b = let up = rounded_up b.length.0 in omega (arith, up)
 template_short (Zeros n) b = omega arith
 

@@ -9,6 +9,7 @@
 -- OwnedByCalls: the law `blocks_are_owned`.
 -- SlotsAreOwn: the law `slots_are_own`.
 -- SlotsByCalls: each call keeps a block for each slot in each live instance.
+-- SpaceKept: the law `instances_keep_the_space`.
 pub mod BlockAccess
 pub mod BlockCounts
 pub mod BlockLists
@@ -20,3 +21,4 @@ pub mod OwnedByCalls
 pub mod RoomLoops
 pub mod SlotsAreOwn
 pub mod SlotsByCalls
+pub mod SpaceKept

@@ -8,3 +8,4 @@ pub mod OwnedBlocks
 pub mod OwnSlots
 pub mod Ihandles
 pub mod Beginnings
+pub mod SpaceKept

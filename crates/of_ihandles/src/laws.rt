@@ -3,6 +3,11 @@ ghost use Rattle.of_ihandles.specs.Beginnings.{InstancesBegin};
 ghost use Rattle.of_ihandles.specs.Ihandles.{IhandlesAreNew};
 ghost use Rattle.of_ihandles.specs.OwnedBlocks.{BlocksAreOwned};
 ghost use Rattle.of_ihandles.specs.OwnSlots.{SlotsAreOwn};
+ghost use Rattle.of_ihandles.specs.SpaceKept.{InstancesKeepTheSpace};
+
+use of_memory::{
+    changes_stay_sound, images_change_by_images_alone, properties_change_by_puts_alone,
+};
 
 /// The live blocks of the instance region are those of the live instances, whatever is done with these, and no two of
 /// them meet. So a release gives back exactly the blocks of its instance.
@@ -31,3 +36,12 @@ pub fn ihandles_are_new()
 pub fn instances_begin()
     ensures { InstancesBegin }
 {}
+
+/// Each call over instances leaves the data space sound, and the images that run and the properties as they were.
+pub fn instances_keep_the_space()
+    ensures { InstancesKeepTheSpace }
+{
+    changes_stay_sound();
+    images_change_by_images_alone();
+    properties_change_by_puts_alone();
+}

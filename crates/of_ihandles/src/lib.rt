@@ -11,5 +11,7 @@ mod slots;
 pub use blocks::{Block, Blocks};
 pub use instance_fault::InstanceFault;
 pub use instances::{Instance, Instances};
-pub use laws::{blocks_are_owned, ihandles_are_new, instances_begin, slots_are_own};
+pub use laws::{
+    blocks_are_owned, ihandles_are_new, instances_begin, instances_keep_the_space, slots_are_own,
+};
 pub use slots::{Slot, Template};
