@@ -1,7 +1,8 @@
 -- Lists of nodes.
-use Rattle.std.proofs.Common.{◌≡◌, ℕ, ◌+◌, ◌<◌, ◌≤◌, max, zero, suc, List, [], ◌∷◌, ◌++◌, length, get_or, set, arith}
+use Rattle.std.proofs.Common.{◌≡◌, ℕ, ◌+◌, ◌-◌, ◌<◌, ◌≤◌, max, zero, suc, List, [], ◌∷◌, ◌++◌, length, get_or, set}
+use Rattle.std.proofs.Common.{arith, take}
 use Rattle.std.proofs.Common.{length-append}
-use Rattle.std.proofs.lemmas.List.{get_or_read, length-set}
+use Rattle.std.proofs.lemmas.List.{get_or_read, length-set, length-take-le}
 use Rattle.of_nodes.specs.declared.tree.Node.{Node}
 use Rattle.of_nodes.specs.Nodes.{AreNodes, AreRooted, most_nodes, new_node, node_at, parent_in}
 
@@ -20,6 +21,19 @@ added ns n h l few = record {
   rooted = rooted_push 0 ns n h.rooted (omega arith);
   three = rw length-append (let t = h.three in omega (arith, t));
   few = rw length-append (omega arith);
+}
+
+-- without the nodes from a number on
+rooted_take : (k : ℕ) (ns : List Node) (n : ℕ) → AreRooted k ns → AreRooted k (take n ns)
+rooted_take k ns zero h = tt
+rooted_take k [] (suc n) h = tt
+rooted_take k (m ∷ ns) (suc n) h = (h.0, rooted_take (suc k) ns n h.1)
+
+pub taken_back : (ns : List Node) → AreNodes ns → 3 < length ns → AreNodes (take (length ns - 1) ns)
+taken_back ns h l = record {
+  rooted = rooted_take 0 ns (length ns - 1) h.rooted;
+  three = rw (length-take-le (length ns - 1) ns (omega arith)) (omega arith);
+  few = rw (length-take-le (length ns - 1) ns (omega arith)) (let f = h.few in omega (arith, f));
 }
 
 -- a node that was read

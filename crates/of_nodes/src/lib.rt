@@ -22,4 +22,5 @@ pub use laws::{
 pub use methods::Methods;
 pub use phandles::Phandle;
 pub use properties::{Properties, Property, Span};
+pub use texts::{before, behind};
 pub use tree::{Node, Tree};

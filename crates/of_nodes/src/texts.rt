@@ -12,7 +12,7 @@ fn place_of(text: &[u8], byte: u8) -> Option<usize>
 
 /// What stands before the first of a byte, or all.
 #[tactic(auto, using(crate::proofs::TextParts::befores))]
-pub(crate) fn before(text: &[u8], byte: u8) -> &[u8]
+pub fn before(text: &[u8], byte: u8) -> &[u8]
     ensures { result.now ≡ before byte text.now }
 {
     match place_of(text, byte) {
@@ -23,7 +23,7 @@ pub(crate) fn before(text: &[u8], byte: u8) -> &[u8]
 
 /// What stands behind the first of a byte, if there is one.
 #[tactic(auto, using(crate::proofs::TextParts::behinds))]
-pub(crate) fn behind(text: &[u8], byte: u8) -> Option<&[u8]>
+pub fn behind(text: &[u8], byte: u8) -> Option<&[u8]>
     ensures value { option_map (λ s. s.now) result ≡ behind byte text.now }
     ensures shorter { IfSome result (λ s. length s.now < length text.now) }
 {

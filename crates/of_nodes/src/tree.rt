@@ -1,4 +1,5 @@
-ghost use Rattle.std.specs.Prelude.{◌≡◌, ◌<◌, ◌≤◌, ◌+◌, ◌⊎◌, List, max, length, drop, nat_le, codes, option_map};
+ghost use Rattle.std.specs.Prelude.{◌≡◌, ◌<◌, ◌≤◌, ◌+◌, ◌-◌, ◌⊎◌, List, max, length, drop, take, nat_le, codes};
+ghost use Rattle.std.specs.Prelude.{option_map};
 ghost use Rattle.std.specs.Prelude.{Ok, Err, IfErr, IfOk, IfSome, MatchResult, OnErr, OnOk, vec_capacity, vec_len};
 ghost use Rattle.std.specs.Option.{option_or};
 ghost use Rattle.of_nodes.specs.Lookup.{found, package_found, way_found};
@@ -259,7 +260,8 @@ impl Tree {
     /// NoNode, if the parent is none; TooManyNodes, if there are 1,024; or NoMemory. Then nothing changes.
     #[tactic(auto, using(crate::proofs::NodeLists::added))]
     pub fn add_node(&mut self, parent: Phandle) -> Result<Phandle, NodeFault>
-        ensures { Adds result self.old self.new (node_added self.old parent) }
+        ensures outcome { Adds result self.old self.new (node_added self.old parent) }
+        ensures more { OnOk result (3 < length self.new) }
     {
         let count = self.nodes.len();
         let parent = self.number_of(parent)?;
@@ -274,6 +276,15 @@ impl Tree {
             methods,
         })?;
         Ok(Phandle::of(count))
+    }
+
+    /// Takes back the node that was made last, which is none of the first three.
+    #[tactic(auto, using(crate::proofs::NodeLists::taken_back))]
+    pub fn take_back_node(&mut self)
+        requires { 3 < length self.old }
+        ensures { self.new ≡ take (length self.old - 1) self.old }
+    {
+        self.nodes.truncate(self.nodes.len() - 1);
     }
 
     /// The property of a node, if it has one of the name.
