@@ -1,3 +1,4 @@
 pub mod Text
 pub mod OpenDevices
 pub mod Active
+pub mod DeviceOutcomes

@@ -59,6 +59,11 @@ printed c text = record { text = c.text ++ text; ready = true }
 abbrev pub made_ready : Printed → Printed
 made_ready c = record c { ready = true }
 
+-- that room is given up, unless it is kept
+abbrev pub ready_kept : Printed → Bool → Printed
+ready_kept c true = c
+ready_kept c false = record c { ready = false }
+
 -- what a throw prints that nothing catches, for which there was room
 abbrev pub fault_printed : Printed → Throw → Printed
 fault_printed c t = record { text = c.text ++ fault_text t; ready = false }

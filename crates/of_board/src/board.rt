@@ -1,6 +1,7 @@
 use crate::active::Active;
 use crate::console::Console;
 use of_format::Pictured;
+use of_ihandles::Instances;
 use of_memory::Memory;
 use of_nodes::Tree;
 use of_stacks::DataStack;
@@ -20,4 +21,6 @@ pub struct Board {
     pub tree: Tree,
     /// Where in the tree words work.
     pub active: Active,
+    /// The instances of packages.
+    pub instances: Instances,
 }

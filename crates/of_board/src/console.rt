@@ -5,7 +5,7 @@ ghost use Rattle.std.specs.Prelude.{◌≡◌, ◌+◌, ◌*◌, ◌≤◌, ◌+
 ghost use Rattle.std.specs.Prelude.{vec_len, vec_capacity};
 ghost use Rattle.of_cells.specs.Numbers.{signed};
 ghost use Rattle.of_board.specs.Text.{spaced, cell_text, stack_text, padding, at_right, fault_text};
-ghost use Rattle.of_board.specs.Text.{nothing_printed, printed, made_ready, fault_printed};
+ghost use Rattle.of_board.specs.Text.{nothing_printed, printed, made_ready, ready_kept, fault_printed};
 
 use of_cells::Cell;
 use of_format::signed_text;
@@ -77,6 +77,23 @@ impl Console {
         ensures { result.now ≡ self.now.text }
     {
         &self.bytes
+    }
+
+    /// Whether there is room for the text of a throw.
+    pub fn is_ready(&self) -> bool
+        ensures { result ≡ self.now.ready }
+    {
+        let Console { ready, .. } = self;
+        *ready
+    }
+
+    /// Gives up the room for the text of a throw, unless it is to be kept.
+    pub fn keep_ready(&mut self, keep: bool)
+        ensures { self.new ≡ ready_kept self.old keep }
+    {
+        if !keep {
+            self.ready = false;
+        }
     }
 
     /// Makes room for the text of a throw.
