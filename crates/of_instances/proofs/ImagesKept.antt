@@ -8,7 +8,7 @@ use Rattle.of_memory.specs.declared.fault.MemFault.TheVariants.{Full}
 use Rattle.of_memory.specs.DataSpace.{DataSpace, splice, written}
 use Rattle.of_memory.specs.Growth.{aligned, appended, named_put, property_put, value_put, with_name}
 use Rattle.of_memory.specs.Regions.{byte_count, data_limit, first_property, image_start, place_of, property_limit}
-use Rattle.of_instances.specs.Images.{KeepsImages}
+use Rattle.of_memory.specs.ImageRegion.{KeepsImages}
 
 -- the images are the same, and so are all bytes from where they begin on
 abbrev pub Stands : DataSpace → DataSpace → Type 0

@@ -14,8 +14,7 @@ use Rattle.of_memory.specs.Growth.{appended, named_put, property_put}
 use Rattle.of_memory.specs.Regions.{byte_count}
 use Rattle.of_fcodes.specs.declared.words.PropertiesWord.{PropertiesWord}
 use Rattle.of_fcodes.specs.declared.words.PropertiesWord.TheVariants as word
-use Rattle.of_fcodes.specs.declared.words.TreeWord.{TreeWord}
-use Rattle.of_fcodes.specs.declared.words.TreeWord.TheVariants as node
+use Rattle.of_ihandles.specs.SpaceKept.{InstancesKeepTheSpace}
 use Rattle.of_nodes.specs.declared.fault.NodeFault.{NodeFault}
 use Rattle.of_nodes.specs.declared.fault.NodeFault.TheVariants.{BadName}
 use Rattle.of_nodes.specs.declared.phandles.Phandle.{Phandle}
@@ -30,8 +29,6 @@ use Rattle.of_props.specs.declared.fault.PropFault.TheVariants.{Address}
 use Rattle.of_props.specs.Decoding.{int_decoded, phys_decoded, string_decoded}
 use Rattle.of_props.specs.Encoding.{as_array, copy_encoded, encoded, phys_bytes, phys_encoded}
 use Rattle.of_board.specs.declared.board.Board.{Board}
-use Rattle.of_board.specs.declared.active.Active.{Active}
-use Rattle.of_board.specs.Active.{finished, latest}
 use Rattle.of_instances.specs.Encoding.{cells_left, decode_int_entry, decode_phys_entry, decode_string_entry}
 use Rattle.of_instances.specs.Encoding.{encode_bytes_entry, encode_int_entry, encode_phys_entry, encode_plus_entry}
 use Rattle.of_instances.specs.Encoding.{encode_string_entry, encoded_left, int_left, joined_left, phys_left, phys_read}
@@ -46,11 +43,9 @@ use Rattle.of_instances.specs.Setting.{delete_entry, deleted_left, property_cut,
 use Rattle.of_instances.specs.Setting.{property_put as property_made_by, reg_entry, reg_made, reg_put, set_left}
 use Rattle.of_instances.specs.Setting.{string_entry, string_made}
 use Rattle.of_instances.specs.Left.{with_room}
-use Rattle.of_instances.specs.TreeWords.{active_left, child_entry, find_method_entry, find_package_entry, found_left}
-use Rattle.of_instances.specs.TreeWords.{handle_left, method_left, method_of, new_device_entry, opened_left}
-use Rattle.of_instances.specs.TreeWords.{package_left, peer_entry, tree_entry}
 use Rattle.of_instances.proofs.ImagesKept.{AddressStands, IsReady, NamedStands, PutStands, Stands, append_stands}
 use Rattle.of_instances.proofs.ImagesKept.{images_kept, named_stands, put_stands, same}
+use Rattle.of_instances.proofs.TreeSpace.{left}
 
 -- what is left of a board keeps the images
 abbrev BoardStands : DataSpace → Result Board Throw → Type 0
@@ -370,98 +365,11 @@ properties word.GetPackageProperty w ready = get_package w.stack w
 properties word.DeleteProperty w ready = delete w.stack w
 properties word.NextProperty w ready = next w.stack w
 
--- ---- the group Tree, which leaves memory as it is
-
-opened_stands : (w : Board) (ph : Phandle) (r : Result (Phandle × List Node) Throw)
-    → BoardStands w.memory (opened_left w ph r)
-opened_stands w ph (Ok x) = same w.memory
-opened_stands w ph (Err t) = tt
-
-new_device : (w : Board) (ph : Option Phandle) → BoardStands w.memory (new_device_entry w ph)
-unfolding new_device_entry
-new_device w None = tt
-new_device w (Some ph) = opened_stands w ph _
-
-active_stands : (w : Board) (r : Result Active Throw) → BoardStands w.memory (active_left w r)
-active_stands w (Ok a) = same w.memory
-active_stands w (Err t) = tt
-
-handle_stands : (s : List Cell) (w : Board) (r : Result (Option Phandle) Throw)
-    → BoardStands w.memory (handle_left s w r)
-handle_stands s w (Ok x) = same w.memory
-handle_stands s w (Err t) = tt
-
-child : (s : List Cell) (w : Board) → BoardStands w.memory (child_entry s w)
-unfolding child_entry
-child [] w = tt
-child (x ∷ s) w = handle_stands s w _
-
-peer_if : (b : Bool) (m : DataSpace) (left r : Result Board Throw) → BoardStands m left → BoardStands m r
-    → BoardStands m (if b then left else r)
-peer_if true m left r h k = h
-peer_if false m left r h k = k
-
-peer : (s : List Cell) (w : Board) → BoardStands w.memory (peer_entry s w)
-unfolding peer_entry
-peer [] w = tt
-peer (x ∷ s) w = peer_if (x.0 == 0) w.memory _ _ (same w.memory) (handle_stands s w _)
-
-found_cell : (s : List Cell) (w : Board) (x : Option Cell) → BoardStands w.memory (found_left s w x)
-found_cell s w None = same w.memory
-found_cell s w (Some x) = same w.memory
-
-package_stands : (s : List Cell) (w : Board) (r : Result (List ℕ) Throw) → BoardStands w.memory (package_left s w r)
-package_stands s w (Ok path) = found_cell s w _
-package_stands s w (Err t) = tt
-
-find_package : (s : List Cell) (w : Board) → BoardStands w.memory (find_package_entry s w)
-unfolding find_package_entry
-find_package (n ∷ a ∷ s) w = package_stands s w (text_at w.memory a n)
-find_package _ w = tt
-
-method_stands : (s : List Cell) (w : Board) (r : Result (Option Cell) Throw) → BoardStands w.memory (method_left s w r)
-method_stands s w (Ok x) = found_cell s w x
-method_stands s w (Err t) = tt
-
-method_found_stands : (s : List Cell) (w : Board) (ph : Result Phandle Throw) (name : Result (List ℕ) Throw)
-    → BoardStands w.memory (method_of s w ph name)
-method_found_stands s w (Err t) name = tt
-method_found_stands s w (Ok ph) (Err t) = tt
-method_found_stands s w (Ok ph) (Ok name) = method_stands s w _
-
-find_method : (s : List Cell) (w : Board) → BoardStands w.memory (find_method_entry s w)
-unfolding find_method_entry
-find_method (ph ∷ n ∷ a ∷ s) w = method_found_stands s w (package_at w.tree ph) (text_at w.memory a n)
-find_method _ w = tt
-
-tree : (p : TreeWord) (w : Board) → BoardStands w.memory (tree_entry p w)
-unfolding tree_entry
-tree node.NewDevice w = new_device w w.active.«package»
-tree node.FinishDevice w = active_stands w (finished w.active (latest w.active.new_devices))
-tree node.Child w = child w.stack w
-tree node.Peer w = peer w.stack w
-tree node.FindPackage w = find_package w.stack w
-tree node.FindMethod w = find_method w.stack w
-tree node.OpenPackage w = tt
-tree node.OpenNamedPackage w = tt
-tree node.ClosePackage w = tt
-tree node.CallPackage w = tt
-tree node.CallParent w = tt
-tree node.CallMethod w = tt
-tree node.MySelf w = tt
-tree node.MyParent w = tt
-tree node.PackageOf w = tt
-tree node.MyArgs w = tt
-tree node.SetArgs w = tt
-tree node.MyUnit w = tt
-tree node.MyAddress w = tt
-tree node.MySpace w = tt
-
-pub images_stay : ImagesStay
-images_stay = record {
+pub images_stay : InstancesKeepTheSpace → ImagesStay
+images_stay l = record {
   properties = λ p w after sound e.
       images_kept w.memory after.memory
       (subst (λ r. BoardStands w.memory r) e (properties p w (sound.bytes, sound.properties_from)));
-  tree = λ p w after sound e.
-      images_kept w.memory after.memory (subst (λ r. BoardStands w.memory r) e (tree p w));
+  tree = λ p w after sound e. (left l p w after sound e).images;
+  sound = λ p w after sound e. (left l p w after sound e).sound;
 }

@@ -27,25 +27,35 @@ use Rattle.of_props.specs.declared.fault.PropFault.TheVariants.{Address, Full, N
 use Rattle.of_props.specs.Decoding.{int_decoded, phys_decoded, string_decoded}
 use Rattle.of_props.specs.Encoding.{int_encoded, phys_bytes, phys_encoded}
 use Rattle.of_board.specs.declared.board.Board.{Board}
-use Rattle.of_board.specs.declared.active.Active.{Active}
-use Rattle.of_board.specs.declared.active.NewDevice.{NewDevice}
-use Rattle.of_board.specs.Active.{finished, latest}
+use Rattle.of_board.specs.Active.{device_finished, device_opened}
+use Rattle.of_board.specs.declared.device_fault.DeviceFault.{DeviceFault}
+use Rattle.of_board.specs.declared.device_fault.DeviceFault.TheVariants as device
+use Rattle.of_ihandles.specs.Instances.{argument_span, arguments_set, package_of, parent_of, units}
+use Rattle.of_ihandles.specs.Table.{InstanceTable}
+use Rattle.of_ihandles.specs.declared.instance_fault.InstanceFault.{InstanceFault}
+use Rattle.of_ihandles.specs.declared.instance_fault.InstanceFault.TheVariants as instance
+use Rattle.of_nodes.specs.declared.properties.Span.{Span}
 use Rattle.of_instances.specs.Encoding.{array, cells_left, decode_int_entry, decode_phys_entry, decode_string_entry}
 use Rattle.of_instances.specs.Encoding.{encode_bytes_entry, encode_int_entry, encode_phys_entry, encode_plus_entry}
 use Rattle.of_instances.specs.Encoding.{encode_string_entry, encoded_left, int_left, joined_left, phys_left, phys_read}
 use Rattle.of_instances.specs.Encoding.{string_left}
-use Rattle.of_instances.specs.Faults.{of_array, of_tree}
+use Rattle.of_instances.specs.Faults.{of_array, of_device, of_instance, of_tree}
 use Rattle.of_instances.specs.Finding.{get_my_entry, get_package_entry, name_found, name_left, next_entry, value_found}
 use Rattle.of_instances.specs.Finding.{value_left}
 use Rattle.of_instances.specs.Listed.{ThrowListedNumbers}
 use Rattle.of_instances.specs.PropertyWords.{properties_entry}
-use Rattle.of_instances.specs.Reading.{active_package, cells_by, cells_in, cells_of, package_at, package_in, phandle_if}
+use Rattle.of_instances.specs.Reading.{active_package, cells_by, cells_in, cells_of, package_at, package_for}
+use Rattle.of_instances.specs.Reading.{package_in, phandle_if}
 use Rattle.of_instances.specs.Reading.{text_at, text_read}
 use Rattle.of_instances.specs.Setting.{delete_entry, deleted_left, property_cut, property_entry, property_made}
 use Rattle.of_instances.specs.Setting.{property_put, reg_entry, reg_made, reg_put, set_left, string_entry, string_made}
-use Rattle.of_instances.specs.Left.{with_room}
-use Rattle.of_instances.specs.TreeWords.{active_left, as_cell, child_entry, find_method_entry, find_package_entry}
-use Rattle.of_instances.specs.TreeWords.{found_left, handle_left, method_left, method_of, new_device_entry, opened_left}
+use Rattle.of_instances.specs.InstanceWords.{behind_high, cell_left, counted, high, my_address_entry, my_args_entry}
+use Rattle.of_instances.specs.InstanceWords.{my_parent_entry, my_self_entry, my_space_entry, my_unit_entry, own_cells}
+use Rattle.of_instances.specs.InstanceWords.{own_unit, package_of_entry, phandle_left, span_left, unit_left}
+use Rattle.of_instances.specs.InstanceWords.{arguments_left, arguments_read, instances_left, set_args_entry, unit_read}
+use Rattle.of_instances.specs.Left.{with_room, with_stack}
+use Rattle.of_instances.specs.TreeWords.{as_cell, child_entry, find_method_entry, find_package_entry, finished_left}
+use Rattle.of_instances.specs.TreeWords.{found_left, handle_left, method_left, method_of, new_device_entry}
 use Rattle.of_instances.specs.TreeWords.{package_left, peer_entry, tree_entry}
 
 -- ---- faults, and what is read
@@ -88,8 +98,19 @@ unfolding is_listed listed_numbers
 packages ns None = refl
 packages ns (Some ph) = one_package ns ph.0
 
+instances : {A : Type 0} (r : Result A InstanceFault) → ThrowsListed (of_instance r)
+unfolding is_listed listed_numbers
+instances (Ok x) = tt
+instances (Err instance.NoInstance) = refl
+instances (Err instance.Full) = refl
+instances (Err instance.NoMemory) = refl
+
+active_for : (b : Bool) (w : Board) → ThrowsListed (package_for b w)
+active_for true w = packages w.tree w.active.«package»
+active_for false w = instances (package_of w.instances w.active.my_self)
+
 active : (w : Board) → ThrowsListed (active_package w)
-active w = packages w.tree w.active.«package»
+active w = active_for (w.active.my_self.0 == 0) w
 
 cells : (m : DataSpace) (ns : List Node) (r : Result (Option Phandle) NodeFault) → ThrowsListed (cells_by m ns r)
 cells m ns (Ok None) = tt
@@ -338,20 +359,20 @@ properties word.NextProperty w = next w.stack w
 
 -- ---- the group Tree, a word at a time
 
-opens : (w : Board) (ph : Phandle) (r : Result (Phandle × List Node) NodeFault)
-    → ThrowsListed (opened_left w ph (of_tree r))
-opens w ph (Ok x) = tt
-opens w ph (Err fault) = nodes {A = Phandle × List Node} (Err fault)
+devices : (r : Result Board DeviceFault) → ThrowsListed (of_device r)
+devices (Ok w) = tt
+devices (Err (device.Node fault)) = nodes {A = Board} (Err fault)
+devices (Err (device.Instance fault)) = instances {A = Board} (Err fault)
 
 new_device : (w : Board) (ph : Option Phandle) → ThrowsListed (new_device_entry w ph)
 unfolding new_device_entry is_listed listed_numbers
 new_device w None = refl
-new_device w (Some ph) = opens w ph _
+new_device w (Some ph) = devices (device_opened w ph)
 
-finishes : (w : Board) (a : Active) (d : Option NewDevice) → ThrowsListed (active_left w (finished a d))
+finishes : (o : Option Board) → ThrowsListed (finished_left o)
 unfolding is_listed listed_numbers
-finishes w a None = refl
-finishes w a (Some d) = tt
+finishes None = refl
+finishes (Some w) = tt
 
 handles : (s : List Cell) (w : Board) (r : Result (Option Phandle) NodeFault)
     → ThrowsListed (handle_left s w (of_tree r))
@@ -402,10 +423,113 @@ unfolding find_method_entry is_listed listed_numbers
 find_method (ph ∷ n ∷ a ∷ s) w = finds_method s w _ _ (one_package w.tree ph) (text w.memory a n)
 find_method _ w = refl
 
+-- ---- instances
+
+cell : (s : List Cell) (w : Board) (r : Result Cell Throw) → ThrowsListed r → ThrowsListed (cell_left s w r)
+cell s w (Ok x) h = fits (Ok (with_stack w (x ∷ s))) tt
+cell s w (Err t) h = h
+
+unit_cells : (s : List Cell) (w : Board) (r : Result (List Cell) Throw) → ThrowsListed r
+    → ThrowsListed (unit_left s w r)
+unit_cells s w (Ok xs) h = fits (Ok (with_stack w (xs ++ s))) tt
+unit_cells s w (Err t) h = h
+
+span : (s : List Cell) (w : Board) (r : Result Span Throw) → ThrowsListed r → ThrowsListed (span_left s w r)
+span s w (Ok b) h = fits (Ok (with_stack w (b.length ∷ b.address ∷ s))) tt
+span s w (Err t) h = h
+
+phandle : (s : List Cell) (w : Board) (r : Result Phandle Throw) → ThrowsListed r → ThrowsListed (phandle_left s w r)
+phandle s w (Ok ph) h = tt
+phandle s w (Err t) h = h
+
+count : (w : Board) → ThrowsListed (own_cells w)
+count w =
+    cells_inside w.memory w.tree (of_instance (package_of w.instances w.active.my_self))
+    (instances (package_of w.instances w.active.my_self))
+
+units_counted : (unit : Result (List Cell) Throw) (n : Result ℕ Throw) → ThrowsListed unit → ThrowsListed n
+    → ThrowsListed (counted unit n)
+units_counted (Err t) n h k = h
+units_counted (Ok xs) (Err t) h k = k
+units_counted (Ok xs) (Ok n) h k = tt
+
+unit : (w : Board) → ThrowsListed (own_unit w)
+unit w =
+    units_counted (of_instance (units w.instances w.active.my_self)) (own_cells w)
+    (instances (units w.instances w.active.my_self)) (count w)
+
+behind : (r : Result (List Cell) Throw) → ThrowsListed r → ThrowsListed (behind_high r)
+behind (Ok xs) h = tt
+behind (Err t) h = h
+
+highest : (r : Result (List Cell) Throw) → ThrowsListed r → ThrowsListed (high r)
+highest (Ok xs) h = tt
+highest (Err t) h = h
+
+my_self : (s : List Cell) (w : Board) → ThrowsListed (my_self_entry s w)
+unfolding my_self_entry
+my_self s w = cell s w (Ok w.active.my_self) tt
+
+my_parent : (s : List Cell) (w : Board) → ThrowsListed (my_parent_entry s w)
+unfolding my_parent_entry
+my_parent s w =
+    cell s w (of_instance (parent_of w.instances w.active.my_self)) (instances (parent_of w.instances w.active.my_self))
+
+package_of_word : (s : List Cell) (w : Board) → ThrowsListed (package_of_entry s w)
+unfolding package_of_entry is_listed listed_numbers
+package_of_word [] w = refl
+package_of_word (ih ∷ s) w =
+    phandle s w (of_instance (package_of w.instances ih)) (instances (package_of w.instances ih))
+
+my_args : (s : List Cell) (w : Board) → ThrowsListed (my_args_entry s w)
+unfolding my_args_entry
+my_args s w =
+    span s w (of_instance (argument_span w.instances w.active.my_self))
+    (instances (argument_span w.instances w.active.my_self))
+
+my_unit : (s : List Cell) (w : Board) → ThrowsListed (my_unit_entry s w)
+unfolding my_unit_entry
+my_unit s w = unit_cells s w (own_unit w) (unit w)
+
+my_address : (s : List Cell) (w : Board) → ThrowsListed (my_address_entry s w)
+unfolding my_address_entry
+my_address s w = unit_cells s w (behind_high (own_unit w)) (behind (own_unit w) (unit w))
+
+my_space : (s : List Cell) (w : Board) → ThrowsListed (my_space_entry s w)
+unfolding my_space_entry
+my_space s w = unit_cells s w (high (own_unit w)) (highest (own_unit w) (unit w))
+
+args_left : (s : List Cell) (w : Board) (r : Result (Unit {0} × (InstanceTable × DataSpace)) Throw) → ThrowsListed r
+    → ThrowsListed (instances_left s w r)
+args_left s w (Ok x) h = tt
+args_left s w (Err t) h = h
+
+args_read : (s : List Cell) (w : Board) (arguments : List ℕ) (o : Option (List Cell))
+    → ThrowsListed (arguments_left s w arguments o)
+unfolding is_listed listed_numbers
+args_read s w arguments None = refl
+args_read s w arguments (Some xs) =
+    args_left s w (of_instance (arguments_set w.instances w.memory w.active.my_self arguments xs))
+    (instances (arguments_set w.instances w.memory w.active.my_self arguments xs))
+
+args_both : (s : List Cell) (w : Board) (n : Result ℕ Throw) (x y : Result (List ℕ) Throw) → ThrowsListed n
+    → ThrowsListed x → ThrowsListed y → ThrowsListed (arguments_read s w n x y)
+args_both s w (Err t) x y h k l = h
+args_both s w (Ok n) (Err t) y h k l = k
+args_both s w (Ok n) (Ok xs) (Err t) h k l = l
+args_both s w (Ok n) (Ok xs) (Ok ys) h k l = args_read s w xs (unit_read n ys)
+
+set_args : (s : List Cell) (w : Board) → ThrowsListed (set_args_entry s w)
+unfolding set_args_entry is_listed listed_numbers
+set_args (k ∷ u ∷ n ∷ a ∷ s) w =
+    args_both s w (own_cells w) (text_at w.memory a n) (text_at w.memory u k) (count w) (text w.memory a n)
+    (text w.memory u k)
+set_args _ w = refl
+
 tree : (p : TreeWord) (w : Board) → ThrowsListed (tree_entry p w)
 unfolding tree_entry is_listed listed_numbers
 tree node.NewDevice w = new_device w w.active.«package»
-tree node.FinishDevice w = finishes w w.active (latest w.active.new_devices)
+tree node.FinishDevice w = finishes (device_finished w)
 tree node.Child w = child w.stack w
 tree node.Peer w = peer w.stack w
 tree node.FindPackage w = find_package w.stack w
@@ -416,14 +540,14 @@ tree node.ClosePackage w = refl
 tree node.CallPackage w = refl
 tree node.CallParent w = refl
 tree node.CallMethod w = refl
-tree node.MySelf w = refl
-tree node.MyParent w = refl
-tree node.PackageOf w = refl
-tree node.MyArgs w = refl
-tree node.SetArgs w = refl
-tree node.MyUnit w = refl
-tree node.MyAddress w = refl
-tree node.MySpace w = refl
+tree node.MySelf w = my_self w.stack w
+tree node.MyParent w = my_parent w.stack w
+tree node.PackageOf w = package_of_word w.stack w
+tree node.MyArgs w = my_args w.stack w
+tree node.SetArgs w = set_args w.stack w
+tree node.MyUnit w = my_unit w.stack w
+tree node.MyAddress w = my_address w.stack w
+tree node.MySpace w = my_space w.stack w
 
 pub throw_listed_numbers : ThrowListedNumbers
 throw_listed_numbers = record { properties = properties; tree = tree }

@@ -4,6 +4,7 @@ pub mod Reading
 pub mod Encoding
 pub mod Setting
 pub mod Finding
+pub mod InstanceWords
 pub mod PropertyWords
 pub mod TreeWords
 pub mod Listed

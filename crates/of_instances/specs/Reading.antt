@@ -1,5 +1,5 @@
 -- What the words take from memory and from the tree, or what they throw where it isn't there.
-use Rattle.std.specs.Prelude.{ℕ, List, length, Option, Some, None, Result, Ok, Err}
+use Rattle.std.specs.Prelude.{ℕ, ◌==◌, Bool, true, false, List, length, Option, Some, None, Result, Ok, Err}
 use Rattle.of_cells.specs.declared.cells.Cell.{Cell}
 use Rattle.of_stacks.specs.declared.throws.Throw.{Throw}
 use Rattle.of_stacks.specs.Throws.{bad_handle, invalid_address, no_node}
@@ -12,7 +12,8 @@ use Rattle.of_nodes.specs.declared.tree.Node.{Node}
 use Rattle.of_nodes.specs.Nodes.{number_of, parent_found}
 use Rattle.of_nodes.specs.Paths.{cells_found}
 use Rattle.of_board.specs.declared.board.Board.{Board}
-use Rattle.of_instances.specs.Faults.{node_throw, of_tree}
+use Rattle.of_ihandles.specs.Instances.{package_of}
+use Rattle.of_instances.specs.Faults.{node_throw, of_instance, of_tree}
 
 -- bytes that were read; their one fault is their address
 abbrev pub text_read : Result (List ℕ) MemFault → Result (List ℕ) Throw
@@ -36,9 +37,14 @@ abbrev pub package_in : List Node → Option Phandle → Result Phandle Throw
 package_in ns None = Err no_node
 package_in ns (Some ph) = package_at ns ph.0
 
--- the active package
+-- by whether no instance is current
+abbrev pub package_for : Bool → Board → Result Phandle Throw
+package_for true w = package_in w.tree w.active.«package»
+package_for false w = of_instance (package_of w.instances w.active.my_self)
+
+-- the package that words work on: that of the current instance, or the active one where none is current
 abbrev pub active_package : Board → Result Phandle Throw
-active_package w = package_in w.tree w.active.«package»
+active_package w = package_for (w.active.my_self.0 == 0) w
 
 -- how many cells an address of a package has: as its parent says, and 2 for the root
 abbrev pub cells_by : DataSpace → List Node → Result (Option Phandle) NodeFault → Result ℕ Throw

@@ -1,5 +1,5 @@
--- What each word of the group Tree makes of the data stack, the top first, of the device tree and of the active
--- package, or what it throws (IEEE 1275-1994, annex A).
+-- What each word of the group Tree makes of the data stack, the top first, of the device tree, of the active package
+-- and of instances, or what it throws (IEEE 1275-1994, annex A).
 use Rattle.std.specs.Prelude.{ℕ, ◌==◌, Bool, true, false, List, [], ◌∷◌, Option, Some, None, Result, Ok, Err}
 use Rattle.std.specs.Prelude.{if◌then◌else◌}
 use Rattle.of_cells.specs.declared.cells.Cell.{Cell}
@@ -11,31 +11,26 @@ use Rattle.of_fcodes.specs.declared.words.TreeWord.TheVariants.{PackageOf, MyArg
 use Rattle.of_stacks.specs.declared.throws.Throw.{Throw}
 use Rattle.of_stacks.specs.Throws.{no_node, not_assigned, stack_underflow}
 use Rattle.of_nodes.specs.declared.phandles.Phandle.{Phandle}
-use Rattle.of_nodes.specs.declared.tree.Node.{Node}
 use Rattle.of_nodes.specs.Lookup.{package_found}
-use Rattle.of_nodes.specs.Nodes.{child_found, method_found, node_added, peer_found, phandle_of}
+use Rattle.of_nodes.specs.Nodes.{child_found, method_found, peer_found, phandle_of}
 use Rattle.of_board.specs.declared.board.Board.{Board}
-use Rattle.of_board.specs.declared.active.Active.{Active}
 use Rattle.of_board.specs.Active.{device_finished, device_opened}
-use Rattle.of_instances.specs.Faults.{of_tree}
+use Rattle.of_instances.specs.Faults.{of_device, of_tree}
 use Rattle.of_instances.specs.Finding.{yes}
+use Rattle.of_instances.specs.InstanceWords.{my_address_entry, my_args_entry, my_parent_entry, my_self_entry}
+use Rattle.of_instances.specs.InstanceWords.{my_space_entry, my_unit_entry, package_of_entry, set_args_entry}
 use Rattle.of_instances.specs.Reading.{package_at, text_at}
 use Rattle.of_instances.specs.Left.{number, with_stack}
-
--- a node was made below a package
-abbrev pub opened_left : Board → Phandle → Result (Phandle × List Node) Throw → Result Board Throw
-opened_left w found (Ok x) = Ok (record w { tree = x.1; active = device_opened w.active found x.0 })
-opened_left w found (Err t) = Err t
 
 -- `new-device` ( -- ) below the active package
 unfoldable pub new_device_entry : Board → Option Phandle → Result Board Throw
 new_device_entry w None = Err no_node
-new_device_entry w (Some ph) = opened_left w ph (of_tree (node_added w.tree ph))
+new_device_entry w (Some ph) = of_device (device_opened w ph)
 
--- `finish-device` ( -- )
-abbrev pub active_left : Board → Result Active Throw → Result Board Throw
-active_left w (Ok a) = Ok (record w { active = a })
-active_left w (Err t) = Err t
+-- `finish-device` ( -- ), where a `new-device` is open
+abbrev pub finished_left : Option Board → Result Board Throw
+finished_left None = Err no_node
+finished_left (Some w) = Ok w
 
 -- a phandle as a cell, or 0
 abbrev pub handle : Option Phandle → Cell
@@ -91,10 +86,10 @@ unfoldable pub find_method_entry : List Cell → Board → Result Board Throw
 find_method_entry (ph ∷ n ∷ a ∷ s) w = method_of s w (package_at w.tree ph) (text_at w.memory a n)
 find_method_entry _ w = Err stack_underflow
 
--- the table, a word a line; the words over instances are as unassigned
+-- the table, a word a line; the words that run a method are as unassigned
 unfoldable pub tree_entry : TreeWord → Board → Result Board Throw
 tree_entry NewDevice w = new_device_entry w w.active.«package»
-tree_entry FinishDevice w = active_left w (device_finished w.active)
+tree_entry FinishDevice w = finished_left (device_finished w)
 tree_entry Child w = child_entry w.stack w
 tree_entry Peer w = peer_entry w.stack w
 tree_entry FindPackage w = find_package_entry w.stack w
@@ -105,16 +100,16 @@ tree_entry FindMethod w = find_method_entry w.stack w
 tree_entry CallPackage w = Err not_assigned
 tree_entry CallParent w = Err not_assigned
 tree_entry CallMethod w = Err not_assigned
-tree_entry MySelf w = Err not_assigned
-tree_entry MyParent w = Err not_assigned
-tree_entry PackageOf w = Err not_assigned
-tree_entry MyArgs w = Err not_assigned
-tree_entry SetArgs w = Err not_assigned
-tree_entry MyUnit w = Err not_assigned
-tree_entry MyAddress w = Err not_assigned
-tree_entry MySpace w = Err not_assigned
+tree_entry MySelf w = my_self_entry w.stack w
+tree_entry MyParent w = my_parent_entry w.stack w
+tree_entry PackageOf w = package_of_entry w.stack w
+tree_entry MyArgs w = my_args_entry w.stack w
+tree_entry SetArgs w = set_args_entry w.stack w
+tree_entry MyUnit w = my_unit_entry w.stack w
+tree_entry MyAddress w = my_address_entry w.stack w
+tree_entry MySpace w = my_space_entry w.stack w
 
--- whether the tree may grow by the word, for which memory is asked
+-- whether the tree or an instance may grow by the word, for which memory is asked
 abbrev pub tree_grows : TreeWord → Bool
 tree_grows NewDevice = true
 tree_grows FinishDevice = false
@@ -132,7 +127,7 @@ tree_grows MySelf = false
 tree_grows MyParent = false
 tree_grows PackageOf = false
 tree_grows MyArgs = false
-tree_grows SetArgs = false
+tree_grows SetArgs = true
 tree_grows MyUnit = false
 tree_grows MyAddress = false
 tree_grows MySpace = false

@@ -77,7 +77,7 @@ pub(crate) fn encode_bytes(board: &mut Board) -> Result<(), Throw>
     Ok(())
 }
 
-/// `encode-phys` ( lo .. hi -- p n ) puts the cells of an address of the active package at `here`, the high
+/// `encode-phys` ( lo .. hi -- p n ) puts the cells of an address of the package that words work on at `here`, the high
 /// cell first; -259 without one, -8 where there is no room.
 #[tactic(auto, using(crate::proofs::NoRoom::phys_full), unfolding(crate::specs::Encoding::encode_phys_entry))]
 #[inline(never)]
@@ -86,7 +86,7 @@ pub(crate) fn encode_phys(board: &mut Board) -> Result<(), Throw>
     ensures console { board.new.console ≡ board.old.console }
 {
     let _ = board.stack.peek()?;
-    let count = active_cells(&board.memory, &board.tree, &board.active)?;
+    let count = active_cells(board)?;
     let cells = cells_under(&board.stack, 0, count)?;
     check_room(&board.memory, 4 * count as u32)?;
     if board.stack.depth() - count + 2 > of_stacks::CAPACITY {
@@ -156,7 +156,7 @@ pub(crate) fn decode_string(board: &mut Board) -> Result<(), Throw>
     Ok(())
 }
 
-/// `decode-phys` ( p n -- p n lo .. hi ) takes an address of the active package off an array; -259 without
+/// `decode-phys` ( p n -- p n lo .. hi ) takes an address of the package that words work on off an array; -259 without
 /// one, -9 where a byte can't be read, -262 where there are too few.
 #[tactic(auto, unfolding(crate::specs::Encoding::decode_phys_entry))]
 #[inline(never)]
@@ -165,7 +165,7 @@ pub(crate) fn decode_phys(board: &mut Board) -> Result<(), Throw>
     ensures console { board.new.console ≡ board.old.console }
 {
     let (address, length) = board.stack.top_two()?;
-    let count = active_cells(&board.memory, &board.tree, &board.active)?;
+    let count = active_cells(board)?;
     let (cells, rest) = match props::decode_phys(&board.memory, Array { address, length }, count) {
         Ok(found) => found,
         Err(fault) => return Err(array_throw(fault)),

@@ -1,6 +1,9 @@
 ghost use Rattle.std.specs.Prelude.{◌≡◌};
-ghost use Rattle.of_instances.specs.Faults.{array_throw, node_throw, of_array, of_tree, stop_of};
+ghost use Rattle.of_instances.specs.Faults.{array_throw, device_stop, instance_throw, node_throw, of_array};
+ghost use Rattle.of_instances.specs.Faults.{of_instance, of_tree, stop_of};
 
+use of_board::DeviceFault;
+use of_ihandles::InstanceFault;
 use of_nodes::NodeFault;
 use of_props::PropFault;
 use of_stacks::{Stop, Throw};
@@ -34,6 +37,31 @@ pub(crate) fn stop_of(fault: NodeFault) -> Stop
     }
 }
 
+/// What a word throws for a fault of an instance: -260 where there is none, and -8 where no room is left.
+///
+/// A refused growth of memory is no throw.
+pub(crate) fn instance_throw(fault: InstanceFault) -> Throw
+    ensures { result ≡ instance_throw fault }
+{
+    match fault {
+        InstanceFault::NoInstance => Throw::NO_INSTANCE,
+        InstanceFault::Full => Throw::DICTIONARY_OVERFLOW,
+        InstanceFault::NoMemory => Throw::ABORT,
+    }
+}
+
+/// Why `new-device` stops.
+pub(crate) fn device_stop(fault: DeviceFault) -> Stop
+    ensures { result ≡ device_stop fault }
+{
+    match fault {
+        DeviceFault::Node(fault) => stop_of(fault),
+        DeviceFault::Instance(InstanceFault::NoMemory) => Stop::NoMemory,
+        DeviceFault::Instance(InstanceFault::NoInstance) => Stop::Thrown(Throw::NO_INSTANCE),
+        DeviceFault::Instance(InstanceFault::Full) => Stop::Thrown(Throw::DICTIONARY_OVERFLOW),
+    }
+}
+
 /// What a word throws for a fault of a property array: -9 for an address, -24 for arrays apart, -262 where
 /// the array is too short, and -8 where no room is left.
 pub(crate) fn array_throw(fault: PropFault) -> Throw
@@ -54,6 +82,16 @@ pub(crate) fn of_tree<T: Drop>(answer: Result<T, NodeFault>) -> Result<T, Throw>
     match answer {
         Ok(value) => Ok(value),
         Err(fault) => Err(node_throw(fault)),
+    }
+}
+
+/// The answer of a call on instances, with its fault as a throw.
+pub(crate) fn of_instance<T: Drop>(answer: Result<T, InstanceFault>) -> Result<T, Throw>
+    ensures { result ≡ of_instance answer }
+{
+    match answer {
+        Ok(value) => Ok(value),
+        Err(fault) => Err(instance_throw(fault)),
     }
 }
 

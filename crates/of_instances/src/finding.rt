@@ -8,8 +8,8 @@ use of_board::Board;
 use of_cells::Cell;
 use of_stacks::Throw;
 
-/// `get-my-property` ( s n -- true, or p n false ) the value of a property of the active package; -259 without
-/// one, -9 where a byte can't be read.
+/// `get-my-property` ( s n -- true, or p n false ) the value of a property of the package that words work on; -259
+/// without one, -9 where a byte can't be read.
 #[tactic(auto, unfolding(crate::specs::Finding::get_my_entry))]
 #[inline(never)]
 pub(crate) fn get_my_property(board: &mut Board) -> Result<(), Throw>
@@ -17,7 +17,7 @@ pub(crate) fn get_my_property(board: &mut Board) -> Result<(), Throw>
     ensures console { board.new.console ≡ board.old.console }
 {
     let (address, length) = board.stack.top_two()?;
-    let package = active_package(&board.tree, &board.active)?;
+    let package = active_package(board)?;
     let name = text_at(&board.memory, address, length)?;
     let Some(property) = of_tree(board.tree.property(package, name))? else {
         board.stack.replace_two(Cell::TRUE);

@@ -2,14 +2,18 @@
 ghost use Rattle.of_instances.specs.Images.{ImagesStay};
 ghost use Rattle.of_instances.specs.Listed.{ThrowListedNumbers};
 
+use of_ihandles::instances_keep_the_space;
+
 /// What these words throw has one of the numbers that words raise of themselves.
 #[tactic(auto, using(crate::proofs::ListedWords::throw_listed_numbers))]
 pub fn tree_words_throw_listed()
     ensures { ThrowListedNumbers }
 {}
 
-/// A word that doesn't throw leaves the images that run and their bytes as they were.
-#[tactic(auto, using(crate::proofs::ImagesOfWords::images_stay))]
+/// A word that doesn't throw leaves the images that run and their bytes as they were, and one over packages and
+/// instances the data space sound.
 pub fn images_stay()
     ensures { ImagesStay }
-{}
+{
+    instances_keep_the_space();
+}

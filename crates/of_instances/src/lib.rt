@@ -1,10 +1,11 @@
-//! The words over the device tree: properties, packages and `new-device`.
+//! The words over the device tree: properties, packages, `new-device` and instances.
 #![tactic(auto)]
 
 mod cells;
 mod encoding;
 mod faults;
 mod finding;
+mod instance_words;
 mod laws;
 mod property_words;
 mod reading;

@@ -13,12 +13,13 @@ use of_fcodes::PropertiesWord;
 use of_stacks::{Stop, Throw};
 
 /// Runs a word of the group Properties; a stop changes nothing. The words that set and get properties without a
-/// phandle work on the active package.
+/// phandle work on the package of the current instance, and on the active one where no instance is current.
 ///
-/// -4 where a cell is missing, then -259 where a package must be active and none is, -263 where a handle is of no
-/// node, -9 where a range can't be read, -32 for a bad name, -24 where two arrays aren't adjacent, -262 where an
-/// array is too short, -8 where a region has no room, and -3 where the stack has none. `get-inherited-property`
-/// throws -256. NoMemory may stand in place of any other answer of a word that sets a property.
+/// -4 where a cell is missing, then -259 where there is no such package, -260 where that instance was released, -263
+/// where a handle is of no node, -9 where a range can't be read, -32 for a bad name, -24 where two arrays aren't
+/// adjacent, -262 where an array is too short, -8 where a region has no room, and -3 where the stack has none.
+/// `get-inherited-property` throws -256. NoMemory may stand in place of any other answer of a word that sets a
+/// property.
 #[tactic(auto, unfolding(crate::specs::PropertyWords::properties_entry))]
 pub fn run_properties_word(word: PropertiesWord, board: &mut Board) -> Result<(), Stop>
     ensures value { Makes (properties_grows word) (properties_entry word board.old) board.old board.new result }

@@ -1,8 +1,8 @@
 ghost use Rattle.std.specs.Prelude.{◌≡◌, ◌≤◌, length, Ok, Err, IfOk, MatchResult};
-ghost use Rattle.of_instances.specs.Reading.{cells_in, cells_of, package_at, package_in, text_at};
+ghost use Rattle.of_instances.specs.Reading.{active_package, cells_in, cells_of, package_at, package_in, text_at};
 
-use crate::faults::{node_throw, of_tree};
-use of_board::Active;
+use crate::faults::{node_throw, of_instance};
+use of_board::Board;
 use of_cells::Cell;
 use of_memory::Memory;
 use of_nodes::{Phandle, Tree};
@@ -35,14 +35,25 @@ pub(crate) fn package_at(tree: &Tree, handle: Cell) -> Result<Phandle, Throw>
     }
 }
 
-/// The active package, or -259 where there is none.
-pub(crate) fn active_package(tree: &Tree, active: &Active) -> Result<Phandle, Throw>
-    ensures { result ≡ package_in tree.now active.now.«package» }
+/// The active package of the tree, or -259 where there is none.
+fn package_in(tree: &Tree, active: Option<Phandle>) -> Result<Phandle, Throw>
+    ensures { result ≡ package_in tree.now active }
 {
-    match active.package {
+    match active {
         Some(package) => package_at(tree, package.0),
         None => Err(Throw::NO_NODE),
     }
+}
+
+/// The package that words work on: that of the current instance, or -260 where that was released; the active one
+/// where no instance is current, or -259 where none is.
+pub(crate) fn active_package(board: &Board) -> Result<Phandle, Throw>
+    ensures { result ≡ active_package board.now }
+{
+    if board.active.my_self.0 == 0 {
+        return package_in(&board.tree, board.active.package);
+    }
+    of_instance(board.instances.package(board.active.my_self))
 }
 
 /// How many cells an address of a package has: as its parent says, and 2 for the root.
@@ -60,11 +71,11 @@ pub(crate) fn cells_of(memory: &Memory, tree: &Tree, node: Phandle) -> Result<us
     }
 }
 
-/// How many cells an address of the active package has, or -259 where there is none.
-pub(crate) fn active_cells(memory: &Memory, tree: &Tree, active: &Active) -> Result<usize, Throw>
-    ensures value { result ≡ cells_in memory.now tree.now (package_in tree.now active.now.«package») }
+/// How many cells an address of the package has that words work on, or why there is none.
+pub(crate) fn active_cells(board: &Board) -> Result<usize, Throw>
+    ensures value { result ≡ cells_in board.now.memory board.now.tree (active_package board.now) }
     ensures few { IfOk result (λ count. count ≤ 4) }
 {
-    let package = active_package(tree, active)?;
-    cells_of(memory, tree, package)
+    let package = active_package(board)?;
+    cells_of(&board.memory, &board.tree, package)
 }

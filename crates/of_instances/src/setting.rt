@@ -45,7 +45,7 @@ fn put_property(
     Ok(())
 }
 
-/// `property` ( p n s n -- ) sets a property of the active package to a copy of the value; -259 without a
+/// `property` ( p n s n -- ) sets a property of the package that words work on to a copy of the value; -259 without a
 /// package, -9 where a byte can't be read, -32 for a bad name, -8 where there is no room.
 #[tactic(auto, unfolding(crate::specs::Setting::property_entry))]
 #[inline(never)]
@@ -54,7 +54,7 @@ pub(crate) fn set_property(board: &mut Board) -> Result<(), Stop>
     ensures console { board.new.console ≡ board.old.console }
 {
     let (from, count, address, length) = board.stack.top_four()?;
-    let package = active_package(&board.tree, &board.active)?;
+    let package = active_package(board)?;
     let value = Vec::from_slice(
         board.active.new_devices.alloc(),
         text_at(&board.memory, from, count)?,
@@ -75,13 +75,13 @@ pub(crate) fn set_string(name: &[u8], board: &mut Board) -> Result<(), Stop>
     ensures console { board.new.console ≡ board.old.console }
 {
     let (address, length) = board.stack.top_two()?;
-    let package = active_package(&board.tree, &board.active)?;
+    let package = active_package(board)?;
     let text = text_at(&board.memory, address, length)?;
     let value = string_of(board.active.new_devices.alloc(), text)?;
     put_property(2, board, package, name, value.as_slice())
 }
 
-/// `reg` ( lo .. hi size -- ) sets the property `reg` of the active package to an address and a size; -259
+/// `reg` ( lo .. hi size -- ) sets `reg` of the package that words work on to an address and a size; -259
 /// without a package, -8 where there is no room.
 #[tactic(auto, unfolding(crate::specs::Setting::reg_entry))]
 #[inline(never)]
@@ -90,7 +90,7 @@ pub(crate) fn set_reg(board: &mut Board) -> Result<(), Stop>
     ensures console { board.new.console ≡ board.old.console }
 {
     let (_, size) = board.stack.top_two()?;
-    let package = active_package(&board.tree, &board.active)?;
+    let package = active_package(board)?;
     let count = cells_of(&board.memory, &board.tree, package)?;
     let mut cells = cells_under(&board.stack, 1, count)?;
     cells.push(size);
@@ -99,7 +99,7 @@ pub(crate) fn set_reg(board: &mut Board) -> Result<(), Stop>
     put_property(count + 1, board, package, b"reg", value.as_slice())
 }
 
-/// `delete-property` ( s n -- ) takes a property out of the active package, if it has one of the name; -259
+/// `delete-property` ( s n -- ) takes a property out of the package that words work on, if it has one of the name; -259
 /// without a package, -9 where a byte can't be read.
 #[tactic(auto, unfolding(crate::specs::Setting::delete_entry))]
 #[inline(never)]
@@ -108,7 +108,7 @@ pub(crate) fn delete_property(board: &mut Board) -> Result<(), Throw>
     ensures console { board.new.console ≡ board.old.console }
 {
     let (address, length) = board.stack.top_two()?;
-    let package = active_package(&board.tree, &board.active)?;
+    let package = active_package(board)?;
     let name = text_at(&board.memory, address, length)?;
     of_tree(board.tree.delete_property(package, name))?;
     board.stack.drop_top(2);

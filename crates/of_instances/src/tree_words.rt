@@ -1,10 +1,14 @@
 ghost use Rattle.std.specs.Prelude.{◌≡◌, true};
 ghost use Rattle.of_stacks.specs.Stacks.{Becomes, Makes};
 ghost use Rattle.of_board.specs.Active.{device_finished};
-ghost use Rattle.of_instances.specs.TreeWords.{active_left, child_entry, find_method_entry, find_package_entry, handle};
+ghost use Rattle.of_instances.specs.TreeWords.{child_entry, find_method_entry, find_package_entry, finished_left};
+ghost use Rattle.of_instances.specs.TreeWords.{handle};
 ghost use Rattle.of_instances.specs.TreeWords.{new_device_entry, peer_entry, tree_entry, tree_grows};
 
-use crate::faults::{of_tree, stop_of};
+use crate::faults::{device_stop, of_tree};
+use crate::instance_words::{
+    my_address, my_args, my_parent, my_self, my_space, my_unit, package_of, set_args,
+};
 use crate::reading::{package_at, text_at};
 use of_board::Board;
 use of_cells::Cell;
@@ -12,8 +16,8 @@ use of_fcodes::TreeWord;
 use of_nodes::Phandle;
 use of_stacks::{Stop, Throw};
 
-/// `new-device` ( -- ) makes a child of the active package, which is active then; -259 without a package, -8
-/// where there are 1,024 nodes.
+/// `new-device` ( -- ) makes a child of the active package and an instance of it, which are active then; -259 without a
+/// package, -8 where there are 1,024 nodes or the instance finds no room.
 #[tactic(auto, unfolding(crate::specs::TreeWords::new_device_entry))]
 #[inline(never)]
 fn new_device(board: &mut Board) -> Result<(), Stop>
@@ -23,23 +27,22 @@ fn new_device(board: &mut Board) -> Result<(), Stop>
     let Some(found) = board.active.package else {
         return Err(Stop::Thrown(Throw::NO_NODE));
     };
-    match board.active.open(&mut board.tree, found) {
-        Ok(_) => Ok(()),
-        Err(fault) => Err(stop_of(fault)),
+    match board.open_device(found) {
+        Ok(()) => Ok(()),
+        Err(fault) => Err(device_stop(fault)),
     }
 }
 
-/// `finish-device` ( -- ) makes the package active that the latest open `new-device` found; -259 where none is
-/// open.
+/// `finish-device` ( -- ) releases the instance of the latest open `new-device`, and makes active what that found; -259
+/// where none is open.
 #[inline(never)]
 fn finish_device(board: &mut Board) -> Result<(), Throw>
-    ensures value { Becomes (active_left board.old (device_finished board.old.active)) board.old board.new result }
+    ensures value { Becomes (finished_left (device_finished board.old)) board.old board.new result }
     ensures console { board.new.console ≡ board.old.console }
 {
-    let Some(latest) = board.active.new_devices.finish() else {
+    if !board.finish_device() {
         return Err(Throw::NO_NODE);
-    };
-    board.active.package = Some(latest.package);
+    }
     Ok(())
 }
 
@@ -128,8 +131,10 @@ fn find_method(board: &mut Board) -> Result<(), Throw>
 /// Runs a word of the group Tree; a stop changes nothing.
 ///
 /// -4 where a cell is missing, then -259 where `new-device` finds no active package or `finish-device` no open
-/// `new-device`, -263 where a handle is of no node, -9 where a range can't be read, and -8 where there are 1,024
-/// nodes. The words over instances throw -256. NoMemory may stand in place of any other answer of `new-device`.
+/// `new-device`, -260 where an instance is missing, -263 where a handle is of no node, -9 where a range can't be read,
+/// -24 where a text is no address, -8 where there are 1,024 nodes or an instance finds no room, and -3 where the stack
+/// has none. The words that run a method throw -256. NoMemory may stand in place of any other answer of `new-device`
+/// and `set-args`.
 #[tactic(auto, unfolding(crate::specs::TreeWords::tree_entry))]
 pub fn run_tree_word(word: TreeWord, board: &mut Board) -> Result<(), Stop>
     ensures value { Makes (tree_grows word) (tree_entry word board.old) board.old board.new result }
@@ -148,14 +153,14 @@ pub fn run_tree_word(word: TreeWord, board: &mut Board) -> Result<(), Stop>
         TreeWord::CallPackage => return Err(Stop::Thrown(Throw::NOT_ASSIGNED)),
         TreeWord::CallParent => return Err(Stop::Thrown(Throw::NOT_ASSIGNED)),
         TreeWord::CallMethod => return Err(Stop::Thrown(Throw::NOT_ASSIGNED)),
-        TreeWord::MySelf => return Err(Stop::Thrown(Throw::NOT_ASSIGNED)),
-        TreeWord::MyParent => return Err(Stop::Thrown(Throw::NOT_ASSIGNED)),
-        TreeWord::PackageOf => return Err(Stop::Thrown(Throw::NOT_ASSIGNED)),
-        TreeWord::MyArgs => return Err(Stop::Thrown(Throw::NOT_ASSIGNED)),
-        TreeWord::SetArgs => return Err(Stop::Thrown(Throw::NOT_ASSIGNED)),
-        TreeWord::MyUnit => return Err(Stop::Thrown(Throw::NOT_ASSIGNED)),
-        TreeWord::MyAddress => return Err(Stop::Thrown(Throw::NOT_ASSIGNED)),
-        TreeWord::MySpace => return Err(Stop::Thrown(Throw::NOT_ASSIGNED)),
+        TreeWord::MySelf => my_self(board)?,
+        TreeWord::MyParent => my_parent(board)?,
+        TreeWord::PackageOf => package_of(board)?,
+        TreeWord::MyArgs => my_args(board)?,
+        TreeWord::SetArgs => set_args(board)?,
+        TreeWord::MyUnit => my_unit(board)?,
+        TreeWord::MyAddress => my_address(board)?,
+        TreeWord::MySpace => my_space(board)?,
     }
     Ok(())
 }
