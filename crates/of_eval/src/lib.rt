@@ -8,6 +8,7 @@ mod executing;
 mod fast_tokens;
 mod fast_words;
 mod laws;
+mod load_fault;
 mod loading;
 mod methods;
 mod reading;
@@ -18,4 +19,5 @@ mod views;
 
 pub use eval::Eval;
 pub use laws::throws_run_on;
+pub use load_fault::LoadFault;
 pub use steps::Pause;

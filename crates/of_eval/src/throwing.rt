@@ -129,11 +129,13 @@ impl<C: CodeStore> Eval<C> {
     {
         if let Due::Load {
             active,
+            instance,
             new_devices,
             ..
         } = due
         {
-            self.board.active.cut_to(new_devices, package_of(active));
+            self.board
+                .leave_image(new_devices, package_of(active), instance);
         }
     }
 
@@ -144,7 +146,7 @@ impl<C: CodeStore> Eval<C> {
     {
         self.board.stack.cut_to(frame.depth);
         self.board.stack.push(Cell(thrown.0.cast_unsigned()));
-        self.flow.my_self = frame.my_self;
+        self.board.active.my_self = frame.my_self;
         self.flow.next = frame.resume;
         self.give_up_since(frame.opened);
     }
@@ -159,12 +161,12 @@ impl<C: CodeStore> Eval<C> {
     {
         self.board.stack = DataStack::new();
         self.board.console.print_fault(thrown);
-        self.board.active.finish_all();
+        self.board.finish_all();
         self.flow.items = ReturnStack::new();
         self.flow.reading = NOTHING_READ;
         self.flow.is_running = false;
         self.flow.next = Continuation::Source;
-        self.flow.my_self = Cell::ZERO;
+        self.board.active.my_self = Cell::ZERO;
         self.give_up();
     }
 
@@ -202,7 +204,7 @@ impl<C: CodeStore> Eval<C> {
                 }
             }
             ReturnItem::Caller(due) => {
-                self.flow.my_self = caller_self(due);
+                self.board.active.my_self = caller_self(due);
                 self.leave_load(due);
             }
             ReturnItem::Return(_)

@@ -1,4 +1,3 @@
-use of_cells::Cell;
 use of_nodes::Phandle;
 use of_stacks::{Continuation, Reading, ReturnStack};
 
@@ -15,8 +14,6 @@ pub struct Flow {
     pub next: Continuation,
     /// Whether words are compiled rather than executed; the cell `state` says so, too.
     pub is_compiling: bool,
-    /// The current instance, or 0.
-    pub my_self: Cell,
     /// The package that was active where the latest definition was opened, if one was: its word becomes a method there.
     pub home: Option<Phandle>,
 }
