@@ -15,7 +15,7 @@ use Rattle.of_memory.specs.DataSpace.{DataSpace, IsSound, splice, written}
 use Rattle.of_memory.specs.RangeLaws.{PartsAreGood, RangesArePlaced, WritesJoin}
 use Rattle.of_memory.specs.Regions.{heap_limit, heap_start, image_start, may_write, place_of}
 use Rattle.of_memory.specs.Regions.{region_numbered, region_of, span}
-use Rattle.of_instances.specs.Images.{KeepsImages}
+use Rattle.of_memory.specs.ImageRegion.{KeepsImages}
 use Rattle.of_eval_laws.specs.Sound.{AreBytes}
 use Rattle.of_eval_laws.proofs.SoundSpace.{written_sound}
 

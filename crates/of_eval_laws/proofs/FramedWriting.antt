@@ -39,7 +39,8 @@ use Rattle.of_prims.specs.Numbers.{all_digits, all_unsigned_digits, beside, hold
 use Rattle.of_prims.specs.Numbers.{number_parsed, numbers_entry, signed_with}
 use Rattle.of_prims.specs.Prims.{in_space, on_stack, prim_entry}
 use Rattle.of_prims.specs.Text.{text_entry}
-use Rattle.of_instances.specs.Images.{ImagesStay, KeepsImages}
+use Rattle.of_instances.specs.Images.{ImagesStay}
+use Rattle.of_memory.specs.ImageRegion.{KeepsImages}
 use Rattle.of_instances.specs.PropertyWords.{properties_entry}
 use Rattle.of_instances.specs.TreeWords.{tree_entry}
 use Rattle.of_board.specs.declared.board.Board.{Board}
@@ -54,7 +55,7 @@ use Rattle.of_eval_laws.proofs.FramedMemory.{DataStands, SpaceStands, low_small,
 use Rattle.of_eval_laws.proofs.FramedSpace.{AddressStands, Given, Stands, below_stands, free_is, images_kept}
 use Rattle.of_eval_laws.proofs.FramedSpace.{kept_stands}
 use Rattle.of_eval_laws.proofs.FramedSpace.{same}
-use Rattle.of_eval_laws.proofs.SoundTree.{properties_sound, tree_sound}
+use Rattle.of_eval_laws.proofs.SoundTree.{properties_sound}
 use Rattle.of_eval_laws.proofs.SoundSpace.{byte_more, bytes_joined, bytes_same, heap_sound, no_bytes, taken_laid}
 
 -- ---- pictured text
@@ -321,7 +322,7 @@ word_stands g i (word.Throws w) m sound = tt
 word_stands g i (word.Properties w) m sound =
     tree_stands m (properties_entry w m) (λ s e. i.properties w m s sound e) (λ s e. properties_sound w m s sound e)
 word_stands g i (word.Tree w) m sound =
-    tree_stands m (tree_entry w m) (λ s e. i.tree w m s sound e) (λ s e. tree_sound w m s sound e)
+    tree_stands m (tree_entry w m) (λ s e. i.tree w m s sound e) (λ s e. i.sound w m s sound e)
 word_stands g i (word.Devices w) m sound = tt
 word_stands g i (word.Console w) m sound = tt
 word_stands g i (word.Parsing w) m sound = tt

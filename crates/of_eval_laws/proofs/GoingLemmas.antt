@@ -420,7 +420,8 @@ none_opened (Some n) = ap not (eq-eqb (xt_of n) (xt_of n) refl)
 
 pub loads_begin : {S : Type 0} → LoadsBegin S
 loads_begin = record {
-  begun = λ image node a m s. (
+  begun = λ image node instance t m s. (
+    refl,
     refl,
     refl,
     refl,

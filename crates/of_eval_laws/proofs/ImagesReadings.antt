@@ -17,7 +17,8 @@ use Rattle.of_nodes.specs.Nodes.{first_tree, named_child, then_child, with_node}
 use Rattle.of_nodes.specs.declared.properties.Property.{Property}
 use Rattle.of_nodes.specs.Properties.{new_property, property_set, set_to}
 use Rattle.of_board.specs.declared.board.Board.{Board}
-use Rattle.of_eval.specs.Loading.{begun, first_state, made_or_none}
+use Rattle.of_eval.specs.Loading.{begun, first_state, image_begun, made_or_none}
+use Rattle.of_eval_laws.proofs.Begun.{Opened, begun_is, image_stands, opened_stands}
 use Rattle.of_eval.specs.Settling.{settled, thrown_in}
 use Rattle.of_eval.specs.State.{Calls, State, with_board}
 use Rattle.of_eval.specs.Steps.{due, settled_of, stepped, steps_from}
@@ -119,15 +120,27 @@ no_image input.Nothing n e = refl
 no_image (input.Text position) n e = refl
 no_image (input.Image size position) n e = absurd cc
 
-begun_reads : {S : Type 0} (image : List ℕ) (node : Phandle) (r : Result (ℕ × DataSpace) MemFault) (s : State S)
-    → MayStand s.board.memory r → Reads s → s.flow.is_running ≡ false → Reads (begun image node r s)
-begun_reads image node (Err fault) s more h stopped = h
-begun_reads image node (Ok x) s more h stopped =
+-- one image more stands, and is read
+more_reads : {S : Type 0} (image : List ℕ) (node : Phandle) (x : Opened) (s : State S) → Reads s
+    → s.flow.is_running ≡ false
+    → length (image_begun image node x.0 x.1 s).board.memory.images ≡ suc (length s.board.memory.images)
+    → Reads (image_begun image node x.0 x.1 s)
+more_reads image node x s h stopped more =
     let i = s.flow.reading.input in
     let none = h.1 stopped in
     let shut = no_image i (kept_readings s.flow.items) none in
     let one = none_more i 0 shut in
-    ((ap length more.1 ∙ ap suc (h.0.0 ∙ none ∙ sym one), (inr one, shut)), (λ e. absurd cc))
+    ((more ∙ ap suc (h.0.0 ∙ none ∙ sym one), (inr one, shut)), (λ e. absurd cc))
+
+begun_reads : {S : Type 0} (l : Laws) (image : List ℕ) (node : Phandle) (s : State S) → HasSoundSpace s → Reads s
+    → s.flow.is_running ≡ false → Reads (begun image node s)
+begun_reads l image node s sound h stopped =
+    begun_is (λ x. Reads x) image node s h
+    (λ x e fits.
+    let stands = opened_stands l.instances s.board node x sound e in
+    more_reads image node x s h stopped
+    (ap length (image_stands l.pushes s.board.memory x.1.1 image stands fits).1
+    ∙ ap (λ (ends : List ℕ). suc (length ends)) stands.0))
 
 -- ---- steps
 
@@ -169,10 +182,8 @@ word_reads l w after s sound h e =
 pub images_are_readings : Laws → (S : Type 0) → ImagesAreReadings S
 images_are_readings l S = record {
   first = λ code. told (first_state code) (first_reads code);
-  begun = λ image node s h stopped.
-      told (begun image node (image_pushed s.board.memory image) s)
-      (begun_reads image node (image_pushed s.board.memory image) s (pushed_stands s.board.memory image) (heard s h)
-      stopped);
+  begun = λ image node s sound h stopped.
+      told (begun image node s) (begun_reads l image node s sound (heard s h) stopped);
   words = λ w after s sound h e. told (with_board after s) (word_reads l w after s sound (heard s h) e);
   done = λ c s sound h run.
       told (due c s.flow.next s).state (due_reads l c s.flow.next s sound ((heard s h).0, run));

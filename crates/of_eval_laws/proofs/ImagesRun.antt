@@ -1,10 +1,16 @@
 -- The law `images_run`: what comes next and the end of a step, taken together.
 use Rattle.std.proofs.Common.{◌≡◌, ◌⊎◌, inl, inr, ℕ, zero, suc, ◌+◌, Bool, true, false, List, [], ◌∷◌, ◌++◌, drop}
 use Rattle.std.proofs.Common.{Some, None}
-use Rattle.std.proofs.Common.{Result, Ok, Err, refl, ap, subst, ◌∙◌, if◌then◌else◌}
+use Rattle.std.proofs.Common.{Result, Ok, Err, refl, sym, ap, subst, ◌∙◌, length, if◌then◌else◌}
+use Rattle.std.specs.Prelude.{is_ok}
 use Rattle.std.proofs.lemmas.List.{drop-drop}
 use Rattle.of_stacks.specs.declared.throws.Throw.{Throw}
-use Rattle.of_memory.specs.DataSpace.{AreStacked, DataSpace, IsSound}
+use Rattle.of_memory.specs.DataSpace.{AreStacked, DataSpace, IsSound, free_after}
+use Rattle.of_memory.specs.Growth.{image_fits}
+use Rattle.of_nodes.specs.declared.phandles.Phandle.{Phandle}
+use Rattle.of_ihandles.specs.declared.instance_fault.InstanceFault.{InstanceFault}
+use Rattle.of_eval.specs.Loading.{begun, begun_by, begun_unless, image_begun, instance_on, load_fault}
+use Rattle.of_eval.specs.declared.load_fault.LoadFault.TheVariants.{ImageTooLong, NoInstance}
 use Rattle.of_eval.specs.State.{Calls, State}
 use Rattle.of_eval.specs.Settling.{settled, thrown_in}
 use Rattle.of_eval.specs.Steps.{due, settled_of, stepped, steps_from}
@@ -12,8 +18,9 @@ use Rattle.of_eval_laws.specs.Running.{DueLeaves, GoOn, ImagesRun, OthersRun, Ru
 use Rattle.of_eval_laws.specs.Running.{running}
 use Rattle.of_eval_laws.specs.Sound.{HasSoundSpace}
 use Rattle.of_eval_laws.proofs.FramedSpace.{Stands, then_stands}
-use Rattle.of_eval_laws.proofs.RunningBytes.{all_run, pushed}
-use Rattle.of_eval_laws.proofs.RunningEnds.{cut_off, end_leaves, popped_ends, then_end, worked_off}
+use Rattle.of_eval_laws.proofs.Begun.{Opened, image_stands, opened_stands}
+use Rattle.of_eval_laws.proofs.RunningBytes.{all_run}
+use Rattle.of_eval_laws.proofs.RunningEnds.{cut_off, end_leaves, left_ends, then_end, worked_off}
 use Rattle.of_eval_laws.proofs.SoundSteps.{kept_sound, step_sound, steps_keep}
 use Rattle.of_eval_laws.proofs.RunningTokens.{due_leaves}
 use Rattle.of_eval_laws.proofs.RunningWords.{Kept, KeptBy, Laws}
@@ -120,12 +127,48 @@ steps_run l c n s after sound e =
     ))
     n s after (sound, (0, [], refl)) e).1
 
+-- ---- an image that begins
+
+-- an image runs on top of others, with these bytes
+abbrev RunsOn : DataSpace → List ℕ → DataSpace → Type 0
+RunsOn m image after = running after ≡ record { begin = free_after m.images; bytes = image } ∷ running m
+
+runs_on : {S : Type 0} (l : Laws) (image : List ℕ) (node : Phandle) (s : State S) (x : Opened)
+    → IsSound s.board.memory → instance_on node s.board ≡ Ok x → image_fits s.board.memory (length image) ≡ true
+    → RunsOn s.board.memory image (image_begun image node x.0 x.1 s).board.memory
+runs_on l image node s x sound e fits =
+    let m = s.board.memory in
+    let stands = opened_stands l.instances s.board node x sound e in
+    let begins = ap free_after stands.0 in
+    (image_stands l.pushes m x.1.1 image stands fits).0.1
+    ∙ ap (λ (a : ℕ). record { begin = a; bytes = image } ∷ running x.1.1) begins
+    ∙ ap (λ (rest : List RunningImage). record { begin = free_after m.images; bytes = image } ∷ rest)
+    (all_run m x.1.1 sound.images stands)
+
+begun_runs_at : {S : Type 0} (l : Laws) (image : List ℕ) (node : Phandle) (s : State S) (b : Bool)
+    (r : Result Opened InstanceFault) → image_fits s.board.memory (length image) ≡ b → instance_on node s.board ≡ r
+    → IsSound s.board.memory → (if b then if is_ok r then None else Some NoInstance else Some ImageTooLong) ≡ None
+    → RunsOn s.board.memory image
+    (begun_unless (if b then if is_ok r then None else Some NoInstance else Some ImageTooLong) image node
+    s).board.memory
+begun_runs_at l image node s true (Ok x) fits e sound none =
+    subst (λ r. RunsOn s.board.memory image (begun_by image node r s).board.memory) (sym e)
+    (runs_on l image node s x sound e fits)
+begun_runs_at l image node s true (Err fault) fits e sound none = absurd cc
+begun_runs_at l image node s false r fits e sound none = absurd cc
+
+begun_runs : {S : Type 0} (l : Laws) (image : List ℕ) (node : Phandle) (s : State S) → IsSound s.board.memory
+    → load_fault image node s ≡ None → RunsOn s.board.memory image (begun image node s).board.memory
+begun_runs l image node s sound none =
+    begun_runs_at l image node s (image_fits s.board.memory (length image)) (instance_on node s.board) refl refl sound
+    none
+
 -- ---- the law
 
 pub images_run : Laws → (S : Type 0) → ImagesRun S
 images_run l S = record {
-  begun = λ image node a m s sound e. (pushed l.pushes s.board.memory m image a sound e).1;
-  given_back = λ n m sound. popped_ends n m sound;
+  begun = λ image node s sound none. begun_runs l image node s sound none;
+  given_back = λ now items b sound. left_ends now items b sound;
   done = λ c s sound.
       let o = due c s.flow.next s in
       due_left (is_at_end s.flow.next s) s.board.memory o.state.board.memory o.ended sound.images

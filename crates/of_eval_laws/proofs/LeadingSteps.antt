@@ -35,6 +35,8 @@ use Rattle.of_eval.specs.Defining.{word_defined}
 use Rattle.of_eval.specs.Doing.{acted, executed, input_at, moved}
 use Rattle.of_eval.specs.Executing.{execution, plan_in}
 use Rattle.of_eval.specs.Items.{item_act}
+use Rattle.of_cells.specs.declared.cells.Cell.{Cell}
+use Rattle.of_ihandles.specs.Table.{InstanceTable}
 use Rattle.of_eval.specs.Loading.{image_begun}
 use Rattle.of_eval.specs.Methods.{then_known}
 use Rattle.of_eval.specs.Settling.{settled, thrown_in}
@@ -347,19 +349,19 @@ module _ (image : List ℕ) (outer : Reading) where
 nothing_inside : (i : Input) → i ≡ input.Nothing → reads_nothing i ≡ true
 nothing_inside i e = ap reads_nothing e
 
-begun_leads : {S : Type 0} (image : List ℕ) (node : Phandle) (m : DataSpace) (s : State S)
-    → s.flow.reading.input ≡ input.Nothing → s.words.defining ≡ None
-    → (is_back (image_begun image node m s) ≡ true)
-    × LeadsOn image (image_begun image node m s).flow.reading (image_begun image node m s)
+begun_leads : {S : Type 0} (image : List ℕ) (node : Phandle) (instance : Cell) (x : InstanceTable × DataSpace)
+    (s : State S) → s.flow.reading.input ≡ input.Nothing → s.words.defining ≡ None
+    → (is_back (image_begun image node instance x s) ≡ true)
+    × LeadsOn image (image_begun image node instance x s).flow.reading (image_begun image node instance x s)
 unfolding latest_source latest_handler
-begun_leads image node m s e shut = (
+begun_leads image node instance x s e shut = (
   nothing_inside s.flow.reading.input e,
   (((tt, none_open s shut), (refl, inl (e, refl, (refl, refl)))), (λ o. shut)),
 )
 
 pub stack_leads_back : (S : Type 0) → StackLeadsBack S
 stack_leads_back S = record {
-  begun = λ image node m s e shut. begun_leads image node m s e shut;
+  begun = λ image node instance x s e shut. begun_leads image node instance x s e shut;
   words = λ image outer c xt s h. word_leads image outer c xt s (h, refl);
   items = λ image outer c i s e h. item_leads image outer c i s e h;
   settled = λ image outer c thrown s h. settled_leads image outer c thrown s h;

@@ -10,6 +10,7 @@
 -- SoundSpace, SoundTree: what writes leaves a data space sound, from bytes up to words over the device tree.
 -- FramedSpace, FramedMemory, FramedWriting: the law `images_stand`, and that the data space stays sound.
 -- ThrowsSettle: the law `throws_settle`.
+-- Released, Begun: what releasing instances and an image that begins leave of the data space.
 -- LeadingEnds, LeadingBack, LeadingActs, LeadingSteps: the law `stack_leads_back`, from what is worked off or caught
 -- and the end of an image up to a step.
 -- RunningBytes, RunningEnds, RunningWords, RunningTokens: what becomes of the images that run and of the data space,
@@ -56,7 +57,9 @@ pub mod LeadingEnds
 pub mod LeadingBack
 pub mod LeadingActs
 pub mod LeadingSteps
+pub mod Released
 pub mod RunningBytes
+pub mod Begun
 pub mod RunningEnds
 pub mod RunningWords
 pub mod RunningTokens

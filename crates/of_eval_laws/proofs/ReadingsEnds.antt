@@ -1,6 +1,6 @@
 -- The law `images_are_readings`: what is cut and worked off at the end of a step, and at the end of an image.
 use Rattle.std.proofs.Common.{◌≡◌, inl, inr, ℕ, suc, Bool, true, false, List, [], ◌∷◌, length, Option, Some, None}
-use Rattle.std.proofs.Common.{refl, sym, ◌∙◌, subst, arith, is_some, if◌then◌else◌}
+use Rattle.std.proofs.Common.{refl, sym, ap, ◌∙◌, subst, arith, is_some, if◌then◌else◌}
 use Rattle.of_stacks.specs.declared.throws.Throw.{Throw}
 use Rattle.of_stacks.specs.declared.return_item.Due.{Due}
 use Rattle.of_stacks.specs.declared.return_item.Due.TheVariants as due
@@ -22,6 +22,7 @@ use Rattle.of_eval.specs.Settling.{worked_one}
 use Rattle.of_eval_laws.specs.Readings.{BeganInside, is_image, kept_readings, readings}
 use Rattle.of_eval_laws.specs.Returning.{is_return_top}
 use Rattle.of_eval_laws.specs.Throws.{image_more}
+use Rattle.of_eval_laws.proofs.Released.{all_leave, due_leaves}
 
 -- ---- counting
 
@@ -152,7 +153,9 @@ caught_at c f t items s h =
     either items (is_same (open_xt r) f.opened) r (given_up c r) going (given_up_at c items r going)
 
 load_at : {S : Type 0} (d : Due) (items : List ReturnItem) (s : State S) → IsAt items s → IsAt items (load_left d s)
-load_at (due.Load active me instance count) items s h = h
+load_at (due.Load active me instance count) items s h =
+    let same = (due_leaves (due.Load active me instance count) s.board).0 in
+    (h.0, subst (λ ends. Counted ends s.flow.reading.input items) (sym same) h.1, h.2)
 load_at (due.Method me) items s h = h
 load_at (due.Open me instance) items s h = h
 load_at (due.Close me instance) items s h = h
@@ -177,7 +180,9 @@ worked_off c (User x ∷ items) s h = reads_at (User x ∷ items) s h
 
 -- what was read first of all is no image, so where all is cut none is left
 fallen_at : {S : Type 0} (t : Throw) (s : State S) → IsAt [] s → IsAt [] (fallen t s)
-fallen_at t s h = (refl, (h.1.0 ∙ none_more s.flow.reading.input 0 h.1.1, refl), (λ e. refl))
+fallen_at t s h =
+    let same = ap length (all_leave s.board).0 in
+    (refl, (same ∙ h.1.0 ∙ none_more s.flow.reading.input 0 h.1.1, refl), (λ e. refl))
 
 source_at : {S : Type 0} (r : Reading) (items : List ReturnItem) (s : State S) → IsAt (Source r ∷ items) s
     → IsAt items (reading_on r (with_items items s))
@@ -226,7 +231,7 @@ all_cut : {S : Type 0} (c : Calls S) (items : List ReturnItem) (t : Throw) (s : 
     → latest_handler items ≡ None → IsBare (settled c items (Some t) s)
 unfolding settled latest_handler
 all_cut c [] t s h e =
-    let none = none_long s.board.memory.images (fallen_at t s h).1.0 in
+    let none = none_long (fallen t s).board.memory.images (fallen_at t s h).1.0 in
     bare_if (is_some s.words.defining) _ (fallen t s) none none
 all_cut c (Return to ∷ items) t s h e = all_cut c items t (with_items items s) (refl, h.1, h.2) e
 all_cut c (Loop l ∷ items) t s h e = all_cut c items t (with_items items s) (refl, h.1, h.2) e

@@ -19,7 +19,9 @@ use Rattle.of_eval.specs.State.{Calls, State, given_up, open_xt, with_items}
 use Rattle.of_eval.specs.Settling.{caught, fallen, given_back, given_up_since, is_full, is_same, load_left}
 use Rattle.of_eval.specs.Settling.{reading_on, settled, uncaught, worked_one}
 use Rattle.of_eval_laws.specs.Running.{EndLeaves, LatestEnd, SomeEnd, running}
-use Rattle.of_eval_laws.specs.Throws.{images_popped}
+use Rattle.of_board.specs.declared.board.Board.{Board}
+use Rattle.of_eval_laws.specs.Throws.{image_more, images_ended, left_by, left_through}
+use Rattle.of_eval_laws.proofs.Released.{all_leave, due_leaves}
 use Rattle.of_eval_laws.proofs.FramedSpace.{Stands, same, then_stands}
 use Rattle.of_eval_laws.proofs.RunningBytes.{all_run, popped, state_stands}
 use Rattle.of_eval_laws.proofs.SoundSpace.{popped_sound}
@@ -53,7 +55,8 @@ caught_stands c h t s sound = since_stands c h.opened _ sound
 
 load_stands : {S : Type 0} (d : Due) (s : State S) → IsSound s.board.memory
     → StateStands s.board.memory (load_left d s)
-load_stands (due.Load active me instance count) s sound = same s.board.memory sound
+load_stands (due.Load active me instance count) s sound =
+    (due_leaves (due.Load active me instance count) s.board).1 sound
 load_stands (due.Method me) s sound = same s.board.memory sound
 load_stands (due.Open me instance) s sound = same s.board.memory sound
 load_stands (due.Close me instance) s sound = same s.board.memory sound
@@ -111,7 +114,11 @@ back_ends (input.Image size n) m last s h = (h.0, then_end m (image_popped m) la
 
 uncaught_ends : {S : Type 0} (c : Calls S) (t : Throw) (s : State S) → IsSound s.board.memory
     → SomeEnded s.board.memory (uncaught c t s).board.memory
-uncaught_ends c t s r = none_end s.board.memory (uncaught c t s).board.memory r (given_up_stands c (fallen t s) r)
+uncaught_ends c t s r =
+    let kept = (all_leave s.board).1 r in
+    none_end s.board.memory (uncaught c t s).board.memory r
+    (then_stands s.board.memory (fallen t s).board.memory (uncaught c t s).board.memory kept
+    (given_up_stands c (fallen t s) kept.2))
 
 caught_ends : {S : Type 0} (c : Calls S) (h : ExceptionFrame) (t : Throw) (items : List ReturnItem) (s : State S)
     → IsSound s.board.memory → SomeEnded s.board.memory (settled c items None (caught c h t s)).board.memory
@@ -135,21 +142,40 @@ cut_off c (Source x ∷ items) t s r =
     let next = reading_on x (with_items items s) in
     back_ends i s.board.memory (settled c items (Some t) next).board.memory r
     (cut_off c items t next (back_sound i s.board.memory r))
-cut_off c (Caller (due.Load active me instance count) ∷ items) t s r =
-    cut_off c items t (load_left (due.Load active me instance count) (with_items items s)) r
-cut_off c (Caller (due.Method me) ∷ items) t s r = cut_off c items t (with_items items s) r
-cut_off c (Caller (due.Open me instance) ∷ items) t s r = cut_off c items t (with_items items s) r
-cut_off c (Caller (due.Close me instance) ∷ items) t s r = cut_off c items t (with_items items s) r
+cut_off c (Caller d ∷ items) t s r =
+    let next = load_left d (with_items items s) in
+    let kept = load_stands d (with_items items s) r in
+    let rest = cut_off c items t next kept.2 in (
+      rest.0,
+      then_end s.board.memory next.board.memory (settled c items (Some t) next).board.memory 0
+          (all_run s.board.memory next.board.memory r.images kept) rest.1,
+    )
 
 -- ---- so many images
 
-pub popped_ends : (n : ℕ) (m : DataSpace) → IsSound m → LatestEnd n m (images_popped n m)
-popped_ends zero m r = refl
-popped_ends (suc n) m r =
-    let first = popped m r in
+back_one : (now : Input) (m last : DataSpace) (n : ℕ) → IsSound m → LatestEnd n (given_back now m) last
+    → LatestEnd (image_more now n) m last
+back_one input.Nothing m last n r e = e
+back_one (input.Text position) m last n r e = e
+back_one (input.Image size position) m last n r e =
     let count : 1 + n ≡ suc n = omega arith in
-    popped_ends n (image_popped m) first.0 ∙ ap (λ x. drop n x) first.1 ∙ drop-drop n 1 (running m)
-    ∙ ap (λ k. drop k (running m)) count
+    e ∙ ap (λ x. drop n x) (popped m r).1 ∙ drop-drop n 1 (running m) ∙ ap (λ k. drop k (running m)) count
+
+pub left_ends : (now : Input) (items : List ReturnItem) (b : Board) → IsSound b.memory
+    → LatestEnd (images_ended now items) b.memory (left_through now items b).memory
+left_ends now [] b r = refl
+left_ends now (Source x ∷ items) b r =
+    let freed : Board = record b { memory = given_back now b.memory } in
+    back_one now b.memory (left_through x.input items freed).memory (images_ended x.input items) r
+    (left_ends x.input items freed (back_sound now b.memory r))
+left_ends now (Caller d ∷ items) b r =
+    let kept = (due_leaves d b).1 r in
+    left_ends now items (left_by d b) kept.2
+    ∙ ap (λ x. drop (images_ended now items) x) (all_run b.memory (left_by d b).memory r.images kept)
+left_ends now (Return to ∷ items) b r = left_ends now items b r
+left_ends now (Loop l ∷ items) b r = left_ends now items b r
+left_ends now (User x ∷ items) b r = left_ends now items b r
+left_ends now (Handler h ∷ items) b r = left_ends now items b r
 
 -- ---- the end of a step
 

@@ -10,6 +10,7 @@ use Rattle.of_memory.specs.DataSpace.{DataSpace, IsSound}
 use Rattle.of_memory.specs.Growth.{image_pushed, image_pushed_from}
 use Rattle.of_memory.specs.Images.{LatestIsPushed}
 use Rattle.of_memory.specs.Regions.{place_of}
+use Rattle.of_ihandles.specs.SpaceKept.{InstancesKeepTheSpace}
 use Rattle.of_instances.specs.Images.{ImagesStay}
 use Rattle.of_board.specs.declared.board.Board.{Board}
 use Rattle.of_eval.specs.State.{Outcome, State, by_board}
@@ -26,6 +27,7 @@ pub record Laws : Type 0 where
   pub given : Given
   pub pushes : LatestIsPushed
   pub tree : ImagesStay
+  pub instances : InstancesKeepTheSpace
 
 -- one more runs; at the end of an image the latest may have ended
 abbrev pub Changed : Bool → DataSpace → DataSpace → Type 0

@@ -3,9 +3,7 @@ use Rattle.std.proofs.Common.{◌≡◌, inl, inr, ℕ, zero, suc, Bool, true, f
 use Rattle.std.proofs.Common.{refl, subst, if◌then◌else◌}
 use Rattle.std.specs.Prelude.{option_and_then}
 use Rattle.of_fcodes.specs.declared.words.Word.{Word}
-use Rattle.of_memory.specs.declared.fault.MemFault.{MemFault}
 use Rattle.of_memory.specs.DataSpace.{DataSpace, IsSound}
-use Rattle.of_memory.specs.Growth.{image_pushed}
 use Rattle.of_nodes.specs.declared.phandles.Phandle.{Phandle}
 use Rattle.of_stacks.specs.declared.throws.Throw.{Throw}
 use Rattle.of_board.specs.declared.board.Board.{Board}
@@ -17,7 +15,7 @@ use Rattle.of_words.specs.Words.{word_entry}
 use Rattle.of_eval_laws.specs.Running.{is_at_end}
 use Rattle.of_eval_laws.specs.Sound.{AreBytes, HasSoundSpace, SpaceStaysSound}
 use Rattle.of_eval_laws.proofs.FramedWriting.{left_stands, word_stands}
-use Rattle.of_eval_laws.proofs.RunningBytes.{pushed}
+use Rattle.of_eval_laws.proofs.Begun.{begun_is, image_stands, opened_stands}
 use Rattle.of_eval_laws.proofs.RunningEnds.{settled_sound}
 use Rattle.of_eval_laws.proofs.RunningTokens.{due_leaves}
 use Rattle.of_eval_laws.proofs.RunningWords.{Kept, KeptBy, Laws}
@@ -42,11 +40,13 @@ due_sound l c s sound =
 
 -- ---- a load
 
-begun_sound : {S : Type 0} (l : Laws) (image : List ℕ) (node : Phandle) (r : Result (ℕ × DataSpace) MemFault)
-    (s : State S) → image_pushed s.board.memory image ≡ r → HasSoundSpace s → AreBytes image
-    → HasSoundSpace (begun image node r s)
-begun_sound l image node (Ok x) s e sound small = (pushed l.pushes s.board.memory x.1 image x.0 sound e).0 small
-begun_sound l image node (Err fault) s e sound small = sound
+begun_sound : {S : Type 0} (l : Laws) (image : List ℕ) (node : Phandle) (s : State S) → HasSoundSpace s
+    → AreBytes image → HasSoundSpace (begun image node s)
+begun_sound l image node s sound small =
+    begun_is (λ x. HasSoundSpace x) image node s sound
+    (λ x e fits.
+    (image_stands l.pushes s.board.memory x.1.1 image (opened_stands l.instances s.board node x sound e) fits).0.0
+    small)
 
 -- ---- steps
 
@@ -91,8 +91,7 @@ word_sound l w m after sound e =
 pub space_stays_sound : Laws → (S : Type 0) → SpaceStaysSound S
 space_stays_sound l S = record {
   first = λ code. first_sound;
-  begun = λ image node s sound small.
-      begun_sound l image node (image_pushed s.board.memory image) s refl sound small;
+  begun = λ image node s sound small. begun_sound l image node s sound small;
   words = λ w m after sound e. word_sound l w m after sound e;
   done = λ c s sound. due_sound l c s sound;
   settled = λ c items thrown s sound. settled_sound c items thrown s sound;

@@ -1,4 +1,4 @@
--- The law `space_stays_sound`: the words over the device tree and its properties leave a data space sound.
+-- The law `space_stays_sound`: the first tree and the words over properties leave a data space sound.
 use Rattle.std.proofs.Common.{◌≡◌, ℕ, ◌+◌, ◌≤◌, Bool, true, false, List, [], ◌∷◌, ◌++◌, length, take, drop, nat_lt}
 use Rattle.std.proofs.Common.{nat_le}
 use Rattle.std.proofs.Common.{Option, Some, None, Result, Ok, Err, refl, subst, arith, if◌then◌else◌}
@@ -18,8 +18,6 @@ use Rattle.of_memory.specs.Growth.{aligned, appended, named_put, property_put, v
 use Rattle.of_memory.specs.Regions.{data_limit, place_of, property_limit}
 use Rattle.of_fcodes.specs.declared.words.PropertiesWord.{PropertiesWord}
 use Rattle.of_fcodes.specs.declared.words.PropertiesWord.TheVariants as word
-use Rattle.of_fcodes.specs.declared.words.TreeWord.{TreeWord}
-use Rattle.of_fcodes.specs.declared.words.TreeWord.TheVariants as node
 use Rattle.of_nodes.specs.declared.fault.NodeFault.{NodeFault}
 use Rattle.of_nodes.specs.declared.fault.NodeFault.TheVariants.{BadName}
 use Rattle.of_nodes.specs.declared.phandles.Phandle.{Phandle}
@@ -34,7 +32,6 @@ use Rattle.of_props.specs.declared.fault.PropFault.{PropFault}
 use Rattle.of_props.specs.declared.fault.PropFault.TheVariants.{Address}
 use Rattle.of_props.specs.Decoding.{int_decoded, phys_decoded, string_decoded}
 use Rattle.of_props.specs.Encoding.{as_array, copy_encoded, encoded, phys_bytes, phys_encoded}
-use Rattle.of_board.specs.declared.active.Active.{Active}
 use Rattle.of_instances.specs.Encoding.{array, cells_left, decode_int_entry, decode_phys_entry, decode_string_entry}
 use Rattle.of_instances.specs.Encoding.{encode_bytes_entry, encode_int_entry, encode_phys_entry, encode_plus_entry}
 use Rattle.of_instances.specs.Encoding.{encode_string_entry, encoded_left, int_left, joined_left, phys_left, phys_read}
@@ -49,9 +46,6 @@ use Rattle.of_instances.specs.Setting.{property_put as property_made_by, reg_ent
 use Rattle.of_instances.specs.Setting.{string_entry, string_made}
 use Rattle.of_board.specs.declared.board.Board.{Board}
 use Rattle.of_instances.specs.Left.{with_room}
-use Rattle.of_instances.specs.TreeWords.{active_left, child_entry, find_method_entry, find_package_entry, found_left}
-use Rattle.of_instances.specs.TreeWords.{handle_left, method_left, method_of, new_device_entry, opened_left}
-use Rattle.of_instances.specs.TreeWords.{package_left, peer_entry, tree_entry}
 use Rattle.of_eval.specs.Loading.{made_or_none}
 use Rattle.of_eval_laws.specs.Sound.{AreBytes}
 use Rattle.of_eval_laws.proofs.SoundSpace.{bytes_joined, bytes_part, bytes_tested, fresh_sound, grown_sound, high_bytes}
@@ -468,88 +462,3 @@ left r w e h = subst (λ x. IsLeft x) e h
 pub properties_sound : (p : PropertiesWord) (w after : Board) → IsSound w.memory → properties_entry p w ≡ Ok after
     → IsSound after.memory
 properties_sound p w after sound e = left (properties_entry p w) after e (properties p w sound)
-
--- ---- the group Tree
-
-opens : (w : Board) (ph : Phandle) (r : Result (Phandle × List Node) Throw) → IsSound w.memory
-    → IsLeft (opened_left w ph r)
-opens w ph (Ok x) sound = sound
-opens w ph (Err t) sound = tt
-
-new_device : (w : Board) (ph : Option Phandle) → IsSound w.memory → IsLeft (new_device_entry w ph)
-unfolding new_device_entry
-new_device w None sound = tt
-new_device w (Some ph) sound = opens w ph _ sound
-
-actives : (w : Board) (r : Result Active Throw) → IsSound w.memory → IsLeft (active_left w r)
-actives w (Ok a) sound = sound
-actives w (Err t) sound = tt
-
-handles : (s : List Cell) (w : Board) (r : Result (Option Phandle) Throw) → IsSound w.memory
-    → IsLeft (handle_left s w r)
-handles s w (Ok x) sound = sound
-handles s w (Err t) sound = tt
-
-child : (s : List Cell) (w : Board) → IsSound w.memory → IsLeft (child_entry s w)
-unfolding child_entry
-child [] w sound = tt
-child (x ∷ s) w sound = handles s w _ sound
-
-peer : (s : List Cell) (w : Board) → IsSound w.memory → IsLeft (peer_entry s w)
-unfolding peer_entry
-peer [] w sound = tt
-peer (x ∷ s) w sound = if_left (x.0 == 0) _ _ sound (handles s w _ sound)
-
-founds : (s : List Cell) (w : Board) (x : Option Cell) → IsSound w.memory → IsLeft (found_left s w x)
-founds s w None sound = sound
-founds s w (Some x) sound = sound
-
-packages : (s : List Cell) (w : Board) (r : Result (List ℕ) Throw) → IsSound w.memory → IsLeft (package_left s w r)
-packages s w (Ok path) sound = founds s w _ sound
-packages s w (Err t) sound = tt
-
-find_package : (s : List Cell) (w : Board) → IsSound w.memory → IsLeft (find_package_entry s w)
-unfolding find_package_entry
-find_package (n ∷ a ∷ s) w sound = packages s w (text_at w.memory a n) sound
-find_package _ w sound = tt
-
-methods : (s : List Cell) (w : Board) (r : Result (Option Cell) Throw) → IsSound w.memory → IsLeft (method_left s w r)
-methods s w (Ok x) sound = founds s w x sound
-methods s w (Err t) sound = tt
-
-method_finds : (s : List Cell) (w : Board) (ph : Result Phandle Throw) (name : Result (List ℕ) Throw)
-    → IsSound w.memory → IsLeft (method_of s w ph name)
-method_finds s w (Err t) name sound = tt
-method_finds s w (Ok ph) (Err t) sound = tt
-method_finds s w (Ok ph) (Ok name) sound = methods s w _ sound
-
-find_method : (s : List Cell) (w : Board) → IsSound w.memory → IsLeft (find_method_entry s w)
-unfolding find_method_entry
-find_method (ph ∷ n ∷ a ∷ s) w sound = method_finds s w (package_at w.tree ph) (text_at w.memory a n) sound
-find_method _ w sound = tt
-
-tree : (p : TreeWord) (w : Board) → IsSound w.memory → IsLeft (tree_entry p w)
-unfolding tree_entry
-tree node.NewDevice w sound = new_device w w.active.«package» sound
-tree node.FinishDevice w sound = actives w _ sound
-tree node.Child w sound = child w.stack w sound
-tree node.Peer w sound = peer w.stack w sound
-tree node.FindPackage w sound = find_package w.stack w sound
-tree node.FindMethod w sound = find_method w.stack w sound
-tree node.OpenPackage w sound = tt
-tree node.OpenNamedPackage w sound = tt
-tree node.ClosePackage w sound = tt
-tree node.CallPackage w sound = tt
-tree node.CallParent w sound = tt
-tree node.CallMethod w sound = tt
-tree node.MySelf w sound = tt
-tree node.MyParent w sound = tt
-tree node.PackageOf w sound = tt
-tree node.MyArgs w sound = tt
-tree node.SetArgs w sound = tt
-tree node.MyUnit w sound = tt
-tree node.MyAddress w sound = tt
-tree node.MySpace w sound = tt
-
-pub tree_sound : (p : TreeWord) (w after : Board) → IsSound w.memory → tree_entry p w ≡ Ok after → IsSound after.memory
-tree_sound p w after sound e = left (tree_entry p w) after e (tree p w sound)

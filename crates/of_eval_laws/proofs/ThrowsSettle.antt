@@ -13,15 +13,18 @@ use Rattle.of_stacks.specs.declared.return_item.ReturnItem.{ReturnItem}
 use Rattle.of_stacks.specs.declared.return_item.ReturnItem.TheVariants.{Return, Loop, User, Handler, Source, Caller}
 use Rattle.of_stacks.specs.Returns.{has_due_top}
 use Rattle.of_stacks.specs.Throws.{stack_overflow}
-use Rattle.of_stacks.specs.Unwinding.{latest_handler, latest_source}
-use Rattle.of_memory.specs.DataSpace.{DataSpace}
+use Rattle.of_stacks.specs.Unwinding.{latest_handler, latest_source, number_cell, to_depth}
+use Rattle.of_board.specs.Active.{all_finished, finished_from, with_self}
+use Rattle.of_board.specs.Text.{fault_printed}
+use Rattle.of_board.specs.declared.active.NewDevice.{NewDevice}
+use Rattle.of_board.specs.declared.board.Board.{Board}
 use Rattle.of_compile.specs.Defining.{abandoned, dropped}
 use Rattle.of_compile.specs.Words.{WordsState}
-use Rattle.of_eval.specs.State.{Calls, State, open_xt, with_compiling, with_items}
+use Rattle.of_eval.specs.State.{Calls, State, open_xt, with_board, with_compiling, with_items}
 use Rattle.of_eval.specs.Settling.{caller_self, caught, fallen, given_back, is_full, is_same, load_left, reading_on}
 use Rattle.of_eval.specs.Settling.{resumed, settled, uncaught}
-use Rattle.of_eval_laws.specs.Throws.{EndsAll, GoesOnBehind, IsCaught, LeavesDefinition, ThrowsSettle, image_more}
-use Rattle.of_eval_laws.specs.Throws.{images_ended, images_popped, is_opened_since, is_passed, left_through}
+use Rattle.of_eval_laws.specs.Throws.{EndsAll, GoesOnBehind, IsCaught, LeavesDefinition, ThrowsSettle, above_left}
+use Rattle.of_eval_laws.specs.Throws.{all_left, is_opened_since, is_passed, left_by, left_through}
 
 -- ---- nothing is due
 
@@ -68,22 +71,56 @@ reads_lowest (Caller d ∷ higher) lower r now e = reads_lowest higher lower r n
 -- the state without these items, over the rest
 abbrev cut_state : {S : Type 0} → List ReturnItem → List ReturnItem → State S → State S
 cut_state above rest s = record s {
-  board = record s.board {
-    memory = images_popped (images_ended s.flow.reading.input above) s.board.memory;
-    active = left_through above s.board.active;
-  };
+  board = above_left above s;
   flow = record s.flow { items = rest; reading = reading_then above s.flow.reading };
 }
 
-popped_more : (now : Input) (n : ℕ) (m : DataSpace)
-    → images_popped n (given_back now m) ≡ images_popped (image_more now n) m
-popped_more input.Nothing n m = refl
-popped_more (input.Text position) n m = refl
-popped_more (input.Image size position) n m = refl
+-- what a cut leaves of the board as it was
+record IsKept (b after : Board) : Type 0 where
+  pub stack : after.stack ≡ b.stack
+  pub pictured : after.pictured ≡ b.pictured
+  pub console : after.console ≡ b.console
+  pub tree : after.tree ≡ b.tree
 
--- the state with this data space
-abbrev with_memory : {S : Type 0} → DataSpace → State S → State S
-with_memory m s = record s { board = record s.board { memory = m } }
+all_kept : (b : Board) → IsKept b b
+all_kept b = record { stack = refl; pictured = refl; console = refl; tree = refl }
+
+then_kept : (a b c : Board) → IsKept a b → IsKept b c → IsKept a c
+then_kept a b c h k = record {
+  stack = k.stack ∙ h.stack;
+  pictured = k.pictured ∙ h.pictured;
+  console = k.console ∙ h.console;
+  tree = k.tree ∙ h.tree;
+}
+
+left_kept : (d : Due) (b : Board) → IsKept b (left_by d b)
+left_kept (due.Load active me instance count) b = record { stack = refl; pictured = refl; console = refl; tree = refl }
+left_kept (due.Method me) b = all_kept b
+left_kept (due.Open me instance) b = all_kept b
+left_kept (due.Close me instance) b = all_kept b
+
+cut_kept : (now : Input) (items : List ReturnItem) (b : Board) → IsKept b (left_through now items b)
+cut_kept now [] b = all_kept b
+cut_kept now (Source r ∷ items) b =
+    let freed : Board = record b { memory = given_back now b.memory } in
+    then_kept b freed (left_through r.input items freed)
+    (record { stack = refl; pictured = refl; console = refl; tree = refl }) (cut_kept r.input items freed)
+cut_kept now (Caller d ∷ items) b =
+    then_kept b (left_by d b) (left_through now items (left_by d b)) (left_kept d b) (cut_kept now items (left_by d b))
+cut_kept now (Return to ∷ items) b = cut_kept now items b
+cut_kept now (Loop l ∷ items) b = cut_kept now items b
+cut_kept now (User x ∷ items) b = cut_kept now items b
+cut_kept now (Handler h ∷ items) b = cut_kept now items b
+
+finished_kept : (b : Board) (ds : List NewDevice) → IsKept b (finished_from b ds)
+finished_kept b [] = all_kept b
+finished_kept b (d ∷ ds) = record { stack = refl; pictured = refl; console = refl; tree = refl }
+
+all_left_kept : {S : Type 0} (s : State S) → IsKept s.board (all_left s)
+all_left_kept s =
+    let cut = left_through s.flow.reading.input s.flow.items s.board in
+    then_kept s.board cut (all_finished cut) (cut_kept s.flow.reading.input s.flow.items s.board)
+    (finished_kept cut cut.active.new_devices.opened)
 
 cuts_through : {S : Type 0} (c : Calls S) (above rest : List ReturnItem) (t : Throw) (s : State S)
     → latest_handler above ≡ None → s.flow.items ≡ above ++ rest
@@ -97,8 +134,6 @@ cuts_through c (User x ∷ above) rest t s none e = cuts_through c above rest t 
 cuts_through c (Handler h ∷ above) rest t s none e = absurd cc
 cuts_through c (Source r ∷ above) rest t s none e =
     cuts_through c above rest t (reading_on r (with_items (above ++ rest) s)) none refl
-    ∙ ap (λ m. settled c rest (Some t) (with_memory m (cut_state (Source r ∷ above) rest s)))
-    (popped_more s.flow.reading.input (images_ended r.input above) s.board.memory)
 cuts_through c (Caller (due.Load active me instance count) ∷ above) rest t s none e =
     let load = Caller (due.Load active me instance count) ∷ [] in
     cuts_through c above rest t (cut_state load (above ++ rest) s) none refl
@@ -165,18 +200,22 @@ ends_all c t s =
     let m = fallen t (cut_state s.flow.items [] s) in
     let b = is_some s.words.defining in
     let left = leaves c b s m refl refl refl in
+    let kept = all_left_kept s in
+    let cut = cut_kept s.flow.reading.input s.flow.items s.board in
     record {
       stack = either (λ x. x.board.stack) b (closed c m) m _ refl refl;
       items = either (λ x. x.flow.items) b (closed c m) m _ refl refl;
       running = either (λ x. x.flow.is_running) b (closed c m) m _ refl refl;
       next = either (λ x. x.flow.next) b (closed c m) m _ refl refl;
       reading = either (λ x. x.flow.reading) b (closed c m) m _ refl refl;
-      my_self = either (λ x. x.flow.my_self) b (closed c m) m _ refl refl;
       closed = ap (λ w. w.defining) left.words ∙ all_closed s.words.defining s.words refl;
-      console = either (λ x. x.board.console) b (closed c m) m _ refl refl;
+      console =
+          let said = ap (λ x. fault_printed x t) cut.console in
+          either (λ x. x.board.console) b (closed c m) m _ said said;
       active = either (λ x. x.board.active) b (closed c m) m _ refl refl;
-      tree = either (λ x. x.board.tree) b (closed c m) m _ refl refl;
-      pictured = either (λ x. x.board.pictured) b (closed c m) m _ refl refl;
+      instances = either (λ x. x.board.instances) b (closed c m) m _ refl refl;
+      tree = either (λ x. x.board.tree) b (closed c m) m _ kept.tree kept.tree;
+      pictured = either (λ x. x.board.pictured) b (closed c m) m _ kept.pictured kept.pictured;
       definition = left;
     }
 
@@ -203,12 +242,13 @@ goes_on c t above h beneath s =
     let m = resumed h t (cut_state above beneath s) in
     let b = is_opened_since h.opened s in
     let left = leaves c b s m refl refl refl in
+    let kept = cut_kept s.flow.reading.input above s.board in
+    let depth = ap (λ x. number_cell t ∷ to_depth h.depth x) kept.stack in
     record {
-      stack = either (λ x. x.board.stack) b (closed c m) m _ refl refl;
+      stack = either (λ x. x.board.stack) b (closed c m) m _ depth depth;
       items = either (λ x. x.flow.items) b (closed c m) m _ refl refl;
       next = either (λ x. x.flow.next) b (closed c m) m _ refl refl;
       running = either (λ x. x.flow.is_running) b (closed c m) m _ refl refl;
-      my_self = either (λ x. x.flow.my_self) b (closed c m) m _ refl refl;
       reading = λ higher lower r e none.
           let found = lowest above higher lower r s.flow.reading e none in
           either (λ x. x.flow.reading) b (closed c m) m r found found;
@@ -219,9 +259,10 @@ goes_on c t above h beneath s =
           ap (λ w. w.defining) left.words
           ∙ given_closed (is_same (open_xt s) h.opened) s.words.defining s.words refl;
       active = either (λ x. x.board.active) b (closed c m) m _ refl refl;
-      console = either (λ x. x.board.console) b (closed c m) m _ refl refl;
-      tree = either (λ x. x.board.tree) b (closed c m) m _ refl refl;
-      pictured = either (λ x. x.board.pictured) b (closed c m) m _ refl refl;
+      instances = either (λ x. x.board.instances) b (closed c m) m _ refl refl;
+      console = either (λ x. x.board.console) b (closed c m) m _ kept.console kept.console;
+      tree = either (λ x. x.board.tree) b (closed c m) m _ kept.tree kept.tree;
+      pictured = either (λ x. x.board.pictured) b (closed c m) m _ kept.pictured kept.pictured;
       definition = left;
     }
 
@@ -265,7 +306,7 @@ nought_left c h r s e = rw e refl
 
 called_back : {S : Type 0} (c : Calls S) (d : Due) (r : List ReturnItem) (s : State S)
     → settled c (Caller d ∷ r) None s
-    ≡ settled c r None (load_left d (record s { flow = record s.flow { items = r; my_self = caller_self d } }))
+    ≡ settled c r None (load_left d (with_board (with_self s.board (caller_self d)) (with_items r s)))
 unfolding settled
 called_back c d r s = refl
 

@@ -27,7 +27,9 @@ use Rattle.of_fcodes.specs.declared.words.ThrowsWord.TheVariants as throws
 use Rattle.of_fcodes.specs.declared.words.Word.{Word}
 use Rattle.of_fcodes.specs.declared.words.Word.TheVariants as word
 use Rattle.of_fcodes.specs.Finding.{word_with_xt}
+use Rattle.of_ihandles.specs.Table.{InstanceTable}
 use Rattle.of_memory.specs.DataSpace.{DataSpace}
+use Rattle.of_memory.specs.Growth.{image_pushed}
 use Rattle.of_nodes.specs.declared.phandles.Phandle.{Phandle}
 use Rattle.of_control.specs.Running.{Point, step_from}
 use Rattle.of_compile.specs.declared.element.PlainItem.{PlainItem}
@@ -38,7 +40,7 @@ use Rattle.of_compile.specs.Words.{WordsState, is_word}
 use Rattle.of_eval.specs.Doing.{executed}
 use Rattle.of_eval.specs.Executing.{executable}
 use Rattle.of_flow.specs.Turns.{loop_item, one}
-use Rattle.of_eval.specs.Loading.{begun, load_caller}
+use Rattle.of_eval.specs.Loading.{begun_by, image_copied, load_caller}
 use Rattle.of_eval.specs.Settling.{ended, is_same}
 use Rattle.of_eval.specs.State.{Calls, State, done, failed, given_up, open_xt, with_items, with_next, with_stack}
 use Rattle.of_eval.specs.Steps.{due, item_done}
@@ -192,7 +194,8 @@ pub record CatchKeeps (S : Type 0) : Type 0 where
       Is s.words xt (word.Throws throws.Catch) → length s.flow.items < 256 →
       (h : ExceptionFrame)
       × (executed c xt (with_stack (x ∷ cells) s) ≡ executed c x.0 (on cells (Handler h ∷ s.flow.items) s))
-      × (h.depth ≡ length cells) × (h.my_self ≡ s.flow.my_self) × (h.opened ≡ open_xt s) × (h.resume ≡ s.flow.next)
+      × (h.depth ≡ length cells) × (h.my_self ≡ s.board.active.my_self) × (h.opened ≡ open_xt s)
+      × (h.resume ≡ s.flow.next)
   -- where the return stack is full it throws -5
   pub full :
       (c : Calls S) (xt : ℕ) (x : Cell) (cells : List Cell) (s : State S) →
@@ -229,16 +232,18 @@ pub record EndsGoBack (S : Type 0) : Type 0 where
 
 -- ---- an image that begins
 
--- It changes only the memory, the console's room, the active package, and what runs and is read: beneath it stands what
--- its end brings back. No definition was opened in it.
+-- It changes only the memory, the console's room, the active package with the current instance, and what runs and is
+-- read: beneath it stands what its end brings back. No definition was opened in it.
 pub record LoadsBegin (S : Type 0) : Type 0 where
   pub begun :
-      (image : List ℕ) (node : Phandle) (a : ℕ) (m : DataSpace) (s : State S) →
-      let o = begun image node (Ok (a, m)) s in
-      (o.flow.items ≡ Source s.flow.reading ∷ load_caller s ∷ []) × (o.board.active.«package» ≡ Some node)
-      × (o.board.memory ≡ m) × (o.flow.is_running ≡ true) × (o.flow.next ≡ continuation.Source)
+      (image : List ℕ) (node : Phandle) (instance : Cell) (t : InstanceTable) (m : DataSpace) (s : State S) →
+      let o = begun_by image node (Ok (instance, (t, m))) s in
+      (o.flow.items ≡ Source s.flow.reading ∷ load_caller instance s ∷ []) × (o.board.active.«package» ≡ Some node)
+      × (o.board.active.my_self ≡ instance) × (o.board.instances ≡ t)
+      × (o.board.memory ≡ image_copied (image_pushed m image) m)
+      × (o.flow.is_running ≡ true) × (o.flow.next ≡ continuation.Source)
       × (o.board.stack ≡ s.board.stack) × (o.board.pictured ≡ s.board.pictured) × (o.board.tree ≡ s.board.tree)
       × (o.board.console.text ≡ s.board.console.text) × (o.words ≡ s.words) × (o.code ≡ s.code)
-      × (o.flow.is_compiling ≡ s.flow.is_compiling) × (o.flow.my_self ≡ s.flow.my_self)
-      × (o.flow.home ≡ s.flow.home) × (o.board.active.new_devices ≡ s.board.active.new_devices)
+      × (o.flow.is_compiling ≡ s.flow.is_compiling) × (o.flow.home ≡ s.flow.home)
+      × (o.board.active.new_devices ≡ s.board.active.new_devices)
       × (has_opened o ≡ false)

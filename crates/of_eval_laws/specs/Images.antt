@@ -2,7 +2,7 @@
 use Rattle.std.specs.Prelude.{◌≡◌, Ok}
 use Rattle.of_fcodes.specs.declared.words.Word.{Word}
 use Rattle.of_memory.specs.DataSpace.{IsSound}
-use Rattle.of_instances.specs.Images.{KeepsImages}
+use Rattle.of_memory.specs.ImageRegion.{KeepsImages}
 use Rattle.of_board.specs.declared.board.Board.{Board}
 use Rattle.of_words.specs.Words.{word_entry}
 

@@ -15,7 +15,7 @@ use Rattle.of_compile.specs.Structured.{Definitions, laid_all}
 use Rattle.of_compile.specs.Words.{IsNewestOpen}
 use Rattle.of_eval.specs.State.{State}
 use Rattle.of_eval.specs.Steps.{stepped}
-use Rattle.of_eval.specs.Loading.{first_state, image_begun}
+use Rattle.of_eval.specs.Loading.{begun, first_state}
 use Rattle.of_eval_laws.specs.Structured.{IsPlaced, IsPlacedIn, structured_calls, no_definitions}
 
 -- the code cell at which the finished definitions end
@@ -85,8 +85,7 @@ pub record StatesStayPlaced : Type 0 where
   -- the evaluator as it is made
   pub first : AllPlaced (first_state no_definitions)
   -- an image that begins
-  pub begun : (image : List ℕ) (node : Phandle) (m : DataSpace) (s : State Definitions) → AllPlaced s
-      → AllPlaced (image_begun image node m s)
+  pub begun : (image : List ℕ) (node : Phandle) (s : State Definitions) → AllPlaced s → AllPlaced (begun image node s)
   -- a step
   pub step : (s : State Definitions) → AllPlaced s → AllPlaced (stepped structured_calls s)
   -- control goes on in what is read or in a finished definition

@@ -8,7 +8,6 @@ use Rattle.of_stacks.specs.declared.return_item.ReturnItem.{ReturnItem}
 use Rattle.of_stacks.specs.declared.return_item.ReturnItem.TheVariants.{Return, Loop, User, Handler, Source, Caller}
 use Rattle.of_stacks.specs.Unwinding.{latest_handler}
 use Rattle.of_fcodes.specs.declared.words.Word.{Word}
-use Rattle.of_memory.specs.Growth.{image_pushed}
 use Rattle.of_nodes.specs.declared.phandles.Phandle.{Phandle}
 use Rattle.of_flow.specs.declared.control_state.Flow.{Flow}
 use Rattle.of_board.specs.declared.board.Board.{Board}
@@ -71,10 +70,10 @@ pub record HasItsImages {S : Type 0} (s : State S) : Type 0 where
 -- The images that stand are those that are being read, at first and whatever is done, over any code of definitions.
 pub record ImagesAreReadings (S : Type 0) : Type 0 where
   pub first : (code : S) → HasItsImages (first_state code)
-  -- an image that begins where nothing runs, or finds no room
+  -- an image that begins where nothing runs, or is refused
   pub begun :
-      (image : List ℕ) (node : Phandle) (s : State S) → HasItsImages s → s.flow.is_running ≡ false →
-      HasItsImages (begun image node (image_pushed s.board.memory image) s)
+      (image : List ℕ) (node : Phandle) (s : State S) → HasSoundSpace s → HasItsImages s → s.flow.is_running ≡ false →
+      HasItsImages (begun image node s)
   -- an ordinary word
   pub words :
       (w : Word) (after : Board) (s : State S) → HasSoundSpace s → HasItsImages s →

@@ -14,7 +14,9 @@ use Rattle.of_stacks.specs.declared.return_item.ReturnItem.{ReturnItem}
 use Rattle.of_stacks.specs.declared.return_item.ReturnItem.TheVariants.{Return, Loop, User, Handler, Source, Caller}
 use Rattle.of_stacks.specs.Unwinding.{latest_handler, latest_source}
 use Rattle.of_stream.specs.Targets.{within_tokens}
+use Rattle.of_cells.specs.declared.cells.Cell.{Cell}
 use Rattle.of_memory.specs.DataSpace.{DataSpace}
+use Rattle.of_ihandles.specs.Table.{InstanceTable}
 use Rattle.of_nodes.specs.declared.phandles.Phandle.{Phandle}
 use Rattle.of_flow.specs.declared.control_state.Flow.{Flow}
 use Rattle.of_eval.specs.Doing.{executed}
@@ -123,9 +125,9 @@ module _ (image : List ℕ) (outer : Reading) where
 pub record StackLeadsBack (S : Type 0) : Type 0 where
   -- An image that begins where nothing is read and no definition is open is the outermost.
   pub begun :
-      (image : List ℕ) (node : Phandle) (m : DataSpace) (s : State S) → s.flow.reading.input ≡ input.Nothing →
-      s.words.defining ≡ None →
-      let b = image_begun image node m s in
+      (image : List ℕ) (node : Phandle) (instance : Cell) (x : InstanceTable × DataSpace) (s : State S) →
+      s.flow.reading.input ≡ input.Nothing → s.words.defining ≡ None →
+      let b = image_begun image node instance x s in
       (is_back b ≡ true) × LeadsOn image b.flow.reading b
   -- What executing a word pushes leads back.
   pub words :

@@ -11,15 +11,15 @@ use Rattle.of_stacks.specs.declared.return_item.ReturnItem.{ReturnItem}
 use Rattle.of_fcodes.specs.Lookup.{word_numbered}
 use Rattle.of_stream.specs.Decoding.{Token, token_from}
 use Rattle.of_memory.specs.DataSpace.{DataSpace, IsSound, bytes_from, free_after}
-use Rattle.of_memory.specs.Growth.{image_pushed}
 use Rattle.of_memory.specs.Images.{latest_image}
 use Rattle.of_nodes.specs.declared.phandles.Phandle.{Phandle}
+use Rattle.of_board.specs.declared.board.Board.{Board}
 use Rattle.of_eval.specs.State.{Calls, State}
 use Rattle.of_eval.specs.Settling.{settled}
 use Rattle.of_eval.specs.Steps.{due, stepped, steps_from}
-use Rattle.of_eval.specs.Loading.{begun}
+use Rattle.of_eval.specs.Loading.{begun, load_fault}
 use Rattle.of_eval_laws.specs.Frames.{ends_image}
-use Rattle.of_eval_laws.specs.Throws.{images_popped}
+use Rattle.of_eval_laws.specs.Throws.{images_ended, left_through}
 
 -- an image that runs: where it begins, and its bytes
 pub record RunningImage : Type 0 where
@@ -103,14 +103,15 @@ EndLeaves m after (Some t) = SomeEnd m after
 
 -- What becomes of the images that run, over any code of definitions.
 pub record ImagesRun (S : Type 0) : Type 0 where
-  -- An image that begins runs on top of the others, from the address on that was answered, with its own bytes.
+  -- An image that begins runs on top of the others, behind them, with its own bytes.
   pub begun :
-      (image : List ℕ) (node : Phandle) (a : ℕ) (m : DataSpace) (s : State S) → IsSound s.board.memory →
-      image_pushed s.board.memory image ≡ Ok (a, m) →
-      running (begun image node (Ok (a, m)) s).board.memory
-      ≡ record { begin = a; bytes = image } ∷ running s.board.memory
+      (image : List ℕ) (node : Phandle) (s : State S) → IsSound s.board.memory → load_fault image node s ≡ None →
+      running (begun image node s).board.memory
+      ≡ record { begin = free_after s.board.memory.images; bytes = image } ∷ running s.board.memory
   -- Of the images that a throw gives back the latest end, as many as it gives back.
-  pub given_back : (n : ℕ) (m : DataSpace) → IsSound m → LatestEnd n m (images_popped n m)
+  pub given_back :
+      (now : Input) (items : List ReturnItem) (b : Board) → IsSound b.memory →
+      LatestEnd (images_ended now items) b.memory (left_through now items b).memory
   -- What a token or an item does leaves the images as they were; it may begin one, and at its end it ends the latest.
   pub done :
       (c : Calls S) (s : State S) → IsSound s.board.memory →

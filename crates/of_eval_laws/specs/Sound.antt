@@ -6,7 +6,6 @@ use Rattle.of_stacks.specs.declared.throws.Throw.{Throw}
 use Rattle.of_stacks.specs.declared.return_item.ReturnItem.{ReturnItem}
 use Rattle.of_fcodes.specs.declared.words.Word.{Word}
 use Rattle.of_memory.specs.DataSpace.{IsSound}
-use Rattle.of_memory.specs.Growth.{image_pushed}
 use Rattle.of_nodes.specs.declared.phandles.Phandle.{Phandle}
 use Rattle.of_board.specs.declared.board.Board.{Board}
 use Rattle.of_eval.specs.Loading.{begun, first_state}
@@ -26,10 +25,10 @@ HasSoundSpace s = IsSound s.board.memory
 -- The data space is sound at first, and all that is done leaves it so, over any code of definitions.
 pub record SpaceStaysSound (S : Type 0) : Type 0 where
   pub first : (code : S) → HasSoundSpace (first_state code)
-  -- an image that begins, or finds no room
+  -- an image that begins, or is refused
   pub begun :
       (image : List ℕ) (node : Phandle) (s : State S) → HasSoundSpace s → AreBytes image →
-      HasSoundSpace (begun image node (image_pushed s.board.memory image) s)
+      HasSoundSpace (begun image node s)
   -- an ordinary word
   pub words : (w : Word) (m after : Board) → IsSound m.memory → word_entry w m ≡ Ok after → IsSound after.memory
   -- a token or an item, whatever it throws

@@ -17,13 +17,14 @@ use Rattle.of_stacks.specs.Returns.{has_due_top}
 use Rattle.of_stacks.specs.Throws.{stack_overflow}
 use Rattle.of_stacks.specs.Unwinding.{latest_handler, latest_source, number_cell, to_depth}
 use Rattle.of_memory.specs.DataSpace.{DataSpace}
-use Rattle.of_memory.specs.Growth.{image_popped, with_state}
+use Rattle.of_memory.specs.Growth.{with_state}
 use Rattle.of_compile.specs.Defining.{abandoned}
-use Rattle.of_board.specs.Active.{all_finished, image_left}
-use Rattle.of_board.specs.declared.active.Active.{Active}
+use Rattle.of_board.specs.Active.{all_finished, image_left, no_self, with_self}
+use Rattle.of_board.specs.declared.board.Board.{Board}
 use Rattle.of_board.specs.Text.{fault_printed}
-use Rattle.of_eval.specs.State.{Calls, State, open_xt, with_items}
-use Rattle.of_eval.specs.Settling.{caller_self, is_full, is_same, load_left, nothing_read, package_of, settled}
+use Rattle.of_eval.specs.State.{Calls, State, open_xt, with_board, with_items}
+use Rattle.of_eval.specs.Settling.{caller_self, given_back, is_full, is_same, load_left, nothing_read, package_of}
+use Rattle.of_eval.specs.Settling.{settled}
 
 -- ---- what a throw cuts
 
@@ -42,7 +43,7 @@ image_more input.Nothing n = n
 image_more (input.Text position) n = n
 image_more (input.Image size position) n = suc n
 
--- How many images end where these items are cut, by what is read above them: each source ends what is read above it.
+-- how many images end where these items are cut, by what is read above them: each source ends what is read above it
 abbrev pub images_ended : Input → List ReturnItem → ℕ
 images_ended now [] = 0
 images_ended now (Source r ∷ items) = image_more now (images_ended r.input items)
@@ -52,27 +53,24 @@ images_ended now (User x ∷ items) = images_ended now items
 images_ended now (Handler h ∷ items) = images_ended now items
 images_ended now (Caller d ∷ items) = images_ended now items
 
--- the data space without the latest n of the images that run
-abbrev pub images_popped : ℕ → DataSpace → DataSpace
-images_popped zero m = m
-images_popped (suc n) m = images_popped n (image_popped m)
+-- the board after a caller was cut: the load of an image brings back where words worked before, and releases its
+-- instance and those of the `new-device`s that were opened in it
+abbrev pub left_by : Due → Board → Board
+left_by (due.Load active me instance count) b = image_left b count (package_of active) instance
+left_by (due.Method me) b = b
+left_by (due.Open me instance) b = b
+left_by (due.Close me instance) b = b
 
--- where in the tree words work after a caller was cut: the load of an image brings back where they did before
-abbrev pub left_by : Due → Active → Active
-left_by (due.Load active me instance count) a = image_left a count (package_of active)
-left_by (due.Method me) a = a
-left_by (due.Open me instance) a = a
-left_by (due.Close me instance) a = a
-
--- and after these items were cut, the first of them first
-abbrev pub left_through : List ReturnItem → Active → Active
-left_through [] a = a
-left_through (Caller d ∷ items) a = left_through items (left_by d a)
-left_through (Return to ∷ items) a = left_through items a
-left_through (Loop l ∷ items) a = left_through items a
-left_through (User x ∷ items) a = left_through items a
-left_through (Handler h ∷ items) a = left_through items a
-left_through (Source r ∷ items) a = left_through items a
+-- And after these items were cut, the first of them first, by what is read above them: each source gives back the image
+-- that is read above it.
+abbrev pub left_through : Input → List ReturnItem → Board → Board
+left_through now [] b = b
+left_through now (Source r ∷ items) b = left_through r.input items (record b { memory = given_back now b.memory })
+left_through now (Caller d ∷ items) b = left_through now items (left_by d b)
+left_through now (Return to ∷ items) b = left_through now items b
+left_through now (Loop l ∷ items) b = left_through now items b
+left_through now (User x ∷ items) b = left_through now items b
+left_through now (Handler h ∷ items) b = left_through now items b
 
 -- ---- the open definition
 
@@ -80,7 +78,8 @@ left_through (Source r ∷ items) a = left_through items a
 abbrev pub is_opened_since : {S : Type 0} → Option Cell → State S → Bool
 is_opened_since opened s = is_some s.words.defining && not (is_same (open_xt s) opened)
 
--- What is left of the open definition, if it is given up, and of the memory, whose images have been given back.
+-- What is left of the open definition, if it is given up, and of the memory, of which images and blocks of instances
+-- have been given back.
 pub record LeavesDefinition {S : Type 0} (c : Calls S) (given_up : Bool) (freed : DataSpace) (before after : State S)
     : Type 0 where
   -- a definition that is given up is no word any more
@@ -89,10 +88,14 @@ pub record LeavesDefinition {S : Type 0} (c : Calls S) (given_up : Bool) (freed 
   pub code : after.code ≡ (if given_up then c.abandon before.code else before.code)
   -- words are executed then
   pub compiling : after.flow.is_compiling ≡ (if given_up then false else before.flow.is_compiling)
-  -- and `state` is false; but for that the bytes are as they were, without those of the images that ended
+  -- and `state` is false; but for that the memory is as it was then
   pub memory : after.board.memory ≡ (if given_up then with_state freed false else freed)
 
 -- ---- a throw that none takes
+
+-- the board after all items were cut and each open `new-device` was finished
+abbrev pub all_left : {S : Type 0} → State S → Board
+all_left s = all_finished (left_through s.flow.reading.input s.flow.items s.board)
 
 -- All that runs has ended.
 pub record EndsAll {S : Type 0} (c : Calls S) (t : Throw) (before after : State S) : Type 0 where
@@ -104,23 +107,26 @@ pub record EndsAll {S : Type 0} (c : Calls S) (t : Throw) (before after : State 
   pub next : after.flow.next ≡ continuation.Source
   -- nothing is read
   pub reading : after.flow.reading ≡ nothing_read
-  -- no instance is current
-  pub my_self : after.flow.my_self ≡ record { 0 = 0 }
   -- no definition is open
   pub closed : after.words.defining ≡ None
   -- the console has the text of the throw
   pub console : after.board.console ≡ fault_printed before.board.console t
-  -- each open `new-device` is finished
-  pub active : after.board.active ≡ all_finished (left_through before.flow.items before.board.active)
+  -- each open `new-device` is finished, and no instance is current
+  pub active : after.board.active ≡ (with_self (all_left before) no_self).active
+  -- their instances are released, and those of the loads
+  pub instances : after.board.instances ≡ (all_left before).instances
   -- the tree and the pictured text are as they were
   pub tree : after.board.tree ≡ before.board.tree
   pub pictured : after.board.pictured ≡ before.board.pictured
   -- the open definition is given up, and so are the images whose reading ended
   pub definition :
-      LeavesDefinition c (is_some before.words.defining)
-      (images_popped (images_ended before.flow.reading.input before.flow.items) before.board.memory) before after
+      LeavesDefinition c (is_some before.words.defining) (all_left before).memory before after
 
 -- ---- a throw that a `catch` takes
+
+-- the board after these items were cut
+abbrev pub above_left : {S : Type 0} → List ReturnItem → State S → Board
+above_left above s = left_through s.flow.reading.input above s.board
 
 -- Control goes on behind a `catch`; above its handler stood these items, and these stand beneath.
 pub record GoesOnBehind {S : Type 0} (c : Calls S) (t : Throw) (above : List ReturnItem) (h : ExceptionFrame)
@@ -133,8 +139,6 @@ pub record GoesOnBehind {S : Type 0} (c : Calls S) (t : Throw) (above : List Ret
   pub next : after.flow.next ≡ h.resume
   -- and what ran runs on
   pub running : after.flow.is_running ≡ before.flow.is_running
-  -- the current instance is that of the `catch`
-  pub my_self : after.flow.my_self ≡ h.my_self
   -- what is read is what the lowest source that was cut set aside
   pub reading :
       (higher lower : List ReturnItem) (r : Reading) → above ≡ higher ++ Source r ∷ lower →
@@ -144,16 +148,17 @@ pub record GoesOnBehind {S : Type 0} (c : Calls S) (t : Throw) (above : List Ret
   -- a definition that was open at the `catch` is open, and no other
   pub opened :
       after.words.defining ≡ (if is_same (open_xt before) h.opened then before.words.defining else None)
-  -- words work where they did before the loads that were cut
-  pub active : after.board.active ≡ left_through above before.board.active
+  -- words work where they did before the loads that were cut, for the instance that was current at the `catch`
+  pub active : after.board.active ≡ (with_self (above_left above before) h.my_self).active
+  -- the instances of these loads are released
+  pub instances : after.board.instances ≡ (above_left above before).instances
   -- the console, the tree and the pictured text are as they were
   pub console : after.board.console ≡ before.board.console
   pub tree : after.board.tree ≡ before.board.tree
   pub pictured : after.board.pictured ≡ before.board.pictured
   -- a definition that was opened since is given up, and so are the images whose reading ended
   pub definition :
-      LeavesDefinition c (is_opened_since h.opened before)
-      (images_popped (images_ended before.flow.reading.input above) before.board.memory) before after
+      LeavesDefinition c (is_opened_since h.opened before) (above_left above before).memory before after
 
 -- A state comes of what is due beneath the `catch` behind which control goes on.
 pub record IsCaught {S : Type 0} (c : Calls S) (t : Throw) (above : List ReturnItem) (h : ExceptionFrame)
@@ -186,7 +191,7 @@ pub record ThrowsSettle (S : Type 0) : Type 0 where
       (c : Calls S) (d : Due) (r : List ReturnItem) (s : State S) →
       settled c (Caller d ∷ r) None s
       ≡ settled c r None
-      (load_left d (record s { flow = record s.flow { items = r; my_self = caller_self d } }))
+      (load_left d (with_board (with_self s.board (caller_self d)) (with_items r s)))
   -- A throw passes returns, loops and cells of the program: what lies beneath decides.
   pub passes :
       (c : Calls S) (item : ReturnItem) (r : List ReturnItem) (t : Throw) (s : State S) → is_passed item ≡ true →

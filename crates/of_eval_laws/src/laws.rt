@@ -17,6 +17,7 @@ ghost use Rattle.of_eval_laws.specs.Throws.{ThrowsSettle};
 ghost use Rattle.of_eval_laws.specs.Tokens.{ThrowTakes, TokensAreTyped, TokensCompile, TokensGo};
 
 use of_compile::{compiles_reading, runs_by_structure, structures_are_flat};
+use of_ihandles::instances_keep_the_space;
 use of_instances::{images_stay, tree_words_throw_listed};
 use of_memory::{latest_is_pushed, parts_are_good, ranges_are_placed, writes_join};
 use of_prims::prims_throw_listed;
@@ -106,6 +107,7 @@ pub fn space_stays_sound()
     ensures bodies { SpaceStaysSound Definitions }
 {
     images_stay();
+    instances_keep_the_space();
     latest_is_pushed();
     parts_are_good();
     ranges_are_placed();
@@ -120,6 +122,7 @@ pub fn images_run()
     ensures bodies { ImagesRun Definitions }
 {
     images_stay();
+    instances_keep_the_space();
     latest_is_pushed();
     parts_are_good();
     ranges_are_placed();
@@ -134,6 +137,7 @@ pub fn images_are_readings()
     ensures bodies { ImagesAreReadings Definitions }
 {
     images_stay();
+    instances_keep_the_space();
     latest_is_pushed();
     parts_are_good();
     ranges_are_placed();

@@ -13,6 +13,7 @@ returns-clause-cells c =
       };
       pushes = c.latest_is_pushed.ensures;
       tree = c.images_stay.ensures;
+      instances = c.instances_keep_the_space.ensures;
     })
     Coding
 
@@ -26,5 +27,6 @@ returns-clause-bodies c =
       };
       pushes = c.latest_is_pushed.ensures;
       tree = c.images_stay.ensures;
+      instances = c.instances_keep_the_space.ensures;
     })
     Definitions
