@@ -4,14 +4,16 @@ use Rattle.std.proofs.Common.{Some, None, Result, Ok, Err, refl, ap, sym, ◌∙
 use Rattle.std.specs.Prelude.{if◌then◌else◌, option_and_then, replicate, ◌&&◌}
 use Rattle.std.proofs.lemmas.Bool.Decides.{nat_tests}
 use Rattle.of_memory.specs.DataSpace.{DataSpace}
-use Rattle.of_memory.specs.Growth.{image_pushed}
-use Rattle.of_memory.specs.declared.fault.MemFault.{MemFault}
+use Rattle.of_cells.specs.declared.cells.Cell.{Cell}
+use Rattle.of_ihandles.specs.Table.{InstanceTable}
+use Rattle.of_ihandles.specs.declared.instance_fault.InstanceFault.{InstanceFault}
 use Rattle.of_nodes.specs.declared.phandles.Phandle.{Phandle}
 use Rattle.of_compile.specs.Structured.{Definitions}
 use Rattle.of_compile.specs.Coding.{Coding}
 use Rattle.of_eval.specs.State.{State, flat_calls}
 use Rattle.of_eval.specs.Steps.{stepped, steps_from}
-use Rattle.of_eval.specs.Loading.{begun}
+use Rattle.of_eval.specs.Loading.{begun, begun_by, begun_unless, instance_on, load_fault}
+use Rattle.of_eval.specs.declared.load_fault.LoadFault.{LoadFault}
 use Rattle.of_eval_laws.specs.Structured.{StepsAgree, structured_calls, flat_state, no_definitions}
 use Rattle.of_eval_laws.specs.Placed.{AllPlaced, StatesStayPlaced}
 use Rattle.of_machine.specs.declared.answers.Refusal.{Refusal}
@@ -21,28 +23,32 @@ use Rattle.of_machine.specs.States.{moved, node_at}
 
 -- ---- an image
 
-pub begun_flat : (image : List ℕ) (node : Phandle) (r : Result (ℕ × DataSpace) MemFault) (s : State Definitions)
-    → begun image node r (flat_state s) ≡ flat_state (begun image node r s)
-begun_flat image node (Ok x) s = refl
-begun_flat image node (Err fault) s = refl
+opened_flat : (image : List ℕ) (node : Phandle) (r : Result (Cell × (InstanceTable × DataSpace)) InstanceFault)
+    (s : State Definitions) → begun_by image node r (flat_state s) ≡ flat_state (begun_by image node r s)
+opened_flat image node (Ok x) s = refl
+opened_flat image node (Err fault) s = refl
 
-pub begun_placed : (image : List ℕ) (node : Phandle) (r : Result (ℕ × DataSpace) MemFault) (s : State Definitions)
-    → StatesStayPlaced → AllPlaced s → AllPlaced (begun image node r s)
-begun_placed image node (Ok x) s stay placed = stay.begun image node x.1 s placed
-begun_placed image node (Err fault) s stay placed = placed
+faults_flat : (image : List ℕ) (node : Phandle) (o : Option LoadFault) (s : State Definitions)
+    → begun_unless o image node (flat_state s) ≡ flat_state (begun_unless o image node s)
+faults_flat image node None s = opened_flat image node (instance_on node s.board) s
+faults_flat image node (Some fault) s = refl
+
+pub begun_flat : (image : List ℕ) (node : Phandle) (s : State Definitions)
+    → begun image node (flat_state s) ≡ flat_state (begun image node s)
+begun_flat image node s = faults_flat image node (load_fault image node s) s
 
 loaded_flat : (o : Option Phandle) (image : List ℕ) (m : MachineState Definitions)
     → loaded_for (flat_machine m) image o ≡ flat_machine (loaded_for m image o)
 loaded_flat None image m = refl
 loaded_flat (Some node) image m =
     ap (λ (s : State Coding). record { eval = s; steps = m.steps })
-    (begun_flat image node (image_pushed m.eval.board.memory image) m.eval)
+    (begun_flat image node m.eval)
 
 loaded_placed : (o : Option Phandle) (image : List ℕ) (m : MachineState Definitions) → StatesStayPlaced
     → AllPlaced m.eval → AllPlaced (loaded_for m image o).eval
 loaded_placed None image m stay placed = placed
 loaded_placed (Some node) image m stay placed =
-    begun_placed image node (image_pushed m.eval.board.memory image) m.eval stay placed
+    stay.begun image node m.eval placed
 
 unless_flat : (o : Option Refusal) (m : MachineState Definitions) (image path : List ℕ)
     → loaded_unless o (flat_machine m) image path ≡ flat_machine (loaded_unless o m image path)

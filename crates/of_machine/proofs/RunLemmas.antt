@@ -5,7 +5,7 @@ use Rattle.std.proofs.Common.{ap, sym, subst, ◌∙◌, add-one, nat_lt, nat_le
 use Rattle.std.specs.Prelude.{if◌then◌else◌, option_and_then, ◌<◌, ◌≤◌, ◌^◌, ◌-◌, ◌&&◌}
 use Rattle.std.proofs.lemmas.Bool.Decides.{nat_tests}
 use Rattle.of_memory.specs.DataSpace.{DataSpace}
-use Rattle.of_memory.specs.Growth.{image_fits, image_pushed}
+use Rattle.of_memory.specs.Growth.{image_fits}
 use Rattle.of_stream.specs.Image.{header_fault}
 use Rattle.of_compile.specs.Structured.{Definitions, flat_of}
 use Rattle.of_compile.specs.Coding.{Coding}
@@ -19,7 +19,7 @@ use Rattle.of_machine.specs.declared.answers.Refusal.TheVariants.{ImageTooLong}
 use Rattle.of_machine.specs.declared.answers.End.TheVariants.{LimitReached, Done}
 use Rattle.of_machine.specs.States.{HasMoved, MachineState, can_step, flat_machine, idle, image_refusal, is_running}
 use Rattle.of_machine.specs.States.{loaded, moved, slot, start_refusal}
-use Rattle.of_machine.proofs.EventLemmas.{begun_flat, begun_placed, some_same}
+use Rattle.of_machine.proofs.EventLemmas.{begun_flat, some_same}
 use Rattle.of_machine.proofs.FirstLemmas.{first_images}
 use Rattle.of_machine.specs.Runs.{Feed, RunsAgree, RunsTo, States, after, beginning, next}
 
@@ -133,14 +133,13 @@ feeds_agree (suc n) f agree stay placed =
 pub runs_agree : StepsAgree → StatesStayPlaced → RunsAgree
 runs_agree agree stay image lines answers calls n =
     let first : State Definitions = first_state no_definitions in
-    let pushed = image_pushed first.board.memory image in
     let f = beginning no_definitions image lines answers calls in
     let from : beginning (flat_of no_definitions) image lines answers calls ≡ flat_feed f =
     ap (λ s. record { machine = record { eval = s; steps = 0 }; lines = lines; answers = answers; calls = calls })
-    (begun_flat image slot pushed first) in
+    (begun_flat image slot first) in
     ap (λ (g : Feed Coding). (after flat_calls n g).machine) from
     ∙ ap (λ (g : Feed Coding). g.machine)
-    (feeds_agree n f agree stay (begun_placed image slot pushed first stay stay.first))
+    (feeds_agree n f agree stay (stay.begun image slot first stay.first))
 
 -- a run as `run_script` makes it, and its end
 ends : (b : Bool) (image : List ℕ) (limit : ℕ) (m : MachineState Coding) → is_running m ≡ b

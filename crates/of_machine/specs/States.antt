@@ -1,10 +1,9 @@
 -- The machine's states, and what each of its calls makes of them. They are the same whether the code of definitions is
 -- structured bodies or their cells.
 use Rattle.std.specs.Prelude.{◌≡◌, ◌≤◌, ◌⊎◌, ℕ, ◌+◌, ◌-◌, ◌^◌, Bool, true, false, List, length, Option, Some, None}
-use Rattle.std.specs.Prelude.{nat_lt, ◌&&◌, if◌then◌else◌}
+use Rattle.std.specs.Prelude.{nat_lt, ◌&&◌, is_ok, if◌then◌else◌}
 use Rattle.of_stream.specs.declared.fault.StreamFault.{StreamFault}
 use Rattle.of_stream.specs.Image.{header_fault}
-use Rattle.of_memory.specs.Growth.{image_fits, image_pushed}
 use Rattle.of_nodes.specs.declared.phandles.Phandle.{Phandle}
 use Rattle.of_nodes.specs.Lookup.{found}
 use Rattle.of_nodes.specs.Nodes.{phandle_of}
@@ -12,7 +11,8 @@ use Rattle.of_compile.specs.Coding.{Coding}
 use Rattle.of_compile.specs.Structured.{Definitions}
 use Rattle.of_eval.specs.State.{Calls, State, flat_calls}
 use Rattle.of_eval.specs.Steps.{due_grows, stepped, steps_from}
-use Rattle.of_eval.specs.Loading.{begun, first_state}
+use Rattle.of_memory.specs.Growth.{image_fits}
+use Rattle.of_eval.specs.Loading.{begun, first_state, instance_on}
 use Rattle.of_eval_laws.specs.Structured.{flat_state}
 use Rattle.of_machine.specs.declared.answers.Progress.{Progress}
 use Rattle.of_machine.specs.declared.answers.Progress.TheVariants.{Done, Ended}
@@ -65,7 +65,7 @@ HasMoved old new = (old.steps ≤ new.steps) × (steps_from flat_calls (new.step
 
 -- a machine with an image that has just been loaded for a node
 abbrev pub loaded : {S : Type 0} → MachineState S → List ℕ → Phandle → MachineState S
-loaded m image node = record m { eval = begun image node (image_pushed m.eval.board.memory image) m.eval }
+loaded m image node = record m { eval = begun image node m.eval }
 
 -- the node at a path, if there is one
 abbrev pub node_at : {S : Type 0} → MachineState S → List ℕ → Option Phandle
@@ -97,18 +97,34 @@ node_refusal None = Some NoNode
 abbrev pub room_refusal : Bool → Option Refusal
 room_refusal fits = if fits then None else Some ImageTooLong
 
+-- nor is one for a node whose instance finds no room
+abbrev pub instance_refusal : {S : Type 0} → MachineState S → Option Phandle → Option Refusal
+instance_refusal m None = None
+instance_refusal m (Some node) = if is_ok (instance_on node m.eval.board) then None else Some NoNode
+
 -- the first reason of two
 abbrev pub or_next : Option Refusal → Option Refusal → Option Refusal
 or_next (Some e) next = Some e
 or_next None next = next
 
--- why a load is refused, memory aside: the first of busy, the image, the node and the room
-abbrev pub load_refusal : {S : Type 0} → MachineState S → List ℕ → List ℕ → Option Refusal
-load_refusal m image path =
+-- why an image is refused for a node that is there, memory and its instance aside: its room
+abbrev pub fit_refusal : {S : Type 0} → MachineState S → List ℕ → Option Refusal
+fit_refusal m image = room_refusal (image_fits m.eval.board.memory (length image))
+
+-- why a load is refused, memory and the instance aside: the first of busy, the image, the node and the room
+abbrev pub first_refusal : {S : Type 0} → MachineState S → List ℕ → List ℕ → Option Refusal
+first_refusal m image path =
     if is_running m then Some Busy
-    else or_next (image_refusal image)
-    (or_next (node_refusal (node_at m path)) (room_refusal (image_fits m.eval.board.memory (length image))))
+    else or_next (image_refusal image) (or_next (node_refusal (node_at m path)) (fit_refusal m image))
+
+-- why a load is refused, memory aside
+abbrev pub load_refusal : {S : Type 0} → MachineState S → List ℕ → List ℕ → Option Refusal
+load_refusal m image path = or_next (first_refusal m image path) (instance_refusal m (node_at m path))
 
 -- a refusal is for that reason, or for memory where there is no other
 abbrev pub Refuses : Option Refusal → Refusal → Type 0
 Refuses reason e = (reason ≡ Some e) ⊎ ((reason ≡ None) × (e ≡ NoMemory))
+
+-- a refusal is for a reason, or for memory where none of the first ones holds
+abbrev pub RefusesBefore : Option Refusal → Option Refusal → Refusal → Type 0
+RefusesBefore first reason e = (reason ≡ Some e) ⊎ ((first ≡ None) × (e ≡ NoMemory))

@@ -15,7 +15,7 @@ pub enum Refusal {
     /// The image begins with no header that can be read.
     #[error(transparent)]
     BadStart(StreamFault),
-    /// No node stands at the path.
+    /// No node stands at the path, or its instance finds no room.
     #[error("no such node")]
     NoNode,
     /// A growth of memory was refused.

@@ -1,15 +1,17 @@
-ghost use Rattle.std.specs.Prelude.{◌≡◌, length, ◌≤◌, ◌+◌, ◌⊎◌, [], false, true, IfOk, IfErr, OnOk, OnErr, None, Some};
+ghost use Rattle.std.specs.Prelude.{◌≡◌, length, ◌≤◌, ◌+◌, ◌⊎◌, [], false, true, is_ok, IfOk, IfErr, OnOk, OnErr};
+ghost use Rattle.std.specs.Prelude.{None, Some};
 ghost use Rattle.of_eval_laws.specs.Structured.{no_definitions};
-ghost use Rattle.of_machine.specs.States.{MayGrow, Refuses, Steps, flat_machine, idle, image_refusal, loaded};
+ghost use Rattle.of_machine.specs.States.{MayGrow, RefusesBefore, Steps, first_refusal, fit_refusal, flat_machine};
+ghost use Rattle.of_machine.specs.States.{idle, image_refusal, instance_refusal, loaded, or_next};
 ghost use Rattle.of_eval.specs.State.{flat_calls};
 ghost use Rattle.of_machine.specs.Events.{Load, Step, done_by};
-ghost use Rattle.of_machine.specs.States.{HasMoved, can_step, load_refusal, loaded_for, node_at, room_refusal};
+ghost use Rattle.of_eval.specs.Loading.{instance_on};
+ghost use Rattle.of_machine.specs.States.{HasMoved, can_step, load_refusal, loaded_for, node_at};
 ghost use Rattle.of_memory.specs.Growth.{image_fits};
 
 use crate::answers::{Progress, Refusal};
 use of_code::CodeStore;
-use of_eval::{Eval, Pause};
-use of_memory::MemFault;
+use of_eval::{Eval, LoadFault, Pause};
 use of_nodes::Phandle;
 use of_stream::{Stream, open};
 use std::alloc::{AllocError, Global};
@@ -77,8 +79,8 @@ impl<C: CodeStore> Machine<C> {
     /// what is due then (IEEE 1275-1994, 5.2).
     ///
     /// An error is for memory alone, and then nothing has changed. It comes only where the token or item prints, takes
-    /// a block of the heap, sets a property, makes a node, defines a word, or is appended to the open definition: the
-    /// other steps ask for no memory, also where they throw.
+    /// a block of the heap, sets a property, makes a node, sets arguments, defines a word, or is appended to the open
+    /// definition: the other steps ask for no memory, also where they throw.
     pub fn step(&mut self) -> Result<Progress, AllocError>
         ensures ok { IfOk result (λ p. Steps p self.old self.new) }
         ensures event { OnOk result (self.new ≡ done_by flat_calls Step self.old) }
@@ -111,18 +113,19 @@ impl<C: CodeStore> Machine<C> {
         }
     }
 
-    /// Makes an idle machine ready to run an image for the package at a path: the image is copied
-    /// into the image region of the data space.
+    /// Makes an idle machine ready to run an image for the package at a path: an instance of the package is opened
+    /// below the current one, and the image is copied into the image region of the data space.
     ///
-    /// Busy where something runs; then ImageTooLong over 256 KiB, BadStart where its header can't
-    /// be read, NoNode where there is none at the path, and ImageTooLong where the image region has
-    /// no room left; and NoMemory where none is found for the text of a throw. A refusal changes
-    /// nothing.
+    /// Busy where something runs; then ImageTooLong over 256 KiB, BadStart where its header can't be read, NoNode where
+    /// there is none at the path, ImageTooLong where the image region has no room left, and NoNode where the instance
+    /// finds no room; and NoMemory where none is found for the text of a throw or the instance, which may stand in
+    /// place of the last of these. A refusal changes nothing.
     pub fn load(&mut self, image: &[u8], path: &str) -> Result<(), Refusal>
         ensures accepted { OnOk result (load_refusal self.old image.now path.now ≡ None) }
         ensures ok { OnOk result (self.new ≡ loaded_for self.old image.now (node_at self.old path.now)) }
         ensures event { OnOk result (self.new ≡ done_by flat_calls (Load image.now path.now) self.old) }
-        ensures err { IfErr result (λ e. Refuses (load_refusal self.old image.now path.now) e) }
+        ensures err { IfErr result (λ e. RefusesBefore (first_refusal self.old image.now path.now)
+            (load_refusal self.old image.now path.now) e) }
         ensures unchanged { OnErr result (self.new ≡ self.old) }
     {
         if self.eval.is_running() {
@@ -138,19 +141,22 @@ impl<C: CodeStore> Machine<C> {
 
     /// Makes a machine on which nothing runs ready to run an image for a node.
     ///
-    /// ImageTooLong where the image region has no room left, then NoMemory; a refusal changes nothing.
+    /// ImageTooLong where the image region has no room left, then NoNode where the instance of the node finds none;
+    /// NoMemory may stand in place of the latter. A refusal changes nothing.
     pub(crate) fn begin(&mut self, image: &[u8], node: Phandle) -> Result<(), Refusal>
         requires idle { self.old.eval.flow.is_running ≡ false }
         ensures room { OnOk result (image_fits self.old.eval.board.memory (length image.now) ≡ true) }
+        ensures instance { OnOk result (is_ok (instance_on node self.old.eval.board) ≡ true) }
         ensures ok { OnOk result (self.new ≡ loaded self.old image.now node) }
-        ensures err { IfErr result (λ e.
-            Refuses (room_refusal (image_fits self.old.eval.board.memory (length image.now))) e) }
+        ensures err { IfErr result (λ e. RefusesBefore (fit_refusal self.old image.now)
+            (or_next (fit_refusal self.old image.now) (instance_refusal self.old (Some node))) e) }
         ensures unchanged { OnErr result (self.new ≡ self.old) }
     {
         match self.eval.begin_image(image, node) {
             Ok(()) => Ok(()),
-            Err(MemFault::NoMemory) => Err(Refusal::NoMemory),
-            Err(_) => Err(Refusal::ImageTooLong),
+            Err(LoadFault::ImageTooLong) => Err(Refusal::ImageTooLong),
+            Err(LoadFault::NoInstance) => Err(Refusal::NoNode),
+            Err(LoadFault::NoMemory) => Err(Refusal::NoMemory),
         }
     }
 }

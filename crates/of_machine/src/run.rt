@@ -21,7 +21,7 @@ const SLOT: usize = 2;
 /// The machine that it gives back is the abstract machine after as many steps as were made. The
 /// end is Done where nothing runs any more, else LimitReached. Refused are ImageTooLong over
 /// 256 KiB, then BadStart where the header can't be read, and NoMemory, which gives no machine.
-#[tactic(auto, using(crate::proofs::RunLemmas::fits_first))]
+#[tactic(auto, using(crate::proofs::RunLemmas::fits_first, crate::proofs::FirstLemmas::first_opens))]
 pub fn run_script(
     alloc: Global,
     image: &[u8],
