@@ -67,7 +67,6 @@ fn words_end(rt: HostRuntime) -> Result<(), Fail> {
         is_running: true,
         next: Continuation::Code(9),
         is_compiling: false,
-        my_self: Cell(0),
         home: None,
     };
     enter(40, &mut flow)?;

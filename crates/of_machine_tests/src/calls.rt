@@ -96,6 +96,33 @@ fn loads_are_refused(rt: HostRuntime) -> Result<(), Fail> {
     Ok(())
 }
 
+/// Loads an image so many times and lets each run end.
+fn load_often(machine: &mut ScriptMachine, image: &[u8], count: u32) -> Result<(), Fail> {
+    for _ in 0..count {
+        answer(machine, image, "/slot")?;
+        run_on(machine, 9)?;
+    }
+    Ok(())
+}
+
+/// What a load behind 65,536 others is answered, and how many steps were made then.
+fn answer_behind_many(alloc: Global, image: &[u8]) -> Result<(Result<(), Refusal>, u64), Fail> {
+    let mut machine = new_machine(alloc)?;
+    load_often(&mut machine, image, 65_536)?;
+    let last = answer(&mut machine, image, "/slot");
+    Ok((last, machine.steps()))
+}
+
+/// An instance is opened by each load, and 65,536 are ever opened.
+#[test]
+fn instances_of_loads(rt: HostRuntime) -> Result<(), Fail> {
+    let image = decode(rt.alloc(), "f10800000000000900")?;
+    let (last, steps) = answer_behind_many(rt.alloc(), &image)?;
+    assert_eq!(rt; last, Err(Refusal::NoNode));
+    assert_eq!(rt; steps, 65_536);
+    Ok(())
+}
+
 /// What a step of a machine on which nothing runs does, and whether something runs then.
 fn idle_step(alloc: Global) -> Result<(Progress, bool), Fail> {
     let mut machine = new_machine(alloc)?;

@@ -85,7 +85,7 @@ fn run_loads(alloc: Global, loads: &str) -> Result<ScriptMachine, Fail> {
 }
 
 /// What such images print, and the tree that they leave.
-fn made(alloc: Global, loads: &str) -> Result<String, Fail> {
+pub(crate) fn made(alloc: Global, loads: &str) -> Result<String, Fail> {
     shown(alloc, &run_loads(alloc, loads)?)
 }
 
@@ -133,7 +133,7 @@ fault -22: control structure mismatch$0
 ";
 
 /// What images print on one machine, loaded one after another.
-fn said(alloc: Global, loads: &str) -> Result<String, Fail> {
+pub(crate) fn said(alloc: Global, loads: &str) -> Result<String, Fail> {
     let machine = run_loads(alloc, loads)?;
     let mut text = String::new(alloc);
     push_bytes(&mut text, machine.console())?;
@@ -220,7 +220,7 @@ fn keeps_counts(machine: &mut ScriptMachine) -> bool {
 
 /// Whether no refused step of an image is counted, and the tree that it leaves, where each growth is refused in turn.
 /// None where there is no memory for a machine.
-fn made_in_turn(alloc: Global, image: &[u8]) -> Result<Option<(bool, String)>, Fail> {
+pub(crate) fn made_in_turn(alloc: Global, image: &[u8]) -> Result<Option<(bool, String)>, Fail> {
     let Some(mut machine) = machine_if_room(alloc) else {
         return Ok(None);
     };

@@ -169,6 +169,11 @@ fn answer(
     let node = call.node();
     match call.call {
         "add_node" => return Ok(shown_node(alloc, Some(tree.add_node(node)?))?),
+        "add_and_take_back" => {
+            let made = tree.add_node(node)?;
+            tree.take_back_node();
+            return Ok(shown_node(alloc, Some(made))?);
+        }
         "set_property" => tree.set_property(memory, node, call.name, &call.bytes(alloc)?)?,
         "delete_property" => tree.delete_property(node, call.name)?,
         "add_method" => tree.add_method(node, call.name, Cell(number(call.value)))?,

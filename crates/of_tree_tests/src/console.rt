@@ -40,3 +40,40 @@ fn faults(rt: HostRuntime) -> Result<(), Fail> {
     assert_eq!(rt; console.bytes(), printed.as_bytes());
     Ok(())
 }
+
+/// There is no room at first, also where it is to be kept.
+#[test]
+fn no_room_at_first(rt: HostRuntime) -> Result<(), Fail> {
+    let mut console = Console::new(rt.alloc());
+    assert!(rt; !console.is_ready());
+    console.keep_ready(true);
+    assert!(rt; !console.is_ready());
+    Ok(())
+}
+
+/// The room is there once it is made, until it is given up.
+#[test]
+fn rooms(rt: HostRuntime) -> Result<(), Fail> {
+    let mut console = Console::new(rt.alloc());
+    console.make_ready()?;
+    console.keep_ready(true);
+    assert!(rt; console.is_ready());
+    console.keep_ready(false);
+    assert!(rt; !console.is_ready());
+    assert_eq!(rt; console.bytes(), "".as_bytes());
+    Ok(())
+}
+
+/// The text of a throw takes the room.
+#[test]
+fn faults_take_the_room(rt: HostRuntime) -> Result<(), Fail> {
+    let mut console = Console::new(rt.alloc());
+    console.print(b"a")?;
+    assert!(rt; console.is_ready());
+    console.print_fault(Throw(-1));
+    assert!(rt; !console.is_ready());
+    console.keep_ready(false);
+    assert!(rt; !console.is_ready());
+    assert_eq!(rt; console.bytes(), "afault -1: abort\n".as_bytes());
+    Ok(())
+}

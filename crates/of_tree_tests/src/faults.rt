@@ -145,12 +145,10 @@ fn nodes(rt: HostRuntime) -> Result<(), Fail> {
     Ok(())
 }
 
-/// The words over instances are as unassigned.
+/// The words that run a method are as unassigned.
 #[test]
-fn instances(rt: HostRuntime) -> Result<(), Fail> {
-    let names =
-        "open-package $open-package close-package call-package $call-parent $call-method my-self my-parent \
-        ihandle>phandle my-args set-args my-unit my-address my-space";
+fn methods(rt: HostRuntime) -> Result<(), Fail> {
+    let names = "open-package $open-package close-package call-package $call-parent $call-method";
     for name in names.split_whitespace() {
         let mut trial = Trial::new(rt.alloc())?;
         assert_eq!(rt; trial.run(name), Err(Stop::Thrown(Throw(-256))), "{name}");

@@ -3,7 +3,7 @@
 use of_cells::Cell;
 use of_ihandles::{
     InstanceFault, Instances, Template, blocks_are_owned, ihandles_are_new, instances_begin,
-    slots_are_own,
+    instances_keep_the_space, slots_are_own,
 };
 use of_memory::Memory;
 use of_nodes::{Phandle, Span};
@@ -135,6 +135,7 @@ fn answer(
             return Ok(format!(in alloc; "{slot}")?);
         }
         "close" => instances.close(memory, call.ihandle())?,
+        "release" => instances.release(memory, call.ihandle()),
         "set_slot" => {
             instances.set_slot(
                 memory,
@@ -176,6 +177,7 @@ fn laws_hold() {
     blocks_are_owned();
     ihandles_are_new();
     instances_begin();
+    instances_keep_the_space();
     slots_are_own();
 }
 
@@ -214,6 +216,37 @@ args dffffffc = no such instance
 #[test]
 fn ihandles_are_never_used_again(rt: HostRuntime) -> Result<(), Fail> {
     assert_eq!(rt; differing(rt.alloc(), OPENED)?.as_str(), "");
+    Ok(())
+}
+
+/// A release gives the blocks back; a second one, and one of no instance, changes nothing.
+const RELEASED: &str = "\
+open d0000008 0 ab = e0000000
+open d0000008 0 - = e0000004
+release e0000000 = done
+args e0000000 = no such instance
+release e0000000 = done
+release e0000008 = done
+release e0000006 = done
+release 0 = done
+args e0000004 = 300008 0
+open d0000008 0 cd = e0000008
+args e0000008 = 300000 2
+release e0000000 = done
+text e0000008 = cd
+close e0000000 = no such instance
+slot d0000008 value 7 = 0
+slot_span e0000004 0 = 300010 4
+release e0000004 = done
+open d000000c 0 - = e000000c
+args e000000c = 300008 0
+open d000000c 0 - = e0000010
+args e0000010 = 300010 0
+";
+
+#[test]
+fn a_second_release_changes_nothing(rt: HostRuntime) -> Result<(), Fail> {
+    assert_eq!(rt; differing(rt.alloc(), RELEASED)?.as_str(), "");
     Ok(())
 }
 

@@ -1,8 +1,10 @@
 use crate::calls::differing;
 use of_cells::Cell;
-use of_memory::{Memory, properties_change_by_puts_alone};
+use of_memory::{
+    Memory, changes_stay_sound, images_change_by_images_alone, properties_change_by_puts_alone,
+};
 use of_nodes::{
-    NodeFault, Phandle, Tree, after_runs, components_are_meant, first_paths_find,
+    NodeFault, Phandle, Tree, after_runs, before, behind, components_are_meant, first_paths_find,
     methods_are_found, paths_find, properties_are_found, stored_stays, tree_finds, tree_is_shown,
     ways_lead,
 };
@@ -11,8 +13,10 @@ use std::test::Fail;
 #[test]
 fn laws_hold() {
     after_runs();
+    changes_stay_sound();
     components_are_meant();
     first_paths_find();
+    images_change_by_images_alone();
     methods_are_found();
     paths_find();
     properties_are_found();
@@ -21,6 +25,17 @@ fn laws_hold() {
     tree_finds();
     tree_is_shown();
     ways_lead();
+}
+
+/// A text is parted at the first of a byte.
+#[test]
+fn texts_are_parted(rt: HostRuntime) -> Result<(), Fail> {
+    assert_eq!(rt; before(b"disk:a:b", b':'), b"disk".as_slice());
+    assert_eq!(rt; before(b"disk", b':'), b"disk".as_slice());
+    let rest = behind(b"disk:a:b", b':').ok_or("no byte")?;
+    assert_eq!(rt; rest, b"a:b".as_slice());
+    assert_eq!(rt; behind(b"disk", b':').is_none(), true);
+    Ok(())
 }
 
 /// The tree at first, and a node that is added to it.
@@ -47,6 +62,31 @@ property_at d000000c 0 = -
 #[test]
 fn the_tree_at_first(rt: HostRuntime) -> Result<(), Fail> {
     assert_eq!(rt; differing(rt.alloc(), FIRST)?.as_str(), "");
+    Ok(())
+}
+
+/// A node that is taken back is none, and its phandle is that of the next.
+const TAKEN_BACK: &str = "\
+add_and_take_back d0000008 = d000000c
+child d0000008 = -
+parent d000000c = no such node
+peer d0000008 = -
+add_node d0000004 = d000000c
+child d0000008 = -
+child d0000004 = d000000c
+add_and_take_back d0000004 = d0000010
+peer d000000c = -
+add_and_take_back d000000c = d0000010
+child d000000c = -
+after d000000c = d0000008
+add_and_take_back d0000010 = no such node
+parent d000000c = d0000004
+add_node d000000c = d0000010
+";
+
+#[test]
+fn a_node_is_taken_back(rt: HostRuntime) -> Result<(), Fail> {
+    assert_eq!(rt; differing(rt.alloc(), TAKEN_BACK)?.as_str(), "");
     Ok(())
 }
 

@@ -4,6 +4,7 @@ use of_board::{Active, Board, Console};
 use of_cells::Cell;
 use of_fcodes::{Word, word_with_name};
 use of_format::Pictured;
+use of_ihandles::Instances;
 use of_instances::{run_properties_word, run_tree_word};
 use of_memory::Memory;
 use of_nodes::{Phandle, Tree};
@@ -19,10 +20,12 @@ pub(crate) struct Trial {
     ever: usize,
     /// The active package.
     before: Option<Phandle>,
+    /// The current instance.
+    outer: Cell,
 }
 
 impl Trial {
-    /// The first tree, with no active package.
+    /// The first tree, with no active package and no instance.
     pub(crate) fn new(alloc: Global) -> Result<Trial, Fail> {
         let mut memory = Memory::new(alloc)?;
         let tree = Tree::new(alloc, &mut memory)?;
@@ -34,9 +37,11 @@ impl Trial {
                 console: Console::new(alloc),
                 tree,
                 active: Active::new(alloc),
+                instances: Instances::new(alloc),
             },
             ever: 0,
             before: None,
+            outer: Cell::ZERO,
         })
     }
 
@@ -50,10 +55,17 @@ impl Trial {
         }
     }
 
-    /// Notes what is there when an image begins.
+    /// Notes what is there when an image begins. No instance is opened for it.
     fn begin(&mut self) {
         self.ever = self.board.active.new_devices.ever();
         self.before = self.board.active.package;
+        self.outer = self.board.active.my_self;
+    }
+
+    /// Brings back, as the end of a load does, what was there when the image began.
+    fn end(&mut self) {
+        self.board.active.my_self = self.outer;
+        self.board.leave_image(self.ever, self.before, Cell::ZERO);
     }
 
     /// Puts a text at `here` and its address and length on the stack.
@@ -94,7 +106,7 @@ impl Trial {
         }
         match word {
             "[" => self.begin(),
-            "]" => self.board.active.cut_to(self.ever, self.before),
+            "]" => self.end(),
             _ => return self.run(word),
         }
         Ok(())

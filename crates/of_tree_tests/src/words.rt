@@ -116,7 +116,8 @@ fn nodes(rt: HostRuntime) -> Result<(), Fail> {
 }
 
 /// Images, which begin at `[` and end at `]`: at the end each `new-device` that was opened in the image is open no
-/// more, also where the image finished older ones, and the package that was active before is active.
+/// more, also where the image finished older ones, and the package that was active before is active. So is the
+/// instance, even if the image released it.
 const IMAGES: &str = "\
 @2 [ new-device ]||name=736c6f7400
 @2 new-device [ new-device ] finish-device||name=736c6f7400
@@ -126,7 +127,8 @@ const IMAGES: &str = "\
 @2 new-device \"v \"x property [ finish-device new-device \"w \"x property ]||x=76
 @2 new-device new-device [ finish-device new-device ] finish-device||name=736c6f7400
 @2 new-device new-device [ finish-device new-device ] finish-device finish-device|throws -259|name=736c6f7400
-@2 new-device [ finish-device new-device ] new-device finish-device \"m model||model=6d00
+@2 new-device [ finish-device new-device ] new-device finish-device \"m model|100000 1 throws -260|
+@2 new-device [ new-device ] new-device finish-device \"m model||model=6d00
 [ @2 new-device ] new-device|throws -259|
 ";
 
