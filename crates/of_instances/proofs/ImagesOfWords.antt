@@ -1,7 +1,7 @@
 -- The law `images_stay`: what each word leaves of the images.
 use Rattle.std.proofs.Common.{◌≡◌, ℕ, Bool, true, false, List, [], ◌∷◌, ◌++◌, length, take, drop, nat_lt, Option, Some}
 use Rattle.std.proofs.Common.{None, Result, Ok, Err, subst, if◌then◌else◌}
-use Rattle.std.specs.Prelude.{◌==◌, codes}
+use Rattle.std.specs.Prelude.{codes}
 use Rattle.byteorder.specs.Endian.{big_bytes}
 use Rattle.of_cells.specs.declared.cells.Cell.{Cell}
 use Rattle.of_stacks.specs.declared.throws.Throw.{Throw}
@@ -34,8 +34,8 @@ use Rattle.of_instances.specs.Encoding.{encode_bytes_entry, encode_int_entry, en
 use Rattle.of_instances.specs.Encoding.{encode_string_entry, encoded_left, int_left, joined_left, phys_left, phys_read}
 use Rattle.of_instances.specs.Encoding.{array, string_left}
 use Rattle.of_instances.specs.Faults.{of_array, of_tree}
-use Rattle.of_instances.specs.Finding.{get_my_entry, get_package_entry, name_found, name_left, next_entry, value_found}
-use Rattle.of_instances.specs.Finding.{value_left}
+use Rattle.of_instances.specs.Finding.{get_inherited_entry, get_my_entry, get_package_entry, inherited_found}
+use Rattle.of_instances.specs.Finding.{name_found, name_left, next_entry, value_found, value_left}
 use Rattle.of_instances.specs.Images.{ImagesStay}
 use Rattle.of_instances.specs.PropertyWords.{properties_entry}
 use Rattle.of_instances.specs.Reading.{active_package, cells_of, package_at, text_at}
@@ -213,6 +213,13 @@ get_my (n ∷ a ∷ s) w =
     room_stands w.memory (value_found s w ph name) (found_stands s w ph name)
 get_my _ w = tt
 
+get_inherited : (s : List Cell) (w : Board) → BoardStands w.memory (get_inherited_entry s w)
+unfolding get_inherited_entry
+get_inherited (n ∷ a ∷ s) w =
+    let r = inherited_found w (active_package w) (text_at w.memory a n) in
+    room_stands w.memory (value_left s w r) (value_stands s w r)
+get_inherited _ w = tt
+
 get_package : (s : List Cell) (w : Board) → BoardStands w.memory (get_package_entry s w)
 unfolding get_package_entry
 get_package (ph ∷ n ∷ a ∷ s) w = found_stands s w (package_at w.tree ph) (text_at w.memory a n)
@@ -360,7 +367,7 @@ properties word.Model w ready = string (codes "model") w.stack w ready
 properties word.DeviceType w ready = string (codes "device_type") w.stack w ready
 properties word.DeviceName w ready = string (codes "name") w.stack w ready
 properties word.GetMyProperty w ready = get_my w.stack w
-properties word.GetInheritedProperty w ready = tt
+properties word.GetInheritedProperty w ready = get_inherited w.stack w
 properties word.GetPackageProperty w ready = get_package w.stack w
 properties word.DeleteProperty w ready = delete w.stack w
 properties word.NextProperty w ready = next w.stack w

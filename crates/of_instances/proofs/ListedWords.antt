@@ -1,5 +1,5 @@
 -- What these words throw has a listed number: each table's own throws, line by line.
-use Rattle.std.proofs.Common.{ℕ, Bool, true, false, List, [], ◌∷◌, length, nat_lt, Option, Some, None, Result, Ok}
+use Rattle.std.proofs.Common.{ℕ, zero, suc, Bool, true, false, List, [], ◌∷◌, length, nat_lt, Option, Some, None, Result, Ok}
 use Rattle.std.proofs.Common.{Err, refl}
 use Rattle.std.specs.Prelude.{◌==◌, ◌++◌, take, drop, codes, if◌then◌else◌}
 use Rattle.of_cells.specs.declared.cells.Cell.{Cell}
@@ -19,7 +19,7 @@ use Rattle.of_nodes.specs.declared.phandles.Phandle.{Phandle}
 use Rattle.of_nodes.specs.declared.properties.Property.{Property}
 use Rattle.of_nodes.specs.declared.tree.Node.{Node}
 use Rattle.of_nodes.specs.Lookup.{package_found}
-use Rattle.of_nodes.specs.Nodes.{number_of, parent_found}
+use Rattle.of_nodes.specs.Nodes.{method_found, number_of, parent_found, property_found}
 use Rattle.of_nodes.specs.Paths.{cells_found}
 use Rattle.of_props.specs.declared.arrays.Array.{Array}
 use Rattle.of_props.specs.declared.fault.PropFault.{PropFault}
@@ -30,18 +30,24 @@ use Rattle.of_board.specs.declared.board.Board.{Board}
 use Rattle.of_board.specs.Active.{device_finished, device_opened}
 use Rattle.of_board.specs.declared.device_fault.DeviceFault.{DeviceFault}
 use Rattle.of_board.specs.declared.device_fault.DeviceFault.TheVariants as device
-use Rattle.of_ihandles.specs.Instances.{argument_span, arguments_set, package_of, parent_of, units}
+use Rattle.of_ihandles.specs.Instances.{argument_span, arguments_set, most_instances, package_of, parent_of, units}
 use Rattle.of_ihandles.specs.Table.{InstanceTable}
 use Rattle.of_ihandles.specs.declared.instance_fault.InstanceFault.{InstanceFault}
 use Rattle.of_ihandles.specs.declared.instance_fault.InstanceFault.TheVariants as instance
 use Rattle.of_nodes.specs.declared.properties.Span.{Span}
+use Rattle.of_instances.specs.declared.calling.CallingWord.{CallingWord}
+use Rattle.of_instances.specs.declared.calling.CallingWord.TheVariants as calling
+use Rattle.of_instances.specs.declared.calling.Operands.{Operands}
+use Rattle.of_instances.specs.Calling.{call_above, call_method_entry, call_of, call_package_entry, call_parent_entry}
+use Rattle.of_instances.specs.Calling.{calling_entry, method_in, method_of as calling_method, method_there, xt_for}
 use Rattle.of_instances.specs.Encoding.{array, cells_left, decode_int_entry, decode_phys_entry, decode_string_entry}
 use Rattle.of_instances.specs.Encoding.{encode_bytes_entry, encode_int_entry, encode_phys_entry, encode_plus_entry}
 use Rattle.of_instances.specs.Encoding.{encode_string_entry, encoded_left, int_left, joined_left, phys_left, phys_read}
 use Rattle.of_instances.specs.Encoding.{string_left}
 use Rattle.of_instances.specs.Faults.{of_array, of_device, of_instance, of_tree}
-use Rattle.of_instances.specs.Finding.{get_my_entry, get_package_entry, name_found, name_left, next_entry, value_found}
-use Rattle.of_instances.specs.Finding.{value_left}
+use Rattle.of_instances.specs.Finding.{get_inherited_entry, get_my_entry, get_package_entry, inherited, inherited_for}
+use Rattle.of_instances.specs.Finding.{inherited_found, name_found, name_left, next_entry, or_above, property_in}
+use Rattle.of_instances.specs.Finding.{property_of, value_found, value_left}
 use Rattle.of_instances.specs.Listed.{ThrowListedNumbers}
 use Rattle.of_instances.specs.PropertyWords.{properties_entry}
 use Rattle.of_instances.specs.Reading.{active_package, cells_by, cells_in, cells_of, package_at, package_for}
@@ -321,6 +327,57 @@ unfolding get_my_entry is_listed listed_numbers
 get_my (n ∷ a ∷ s) w = fits _ (finds_value s w _ _ (active w) (text w.memory a n))
 get_my _ w = refl
 
+-- ---- through the parents
+
+one_property : (w : Board) (name : List ℕ) (ph : Result Phandle Throw) → ThrowsListed ph
+    → ThrowsListed (property_in w name ph)
+one_property w name (Ok ph) h = nodes (property_found w.tree ph name)
+one_property w name (Err t) h = h
+
+parent_listed : (r : Result (Option Property) Throw) (above : Result Cell Throw)
+    (rest : Cell → Result (Option Property) Throw) → ThrowsListed r → ThrowsListed above
+    → ((ih : Cell) → ThrowsListed (rest ih)) → ThrowsListed (or_above r above rest)
+parent_listed (Err t) above rest h k l = h
+parent_listed (Ok (Some p)) above rest h k l = tt
+parent_listed (Ok None) (Err t) rest h k l = k
+parent_listed (Ok None) (Ok ih) rest h k l = rest_listed (ih.0 == 0) (rest ih) (l ih)
+  where
+    rest_listed : (b : Bool) (r : Result (Option Property) Throw) → ThrowsListed r
+        → ThrowsListed (if b then Ok None else r)
+    rest_listed true r h = tt
+    rest_listed false r h = h
+
+inherits : (w : Board) (name : List ℕ) (n : ℕ) (ih : Cell) → ThrowsListed (inherited w name n ih)
+unfolding inherited
+inherits w name zero ih = tt
+inherits w name (suc n) ih =
+    parent_listed (property_of w name ih) (of_instance (parent_of w.instances ih)) _
+    (one_property w name (of_instance (package_of w.instances ih)) (instances (package_of w.instances ih)))
+    (instances (parent_of w.instances ih)) (λ x. inherits w name n x)
+
+inherits_for : (b : Bool) (w : Board) (ph : Phandle) (name : List ℕ) → ThrowsListed (inherited_for b w (Ok ph) name)
+inherits_for true w ph name = nodes (property_found w.tree ph name)
+inherits_for false w ph name = inherits w name most_instances w.active.my_self
+
+inherits_found : (w : Board) (ph : Result Phandle Throw) (name : Result (List ℕ) Throw) → ThrowsListed ph
+    → ThrowsListed name → ThrowsListed (inherited_found w ph name)
+inherits_found w (Err t) name h k = h
+inherits_found w (Ok ph) (Err t) h k = k
+inherits_found w (Ok ph) (Ok name) h k = inherits_for (w.active.my_self.0 == 0) w ph name
+
+found_listed : (s : List Cell) (w : Board) (r : Result (Option Property) Throw) → ThrowsListed r
+    → ThrowsListed (value_left s w r)
+found_listed s w (Ok None) h = tt
+found_listed s w (Ok (Some p)) h = tt
+found_listed s w (Err t) h = h
+
+get_inherited : (s : List Cell) (w : Board) → ThrowsListed (get_inherited_entry s w)
+unfolding get_inherited_entry is_listed listed_numbers
+get_inherited (n ∷ a ∷ s) w =
+    fits _
+    (found_listed s w _ (inherits_found w (active_package w) (text_at w.memory a n) (active w) (text w.memory a n)))
+get_inherited _ w = refl
+
 get_package : (s : List Cell) (w : Board) → ThrowsListed (get_package_entry s w)
 unfolding get_package_entry is_listed listed_numbers
 get_package (ph ∷ n ∷ a ∷ s) w = finds_value s w _ _ (one_package w.tree ph) (text w.memory a n)
@@ -352,7 +409,7 @@ properties word.Model w = sets_string (codes "model") w.stack w
 properties word.DeviceType w = sets_string (codes "device_type") w.stack w
 properties word.DeviceName w = sets_string (codes "name") w.stack w
 properties word.GetMyProperty w = get_my w.stack w
-properties word.GetInheritedProperty w = refl
+properties word.GetInheritedProperty w = get_inherited w.stack w
 properties word.GetPackageProperty w = get_package w.stack w
 properties word.DeleteProperty w = delete w.stack w
 properties word.NextProperty w = next w.stack w
@@ -549,5 +606,57 @@ tree node.MyUnit w = my_unit w.stack w
 tree node.MyAddress w = my_address w.stack w
 tree node.MySpace w = my_space w.stack w
 
+-- ---- words that call a method
+
+method_xt : (r : Result (Option Cell) Throw) → ThrowsListed r → ThrowsListed (method_there r)
+unfolding is_listed listed_numbers
+method_xt (Ok None) h = refl
+method_xt (Ok (Some xt)) h = tt
+method_xt (Err t) h = h
+
+method_found_in : (ns : List Node) (ph : Result Phandle Throw) (name : Result (List ℕ) Throw) → ThrowsListed ph
+    → ThrowsListed name → ThrowsListed (method_in ns ph name)
+method_found_in ns (Err t) name h k = h
+method_found_in ns (Ok ph) (Err t) h k = k
+method_found_in ns (Ok ph) (Ok name) h k =
+    method_xt (of_tree (method_found ns ph name)) (nodes (method_found ns ph name))
+
+method_for : (w : Board) (ih a n : Cell) → ThrowsListed (calling_method w ih a n)
+method_for w ih a n =
+    method_found_in w.tree _ _ (instances (package_of w.instances ih)) (text w.memory a n)
+
+call_listed : (ih : Cell) (o : Operands) (r : Result Cell Throw) → ThrowsListed r → ThrowsListed (call_of ih o r)
+call_listed ih o (Ok xt) h = tt
+call_listed ih o (Err t) h = h
+
+xt_listed : (xt : Cell) (r : Result Phandle Throw) → ThrowsListed r → ThrowsListed (xt_for xt r)
+xt_listed xt (Ok ph) h = tt
+xt_listed xt (Err t) h = h
+
+above_listed : (w : Board) (a n : Cell) (r : Result Cell Throw) → ThrowsListed r → ThrowsListed (call_above w a n r)
+above_listed w a n (Ok parent) h = call_listed parent _ _ (method_for w parent a n)
+above_listed w a n (Err t) h = h
+
+call_package : (s : List Cell) (w : Board) → ThrowsListed (call_package_entry s w)
+unfolding call_package_entry is_listed listed_numbers
+call_package (ih ∷ xt ∷ s) w =
+    call_listed ih _ _ (xt_listed xt (of_instance (package_of w.instances ih)) (instances (package_of w.instances ih)))
+call_package _ w = refl
+
+call_method : (s : List Cell) (w : Board) → ThrowsListed (call_method_entry s w)
+unfolding call_method_entry is_listed listed_numbers
+call_method (ih ∷ n ∷ a ∷ s) w = call_listed ih _ _ (method_for w ih a n)
+call_method _ w = refl
+
+call_parent : (s : List Cell) (w : Board) → ThrowsListed (call_parent_entry s w)
+unfolding call_parent_entry is_listed listed_numbers
+call_parent (n ∷ a ∷ s) w = above_listed w a n _ (instances (parent_of w.instances w.active.my_self))
+call_parent _ w = refl
+
+calls : (k : CallingWord) (w : Board) → ThrowsListed (calling_entry k w)
+calls calling.Package w = call_package w.stack w
+calls calling.Method w = call_method w.stack w
+calls calling.Parent w = call_parent w.stack w
+
 pub throw_listed_numbers : ThrowListedNumbers
-throw_listed_numbers = record { properties = properties; tree = tree }
+throw_listed_numbers = record { properties = properties; tree = tree; calls = calls }

@@ -1,7 +1,6 @@
 -- The numbers of a physical address, one at a time.
-use Rattle.std.proofs.Common.{◌≡◌, ℕ, zero, suc, ◌-◌, ◌<◌, ◌≤◌, List, [], ◌∷◌, length, Option, Some}
+use Rattle.std.proofs.Common.{◌≡◌, ℕ, zero, suc, ◌-◌, ◌<◌, ◌≤◌, List, [], ◌∷◌, length, Some}
 use Rattle.std.proofs.Common.{None, refl, arith}
-use Rattle.of_cells.specs.declared.cells.Cell.{Cell}
 use Rattle.of_format.specs.Reading.{number_read}
 use Rattle.of_nodes.specs.Texts.{before, behind}
 use Rattle.of_instances.specs.InstanceWords.{number_before, numbers_read, unit_read}

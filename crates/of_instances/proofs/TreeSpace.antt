@@ -1,5 +1,5 @@
 -- The law `images_stay`: what the words over packages and instances leave of the data space.
-use Rattle.std.proofs.Common.{◌≡◌, ℕ, ◌<◌, Bool, true, false, List, [], ◌∷◌, ◌++◌, length, take, drop, nat_lt, Option}
+use Rattle.std.proofs.Common.{◌≡◌, ℕ, ◌<◌, Bool, true, false, List, [], ◌∷◌, ◌++◌, length, drop, nat_lt, Option}
 use Rattle.std.proofs.Common.{Some, None, Result, Ok, Err, refl, subst, if◌then◌else◌}
 use Rattle.std.proofs.lemmas.List.Elements.{All-drop, All-nil, All-take}
 use Rattle.std.specs.Prelude.{◌==◌}
@@ -26,7 +26,7 @@ use Rattle.of_ihandles.specs.Instances.{released}
 use Rattle.of_ihandles.specs.SpaceKept.{InstancesKeepTheSpace, Keeps}
 use Rattle.of_ihandles.specs.Table.{InstanceTable}
 use Rattle.of_ihandles.specs.declared.instance_fault.InstanceFault.{InstanceFault}
-use Rattle.of_board.specs.Active.{device_begun, device_finished, device_made, finished, latest}
+use Rattle.of_board.specs.Active.{device_begun, device_made, finished, latest}
 use Rattle.of_board.specs.declared.active.NewDevice.{NewDevice}
 use Rattle.of_board.specs.declared.board.Board.{Board}
 use Rattle.of_instances.specs.Faults.{of_device, of_instance}

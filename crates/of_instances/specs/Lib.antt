@@ -5,6 +5,7 @@ pub mod Encoding
 pub mod Setting
 pub mod Finding
 pub mod InstanceWords
+pub mod Calling
 pub mod PropertyWords
 pub mod TreeWords
 pub mod Listed

@@ -1,6 +1,7 @@
 //! The words over the device tree: properties, packages, `new-device` and instances.
 #![tactic(auto)]
 
+mod calling;
 mod cells;
 mod encoding;
 mod faults;
@@ -12,6 +13,7 @@ mod reading;
 mod setting;
 mod tree_words;
 
+pub use calling::{CallingWord, MethodCall, Operands, find_call};
 pub use laws::{images_stay, tree_words_throw_listed};
 pub use property_words::run_properties_word;
 pub use tree_words::run_tree_word;

@@ -1,7 +1,6 @@
 //! Images that run in instances: what they print of these, and what is left behind their ends.
 use crate::shared::image_of;
-use crate::tree::{made, made_in_turn, said};
-use std::alloc::Global;
+use crate::tree::{differing, made, made_in_turn};
 use std::test::Fail;
 
 /// Images loaded one after another, each behind the path of its node, and behind `|` what they print. A load opens an
@@ -66,19 +65,6 @@ const ARGUMENTS: &str = "\
 /slot a5 a5 a5 023f 00|fault -4: stack underflow$
 /slot 1000000005 a6 a5 a5 023f 00|fault -9: invalid memory address$
 ";
-
-/// The lines that print something else, each with what it prints.
-fn differing(alloc: Global, table: &str) -> Result<String, Fail> {
-    let mut text = String::new(alloc);
-    for line in table.lines() {
-        let (loads, wanted) = line.split_once('|').unwrap_or(("", ""));
-        let printed = said(alloc, loads)?;
-        if printed.trim_end() != wanted {
-            text.push_str(&format!(in alloc; "{loads}|{}\n", printed.trim_end())?)?;
-        }
-    }
-    Ok(text)
-}
 
 #[test]
 fn images_run_in_instances(rt: HostRuntime) -> Result<(), Fail> {

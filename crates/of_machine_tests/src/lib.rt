@@ -6,6 +6,8 @@ mod calls;
 #[cfg(test)]
 mod instances;
 #[cfg(test)]
+mod methods;
+#[cfg(test)]
 mod places;
 #[cfg(test)]
 mod runs;

@@ -140,6 +140,19 @@ pub(crate) fn said(alloc: Global, loads: &str) -> Result<String, Fail> {
     Ok(text)
 }
 
+/// The lines that print something else, each with what it prints.
+pub(crate) fn differing(alloc: Global, table: &str) -> Result<String, Fail> {
+    let mut text = String::new(alloc);
+    for line in table.lines() {
+        let (loads, wanted) = line.split_once('|').unwrap_or(("", ""));
+        let printed = said(alloc, loads)?;
+        if printed.trim_end() != wanted {
+            text.push_str(&format!(in alloc; "{loads}|{}\n", printed.trim_end())?)?;
+        }
+    }
+    Ok(text)
+}
+
 /// Images loaded one after another, and behind `|` what they print: the data stack and the base stay.
 const STAYING: &str = "\
 /slot a6 00 + /slot 9d 00|1

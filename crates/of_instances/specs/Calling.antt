@@ -1,0 +1,84 @@
+-- The words that call a method, by what they find: the word of which execution token they run, for which instance, and
+-- which cells they take (IEEE 1275-1994, annex A). They change nothing themselves.
+use Rattle.std.specs.Prelude.{ℕ, List, [], ◌∷◌, length, drop, Option, Some, None, Result, Ok, Err}
+use Rattle.of_cells.specs.declared.cells.Cell.{Cell}
+use Rattle.of_stacks.specs.declared.throws.Throw.{Throw}
+use Rattle.of_stacks.specs.Throws.{no_method, stack_underflow}
+use Rattle.of_nodes.specs.declared.phandles.Phandle.{Phandle}
+use Rattle.of_nodes.specs.declared.tree.Node.{Node}
+use Rattle.of_nodes.specs.Nodes.{method_found}
+use Rattle.of_ihandles.specs.Instances.{package_of, parent_of}
+use Rattle.of_board.specs.declared.board.Board.{Board}
+use Rattle.of_instances.specs.declared.calling.CallingWord.{CallingWord}
+use Rattle.of_instances.specs.declared.calling.CallingWord.TheVariants as calling
+use Rattle.of_instances.specs.declared.calling.MethodCall.{MethodCall}
+use Rattle.of_instances.specs.declared.calling.Operands.{Operands}
+use Rattle.of_instances.specs.declared.calling.Operands.TheVariants.{Two, Three}
+use Rattle.of_instances.specs.Faults.{of_instance, of_tree}
+use Rattle.of_instances.specs.Reading.{text_at}
+
+-- ---- operands
+
+-- the cells that a word takes, the top first
+abbrev pub operand_cells : Operands → List Cell
+operand_cells (Two x y) = y ∷ x ∷ []
+operand_cells (Three x y z) = z ∷ y ∷ x ∷ []
+
+-- the data stack without them
+abbrev pub beneath : Operands → List Cell → List Cell
+beneath o cells = drop (length (operand_cells o)) cells
+
+-- ---- methods
+
+abbrev pub method_there : Result (Option Cell) Throw → Result Cell Throw
+method_there (Ok (Some xt)) = Ok xt
+method_there (Ok None) = Err no_method
+method_there (Err t) = Err t
+
+-- the method with a name of a package
+abbrev pub method_in : List Node → Result Phandle Throw → Result (List ℕ) Throw → Result Cell Throw
+method_in ns (Err t) name = Err t
+method_in ns (Ok ph) (Err t) = Err t
+method_in ns (Ok ph) (Ok name) = method_there (of_tree (method_found ns ph name))
+
+-- of the package of an instance, where the name stands in memory
+abbrev pub method_of : Board → Cell → Cell → Cell → Result Cell Throw
+method_of w ih a n = method_in w.tree (of_instance (package_of w.instances ih)) (text_at w.memory a n)
+
+-- ---- calls
+
+-- an execution token is run for an instance
+abbrev pub call_of : Cell → Operands → Result Cell Throw → Result MethodCall Throw
+call_of ih o (Ok xt) = Ok (record { xt = xt; instance = ih; operands = o })
+call_of ih o (Err t) = Err t
+
+-- an execution token, if there is the instance
+abbrev pub xt_for : Cell → Result Phandle Throw → Result Cell Throw
+xt_for xt (Ok ph) = Ok xt
+xt_for xt (Err t) = Err t
+
+-- the method of the parent
+abbrev pub call_above : Board → Cell → Cell → Result Cell Throw → Result MethodCall Throw
+call_above w a n (Ok parent) = call_of parent (Two a n) (method_of w parent a n)
+call_above w a n (Err t) = Err t
+
+-- `call-package` ( .. xt ih -- .. )
+unfoldable pub call_package_entry : List Cell → Board → Result MethodCall Throw
+call_package_entry (ih ∷ xt ∷ s) w = call_of ih (Two xt ih) (xt_for xt (of_instance (package_of w.instances ih)))
+call_package_entry _ w = Err stack_underflow
+
+-- `$call-method` ( .. s n ih -- .. )
+unfoldable pub call_method_entry : List Cell → Board → Result MethodCall Throw
+call_method_entry (ih ∷ n ∷ a ∷ s) w = call_of ih (Three a n ih) (method_of w ih a n)
+call_method_entry _ w = Err stack_underflow
+
+-- `$call-parent` ( .. s n -- .. ): the parent of the current instance
+unfoldable pub call_parent_entry : List Cell → Board → Result MethodCall Throw
+call_parent_entry (n ∷ a ∷ s) w = call_above w a n (of_instance (parent_of w.instances w.active.my_self))
+call_parent_entry _ w = Err stack_underflow
+
+-- the table
+abbrev pub calling_entry : CallingWord → Board → Result MethodCall Throw
+calling_entry calling.Package w = call_package_entry w.stack w
+calling_entry calling.Method w = call_method_entry w.stack w
+calling_entry calling.Parent w = call_parent_entry w.stack w
