@@ -1,5 +1,6 @@
 -- Registers: what the functions on single registers make of them is what acts do.
 -- Executed: executing a word, one word at a time, and following its defers.
+-- Called: why a word doesn't call a method.
 -- AtOnce: words of one group that are run at once.
 -- Rests: behind which words nothing is due where nothing was.
 -- Endings: what calls on definitions leave of the whole state.
@@ -10,6 +11,7 @@
 -- Strings: strings that are compiled.
 pub mod Registers
 pub mod Executed
+pub mod Called
 pub mod AtOnce
 pub mod Rests
 pub mod TakenAtOnce

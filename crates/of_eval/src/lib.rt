@@ -2,6 +2,7 @@
 #![tactic(auto)]
 
 mod byte_loading;
+mod calling;
 mod defining_tokens;
 mod eval;
 mod executing;
@@ -18,6 +19,6 @@ mod tokens;
 mod views;
 
 pub use eval::Eval;
-pub use laws::throws_run_on;
+pub use laws::{plans_unroll, throws_run_on};
 pub use load_fault::LoadFault;
 pub use steps::Pause;

@@ -25,7 +25,7 @@ use Rattle.of_eval.specs.declared.tokens.Spot.{Spot}
 use Rattle.of_eval.specs.Acts.{Act, Front, WordAct, front_of}
 use Rattle.of_eval.specs.Acts as act
 use Rattle.of_eval.specs.Doing.{act_grows, executed_grows, work_grows}
-use Rattle.of_eval.specs.Executing.{Plan, guarded, plan_in}
+use Rattle.of_eval.specs.Executing.{Plan, entered, guarded, plan_in}
 use Rattle.of_eval.specs.Items.{item_act}
 use Rattle.of_eval.specs.State.{State, with_stack}
 use Rattle.of_eval.specs.Steps.{item_grows_in, typed_grows}
@@ -42,7 +42,7 @@ use Rattle.of_eval_laws.proofs.WalkWords.{IsWork, Rules}
 
 -- an act that runs no ordinary word, and appends nothing
 abbrev asking : (S : Type 0) → Rules S
-asking S = record (keeping S (λ s. Unit {0}) (λ cells s p. (tt, tt))) {
+asking S = record (keeping S (λ s. Unit {0}) (λ cells ih s p. (tt, tt, tt))) {
   Runs = ⊥;
   Works = λ w. ⊥;
   Appends = λ s. ⊥;
@@ -60,6 +60,7 @@ work_none (act.Works w) s h = absurd h
 work_none (act.Appends e cells) s h = absurd h
 work_none (act.Takes cells a) s h = work_none a (with_stack cells s) h
 work_none (act.Guards cells a) s h = work_none a (guarded cells s) h
+work_none (act.Enters cells ih a) s h = work_none a (entered cells ih s) h
 work_none a s h = refl
 
 -- so it asks for memory only there

@@ -1,5 +1,5 @@
 -- An image that begins: what its instance and its bytes leave of the data space.
-use Rattle.std.proofs.Common.{◌≡◌, ◌∙◌, ℕ, ◌+◌, Bool, true, false, List, [], ◌∷◌, length, Option, Some, None}
+use Rattle.std.proofs.Common.{◌≡◌, ℕ, ◌+◌, Bool, true, false, List, [], ◌∷◌, length, Some, None}
 use Rattle.std.proofs.Common.{Result, Ok, Err, refl, sym, ap, subst, nat_le, nat_lt, if◌then◌else◌}
 use Rattle.std.specs.Prelude.{◌&&◌, is_ok}
 use Rattle.of_cells.specs.declared.cells.Cell.{Cell}

@@ -1,5 +1,5 @@
 -- The laws `items_go`, `definitions_run`, `catch_keeps`, `ends_go_back` and `loads_begin`.
-use Rattle.std.proofs.Common.{◌≡◌, ℕ, suc, ◌<◌, ◌≤◌, ◌==◌, nat_lt, nat_le, Bool, true, false, not, List, [], ◌∷◌, ◌++◌}
+use Rattle.std.proofs.Common.{◌≡◌, ℕ, ◌<◌, ◌≤◌, ◌==◌, nat_lt, nat_le, Bool, true, false, not, List, [], ◌∷◌, ◌++◌}
 use Rattle.std.proofs.Common.{length, Option, Some, None, Err, refl, ap, ◌∙◌, arith, if◌then◌else◌}
 use Rattle.std.proofs.lemmas.Bool.{eq-eqb}
 use Rattle.std.specs.Prelude.{is_some, option_map, ◌&&◌}
@@ -28,8 +28,9 @@ use Rattle.of_compile.specs.RunsLaw.{RunsByStructure}
 use Rattle.of_compile.specs.Words.{is_word}
 use Rattle.of_eval.specs.Acts.{Act, Behind, Does, Drops, Fails, Keeps, Moves, Pushes, To, Turns, front_of}
 use Rattle.of_eval.specs.Doing.{acted, executed, worked}
-use Rattle.of_eval.specs.Executing.{Catch, Execute, Plan, Stops, act_of_plan, executable, execution, frame_of, plan}
-use Rattle.of_eval.specs.Executing.{plan_at, plan_behind, planned, pushing, returning, runner_of}
+use Rattle.of_eval.specs.Executing.{Catch, Execute, Plan, PlansUnroll, Stops, act_of_plan, executable, execution}
+use Rattle.of_eval.specs.Executing.{frame_of, guarded, plan_at, plan_behind, plan_in, plan_of, planned, pushing}
+use Rattle.of_eval.specs.Executing.{returning, runner_of}
 use Rattle.of_eval.specs.Items.{beginning, control_act, going, item_act, leave_item, staying, there}
 use Rattle.of_flow.specs.Turns.{loop_item, one}
 use Rattle.of_eval.specs.Items.{turning}
@@ -276,75 +277,77 @@ definitions_run law = record {
 -- ---- `execute` and `catch`
 
 -- a plan that is carried out
-abbrev performed : {S : Type 0} → Calls S → Plan → State S → Outcome S
+abbrev pub performed : {S : Type 0} → Calls S → Plan → State S → Outcome S
 performed c p s = worked c (act_of_plan p (front_of s)) s
 
--- the plan of `execute` or `catch`, by what the cells give
-behind : (o : Option ℕ) (p q : Plan) (k : ℕ) (w : Word) → o ≡ Some k → word_with_xt k ≡ Some w
-    → plan_behind o p q ≡ planned w (runner_of w) p q
-behind o p q k w e f = ap (λ x. plan_behind x p q) e ∙ ap (λ x. plan_at x k p q) f
+-- the plan of a written word
+pub behind : {S : Type 0} → PlansUnroll → (xt : ℕ) (s : State S) (k : ℕ) (w : Word) → executable s.words xt ≡ Some k
+    → word_with_xt k ≡ Some w → plan_in s xt ≡ planned w (runner_of w) (front_of s) plan_of
+behind law xt s k w e f =
+    law.unrolled (front_of s) xt
+    ∙ ap (λ x. plan_behind x (front_of s) plan_of) e ∙ ap (λ x. plan_at x k (front_of s) plan_of) f
 
-run_is : {S : Type 0} (c : Calls S) (xt : ℕ) (x : Cell) (cells : List Cell) (s : State S)
+run_is : {S : Type 0} → PlansUnroll → (c : Calls S) (xt : ℕ) (x : Cell) (cells : List Cell) (s : State S)
     → Is s.words xt (word.Returns returns.Execute) → (b : Bool) → is_word s.words.dictionary x.0 ≡ b
     → executed c xt (with_stack (x ∷ cells) s)
-    ≡ performed c (if b then Execute cells (plan s.words (length s.flow.items) cells x.0) else Stops bad_handle)
+    ≡ performed c (if b then Execute cells (plan_in (with_stack cells s) x.0) else Stops bad_handle)
     (with_stack (x ∷ cells) s)
-unfolding execution plan
-run_is c xt x cells s h b e =
+unfolding execution
+run_is law c xt x cells s h b e =
     ap (λ p. performed c p (with_stack (x ∷ cells) s))
-    (behind (executable s.words xt) _ _ h.0 (word.Returns returns.Execute) h.1 h.2
-    ∙ ap (λ y. if y then Execute cells (plan s.words (length s.flow.items) cells x.0) else Stops bad_handle) e)
+    (behind law xt (with_stack (x ∷ cells) s) h.0 (word.Returns returns.Execute) h.1 h.2
+    ∙ ap (λ y. if y then Execute cells (plan_in (with_stack cells s) x.0) else Stops bad_handle) e)
 
-catch_is : {S : Type 0} (c : Calls S) (xt : ℕ) (x : Cell) (cells : List Cell) (s : State S)
+catch_is : {S : Type 0} → PlansUnroll → (c : Calls S) (xt : ℕ) (x : Cell) (cells : List Cell) (s : State S)
     → Is s.words xt (word.Throws throws.Catch) → (b : Bool) → nat_le 256 (length s.flow.items) ≡ b
     → executed c xt (with_stack (x ∷ cells) s)
     ≡ performed c
-    (if b then Stops return_stack_overflow else Catch cells (plan s.words (suc (length s.flow.items)) cells x.0))
+    (if b then Stops return_stack_overflow else Catch cells (plan_in (guarded cells (with_stack (x ∷ cells) s)) x.0))
     (with_stack (x ∷ cells) s)
-unfolding execution plan
-catch_is c xt x cells s h b e =
-    ap (λ p. performed c p (with_stack (x ∷ cells) s))
-    (behind (executable s.words xt) _ _ h.0 (word.Throws throws.Catch) h.1 h.2
-    ∙ ap
-    (λ y. if y then Stops return_stack_overflow else Catch cells (plan s.words (suc (length s.flow.items)) cells x.0))
-    e)
+unfolding execution
+catch_is law c xt x cells s h b e =
+    let p = Catch cells (plan_in (guarded cells (with_stack (x ∷ cells) s)) x.0) in
+    ap (λ q. performed c q (with_stack (x ∷ cells) s))
+    (behind law xt (with_stack (x ∷ cells) s) h.0 (word.Throws throws.Catch) h.1 h.2
+    ∙ ap (λ y. if y then Stops return_stack_overflow else p) e)
 
-no_cell : {S : Type 0} (c : Calls S) (xt : ℕ) (s : State S) → Is s.words xt (word.Returns returns.Execute)
+no_cell : {S : Type 0} → PlansUnroll → (c : Calls S) (xt : ℕ) (s : State S)
+    → Is s.words xt (word.Returns returns.Execute)
     → executed c xt (with_stack [] s) ≡ failed stack_underflow (with_stack [] s)
-unfolding execution plan act_of_plan worked
-no_cell c xt s h =
+unfolding execution act_of_plan worked
+no_cell law c xt s h =
     ap (λ p. performed c p (with_stack [] s))
-    (behind (executable s.words xt) _ _ h.0 (word.Returns returns.Execute) h.1 h.2)
+    (behind law xt (with_stack [] s) h.0 (word.Returns returns.Execute) h.1 h.2)
 
-no_caught : {S : Type 0} (c : Calls S) (xt : ℕ) (s : State S) → Is s.words xt (word.Throws throws.Catch)
+no_caught : {S : Type 0} → PlansUnroll → (c : Calls S) (xt : ℕ) (s : State S) → Is s.words xt (word.Throws throws.Catch)
     → executed c xt (with_stack [] s) ≡ failed stack_underflow (with_stack [] s)
-unfolding execution plan act_of_plan worked
-no_caught c xt s h =
+unfolding execution act_of_plan worked
+no_caught law c xt s h =
     ap (λ p. performed c p (with_stack [] s))
-    (behind (executable s.words xt) _ _ h.0 (word.Throws throws.Catch) h.1 h.2)
+    (behind law xt (with_stack [] s) h.0 (word.Throws throws.Catch) h.1 h.2)
 
-has_item : (n : ℕ) → n < 256 → nat_le 256 n ≡ false
+pub has_item : (n : ℕ) → n < 256 → nat_le 256 n ≡ false
 has_item n l = grind arith
 
-has_none : (n : ℕ) → 256 ≤ n → nat_le 256 n ≡ true
+pub has_none : (n : ℕ) → 256 ≤ n → nat_le 256 n ≡ true
 has_none n l = grind arith
 
-pub catch_keeps : {S : Type 0} → CatchKeeps S
+pub catch_keeps : {S : Type 0} → PlansUnroll → CatchKeeps S
 unfolding execution act_of_plan worked
-catch_keeps = record {
-  runs = λ c xt x cells s h e. run_is c xt x cells s h true e;
-  refuses = λ c xt x cells s h e. run_is c xt x cells s h false e;
+catch_keeps law = record {
+  runs = λ c xt x cells s h e. run_is law c xt x cells s h true e;
+  refuses = λ c xt x cells s h e. run_is law c xt x cells s h false e;
   keeps = λ c xt x cells s h l. (
     frame_of cells s,
-    catch_is c xt x cells s h false (has_item (length s.flow.items) l),
+    catch_is law c xt x cells s h false (has_item (length s.flow.items) l),
     refl,
     refl,
     refl,
     refl,
   );
-  full = λ c xt x cells s h l. catch_is c xt x cells s h true (has_none (length s.flow.items) l);
-  no_execute = no_cell;
-  no_catch = no_caught;
+  full = λ c xt x cells s h l. catch_is law c xt x cells s h true (has_none (length s.flow.items) l);
+  no_execute = no_cell law;
+  no_catch = no_caught law;
 }
 
 -- ---- the end of an image

@@ -8,7 +8,7 @@ use Rattle.of_fcodes.specs.declared.words.Word.{Word}
 use Rattle.of_memory.specs.declared.fault.MemFault.{MemFault}
 use Rattle.of_memory.specs.declared.fault.MemFault.TheVariants.{Full}
 use Rattle.of_memory.specs.DataSpace.{DataSpace, fresh, written}
-use Rattle.of_memory.specs.Growth.{aligned, image_pushed, named_put, property_put, value_put, with_name}
+use Rattle.of_memory.specs.Growth.{aligned, named_put, property_put, value_put, with_name}
 use Rattle.of_memory.specs.Regions.{property_limit}
 use Rattle.of_nodes.specs.declared.fault.NodeFault.{NodeFault}
 use Rattle.of_nodes.specs.declared.phandles.Phandle.{Phandle}
@@ -27,7 +27,7 @@ use Rattle.of_eval_laws.specs.Readings.{HasItsImages, ImagesAreReadings, is_imag
 use Rattle.of_eval_laws.specs.Sound.{HasSoundSpace}
 use Rattle.of_eval_laws.specs.Throws.{image_more}
 use Rattle.of_eval_laws.proofs.FramedWriting.{left_stands, word_stands}
-use Rattle.of_eval_laws.proofs.ReadingsActs.{MayStand, due_reads, pushed_stands}
+use Rattle.of_eval_laws.proofs.ReadingsActs.{due_reads}
 use Rattle.of_eval_laws.proofs.ReadingsEnds.{Counted, Reads, none_left, none_more, settled_reads}
 use Rattle.of_eval_laws.proofs.RunningWords.{Laws}
 use Rattle.of_eval_laws.proofs.SoundSteps.{step_sound, steps_keep}

@@ -26,7 +26,7 @@ use Rattle.of_board.specs.declared.board.Board.{Board}
 use Rattle.of_eval.specs.Acts.{Act, Move, To, WordAct}
 use Rattle.of_eval.specs.Acts as act
 use Rattle.of_eval.specs.Doing.{appended, worked}
-use Rattle.of_eval.specs.Executing.{guarded}
+use Rattle.of_eval.specs.Executing.{entered, guarded}
 use Rattle.of_eval.specs.State.{Calls, State, by_board, open_xt, with_stack}
 use Rattle.of_words.specs.Words.{word_entry}
 use Rattle.of_eval_laws.specs.Returning.{IsPosition, Leads, LeadsBack, is_code, is_outer}
@@ -170,8 +170,13 @@ module _ (image : List ℕ) (outer : Reading) where
   guarded_runs code cells s h =
       (((h.0.0.0, (refl, refl, (λ o. none_open s (h.0.1 o)), h.0.0.1)), h.0.1), h.1)
 
+  pub entered_runs : {S : Type 0} (code : Bool) (cells : List Cell) (ih : Cell) (s : State S) → Runs code s
+      → Runs code (entered cells ih s)
+  unfolding latest_source
+  entered_runs code cells ih s h = (((h.0.0.0, (refl, h.0.0.1)), h.0.1), h.1)
+
   abbrev pub leading : (S : Type 0) → Bool → Rules S
-  leading S code = record (keeping S (λ s. Runs code s) (λ cells s p. (p, guarded_runs code cells s p))) {
+  leading S code = record (keeping S (λ s. Runs code s) (λ cells ih s p. (p, guarded_runs code cells s p, entered_runs code cells ih s p))) {
     Item = λ s i. IsItem code s i;
     Aims = λ s n. (code ≡ true) × Rests code s;
     Known = λ s w. w.defining ≡ s.words.defining;
@@ -318,3 +323,5 @@ module _ (image : List ℕ) (outer : Reading) where
   worked_leads code c (act.Takes cells a) s h p = worked_leads code c a (with_stack cells s) h p
   worked_leads code c (act.Guards cells a) s h p =
       worked_leads code c a (guarded cells s) h (guarded_runs code cells s p)
+  worked_leads code c (act.Enters cells ih a) s h p =
+      worked_leads code c a (entered cells ih s) h (entered_runs code cells ih s p)

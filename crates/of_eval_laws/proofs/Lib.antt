@@ -16,6 +16,7 @@
 -- RunningBytes, RunningEnds, RunningWords, RunningTokens: what becomes of the images that run and of the data space,
 -- from bytes up to what comes next. SoundSteps: the law `space_stays_sound`. ImagesRun: the law `images_run`.
 -- ReadingsEnds, ReadingsActs, ImagesReadings: the law `images_are_readings`, from the end of a step up to steps.
+-- CallingLemmas: the law `calls_come_back`.
 -- GoingLemmas: the laws `items_go`, `definitions_run`, `catch_keeps`, `ends_go_back`, `loads_begin`.
 -- TokenLemmas: the laws `tokens_are_typed`, `tokens_go` and `throw_takes`.
 -- AskingLemmas: the law `memory_is_asked`.
@@ -42,6 +43,7 @@ pub mod PlacedActs
 pub mod PlacedSteps
 pub mod Mismatch
 pub mod GoingLemmas
+pub mod CallingLemmas
 pub mod TokenLemmas
 pub mod FramedTurns
 pub mod FramedReading

@@ -26,7 +26,7 @@ use Rattle.of_eval.specs.State.{State, open_xt, with_words}
 use Rattle.of_eval_laws.specs.Structured.{IsPlacedIn}
 use Rattle.of_eval_laws.specs.Placed.{AllPlaced, AreItemsIn, IsExitIn, IsItemIn, code_start, finished_end}
 use Rattle.of_eval_laws.proofs.Placed.{kind_placed, own_is}
-use Rattle.of_eval_laws.proofs.PlacedEnds.{guarded_placed}
+use Rattle.of_eval_laws.proofs.PlacedEnds.{entered_placed, guarded_placed}
 use Rattle.of_eval_laws.proofs.Walk.{Turns}
 use Rattle.of_eval_laws.proofs.WalkFree.{keeping}
 use Rattle.of_eval_laws.proofs.WalkWords.{Rules}
@@ -119,7 +119,7 @@ pub not_none : (o : Option ℕ) → is_none o ≡ false → o ≡ None → ⊥
 not_none o e none = false≢true (sym e ∙ ap (λ x. is_none x) none)
 
 abbrev pub placed : Rules Definitions
-placed = record (keeping Definitions (λ s. AllPlaced s) (λ cells s p. (p, guarded_placed cells s p))) {
+placed = record (keeping Definitions (λ s. AllPlaced s) (λ cells ih s p. (p, guarded_placed cells s p, entered_placed cells ih s p))) {
   Item = λ s i. IsItemIn (finished_end s.code) i;
   Target = λ s to. IsPlacedIn (finished_end s.code) to;
   Aims = λ s n. IsPlacedIn (finished_end s.code) (continuation.Code n);

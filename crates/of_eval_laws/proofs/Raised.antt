@@ -1,6 +1,6 @@
 -- What a step throws has a listed number, or is the number of a cell that `throw` takes.
 use Rattle.std.proofs.Common.{◌≡◌, ℕ, Bool, true, false, [], ◌∷◌, Option, Some, None, Result, Ok, Err, inl, inr, refl}
-use Rattle.std.proofs.Common.{if◌then◌else◌, ◌⊎◌}
+use Rattle.std.proofs.Common.{if◌then◌else◌, ◌⊎◌, subst}
 use Rattle.std.specs.Prelude.{◌&&◌, not, is_some}
 use Rattle.of_cells.specs.declared.cells.Cell.{Cell}
 use Rattle.of_cells.specs.Numbers.{signed}
@@ -26,6 +26,7 @@ use Rattle.of_memory.specs.Growth.{append_copied}
 use Rattle.of_memory.specs.Images.{latest_image}
 use Rattle.of_prims.specs.Data.{throw_of}
 use Rattle.of_prims.specs.Listed.{ThrowListedNumbers}
+use Rattle.of_instances.specs.Listed.{ThrowListedNumbers as TreeWordsListed}
 use Rattle.of_nodes.specs.declared.phandles.Phandle.{Phandle}
 use Rattle.of_dict.specs.Words.{xt_of}
 use Rattle.of_control.specs.Body.{Body}
@@ -45,7 +46,7 @@ use Rattle.of_eval.specs.Acts as act
 use Rattle.of_eval.specs.Defining.{by_making, define_entry, known_at_once, semicolon_entry, string_compiled}
 use Rattle.of_eval.specs.Defining.{string_element, string_kept, string_put, string_refused, word_defined}
 use Rattle.of_eval.specs.Doing.{acted, worked}
-use Rattle.of_eval.specs.Executing.{guarded, plan_in}
+use Rattle.of_eval.specs.Executing.{entered, guarded, plan_in}
 use Rattle.of_eval.specs.Items.{item_act}
 use Rattle.of_eval.specs.Methods.{then_known}
 use Rattle.of_eval.specs.Settling.{ended, is_same}
@@ -56,8 +57,8 @@ use Rattle.of_flow.specs.Tokens.{typed_of}
 use Rattle.of_words.specs.Words.{word_entry}
 use Rattle.of_eval_laws.specs.Structured.{structured_calls}
 use Rattle.of_eval_laws.specs.Listed.{Raises, StepsThrowListed, WordsThrowListed, cell_next, cell_of, closes}
-use Rattle.of_eval_laws.specs.Listed.{closes_next, plan_fetched, plan_of_item, plan_read, plan_with, token_of}
-use Rattle.of_eval_laws.specs.Listed.{token_read}
+use Rattle.of_eval_laws.specs.Listed.{closes_next, plan_fetched, plan_of_item, plan_read, plan_token, plan_with}
+use Rattle.of_eval_laws.specs.Listed.{token_of, token_read}
 use Rattle.of_eval_laws.proofs.ListedFaults.{defining_listed}
 use Rattle.of_eval_laws.proofs.Walk.{IsAct, Turns, item_acts, typed_acts}
 use Rattle.of_eval_laws.proofs.WalkFree.{anywhere, free, free_turns}
@@ -98,23 +99,26 @@ record Laws (S : Type 0) (c : Calls S) : Type 0 where
   calls : CallsThrowListed S c
   words : WordsThrowListed
   faults : ThrowListedNumbers
+  methods : TreeWordsListed
 
 -- ---- the rules
 
 -- what is thrown is listed, or is the number of the cell that `throw` takes
-abbrev listing : (S : Type 0) → ThrowListedNumbers → Option Cell → Rules S
-listing S law taken = record (free S) {
+abbrev listing : (S : Type 0) → ThrowListedNumbers → TreeWordsListed → Option Cell → Rules S
+listing S law methods taken = record (free S) {
   Fails = λ t. is_listed t ≡ true;
   Raises = λ t. (x : Cell) × (taken ≡ Some x) × (t.0 ≡ signed x);
   fails = λ t h. h;
   faults = λ f. law.faults f;
+  calls = λ k w t e. subst (λ r. ThrowsListed r) e (methods.calls k w);
 }
 
 -- and a definition is ended where that may be
 abbrev listing_turns :
-    (S : Type 0) (law : ThrowListedNumbers) (taken : Option Cell) → Bool → Turns (listing S law taken)
-listing_turns S law taken ends =
-    record (free_turns (listing S law taken) (λ s p. tt) (λ l s. tt) (λ n s. tt)) { Closes = ends ≡ true }
+    (S : Type 0) (law : ThrowListedNumbers) (methods : TreeWordsListed) (taken : Option Cell) → Bool
+    → Turns (listing S law methods taken)
+listing_turns S law methods taken ends =
+    record (free_turns (listing S law methods taken) (λ s p. tt) (λ l s. tt) (λ n s. tt)) { Closes = ends ≡ true }
 
 -- ---- acts of words
 
@@ -123,7 +127,7 @@ board_left (Ok p) s h = tt
 board_left (Err t) s h = h
 
 worked_raises : {S : Type 0} (c : Calls S) (l : Laws S c) (taken : Option Cell) (ends : Bool) (a : WordAct)
-    (s : State S) → IsWork (listing S l.faults taken) s a → Raised taken ends (worked c a s)
+    (s : State S) → IsWork (listing S l.faults l.methods taken) s a → Raised taken ends (worked c a s)
 unfolding worked
 worked_raises c l taken ends (act.Fails t) s h = inl h
 worked_raises c l taken ends (act.Raises t cells) s h = inr (inr h)
@@ -136,6 +140,7 @@ worked_raises c l taken ends (act.Appends e cells) s h = weaker taken ends _ (l.
 worked_raises c l taken ends (act.Loads size m cells) s h = tt
 worked_raises c l taken ends (act.Takes cells a) s h = worked_raises c l taken ends a (with_stack cells s) h
 worked_raises c l taken ends (act.Guards cells a) s h = worked_raises c l taken ends a (guarded cells s) h
+worked_raises c l taken ends (act.Enters cells ih a) s h = worked_raises c l taken ends a (entered cells ih s) h
 
 -- ---- defining and compiling
 
@@ -196,7 +201,7 @@ closes_raise taken true r e h = ends_weaker taken r h
 closes_raise taken false r e h = absurd cc
 
 acted_raises : {S : Type 0} (c : Calls S) (l : Laws S c) (taken : Option Cell) (last : Bool) (a : Act) (s : State S)
-    → IsAct (listing S l.faults taken) (listing_turns S l.faults taken last) s a → Raised taken last (acted c a s)
+    → IsAct (listing S l.faults l.methods taken) (listing_turns S l.faults l.methods taken last) s a → Raised taken last (acted c a s)
 unfolding acted
 acted_raises c l taken last (act.Does a) s h = worked_raises c l taken last a s h
 acted_raises c l taken last (act.Goes cells move n) s h = tt
@@ -209,17 +214,16 @@ acted_raises c l taken last act.Ends s h = weaker taken last _ (ends c s)
 
 founds : {S : Type 0} (c : Calls S) → Laws S c → (f : Option (Token × ℕ)) (size : OffsetSize) (position : ℕ)
     (s : State S)
-    → Raised (cell_of (plan_read (token_of f) s.words.table s.flow.is_compiling (plan_in s)) s.board.stack)
+    → Raised (cell_of (plan_read f size s) s.board.stack)
     (closes (token_of f)) (found_token c f size position s)
 unfolding is_listed listed_numbers
 founds c l None size position s = inl refl
 founds {S} c l (Some x) size position s =
     let on = read_on (size_behind x.0.code.0 size) x.1 s in
     let here = spot_in s.board.memory position x.1 in
-    let taken =
-    cell_of (plan_read (Some x.0) s.words.table s.flow.is_compiling (plan_in s)) s.board.stack in
-    let R = listing S l.faults taken in
-    let T = listing_turns S l.faults taken (closes (Some x.0)) in
+    let taken = cell_of (plan_read (Some x) size s) s.board.stack in
+    let R = listing S l.faults l.methods taken in
+    let T = listing_turns S l.faults l.methods taken (closes (Some x.0)) in
     acted_raises c l taken (closes (Some x.0)) (act_of (typed_of x.0) here (front_of on)) on
     (typed_acts R T (typed_of x.0) here on tt
     (typed_may R T (word_numbered x.0.code.0) x.0.code x.0.argument on.flow.is_compiling on
@@ -237,7 +241,7 @@ founds {S} c l (Some x) size position s =
     })))
 
 tokens : {S : Type 0} (c : Calls S) → Laws S c → (i : Input) (s : State S)
-    → Raised (cell_of (plan_read (token_read i s) s.words.table s.flow.is_compiling (plan_in s)) s.board.stack)
+    → Raised (cell_of (plan_token i s) s.board.stack)
     (closes (token_read i s)) (token_due c i s)
 unfolding is_listed listed_numbers
 tokens c l (input.Image size position) s =
@@ -252,12 +256,12 @@ items : {S : Type 0} (c : Calls S) → Laws S c → (i : Item) (s : State S)
 items {S} c l i s =
     let taken = cell_of (plan_of_item i (plan_in s)) s.board.stack in
     acted_raises c l taken false (item_act i (front_of s)) s
-    (item_acts (listing S l.faults taken) (listing_turns S l.faults taken false) i s
-    (anywhere (listing S l.faults taken) (λ n x. tt) (target_of i) s) tt
-    (all_executed (listing S l.faults taken) tt (plan_of_item i (plan_in s)) s tt tt (λ y e. (y, e, refl))))
+    (item_acts (listing S l.faults l.methods taken) (listing_turns S l.faults l.methods taken false) i s
+    (anywhere (listing S l.faults l.methods taken) (λ n x. tt) (target_of i) s) tt
+    (all_executed (listing S l.faults l.methods taken) tt (plan_of_item i (plan_in s)) s tt tt (λ y e. (y, e, refl))))
 
 fetches : {S : Type 0} (c : Calls S) → Laws S c → (f : Option (Item × Place)) (s : State S)
-    → Raised (cell_of (plan_fetched f (plan_in s)) s.board.stack) false (item_due c f s)
+    → Raised (cell_of (plan_fetched f s) s.board.stack) false (item_due c f s)
 unfolding is_listed listed_numbers
 fetches c l None s = inl refl
 fetches c l (Some x) s = items c l x.0 (with_next (continuation.Code x.1.cell) s)
@@ -328,10 +332,12 @@ mismatch_unlisted : is_listed control_mismatch ≡ false
 unfolding is_listed listed_numbers
 mismatch_unlisted = refl
 
-pub steps_throw_listed : WordsThrowListed → ThrowListedNumbers → StepsThrowListed
-steps_throw_listed words law = record {
-  flat = λ s. dues flat_calls (record { calls = calls_listed; words = words; faults = law }) s.flow.next s;
+pub steps_throw_listed : WordsThrowListed → ThrowListedNumbers → TreeWordsListed → StepsThrowListed
+steps_throw_listed words law methods = record {
+  flat = λ s.
+      dues flat_calls (record { calls = calls_listed; words = words; faults = law; methods = methods }) s.flow.next s;
   structured = λ s.
-      dues structured_calls (record { calls = structured_listed; words = words; faults = law }) s.flow.next s;
+      dues structured_calls (record { calls = structured_listed; words = words; faults = law; methods = methods })
+      s.flow.next s;
   mismatch = mismatch_unlisted;
 }

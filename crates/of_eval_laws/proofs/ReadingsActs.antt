@@ -43,7 +43,7 @@ use Rattle.of_eval.specs.Defining.{rounded_to, semicolon_entry, string_compiled,
 use Rattle.of_eval.specs.Defining.{string_refused, word_defined}
 use Rattle.of_eval.specs.Doing.{acted, appended, gone, input_at, read_at, worked}
 use Rattle.of_eval.specs.Doing as doing
-use Rattle.of_eval.specs.Executing.{guarded, plan_in}
+use Rattle.of_eval.specs.Executing.{entered, guarded, plan_in}
 use Rattle.of_eval.specs.Items.{item_act}
 use Rattle.of_eval.specs.Methods.{as_method, known_if, method_made, then_known, xt_cell}
 use Rattle.of_eval.specs.Settling.{ended, is_same}
@@ -336,6 +336,7 @@ worked_reads l c (act.Appends e cells) s w sound h =
 worked_reads l c (act.Loads size m cells) s w sound h = ((ap length w.1 ∙ ap suc h.0.0, (inl refl, h.0.1)), h.1)
 worked_reads l c (act.Takes cells a) s w sound h = worked_reads l c a (with_stack cells s) w sound h
 worked_reads l c (act.Guards cells a) s w sound h = worked_reads l c a (guarded cells s) w sound h
+worked_reads l c (act.Enters cells ih a) s w sound h = worked_reads l c a (entered cells ih s) w sound h
 
 -- ---- acts
 

@@ -1,5 +1,5 @@
 -- What releasing instances leaves of the data space: the images that run, the bytes, and that it is sound.
-use Rattle.std.proofs.Common.{◌≡◌, ◌∙◌, ℕ, Bool, true, false, List, [], ◌∷◌, Option, Some, None, Result, Ok, Err, refl}
+use Rattle.std.proofs.Common.{◌≡◌, ◌∙◌, ℕ, Bool, true, false, List, [], ◌∷◌, Option, Some, None, refl}
 use Rattle.std.proofs.Common.{length, nat_lt, get_or, if◌then◌else◌}
 use Rattle.std.specs.List.{position, remove}
 use Rattle.of_cells.specs.declared.cells.Cell.{Cell}
@@ -10,7 +10,6 @@ use Rattle.of_memory.specs.Blocks.{AreLaid, is_block, rounded}
 use Rattle.of_memory.specs.DataSpace.{DataSpace, IsSound}
 use Rattle.of_memory.specs.Regions.{instance_limit, instance_start}
 use Rattle.of_memory.specs.declared.blocks.Block.{Block}
-use Rattle.of_memory.specs.declared.fault.MemFault.{MemFault}
 use Rattle.of_nodes.specs.declared.phandles.Phandle.{Phandle}
 use Rattle.of_nodes.specs.declared.properties.Span.{Span}
 use Rattle.of_ihandles.specs.Blocks.{given, given_all, left}

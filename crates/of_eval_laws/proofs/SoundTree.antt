@@ -3,7 +3,7 @@ use Rattle.std.proofs.Common.{◌≡◌, ℕ, ◌+◌, ◌≤◌, Bool, true, fa
 use Rattle.std.proofs.Common.{nat_le}
 use Rattle.std.proofs.Common.{Option, Some, None, Result, Ok, Err, refl, subst, arith, if◌then◌else◌}
 use Rattle.std.proofs.lemmas.Bool.{leb-true}
-use Rattle.std.specs.Prelude.{◌==◌, codes}
+use Rattle.std.specs.Prelude.{codes}
 use Rattle.std.specs.Int.{bytes_high_first}
 use Rattle.of_cells.specs.declared.cells.Cell.{Cell}
 use Rattle.of_stacks.specs.declared.throws.Throw.{Throw}
@@ -37,8 +37,8 @@ use Rattle.of_instances.specs.Encoding.{encode_bytes_entry, encode_int_entry, en
 use Rattle.of_instances.specs.Encoding.{encode_string_entry, encoded_left, int_left, joined_left, phys_left, phys_read}
 use Rattle.of_instances.specs.Encoding.{string_left}
 use Rattle.of_instances.specs.Faults.{of_array, of_tree}
-use Rattle.of_instances.specs.Finding.{get_my_entry, get_package_entry, name_found, name_left, next_entry, value_found}
-use Rattle.of_instances.specs.Finding.{value_left}
+use Rattle.of_instances.specs.Finding.{get_inherited_entry, get_my_entry, get_package_entry, inherited_found}
+use Rattle.of_instances.specs.Finding.{name_found, name_left, next_entry, value_found, value_left}
 use Rattle.of_instances.specs.PropertyWords.{properties_entry}
 use Rattle.of_instances.specs.Reading.{active_package, cells_of, package_at, text_at, text_read}
 use Rattle.of_instances.specs.Setting.{delete_entry, deleted_left, property_cut, property_entry, property_made}
@@ -338,6 +338,13 @@ get_my (n ∷ a ∷ s) w sound =
     room_left (value_found s w ph name) (finds s w ph name sound)
 get_my _ w sound = tt
 
+get_inherited : (s : List Cell) (w : Board) → IsSound w.memory → IsLeft (get_inherited_entry s w)
+unfolding get_inherited_entry
+get_inherited (n ∷ a ∷ s) w sound =
+    let r = inherited_found w (active_package w) (text_at w.memory a n) in
+    room_left (value_left s w r) (values s w r sound)
+get_inherited _ w sound = tt
+
 get_package : (s : List Cell) (w : Board) → IsSound w.memory → IsLeft (get_package_entry s w)
 unfolding get_package_entry
 get_package (ph ∷ n ∷ a ∷ s) w sound = finds s w (package_at w.tree ph) (text_at w.memory a n) sound
@@ -451,7 +458,7 @@ properties word.DeviceType w sound =
     string (codes "device_type") w.stack w sound (bytes_tested (codes "device_type") refl)
 properties word.DeviceName w sound = string (codes "name") w.stack w sound (bytes_tested (codes "name") refl)
 properties word.GetMyProperty w sound = get_my w.stack w sound
-properties word.GetInheritedProperty w sound = tt
+properties word.GetInheritedProperty w sound = get_inherited w.stack w sound
 properties word.GetPackageProperty w sound = get_package w.stack w sound
 properties word.DeleteProperty w sound = delete w.stack w sound
 properties word.NextProperty w sound = next w.stack w sound

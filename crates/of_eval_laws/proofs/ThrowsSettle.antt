@@ -7,7 +7,6 @@ use Rattle.of_stacks.specs.declared.return_item.Due.{Due}
 use Rattle.of_stacks.specs.declared.return_item.Due.TheVariants as due
 use Rattle.of_stacks.specs.declared.return_item.ExceptionFrame.{ExceptionFrame}
 use Rattle.of_stacks.specs.declared.return_item.Input.{Input}
-use Rattle.of_stacks.specs.declared.return_item.Input.TheVariants as input
 use Rattle.of_stacks.specs.declared.return_item.Reading.{Reading}
 use Rattle.of_stacks.specs.declared.return_item.ReturnItem.{ReturnItem}
 use Rattle.of_stacks.specs.declared.return_item.ReturnItem.TheVariants.{Return, Loop, User, Handler, Source, Caller}

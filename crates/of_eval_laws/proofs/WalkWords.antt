@@ -1,5 +1,5 @@
 -- One walk of the tables of words: what a word comes to is what a law asks of it, by the rules of the law.
-use Rattle.std.proofs.Common.{◌⊎◌, inl, inr, ◌≡◌, ◌==◌, ℕ, nat_lt, Bool, true, false, List, [], ◌∷◌, length, Option}
+use Rattle.std.proofs.Common.{◌⊎◌, inl, inr, ◌≡◌, ◌==◌, ℕ, zero, suc, nat_le, nat_lt, Bool, true, false, List, [], ◌∷◌, length, Option}
 use Rattle.std.proofs.Common.{Some, None}
 use Rattle.std.proofs.Common.{Result, Ok, Err, is_none, is_some, refl, ap, ◌∙◌, if◌then◌else◌}
 use Rattle.std.specs.Prelude.{not, slice_get}
@@ -14,7 +14,8 @@ use Rattle.of_stacks.specs.declared.throws.Throw.{Throw}
 use Rattle.of_stacks.specs.Loops.{loop_on_top, open_loops}
 use Rattle.of_stacks.specs.Order.{counted, counting, fault_if}
 use Rattle.of_stacks.specs.Returns.{has_due_top, return_on_top, user_on_top}
-use Rattle.of_stacks.specs.Throws.{ThrowsListed, bad_handle, compile_only, is_listed, listed_numbers, stack_underflow}
+use Rattle.of_stacks.specs.Throws.{ThrowsListed, bad_handle, compile_only, is_listed, listed_numbers}
+use Rattle.of_stacks.specs.Throws.{return_stack_overflow, stack_underflow}
 use Rattle.of_fcodes.specs.declared.codes.FCode.{FCode}
 use Rattle.of_fcodes.specs.declared.words.DictionaryWord.{DictionaryWord}
 use Rattle.of_fcodes.specs.declared.words.DictionaryWord.TheVariants as dictionary
@@ -35,11 +36,20 @@ use Rattle.of_dict.specs.declared.word.Kind.TheVariants as kind
 use Rattle.of_dict.specs.Words.{kind_in}
 use Rattle.of_compile.specs.DictionaryWords.{set_token_entry, store_entry}
 use Rattle.of_compile.specs.Words.{WordsState, is_word, numbered, own_word}
-use Rattle.of_eval.specs.Acts.{Move, To, WordAct, front_of, knowing, leaving}
+use Rattle.of_eval.specs.Acts.{Front, Move, To, WordAct, front_of, knowing, leaving}
 use Rattle.of_eval.specs.Acts as act
 use Rattle.of_eval.specs.ByteLoading.{copying, length_at, load_act, loading, loading_faults, spread_of, start_at}
-use Rattle.of_eval.specs.Executing.{Catch, Execute, Own, Plan, Stops, Written, act_of_plan, comma_act, comma_faults}
-use Rattle.of_eval.specs.Executing.{dictionary_act, dropping, execution, guarded, is_opened, own_act, plan_in}
+use Rattle.of_eval.specs.Executing.{Call, Catch, Execute, Own, Plan, Stops, Written, act_of_plan, call_faults}
+use Rattle.of_eval.specs.Executing.{call_plan, catch_plan, comma_act, comma_faults, dictionary_act, dropping, entered}
+use Rattle.of_eval.specs.Executing.{executable, execute_plan, execution, guarded, is_opened, own_act, plan, plan_at}
+use Rattle.of_eval.specs.Executing.{plan_behind, plan_in, planned, runner_of, unless_stopped}
+use Rattle.of_eval.specs.declared.executing.Runner.{Runner}
+use Rattle.of_eval.specs.declared.executing.Runner.TheVariants as runner
+use Rattle.of_instances.specs.declared.calling.CallingWord.{CallingWord}
+use Rattle.of_instances.specs.declared.calling.MethodCall.{MethodCall}
+use Rattle.of_instances.specs.Calling.{beneath, calling_entry}
+use Rattle.of_board.specs.declared.board.Board.{Board}
+use Rattle.of_fcodes.specs.Finding.{word_with_xt}
 use Rattle.of_flow.specs.Returns.{found}
 use Rattle.of_eval.specs.Executing.{product_entry, pushing, returning, returns_act, throw_act, throws_act}
 use Rattle.of_flow.specs.Returns.{pushed}
@@ -47,10 +57,11 @@ use Rattle.of_eval.specs.Executing.{unlooping, written_act}
 use Rattle.of_eval.specs.State.{State, open_xt, with_stack}
 use Rattle.of_eval_laws.specs.Frames.{drops_item, last_word}
 use Rattle.of_eval_laws.specs.Listed.{cell_of}
-use Rattle.of_eval_laws.proofs.ListedFaults.{IsListedFault, behavior_listed, from_body_listed, get_token_listed}
+use Rattle.of_eval_laws.proofs.ListedFaults.{IsListedFault, behavior_listed, counted_listed, fault_listed}
+use Rattle.of_eval_laws.proofs.ListedFaults.{from_body_listed, get_token_listed}
 use Rattle.of_eval_laws.proofs.ListedFaults.{index_listed, loop_listed, return_listed, set_token_listed, store_listed}
 use Rattle.of_eval_laws.proofs.ListedFaults.{to_body_listed, user_listed, within_listed}
-use Rattle.of_eval_laws.proofs.ListedWords.{StopsListed, comma_fault, finds, loading_fault, plan_stops, products}
+use Rattle.of_eval_laws.proofs.ListedWords.{comma_fault, finds, loading_fault, products}
 
 -- What a law asks of the acts of words, and why what the tables look at has it.
 pub record Rules (S : Type 0) : Type 1 where
@@ -100,12 +111,16 @@ pub record Rules (S : Type 0) : Type 1 where
   pub loads :
       (a n spread : ℕ) (x : ℕ × DataSpace) (s : State S) → Held s → is_some s.words.defining ≡ false →
       image_pushed_from s.board.memory a n spread ≡ Ok x → Loads s x.1
-  -- `execute` and `catch` leave the state so
+  -- what the words throw that call a method
+  pub calls : (k : CallingWord) (w : Board) (t : Throw) → calling_entry k w ≡ Err t → Fails t
+  -- `execute`, `catch` and words that call a method leave the state so
   pub takes : (cells : List Cell) (s : State S) → Held s → Held (with_stack cells s)
   pub guards : (cells : List Cell) (s : State S) → Held s → Held (guarded cells s)
-  -- an item that may be dropped may be behind `execute`, and any behind `catch`
+  pub enters : (cells : List Cell) (ih : Cell) (s : State S) → Held s → Held (entered cells ih s)
+  -- an item that may be dropped may be behind `execute`, and any behind `catch` and words that call a method
   pub drops_taken : (cells : List Cell) (s : State S) → Drops s → Drops (with_stack cells s)
   pub drops_guarded : (cells : List Cell) (s : State S) → Held s → Drops (guarded cells s)
+  pub drops_entered : (cells : List Cell) (ih : Cell) (s : State S) → Held s → Drops (entered cells ih s)
 
 abbrev pub IsMove : {S : Type 0} → Rules S → State S → Move → Type 0
 IsMove R s act.Keeps = Unit {0}
@@ -158,6 +173,7 @@ IsWork R s (act.Appends e cells) = R.Appends s
 IsWork R s (act.Loads size m cells) = R.Loads s m
 IsWork R s (act.Takes cells a) = IsWork R (with_stack cells s) a
 IsWork R s (act.Guards cells a) = IsWork R (guarded cells s) a
+IsWork R s (act.Enters cells ih a) = IsWork R (entered cells ih s) a
 
 -- the number of the cell that `throw` takes may be thrown, where a plan comes to it
 abbrev pub MayRaise : {S : Type 0} → Rules S → Option Plan → List Cell → Type 0
@@ -353,17 +369,91 @@ written_works R r (word.Parsing w) s p d h = R.fails _ refl
 written_works R r (word.Compiling w) s p d h = R.fails _ refl
 written_works R r w s p d h = R.works r w
 
-plan_works : {S : Type 0} (R : Rules S) → R.Runs → (q : Plan) (s : State S) → StopsListed q → R.Held s
+-- where a plan stops, that is by a throw that the law allows
+abbrev Stopping : {S : Type 0} → Rules S → Plan → Type 0
+Stopping R (Stops t) = R.Fails t
+Stopping R (Written w) = Unit {0}
+Stopping R (Own xt) = Unit {0}
+Stopping R (Execute cells p) = Stopping R p
+Stopping R (Catch cells p) = Stopping R p
+Stopping R (Call cells ih p) = Stopping R p
+
+stops_if : {S : Type 0} (R : Rules S) (b : Bool) (p q : Plan) → Stopping R p → Stopping R q
+    → Stopping R (if b then p else q)
+stops_if R true p q hp hq = hp
+stops_if R false p q hp hq = hq
+
+stops_execute : {S : Type 0} (R : Rules S) (cells : List Cell) (f : Front) (inner : Front → ℕ → Plan)
+    → ((g : Front) (to : ℕ) → Stopping R (inner g to)) → Stopping R (execute_plan cells f inner)
+unfolding is_listed listed_numbers
+stops_execute R [] f inner h = R.fails _ refl
+stops_execute R (x ∷ cells) f inner h =
+    stops_if R (is_word f.words.dictionary x.0) (Execute cells (inner (with_stack cells f) x.0)) (Stops bad_handle)
+    (h (with_stack cells f) x.0) (R.fails _ refl)
+
+stops_catch : {S : Type 0} (R : Rules S) (cells : List Cell) (f : Front) (inner : Front → ℕ → Plan)
+    → ((g : Front) (to : ℕ) → Stopping R (inner g to)) → Stopping R (catch_plan cells f inner)
+unfolding is_listed listed_numbers
+stops_catch R [] f inner h = R.fails _ refl
+stops_catch R (x ∷ cells) f inner h =
+    stops_if R (nat_le 256 (length f.flow.items)) (Stops return_stack_overflow)
+    (Catch cells (inner (guarded cells f) x.0)) (R.fails _ refl) (h (guarded cells f) x.0)
+
+call_fault : (f : Front) (xt : Cell) → IsListedFault (counting (call_faults f xt))
+unfolding is_listed listed_numbers
+call_fault f xt =
+    counted_listed _ _ (fault_listed (not (is_word f.words.dictionary xt.0)) bad_handle refl)
+    (counted_listed _ None (fault_listed (nat_le 256 (length f.flow.items)) return_stack_overflow refl) tt)
+
+stops_unless : {S : Type 0} (R : Rules S) (o : Option Throw) (p : Plan) → IsListedFault o → Stopping R p
+    → Stopping R (unless_stopped o p)
+stops_unless R None p l h = h
+stops_unless R (Some t) p l h = R.fails t l
+
+stops_call : {S : Type 0} (R : Rules S) (k : CallingWord) (r : Result MethodCall Throw) (f : Front)
+    (inner : Front → ℕ → Plan) → calling_entry k f.board ≡ r → ((g : Front) (to : ℕ) → Stopping R (inner g to))
+    → Stopping R (call_plan r f inner)
+stops_call R k (Err t) f inner e h = R.calls k f.board t e
+stops_call R k (Ok m) f inner e h =
+    let cells = beneath m.operands f.board.stack in
+    stops_unless R (counting (call_faults f m.xt))
+    (Call cells m.instance (inner (entered cells m.instance f) m.xt.0)) (call_fault f m.xt)
+    (h (entered cells m.instance f) m.xt.0)
+
+stops_behind : {S : Type 0} (R : Rules S) (o : Option ℕ) (f : Front) (inner : Front → ℕ → Plan)
+    → ((g : Front) (to : ℕ) → Stopping R (inner g to)) → Stopping R (plan_behind o f inner)
+unfolding is_listed listed_numbers
+stops_behind R None f inner h = R.fails _ refl
+stops_behind R (Some xt) f inner h = at_word (word_with_xt xt)
+  where
+    by_runner : (w : Word) (r : Runner) → Stopping R (planned w r f inner)
+    by_runner w runner.Plain = tt
+    by_runner w runner.Execute = stops_execute R f.board.stack f inner h
+    by_runner w runner.Catch = stops_catch R f.board.stack f inner h
+    by_runner w (runner.Call k) = stops_call R k (calling_entry k f.board) f inner refl h
+
+    at_word : (o : Option Word) → Stopping R (plan_at o xt f inner)
+    at_word None = tt
+    at_word (Some w) = by_runner w (runner_of w)
+
+plan_stops : {S : Type 0} (R : Rules S) (n : ℕ) (f : Front) (xt : ℕ) → Stopping R (plan n f xt)
+unfolding plan is_listed listed_numbers
+plan_stops R zero f xt = stops_behind R (executable f.words xt) f _ (λ g to. R.fails _ refl)
+plan_stops R (suc n) f xt = stops_behind R (executable f.words xt) f _ (λ g to. plan_stops R n g to)
+
+plan_works : {S : Type 0} (R : Rules S) → R.Runs → (q : Plan) (s : State S) → Stopping R q → R.Held s
     → (drops_item (last_word q) ≡ true → R.Drops s) → MayRaise R (Some q) s.board.stack
     → IsWork R s (act_of_plan q (front_of s))
 unfolding act_of_plan
-plan_works R r (Stops t) s l p d h = R.fails t l
+plan_works R r (Stops t) s l p d h = l
 plan_works R r (Written w) s l p d h = written_works R r w s p d h
 plan_works R r (Own xt) s l p d h = own_works R (kind_in (own_word s.words.dictionary xt)) xt s refl p
 plan_works R r (Execute cells q) s l p d h =
     plan_works R r q (with_stack cells s) l (R.takes cells s p) (λ e. R.drops_taken cells s (d e)) h
 plan_works R r (Catch cells q) s l p d h =
     plan_works R r q (guarded cells s) l (R.guards cells s p) (λ e. R.drops_guarded cells s p) h
+plan_works R r (Call cells ih q) s l p d h =
+    plan_works R r q (entered cells ih s) l (R.enters cells ih s p) (λ e. R.drops_entered cells ih s p) h
 
 -- executing a word
 pub execution_works : {S : Type 0} (R : Rules S) → R.Runs → (xt : ℕ) (s : State S) → R.Held s
@@ -371,7 +461,7 @@ pub execution_works : {S : Type 0} (R : Rules S) → R.Runs → (xt : ℕ) (s : 
     → IsWork R s (execution xt (front_of s))
 unfolding execution
 execution_works R r xt s p d h =
-    plan_works R r (plan_in s xt) s (plan_stops s.words (length s.flow.items) s.board.stack xt) p d h
+    plan_works R r (plan_in s xt) s (plan_stops R (length s.board.stack) (front_of s) xt) p d h
 
 -- where a plan is carried out, what its word comes to is what the law asks
 abbrev pub Executes : {S : Type 0} → Rules S → Option Plan → State S → Type 0

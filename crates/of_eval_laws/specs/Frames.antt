@@ -5,13 +5,14 @@ use Rattle.of_cells.specs.declared.cells.Cell.{Cell}
 use Rattle.of_code.specs.declared.item.Item.{Item}
 use Rattle.of_stacks.specs.declared.return_item.Continuation.{Continuation}
 use Rattle.of_stacks.specs.declared.return_item.Continuation.TheVariants as continuation
-use Rattle.of_stacks.specs.declared.return_item.ExceptionFrame.{ExceptionFrame}
+use Rattle.of_stacks.specs.declared.return_item.Due.TheVariants as due
 use Rattle.of_stacks.specs.declared.return_item.Input.{Input}
 use Rattle.of_stacks.specs.declared.return_item.Input.TheVariants as input
 use Rattle.of_stacks.specs.declared.return_item.LoopExit.{LoopExit}
 use Rattle.of_stacks.specs.declared.return_item.Reading.{Reading}
 use Rattle.of_stacks.specs.declared.return_item.ReturnItem.{ReturnItem}
-use Rattle.of_stacks.specs.declared.return_item.ReturnItem.TheVariants.{Handler, Return, Source, User}
+use Rattle.of_stacks.specs.declared.return_item.ReturnItem.TheVariants.{Caller, Handler, Loop, Return}
+use Rattle.of_stacks.specs.declared.return_item.ReturnItem.TheVariants.{Source, User}
 use Rattle.of_stacks.specs.declared.throws.Throw.{Throw}
 use Rattle.of_stacks.specs.Returns.{return_on_top, top_item}
 use Rattle.of_stacks.specs.Throws.{image_ended}
@@ -29,7 +30,7 @@ use Rattle.of_flow.specs.declared.control.ControlWord.TheVariants as control
 use Rattle.of_flow.specs.declared.control_state.Flow.{Flow}
 use Rattle.of_eval.specs.Acts.{Act, Does, Fails, Goes, Moves, Next}
 use Rattle.of_eval.specs.Doing.{executed}
-use Rattle.of_eval.specs.Executing.{Catch, Execute, Own, Plan, Stops, Written, plan_in}
+use Rattle.of_eval.specs.Executing.{Call, Catch, Execute, Own, Plan, Stops, Written, plan_in}
 use Rattle.of_eval.specs.Items.{Target, control_act}
 use Rattle.of_eval.specs.State.{Calls, State}
 use Rattle.of_eval.specs.Steps.{item_done, token_due}
@@ -99,15 +100,26 @@ ends_image w = false
 
 -- ---- the return stack
 
--- these items with what each `catch` kept pushed on them, one after another
-abbrev pub caught_on : List ExceptionFrame → List ReturnItem → List ReturnItem
-caught_on [] r = r
-caught_on (h ∷ handlers) r = caught_on handlers (Handler h ∷ r)
+-- these items with others pushed on them, one after another
+abbrev pub pushed_on : List ReturnItem → List ReturnItem → List ReturnItem
+pushed_on [] r = r
+pushed_on (item ∷ items) r = pushed_on items (item ∷ r)
 
--- control goes on there behind each
-abbrev pub AllResume : Continuation → List ExceptionFrame → Type 0
-AllResume next [] = Unit {0}
-AllResume next (h ∷ handlers) = (h.resume ≡ next) × AllResume next handlers
+-- a handler, behind which control goes on there, or the caller of a method
+abbrev pub IsKept : Continuation → ReturnItem → Type 0
+IsKept next (Handler h) = h.resume ≡ next
+IsKept next (Caller (due.Method me)) = Unit {0}
+IsKept next (Caller (due.Open me instance)) = ⊥
+IsKept next (Caller (due.Close me instance)) = ⊥
+IsKept next (Caller (due.Load active me instance count)) = ⊥
+IsKept next (Return to) = ⊥
+IsKept next (Loop l) = ⊥
+IsKept next (User x) = ⊥
+IsKept next (Source r) = ⊥
+
+abbrev pub AllKept : Continuation → List ReturnItem → Type 0
+AllKept next [] = Unit {0}
+AllKept next (item ∷ items) = IsKept next item × AllKept next items
 
 -- nothing of control changes
 abbrev pub Stays : Flow → Flow → Type 0
@@ -141,19 +153,20 @@ WordLeaves drops f after =
     Stays f after
     ⊎ (PushesCell f after ⊎ (BeginsDefinition f after ⊎ (BeginsImage f after ⊎ ((drops ≡ true) × DropsItem f after))))
 
--- each `catch` pushes a handler, and on these the word that runs at last leaves that
+-- each `catch` pushes a handler, each word that calls a method a caller, and on these the word that runs at last leaves
+-- that
 abbrev pub ExecutingLeaves : Bool → Flow → Flow → Type 0
 ExecutingLeaves drops f after =
-    (handlers : List ExceptionFrame) × AllResume f.next handlers
-    × WordLeaves drops (record f { items = caught_on handlers f.items }) after
+    (kept : List ReturnItem) × AllKept f.next kept × WordLeaves drops (record f { items = pushed_on kept f.items }) after
 
--- the written word that runs at last, if one does; what `catch` runs, runs within it
+-- the written word that runs at last, if one does; what `catch` and words that call a method run, runs within them
 abbrev pub last_word : Plan → Option Word
 last_word (Stops t) = None
 last_word (Written w) = Some w
 last_word (Own xt) = None
 last_word (Execute cells p) = last_word p
 last_word (Catch cells p) = None
+last_word (Call cells ih p) = None
 
 -- `r>`, `unloop` and `exit` drop an item
 abbrev pub drops_item : Option Word → Bool
@@ -166,7 +179,7 @@ drops_item w = false
 
 -- What board of a step leave as it was, over any code of definitions.
 pub record FramesHold (S : Type 0) : Type 0 where
-  -- Executing a word leaves the items and what is read as they were, but for handlers and one item on top, or begins an
+  -- Executing a word leaves the items and what is read as they were, but for handlers, callers and one item on top, or begins an
   -- image; it drops one item only where the word that runs at last drops one.
   pub words :
       (c : Calls S) (xt : ℕ) (s : State S) →

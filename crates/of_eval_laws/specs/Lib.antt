@@ -9,6 +9,7 @@ pub mod Running
 pub mod Throws
 pub mod Readings
 pub mod Going
+pub mod Calling
 pub mod Tokens
 pub mod Asking
 pub mod Homes

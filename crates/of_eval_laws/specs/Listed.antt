@@ -20,14 +20,16 @@ use Rattle.of_fcodes.specs.declared.words.Word.{Word}
 use Rattle.of_fcodes.specs.declared.words.Word.TheVariants as word
 use Rattle.of_fcodes.specs.Lookup.{word_numbered}
 use Rattle.of_fcodes.specs.Tokens.{entry_in}
+use Rattle.of_stream.specs.declared.stream.OffsetSize.{OffsetSize}
+use Rattle.of_stream.specs.Sizes.{size_behind}
 use Rattle.of_stream.specs.Decoding.{Argument, Nothing, Token, token_from}
 use Rattle.of_memory.specs.Images.{latest_image}
 use Rattle.of_compile.specs.Structured.{Definitions}
 use Rattle.of_compile.specs.Coding.{Coding}
 use Rattle.of_board.specs.declared.board.Board.{Board}
-use Rattle.of_eval.specs.Executing.{Catch, Execute, Plan, Written, plan_in}
-use Rattle.of_eval.specs.State.{Calls, State, flat_calls}
-use Rattle.of_eval.specs.Steps.{due}
+use Rattle.of_eval.specs.Executing.{Call, Catch, Execute, Plan, Written, plan_in}
+use Rattle.of_eval.specs.State.{Calls, State, flat_calls, with_next}
+use Rattle.of_eval.specs.Steps.{due, read_on}
 use Rattle.of_words.specs.Words.{word_entry}
 use Rattle.of_eval_laws.specs.Structured.{structured_calls}
 
@@ -60,10 +62,17 @@ abbrev pub plan_with : Argument → Option Word → Option TokenEntry → Bool �
 plan_with Nothing w e compiling plans = plan_bare w e compiling plans
 plan_with a w e compiling plans = None
 
-abbrev pub plan_read : Option Token → List (Option TokenEntry) → Bool → (ℕ → Plan) → Option Plan
-plan_read None table compiling plans = None
-plan_read (Some x) table compiling plans =
-    plan_with x.argument (word_numbered x.code.0) (entry_in table x.code.0) compiling plans
+-- of a token that was read, in the state in which the image is read on behind it
+abbrev pub plan_read : {S : Type 0} → Option (Token × ℕ) → OffsetSize → State S → Option Plan
+plan_read None size s = None
+plan_read (Some x) size s =
+    plan_with x.0.argument (word_numbered x.0.code.0) (entry_in s.words.table x.0.code.0) s.flow.is_compiling
+    (plan_in (read_on (size_behind x.0.code.0 size) x.1 s))
+
+abbrev pub plan_token : {S : Type 0} → Input → State S → Option Plan
+plan_token (input.Image size position) s = plan_read (token_from (latest_image s.board.memory) position size) size s
+plan_token (input.Text position) s = None
+plan_token input.Nothing s = None
 
 -- and of an item
 abbrev pub plan_of_item : Item → (ℕ → Plan) → Option Plan
@@ -71,21 +80,21 @@ plan_of_item (Operation xt) plans = Some (plans xt.0)
 plan_of_item (Call xt) plans = Some (plans xt.0)
 plan_of_item i plans = None
 
-abbrev pub plan_fetched : Option (Item × Place) → (ℕ → Plan) → Option Plan
-plan_fetched None plans = None
-plan_fetched (Some x) plans = plan_of_item x.0 plans
+abbrev pub plan_fetched : {S : Type 0} → Option (Item × Place) → State S → Option Plan
+plan_fetched None s = None
+plan_fetched (Some x) s = plan_of_item x.0 (plan_in (with_next (continuation.Code x.1.cell) s))
 
 -- the plan that is carried out next, if one is
 abbrev pub plan_next : {S : Type 0} → Calls S → Continuation → State S → Option Plan
-plan_next c continuation.Source s =
-    plan_read (token_read s.flow.reading.input s) s.words.table s.flow.is_compiling (plan_in s)
-plan_next c (continuation.Code n) s = plan_fetched (c.fetch s.code (record { cell = n })) (plan_in s)
+plan_next c continuation.Source s = plan_token s.flow.reading.input s
+plan_next c (continuation.Code n) s = plan_fetched (c.fetch s.code (record { cell = n })) s
 
 -- the cell that `throw` takes where a plan comes to it, with these cells on the data stack (Forth 2012, 9.6.1.2275)
 abbrev pub cell_in : Plan → List Cell → Option Cell
 cell_in (Written (word.Throws throws.Throw)) (x ∷ cells) = Some x
 cell_in (Execute left p) cells = cell_in p left
 cell_in (Catch left p) cells = cell_in p left
+cell_in (Call left ih p) cells = cell_in p left
 cell_in p cells = None
 
 abbrev pub cell_of : Option Plan → List Cell → Option Cell

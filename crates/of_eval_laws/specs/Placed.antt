@@ -5,7 +5,6 @@ use Rattle.of_stacks.specs.declared.return_item.LoopExit.{LoopExit}
 use Rattle.of_stacks.specs.declared.return_item.LoopExit.TheVariants as exit
 use Rattle.of_stacks.specs.declared.return_item.ReturnItem.{ReturnItem}
 use Rattle.of_stacks.specs.declared.return_item.ReturnItem.TheVariants.{Return, Loop, User, Handler, Source, Caller}
-use Rattle.of_memory.specs.DataSpace.{DataSpace}
 use Rattle.of_nodes.specs.declared.phandles.Phandle.{Phandle}
 use Rattle.of_dict.specs.declared.word.Kind.{Kind}
 use Rattle.of_dict.specs.declared.word.Kind.TheVariants as kind

@@ -1,10 +1,12 @@
 -- Where control goes back to: while words and images run that an image began, the return stack leads back to that image
 -- (IEEE 1275-1994, 5.2.2.5, 5.3.3.1; Forth 2012, 3.2.3.3, 9.6.1.0875).
-use Rattle.std.specs.Prelude.{◌≡◌, ◌⊎◌, ℕ, Bool, true, false, ◌&&◌, List, [], ◌∷◌, length, Option, Some, None}
+use Rattle.std.specs.Prelude.{◌≡◌, ◌⊎◌, ℕ, Bool, true, false, ◌&&◌, is_some, List, [], ◌∷◌, length, Option}
+use Rattle.std.specs.Prelude.{Some, None}
 use Rattle.of_code.specs.declared.item.Item.{Item}
 use Rattle.of_stacks.specs.declared.throws.Throw.{Throw}
 use Rattle.of_stacks.specs.declared.return_item.Continuation.{Continuation}
 use Rattle.of_stacks.specs.declared.return_item.Continuation.TheVariants as continuation
+use Rattle.of_stacks.specs.declared.return_item.Due.TheVariants as caller
 use Rattle.of_stacks.specs.declared.return_item.Input.{Input}
 use Rattle.of_stacks.specs.declared.return_item.Input.TheVariants as input
 use Rattle.of_stacks.specs.declared.return_item.LoopExit.{LoopExit}
@@ -83,8 +85,8 @@ module _ (image : List ℕ) (outer : Reading) where
   IsInside (exit.Code n) = ⊥
 
   -- Control is in code or in what is read, and these items lead back to the outermost image, which is to be read on
-  -- with `outer`. A handler stands on top only where it is said where control goes on behind what is due, and that is
-  -- behind its `catch`.
+  -- with `outer`. A handler or the caller of a method stands on top only where it is said where control goes on behind
+  -- what is due, and that is behind the `catch`.
   abbrev pub LeadsBack : Reading → (code : Bool) → (behind_due : Option Continuation) → List ReturnItem → Type 0
   LeadsBack now code due [] = ⊥
   LeadsBack now code due (Loop l ∷ r) =
@@ -98,7 +100,10 @@ module _ (image : List ℕ) (outer : Reading) where
       (code ≡ false)
       × (((s.input ≡ input.Nothing) × (now ≡ outer) × IsBase r)
       ⊎ (IsRead s × (is_return_top r ≡ true) × LeadsBack s true None r))
-  LeadsBack now code due (Caller d ∷ r) = ⊥
+  LeadsBack now code due (Caller (caller.Method me) ∷ r) = (is_some due ≡ true) × LeadsBack now code due r
+  LeadsBack now code due (Caller (caller.Open me instance) ∷ r) = ⊥
+  LeadsBack now code due (Caller (caller.Close me instance) ∷ r) = ⊥
+  LeadsBack now code due (Caller (caller.Load active me instance count) ∷ r) = ⊥
 
   -- an image is read, and the items lead back, with what is due on top
   abbrev pub IsDue : Flow → Type 0

@@ -1,6 +1,6 @@
 -- What a throw ends, and where control goes on when it is caught (Forth 2012, 9.6.1.0875, 9.6.1.2275; IEEE 1275-1994,
 -- 5.3.3.1).
-use Rattle.std.specs.Prelude.{◌≡◌, ℕ, zero, suc, Bool, true, false, ◌&&◌, not, is_some, List, [], ◌∷◌, ◌++◌}
+use Rattle.std.specs.Prelude.{◌≡◌, ℕ, suc, Bool, true, false, ◌&&◌, not, is_some, List, [], ◌∷◌, ◌++◌}
 use Rattle.std.specs.Prelude.{Option, Some, None, if◌then◌else◌}
 use Rattle.of_cells.specs.declared.cells.Cell.{Cell}
 use Rattle.of_stacks.specs.declared.throws.Throw.{Throw}

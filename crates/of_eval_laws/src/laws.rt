@@ -2,6 +2,7 @@
 ghost use Rattle.of_compile.specs.Structured.{Definitions};
 ghost use Rattle.of_compile.specs.Coding.{Coding};
 ghost use Rattle.of_eval_laws.specs.Asking.{MemoryIsAsked};
+ghost use Rattle.of_eval_laws.specs.Calling.{CallsComeBack};
 ghost use Rattle.of_eval_laws.specs.Structured.{MismatchIsNoBody, StepsAgree};
 ghost use Rattle.of_eval_laws.specs.Frames.{FramesHold, TargetsCountLast};
 ghost use Rattle.of_eval_laws.specs.Going.{CatchKeeps, DefinitionsRun, EndsGoBack, ItemsGo, ItemsThrow, LoadsBegin};
@@ -17,6 +18,7 @@ ghost use Rattle.of_eval_laws.specs.Throws.{ThrowsSettle};
 ghost use Rattle.of_eval_laws.specs.Tokens.{ThrowTakes, TokensAreTyped, TokensCompile, TokensGo};
 
 use of_compile::{compiles_reading, runs_by_structure, structures_are_flat};
+use of_eval::plans_unroll;
 use of_ihandles::instances_keep_the_space;
 use of_instances::{images_stay, tree_words_throw_listed};
 use of_memory::{latest_is_pushed, parts_are_good, ranges_are_placed, writes_join};
@@ -39,6 +41,7 @@ pub fn steps_throw_listed()
 {
     words_throw_listed();
     prims_throw_listed();
+    tree_words_throw_listed();
 }
 
 /// A step over structured definitions is, with these laid out as cells, the step over their cells, wherever control
@@ -190,7 +193,18 @@ pub fn definitions_run()
 pub fn catch_keeps()
     ensures cells { CatchKeeps Coding }
     ensures bodies { CatchKeeps Definitions }
-{}
+{
+    plans_unroll();
+}
+
+/// A method runs for its instance, and the caller's is the current one again at its end.
+#[tactic(auto, using(crate::proofs::CallingLemmas::calls_come_back))]
+pub fn calls_come_back()
+    ensures cells { CallsComeBack Coding }
+    ensures bodies { CallsComeBack Definitions }
+{
+    plans_unroll();
+}
 
 /// The end of an image goes back to what began it, and leaves the rest as it was.
 #[tactic(auto, using(crate::proofs::GoingLemmas::ends_go_back))]
