@@ -3,8 +3,9 @@ ghost use Rattle.std.specs.Prelude.{◌≡◌, [], true, false, is_some};
 ghost use Rattle.of_stacks.specs.Returns.{has_due_top};
 ghost use Rattle.of_memory.specs.Growth.{with_state};
 ghost use Rattle.of_eval.specs.State.{Leaves, flat_calls, given_up, open_xt, with_compiling};
-ghost use Rattle.of_eval.specs.Settling.{caller_self, caught, cut_one, ended, given_back, given_up_since, going_back};
-ghost use Rattle.of_eval.specs.Settling.{is_same, load_left, nothing_read, or_nothing, package_of, reading_on};
+ghost use Rattle.of_eval.specs.Settling.{caller_self, caught, cut_one, due_left, ended, given_back, given_up_since};
+ghost use Rattle.of_eval.specs.Settling.{going_back, is_same, load_left, nothing_read, or_nothing, package_of};
+ghost use Rattle.of_eval.specs.Settling.{reading_on};
 ghost use Rattle.of_eval.specs.Settling.{settled, source_ended, still_thrown, thrown_in, uncaught, worked_one};
 
 use crate::eval::Eval;
@@ -139,6 +140,23 @@ impl<C: CodeStore> Eval<C> {
         }
     }
 
+    /// What is due at a caller is done, but for the current instance: the run of a loaded image has ended, or the
+    /// instance that was closed is released.
+    fn leave_due(&mut self, due: Due)
+        ensures state { self.new ≡ due_left due self.old }
+        ensures running { self.new.flow.is_running ≡ self.old.flow.is_running }
+    {
+        match due {
+            Due::Load { .. } => self.leave_load(due),
+            Due::Close { instance, .. } => {
+                self.board
+                    .instances
+                    .release(&mut self.board.memory, instance);
+            }
+            Due::Method { .. } | Due::Open { .. } => {}
+        }
+    }
+
     /// A handler takes a throw: control goes on behind its `catch` (Forth 2012, 9.6.1.2275).
     fn catch(&mut self, frame: ExceptionFrame, thrown: Throw)
         ensures state { self.new ≡ caught flat_calls frame thrown self.old }
@@ -205,7 +223,7 @@ impl<C: CodeStore> Eval<C> {
             }
             ReturnItem::Caller(due) => {
                 self.board.active.my_self = caller_self(due);
-                self.leave_load(due);
+                self.leave_due(due);
             }
             ReturnItem::Return(_)
             | ReturnItem::Loop(_)

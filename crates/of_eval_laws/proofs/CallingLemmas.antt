@@ -1,7 +1,8 @@
 -- A method runs for an instance, and the caller's is the current one again at its end.
-use Rattle.std.proofs.Common.{◌≡◌, ℕ, Bool, true, false, nat_le, length, Option, Result}
-use Rattle.std.proofs.Common.{Ok, Err, refl, ap, ◌∙◌}
+use Rattle.std.proofs.Common.{◌≡◌, ℕ, Bool, true, false, nat_le, List, length, Option, Some, None, Result, Ok, Err}
+use Rattle.std.proofs.Common.{refl, ap, subst, ◌∙◌}
 use Rattle.std.specs.Prelude.{[], ◌∷◌, not}
+use Rattle.of_cells.specs.declared.cells.Cell.{Cell}
 use Rattle.of_stacks.specs.declared.throws.Throw.{Throw}
 use Rattle.of_stacks.specs.Order.{counting, fault_if, later_rank, rank}
 use Rattle.of_stacks.specs.Throws.{bad_handle, return_stack_overflow}
@@ -9,31 +10,94 @@ use Rattle.of_compile.specs.Words.{is_word}
 use Rattle.of_instances.specs.declared.calling.CallingWord.{CallingWord}
 use Rattle.of_instances.specs.declared.calling.CallingWord.TheVariants as calling
 use Rattle.of_instances.specs.declared.calling.MethodCall.{MethodCall}
-use Rattle.of_instances.specs.Calling.{beneath, calling_entry}
+use Rattle.of_instances.specs.declared.calling.Operands.{Operands}
+use Rattle.of_instances.specs.Calling.{beneath, call_above, call_method_entry, call_of, call_package_entry}
+use Rattle.of_instances.specs.Calling.{call_parent_entry, calling_entry, close_in, close_of, close_package_entry}
+use Rattle.of_instances.specs.Calling.{method_of, xt_for}
+use Rattle.of_instances.specs.Faults.{of_instance}
+use Rattle.of_ihandles.specs.Instances.{package_of, parent_of}
+use Rattle.of_board.specs.declared.board.Board.{Board}
+use Rattle.of_stacks.specs.declared.return_item.Due.{Due}
+use Rattle.of_stacks.specs.declared.return_item.Due.TheVariants as due
+use Rattle.of_stacks.specs.declared.return_item.ReturnItem.{ReturnItem}
+use Rattle.of_stacks.specs.declared.return_item.ReturnItem.TheVariants.{Caller}
 use Rattle.of_eval.specs.Acts.{front_of}
 use Rattle.of_eval.specs.Doing.{executed, worked}
 use Rattle.of_eval.specs.Executing.{Call, Plan, PlansUnroll, act_of_plan, call_plan, entered, execution, plan_in}
 use Rattle.of_eval.specs.Executing.{plan_of, unless_stopped}
-use Rattle.of_eval.specs.Settling.{settled}
+use Rattle.of_eval.specs.Settling.{caller_self, settled}
 use Rattle.of_eval.specs.State.{Calls, State, failed}
-use Rattle.of_eval_laws.specs.Calling.{CallsComeBack, word_of}
+use Rattle.of_eval_laws.specs.Calling.{CallsComeBack, for_instance, word_of}
+use Rattle.of_eval_laws.specs.Returning.{IsCall}
 use Rattle.of_eval_laws.specs.Going.{Is}
 use Rattle.of_eval_laws.proofs.GoingLemmas.{behind, has_item, has_none, performed}
 
 -- the plan of such a word, by what it finds
 call_is : {S : Type 0} → PlansUnroll → (c : Calls S) (xt : ℕ) (k : CallingWord) (s : State S)
-    → Is s.words xt (word_of k) → (r : Result MethodCall Throw) → calling_entry k s.board ≡ r
-    → executed c xt s ≡ performed c (call_plan r (front_of s) plan_of) s
+    → Is s.words xt (word_of k) → (r : Result (Option MethodCall) Throw) → calling_entry k s.board ≡ r
+    → executed c xt s ≡ performed c (call_plan (word_of k) r (front_of s) plan_of) s
 unfolding execution
 call_is law c xt calling.Package s h r e =
     ap (λ p. performed c p s)
-    (behind law xt s h.0 (word_of calling.Package) h.1 h.2 ∙ ap (λ x. call_plan x (front_of s) plan_of) e)
+    (behind law xt s h.0 (word_of calling.Package) h.1 h.2
+    ∙ ap (λ x. call_plan (word_of calling.Package) x (front_of s) plan_of) e)
 call_is law c xt calling.Method s h r e =
     ap (λ p. performed c p s)
-    (behind law xt s h.0 (word_of calling.Method) h.1 h.2 ∙ ap (λ x. call_plan x (front_of s) plan_of) e)
+    (behind law xt s h.0 (word_of calling.Method) h.1 h.2
+    ∙ ap (λ x. call_plan (word_of calling.Method) x (front_of s) plan_of) e)
 call_is law c xt calling.Parent s h r e =
     ap (λ p. performed c p s)
-    (behind law xt s h.0 (word_of calling.Parent) h.1 h.2 ∙ ap (λ x. call_plan x (front_of s) plan_of) e)
+    (behind law xt s h.0 (word_of calling.Parent) h.1 h.2
+    ∙ ap (λ x. call_plan (word_of calling.Parent) x (front_of s) plan_of) e)
+call_is law c xt calling.Close s h r e =
+    ap (λ p. performed c p s)
+    (behind law xt s h.0 (word_of calling.Close) h.1 h.2
+    ∙ ap (λ x. call_plan (word_of calling.Close) x (front_of s) plan_of) e)
+
+-- what is due brings back the current instance
+abbrev BringsBack : Board → Result (Option MethodCall) Throw → Type 0
+BringsBack b (Ok (Some m)) = caller_self m.due ≡ b.active.my_self
+BringsBack b (Ok None) = Unit {0}
+BringsBack b (Err t) = Unit {0}
+
+method_back : (w : Board) (ih : Cell) (o : Operands) (r : Result Cell Throw) → BringsBack w (call_of w ih o r)
+method_back w ih o (Ok xt) = refl
+method_back w ih o (Err t) = tt
+
+above_back : (w : Board) (a n : Cell) (r : Result Cell Throw) → BringsBack w (call_above w a n r)
+above_back w a n (Ok parent) = method_back w parent _ (method_of w parent a n)
+above_back w a n (Err t) = tt
+
+close_back : (w : Board) (ih : Cell) (r : Result (Option Cell) Throw) → BringsBack w (close_of w ih r)
+close_back w ih (Ok None) = tt
+close_back w ih (Ok (Some xt)) = refl
+close_back w ih (Err t) = tt
+
+package_back : (cells : List Cell) (w : Board) → BringsBack w (call_package_entry cells w)
+unfolding call_package_entry
+package_back (ih ∷ xt ∷ cells) w = method_back w ih _ (xt_for xt (of_instance (package_of w.instances ih)))
+package_back _ w = tt
+
+named_back : (cells : List Cell) (w : Board) → BringsBack w (call_method_entry cells w)
+unfolding call_method_entry
+named_back (ih ∷ n ∷ a ∷ cells) w = method_back w ih _ (method_of w ih a n)
+named_back _ w = tt
+
+parent_back : (cells : List Cell) (w : Board) → BringsBack w (call_parent_entry cells w)
+unfolding call_parent_entry
+parent_back (n ∷ a ∷ cells) w = above_back w a n (of_instance (parent_of w.instances w.active.my_self))
+parent_back _ w = tt
+
+closing_back : (cells : List Cell) (w : Board) → BringsBack w (close_package_entry cells w)
+unfolding close_package_entry
+closing_back (ih ∷ cells) w = close_back w ih (close_in w.tree (of_instance (package_of w.instances ih)))
+closing_back [] w = tt
+
+calling_back : (k : CallingWord) (w : Board) → BringsBack w (calling_entry k w)
+calling_back calling.Package w = package_back w.stack w
+calling_back calling.Method w = named_back w.stack w
+calling_back calling.Parent w = parent_back w.stack w
+calling_back calling.Close w = closing_back w.stack w
 
 -- the faults of a call, by whether the number is a word, and whether the return stack is full
 abbrev faults_by : Bool → Bool → Option Throw
@@ -44,15 +108,15 @@ faults_by is_one is_full =
 method_plan : {S : Type 0} → MethodCall → State S → Plan
 method_plan m s =
     let cells = beneath m.operands s.board.stack in
-    Call cells m.instance (plan_in (entered cells m.instance s) m.xt.0)
+    Call cells m.due m.instance (plan_in (entered cells m.due m.instance s) m.xt.0)
 
 found : {S : Type 0} → PlansUnroll → (c : Calls S) (xt : ℕ) (k : CallingWord) (m : MethodCall) (s : State S)
-    → Is s.words xt (word_of k) → calling_entry k s.board ≡ Ok m → (one full : Bool)
+    → Is s.words xt (word_of k) → calling_entry k s.board ≡ Ok (Some m) → (one full : Bool)
     → is_word s.words.dictionary m.xt.0 ≡ one → nat_le 256 (length s.flow.items) ≡ full
     → executed c xt s ≡ performed c (unless_stopped (faults_by one full) (method_plan m s)) s
 unfolding method_plan
 found law c xt k m s h e one full w f =
-    call_is law c xt k s h (Ok m) e
+    call_is law c xt k s h (Ok (Some m)) e
     ∙ ap (λ x. performed c (unless_stopped (faults_by x (nat_le 256 (length s.flow.items))) (method_plan m s)) s) w
     ∙ ap (λ x. performed c (unless_stopped (faults_by one x) (method_plan m s)) s) f
 
@@ -63,12 +127,22 @@ calls_come_back {S} law = record {
   refused = λ c xt k t s h e. call_is law c xt k s h (Err t) e;
   no_word = λ c xt k m s h e w. not_one c xt k m s h e w (nat_le 256 (length s.flow.items)) refl;
   full = λ c xt k m s h e w l. found law c xt k m s h e true true w (has_none (length s.flow.items) l);
+  keeps = λ k b m e. subst (λ r. BringsBack b r) e (calling_back k b);
   ends = λ c me r s. refl;
-  thrown = λ c me r t s. refl;
+  closes = λ c me ih r s. refl;
+  thrown = thrown_on;
 }
   where
+    thrown_on : (c : Calls S) (d : Due) (r : List ReturnItem) (t : Throw) (s : State S) → IsCall d
+        → settled c (Caller d ∷ r) (Some t) s
+        ≡ settled c r (Some t) (for_instance s.board.active.my_self s.board.stack r s)
+    thrown_on c (due.Method me) r t s h = refl
+    thrown_on c (due.Close me instance) r t s h = refl
+    thrown_on c (due.Open me instance) r t s h = absurd h
+    thrown_on c (due.Load active me instance count) r t s h = absurd h
+
     not_one : (c : Calls S) (xt : ℕ) (k : CallingWord) (m : MethodCall) (s : State S) → Is s.words xt (word_of k)
-        → calling_entry k s.board ≡ Ok m → is_word s.words.dictionary m.xt.0 ≡ false → (full : Bool)
+        → calling_entry k s.board ≡ Ok (Some m) → is_word s.words.dictionary m.xt.0 ≡ false → (full : Bool)
         → nat_le 256 (length s.flow.items) ≡ full → executed c xt s ≡ failed bad_handle s
     not_one c xt k m s h e w true f = found law c xt k m s h e false true w f
     not_one c xt k m s h e w false f = found law c xt k m s h e false false w f

@@ -141,7 +141,7 @@ worked_reads c (act.Appends e cells) s =
 worked_reads c (act.Loads size m cells) s = inr refl
 worked_reads c (act.Takes cells a) s = worked_reads c a (with_stack cells s)
 worked_reads c (act.Guards cells a) s = worked_reads c a (guarded cells s)
-worked_reads c (act.Enters cells ih a) s = worked_reads c a (entered cells ih s)
+worked_reads c (act.Enters cells d ih a) s = worked_reads c a (entered cells d ih s)
 
 acted_reads : {S : Type 0} (c : Calls S) (a : Act) (s : State S) → IsAct (free S) (reading_turns S ⊥) s a
     → Reads s.flow.reading (acted c a s)

@@ -4,7 +4,7 @@ use Rattle.std.proofs.Common.{ap}
 use Rattle.of_cells.specs.declared.cells.Cell.{Cell}
 use Rattle.of_stacks.specs.declared.return_item.Continuation.{Continuation}
 use Rattle.of_stacks.specs.declared.return_item.Continuation.TheVariants as continuation
-use Rattle.of_stacks.specs.declared.return_item.Due.TheVariants as due
+use Rattle.of_stacks.specs.declared.return_item.Due.{Due}
 use Rattle.of_stacks.specs.declared.return_item.ReturnItem.{ReturnItem}
 use Rattle.of_stacks.specs.declared.return_item.ReturnItem.TheVariants.{Caller, Handler, Loop, Return, Source, User}
 use Rattle.of_stacks.specs.declared.throws.Throw.{Throw}
@@ -17,6 +17,7 @@ use Rattle.of_eval.specs.Doing.{appended, executed, worked}
 use Rattle.of_eval.specs.Executing.{entered, execution, frame_of, guarded, plan_in}
 use Rattle.of_eval.specs.State.{Calls, State, by_board, with_stack}
 use Rattle.of_words.specs.Words.{word_entry}
+use Rattle.of_eval_laws.specs.Returning.{IsCall}
 use Rattle.of_eval_laws.specs.Frames.{ExecutingLeaves, drops_item, last_word}
 use Rattle.of_eval_laws.proofs.WalkFree.{keeping}
 use Rattle.of_eval_laws.proofs.WalkWords.{IsCellOnTop, IsLoopOnTop, IsWork, Rules, execution_works}
@@ -32,14 +33,14 @@ NoLoop (Caller d) = Unit {0}
 
 -- an item may be dropped, or a handler is on top, which no word drops; no word of control runs
 abbrev stacking : (S : Type 0) → Bool → Rules S
-stacking S d = record (keeping S (λ s. Unit {0}) (λ cells ih s p. (tt, tt, tt))) {
+stacking S d = record (keeping S (λ s. Unit {0}) (λ cells d ih s k p. (tt, tt, tt))) {
   Item = λ s i. NoLoop i;
   Drops = λ s. (d ≡ true) ⊎ (has_due_top s.flow.items ≡ true);
   Aims = λ s n. ⊥;
   aims = λ n s a. tt;
   drops_taken = λ cells s h. h;
   drops_guarded = λ cells s p. inr refl;
-  drops_entered = λ cells ih s p. inr refl;
+  drops_entered = λ cells d ih s p. inr refl;
 }
 
 -- what is dropped isn't due
@@ -124,9 +125,9 @@ moved_leaves d cells (act.Turns l) (act.Next (continuation.Code n)) c s h = absu
 guards : {S : Type 0} (d : Bool) (cells : List Cell) (s u : State S) → Leaves d (guarded cells s) u → Leaves d s u
 guards d cells s u (kept, all, h) = (Handler (frame_of cells s) ∷ kept, (refl, all), h)
 
-enters : {S : Type 0} (d : Bool) (cells : List Cell) (ih : Cell) (s u : State S) → Leaves d (entered cells ih s) u
-    → Leaves d s u
-enters d cells ih s u (kept, all, h) = (Caller (due.Method s.board.active.my_self) ∷ kept, (tt, all), h)
+enters : {S : Type 0} (drops : Bool) (cells : List Cell) (d : Due) (ih : Cell) (s u : State S) → IsCall d
+    → Leaves drops (entered cells d ih s) u → Leaves drops s u
+enters drops cells d ih s u call (kept, all, h) = (Caller d ∷ kept, (call, all), h)
 
 worked_leaves : {S : Type 0} (d : Bool) (c : Calls S) (a : WordAct) (s : State S) → IsWork (stacking S d) s a
     → Leaves d s (worked c a s).state
@@ -145,8 +146,9 @@ worked_leaves d c (act.Loads size m cells) s h = ([], tt, inr (inr (inr (inl (re
 worked_leaves d c (act.Takes cells a) s h = worked_leaves d c a (with_stack cells s) h
 worked_leaves d c (act.Guards cells a) s h =
     guards d cells s (worked c a (guarded cells s)).state (worked_leaves d c a (guarded cells s) h)
-worked_leaves d c (act.Enters cells ih a) s h =
-    enters d cells ih s (worked c a (entered cells ih s)).state (worked_leaves d c a (entered cells ih s) h)
+worked_leaves drops c (act.Enters cells d ih a) s h =
+    enters drops cells d ih s (worked c a (entered cells d ih s)).state h.0
+    (worked_leaves drops c a (entered cells d ih s) h.1)
 
 pub executed_leaves : {S : Type 0} (c : Calls S) (xt : ℕ) (s : State S)
     → Leaves (drops_item (last_word (plan_in s xt))) s (executed c xt s).state

@@ -11,6 +11,7 @@ use Rattle.of_stacks.specs.declared.return_item.LoopExit.TheVariants as exit
 use Rattle.of_stacks.specs.declared.return_item.LoopParameters.{LoopParameters}
 use Rattle.of_stacks.specs.declared.return_item.Reading.{Reading}
 use Rattle.of_stacks.specs.declared.return_item.ReturnItem.{ReturnItem}
+use Rattle.of_stacks.specs.declared.return_item.Due.{Due}
 use Rattle.of_stacks.specs.declared.return_item.ReturnItem.TheVariants.{Return, Loop, User, Handler, Source, Caller}
 use Rattle.of_stacks.specs.Loops.{loop_on_top}
 use Rattle.of_stacks.specs.Order.{counting, unless}
@@ -29,7 +30,7 @@ use Rattle.of_eval.specs.Doing.{appended, worked}
 use Rattle.of_eval.specs.Executing.{entered, guarded}
 use Rattle.of_eval.specs.State.{Calls, State, by_board, open_xt, with_stack}
 use Rattle.of_words.specs.Words.{word_entry}
-use Rattle.of_eval_laws.specs.Returning.{IsPosition, Leads, LeadsBack, is_code, is_outer}
+use Rattle.of_eval_laws.specs.Returning.{IsCall, IsPosition, Leads, LeadsBack, is_code, is_outer}
 use Rattle.of_eval_laws.proofs.LeadingEnds.{due_too, none_due}
 use Rattle.of_eval_laws.proofs.Walk.{Turns}
 use Rattle.of_eval_laws.proofs.WalkFree.{keeping}
@@ -170,23 +171,25 @@ module _ (image : List ℕ) (outer : Reading) where
   guarded_runs code cells s h =
       (((h.0.0.0, (refl, refl, (λ o. none_open s (h.0.1 o)), h.0.0.1)), h.0.1), h.1)
 
-  pub entered_runs : {S : Type 0} (code : Bool) (cells : List Cell) (ih : Cell) (s : State S) → Runs code s
-      → Runs code (entered cells ih s)
+  pub entered_runs : {S : Type 0} (code : Bool) (cells : List Cell) (d : Due) (ih : Cell) (s : State S) → IsCall d
+      → Runs code s → Runs code (entered cells d ih s)
   unfolding latest_source
-  entered_runs code cells ih s h = (((h.0.0.0, (refl, h.0.0.1)), h.0.1), h.1)
+  entered_runs code cells d ih s call h = (((h.0.0.0, (call, refl, h.0.0.1)), h.0.1), h.1)
 
   abbrev pub leading : (S : Type 0) → Bool → Rules S
-  leading S code = record (keeping S (λ s. Runs code s) (λ cells ih s p. (p, guarded_runs code cells s p, entered_runs code cells ih s p))) {
-    Item = λ s i. IsItem code s i;
-    Aims = λ s n. (code ≡ true) × Rests code s;
-    Known = λ s w. w.defining ≡ s.words.defining;
-    Loads = λ s m. s.words.defining ≡ None;
-    aims = λ n s a. tt;
-    stores = λ xt x s p e. store_open xt s.words s.board.stack x e;
-    sets = λ x s p e. set_open s.words s.board.stack x e;
-    announces = λ k name w s p e. number_open k name s.words w e;
-    loads = λ a n spread x s p shut e. shut_by s.words.defining shut;
-  }
+  leading S code =
+      record (keeping S (λ s. Runs code s)
+      (λ cells d ih s k p. (p, guarded_runs code cells s p, entered_runs code cells d ih s k p))) {
+        Item = λ s i. IsItem code s i;
+        Aims = λ s n. (code ≡ true) × Rests code s;
+        Known = λ s w. w.defining ≡ s.words.defining;
+        Loads = λ s m. s.words.defining ≡ None;
+        aims = λ n s a. tt;
+        stores = λ xt x s p e. store_open xt s.words s.board.stack x e;
+        sets = λ x s p e. set_open s.words s.board.stack x e;
+        announces = λ k name w s p e. number_open k name s.words w e;
+        loads = λ a n spread x s p shut e. shut_by s.words.defining shut;
+      }
 
   pub top_exit : (now : Reading) (code : Bool) (due : Option Continuation) (l : LoopParameters) (r : List ReturnItem)
       → loop_on_top r ≡ Ok l → Back now code due r → code ≡ false → IsPosition l.exit
@@ -323,5 +326,5 @@ module _ (image : List ℕ) (outer : Reading) where
   worked_leads code c (act.Takes cells a) s h p = worked_leads code c a (with_stack cells s) h p
   worked_leads code c (act.Guards cells a) s h p =
       worked_leads code c a (guarded cells s) h (guarded_runs code cells s p)
-  worked_leads code c (act.Enters cells ih a) s h p =
-      worked_leads code c a (entered cells ih s) h (entered_runs code cells ih s p)
+  worked_leads code c (act.Enters cells d ih a) s h p =
+      worked_leads code c a (entered cells d ih s) h.1 (entered_runs code cells d ih s h.0 p)

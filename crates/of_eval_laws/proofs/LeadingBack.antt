@@ -11,7 +11,6 @@ use Rattle.of_stacks.specs.declared.return_item.Input.{Input}
 use Rattle.of_stacks.specs.declared.return_item.Input.TheVariants as input
 use Rattle.of_stacks.specs.declared.return_item.Reading.{Reading}
 use Rattle.of_stacks.specs.declared.return_item.ReturnItem.{ReturnItem}
-use Rattle.of_stacks.specs.declared.return_item.Due.TheVariants as caller
 use Rattle.of_stacks.specs.declared.return_item.ReturnItem.TheVariants.{Return, Loop, User, Handler, Source, Caller}
 use Rattle.of_stacks.specs.Throws.{compiler_nesting}
 use Rattle.of_stacks.specs.Unwinding.{beneath_source, latest_source}
@@ -77,10 +76,7 @@ module _ (image : List ℕ) (outer : Reading) where
   below now (Handler f ∷ r) h e = absurd cc
   below now (Source s ∷ r) (h, inl o) e = absurd (no (sym (nothing_outer s.input o.0) ∙ e))
   below now (Source s ∷ r) (h, inr i) e = on_return s r i.0 i.1 i.2
-  below now (Caller (caller.Method me) ∷ r) h e = absurd (no (sym h.0))
-  below now (Caller (caller.Open me instance) ∷ r) h e = absurd h
-  below now (Caller (caller.Close me instance) ∷ r) h e = absurd h
-  below now (Caller (caller.Load active me instance count) ∷ r) h e = absurd h
+  below now (Caller d ∷ r) h e = absurd (no (sym h.1))
 
   -- an image that runs inside is read
   pub record InImage {S : Type 0} (s : State S) : Type 0 where

@@ -6,6 +6,7 @@ use Rattle.std.specs.Option.{option_map}
 use Rattle.of_cells.specs.declared.cells.Cell.{Cell}
 use Rattle.of_stacks.specs.declared.throws.Throw.{Throw}
 use Rattle.of_stacks.specs.declared.return_item.Continuation.{Continuation}
+use Rattle.of_stacks.specs.declared.return_item.Due.{Due}
 use Rattle.of_stacks.specs.declared.return_item.Due.TheVariants as caller
 use Rattle.of_stacks.specs.declared.return_item.ExceptionFrame.{ExceptionFrame}
 use Rattle.of_stacks.specs.declared.return_item.Input.TheVariants as input
@@ -18,7 +19,7 @@ use Rattle.of_stacks.specs.Unwinding.{latest_handler, latest_source}
 use Rattle.of_dict.specs.Words.{xt_of}
 use Rattle.of_board.specs.Active.{with_self}
 use Rattle.of_eval.specs.State.{Calls, State, given_up, open_xt, with_board, with_items}
-use Rattle.of_eval.specs.Settling.{caught, given_up_since, is_full, is_same, resumed, settled}
+use Rattle.of_eval.specs.Settling.{caller_self, caught, due_left, given_up_since, is_full, is_same, resumed, settled}
 use Rattle.of_eval.specs.Settling.{reading_on}
 use Rattle.of_eval_laws.specs.Throws.{ThrowsSettle}
 use Rattle.of_eval_laws.specs.Returning.{IsBase, IsNested, IsRead, IsShut, LeadsBack, LeadsOn, is_code}
@@ -37,10 +38,7 @@ module _ (image : List ℕ) (outer : Reading) where
   due_too now code due (Return to ∷ r) h = h
   due_too now code due (Handler f ∷ r) h = absurd cc
   due_too now code due (Source s ∷ r) h = h
-  due_too now code due (Caller (caller.Method me) ∷ r) h = absurd cc
-  due_too now code due (Caller (caller.Open me instance) ∷ r) h = h
-  due_too now code due (Caller (caller.Close me instance) ∷ r) h = h
-  due_too now code due (Caller (caller.Load active me instance count) ∷ r) h = h
+  due_too now code due (Caller d ∷ r) h = absurd cc
 
   -- and where nothing due is on top, nothing is
   pub none_due : (now : Reading) (code : Bool) (due : Option Continuation) (r : List ReturnItem) → has_due_top r ≡ false
@@ -137,10 +135,14 @@ module _ (image : List ℕ) (outer : Reading) where
   worked_ready c h r s false x = record { items = refl; read = x.read; leads = x.leads.3; shut = x.shut }
 
   -- a method has ended
-  method_ready : {S : Type 0} (me : Cell) (r : List ReturnItem) (s : State S) → IsReady (Caller (caller.Method me) ∷ r) s
-      → IsReady r (with_board (with_self s.board me) (with_items r s))
+  method_ready : {S : Type 0} (d : Due) (r : List ReturnItem) (s : State S) → IsReady (Caller d ∷ r) s
+      → IsReady r (due_left d (with_board (with_self s.board (caller_self d)) (with_items r s)))
   unfolding latest_source
-  method_ready me r s x = record { items = refl; read = x.read; leads = x.leads.1; shut = x.shut }
+  method_ready (caller.Method me) r s x = record { items = refl; read = x.read; leads = x.leads.2; shut = x.shut }
+  method_ready (caller.Close me instance) r s x =
+      record { items = refl; read = x.read; leads = x.leads.2; shut = x.shut }
+  method_ready (caller.Open me instance) r s x = absurd x.leads.0
+  method_ready (caller.Load active me instance count) r s x = absurd x.leads.0
 
   module _ {S : Type 0} (c : Calls S) (laws : ThrowsSettle S) where
     rested : (r : List ReturnItem) (s : State S) → IsReady r s → Back s.flow.reading (is_code s.flow.next) None r
@@ -158,10 +160,7 @@ module _ (image : List ℕ) (outer : Reading) where
     works (User y ∷ r) s x = rested (User y ∷ r) s x x.leads
     works (Return to ∷ r) s x = rested (Return to ∷ r) s x x.leads
     works (Source y ∷ r) s x = rested (Source y ∷ r) s x x.leads
-    works (Caller (caller.Method me) ∷ r) s x = works r _ (method_ready me r s x)
-    works (Caller (caller.Open me instance) ∷ r) s x = absurd x.leads
-    works (Caller (caller.Close me instance) ∷ r) s x = absurd x.leads
-    works (Caller (caller.Load active me instance count) ∷ r) s x = absurd x.leads
+    works (Caller d ∷ r) s x = works r _ (method_ready d r s x)
 
     -- ---- what is thrown
 
@@ -211,7 +210,7 @@ module _ (image : List ℕ) (outer : Reading) where
     cuts (Source x ∷ r) s t code due read l =
         let u = reading_on x (with_items r s) in
         source_cut r s x u t refl l.1 (λ i k. cuts r u t true None i k)
-    cuts (Caller (caller.Method me) ∷ r) s t code due read l = cuts r (with_items r s) t code due read l.1
-    cuts (Caller (caller.Open me instance) ∷ r) s t code due read l = absurd l
-    cuts (Caller (caller.Close me instance) ∷ r) s t code due read l = absurd l
-    cuts (Caller (caller.Load active me instance count) ∷ r) s t code due read l = absurd l
+    cuts (Caller (caller.Method me) ∷ r) s t code due read l = cuts r (with_items r s) t code due read l.2
+    cuts (Caller (caller.Close me instance) ∷ r) s t code due read l = cuts r (with_items r s) t code due read l.2
+    cuts (Caller (caller.Open me instance) ∷ r) s t code due read l = absurd l.0
+    cuts (Caller (caller.Load active me instance count) ∷ r) s t code due read l = absurd l.0

@@ -12,7 +12,6 @@ use Rattle.of_stacks.specs.declared.return_item.Input.{Input}
 use Rattle.of_stacks.specs.declared.return_item.Input.TheVariants as input
 use Rattle.of_stacks.specs.declared.return_item.Reading.{Reading}
 use Rattle.of_stacks.specs.declared.return_item.ReturnItem.{ReturnItem}
-use Rattle.of_stacks.specs.declared.return_item.Due.TheVariants as caller
 use Rattle.of_stacks.specs.declared.return_item.ReturnItem.TheVariants.{Return, Loop, User, Handler, Source, Caller}
 use Rattle.of_stacks.specs.Unwinding.{latest_handler, latest_source}
 use Rattle.of_fcodes.specs.Lookup.{word_numbered}
@@ -121,10 +120,7 @@ module _ (image : List ℕ) (outer : Reading) where
   now_free now after code behind (Handler f ∷ r) e h = (h.0, h.1, h.2, now_free now after code behind r e h.3)
   now_free now after code behind (Source s ∷ r) e (h, inl o) = absurd (no (sym (ap reads_nothing o.0) ∙ e))
   now_free now after code behind (Source s ∷ r) e (h, inr i) = (h, inr i)
-  now_free now after code behind (Caller (caller.Method me) ∷ r) e h = (h.0, now_free now after code behind r e h.1)
-  now_free now after code behind (Caller (caller.Open me instance) ∷ r) e h = h
-  now_free now after code behind (Caller (caller.Close me instance) ∷ r) e h = h
-  now_free now after code behind (Caller (caller.Load active me instance count) ∷ r) e h = h
+  now_free now after code behind (Caller d ∷ r) e h = (h.0, h.1, now_free now after code behind r e h.2)
 
   still_image : (n : ℕ) (i : Input) → IsImage i → IsImage (input_at n i)
   still_image n (input.Image size p) h = h

@@ -119,23 +119,25 @@ pub not_none : (o : Option ℕ) → is_none o ≡ false → o ≡ None → ⊥
 not_none o e none = false≢true (sym e ∙ ap (λ x. is_none x) none)
 
 abbrev pub placed : Rules Definitions
-placed = record (keeping Definitions (λ s. AllPlaced s) (λ cells ih s p. (p, guarded_placed cells s p, entered_placed cells ih s p))) {
-  Item = λ s i. IsItemIn (finished_end s.code) i;
-  Target = λ s to. IsPlacedIn (finished_end s.code) to;
-  Aims = λ s n. IsPlacedIn (finished_end s.code) (continuation.Code n);
-  aims = λ n s a. a;
-  Known = λ s w. AllPlaced (with_words w s);
-  Appends = λ s. s.words.defining ≡ None → ⊥;
-  return = λ s p. p.goes_on;
-  returns = λ to s p e. return_placed (finished_end s.code) s.flow.items to p.goes_back e;
-  begins = λ start xt s p e z. own_begins (own_number xt) xt start s refl (ap (λ k. code_start k) e) z p;
-  stores = λ xt x s p e. store_placed xt s.board.stack x s e p;
-  sets = λ x s p e. set_placed s.board.stack x s e p;
-  announces = λ k name w s p e.
-      announced_when (counting (number_faults s.words k name))
-      (record s.words { pending = Some (record { code = k; name = name }) }) w s e p;
-  opens = λ r s p e. not_none s.words.defining e;
-}
+placed =
+    record (keeping Definitions (λ s. AllPlaced s)
+    (λ cells d ih s k p. (p, guarded_placed cells s p, entered_placed cells d ih s p))) {
+      Item = λ s i. IsItemIn (finished_end s.code) i;
+      Target = λ s to. IsPlacedIn (finished_end s.code) to;
+      Aims = λ s n. IsPlacedIn (finished_end s.code) (continuation.Code n);
+      aims = λ n s a. a;
+      Known = λ s w. AllPlaced (with_words w s);
+      Appends = λ s. s.words.defining ≡ None → ⊥;
+      return = λ s p. p.goes_on;
+      returns = λ to s p e. return_placed (finished_end s.code) s.flow.items to p.goes_back e;
+      begins = λ start xt s p e z. own_begins (own_number xt) xt start s refl (ap (λ k. code_start k) e) z p;
+      stores = λ xt x s p e. store_placed xt s.board.stack x s e p;
+      sets = λ x s p e. set_placed s.board.stack x s e p;
+      announces = λ k name w s p e.
+          announced_when (counting (number_faults s.words k name))
+          (record s.words { pending = Some (record { code = k; name = name }) }) w s e p;
+      opens = λ r s p e. not_none s.words.defining e;
+    }
 
 abbrev pub placed_turns : Turns placed
 placed_turns = record {

@@ -140,7 +140,8 @@ worked_raises c l taken ends (act.Appends e cells) s h = weaker taken ends _ (l.
 worked_raises c l taken ends (act.Loads size m cells) s h = tt
 worked_raises c l taken ends (act.Takes cells a) s h = worked_raises c l taken ends a (with_stack cells s) h
 worked_raises c l taken ends (act.Guards cells a) s h = worked_raises c l taken ends a (guarded cells s) h
-worked_raises c l taken ends (act.Enters cells ih a) s h = worked_raises c l taken ends a (entered cells ih s) h
+worked_raises c l taken ends (act.Enters cells d ih a) s h =
+    worked_raises c l taken ends a (entered cells d ih s) h.1
 
 -- ---- defining and compiling
 
@@ -201,7 +202,8 @@ closes_raise taken true r e h = ends_weaker taken r h
 closes_raise taken false r e h = absurd cc
 
 acted_raises : {S : Type 0} (c : Calls S) (l : Laws S c) (taken : Option Cell) (last : Bool) (a : Act) (s : State S)
-    → IsAct (listing S l.faults l.methods taken) (listing_turns S l.faults l.methods taken last) s a → Raised taken last (acted c a s)
+    → IsAct (listing S l.faults l.methods taken) (listing_turns S l.faults l.methods taken last) s a
+    → Raised taken last (acted c a s)
 unfolding acted
 acted_raises c l taken last (act.Does a) s h = worked_raises c l taken last a s h
 acted_raises c l taken last (act.Goes cells move n) s h = tt

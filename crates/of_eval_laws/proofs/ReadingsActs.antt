@@ -336,7 +336,7 @@ worked_reads l c (act.Appends e cells) s w sound h =
 worked_reads l c (act.Loads size m cells) s w sound h = ((ap length w.1 ∙ ap suc h.0.0, (inl refl, h.0.1)), h.1)
 worked_reads l c (act.Takes cells a) s w sound h = worked_reads l c a (with_stack cells s) w sound h
 worked_reads l c (act.Guards cells a) s w sound h = worked_reads l c a (guarded cells s) w sound h
-worked_reads l c (act.Enters cells ih a) s w sound h = worked_reads l c a (entered cells ih s) w sound h
+worked_reads l c (act.Enters cells d ih a) s w sound h = worked_reads l c a (entered cells d ih s) w.1 sound h
 
 -- ---- acts
 

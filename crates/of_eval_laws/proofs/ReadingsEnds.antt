@@ -16,13 +16,13 @@ use Rattle.of_memory.specs.DataSpace.{DataSpace}
 use Rattle.of_memory.specs.Growth.{without_image}
 use Rattle.of_flow.specs.declared.control_state.Flow.{Flow}
 use Rattle.of_eval.specs.State.{Calls, State, given_up, open_xt, with_items}
-use Rattle.of_eval.specs.Settling.{caught, fallen, given_back, going_back, is_full, is_same}
+use Rattle.of_eval.specs.Settling.{caught, due_left, fallen, given_back, going_back, is_full, is_same}
 use Rattle.of_eval.specs.Settling.{load_left, or_nothing, reading_on, resumed, settled, source_ended, uncaught}
 use Rattle.of_eval.specs.Settling.{worked_one}
 use Rattle.of_eval_laws.specs.Readings.{BeganInside, is_image, kept_readings, readings}
 use Rattle.of_eval_laws.specs.Returning.{is_return_top}
 use Rattle.of_eval_laws.specs.Throws.{image_more}
-use Rattle.of_eval_laws.proofs.Released.{all_leave, due_leaves}
+use Rattle.of_eval_laws.proofs.Released.{all_leave, due_leaves, released_leaves}
 
 -- ---- counting
 
@@ -160,6 +160,14 @@ load_at (due.Method me) items s h = h
 load_at (due.Open me instance) items s h = h
 load_at (due.Close me instance) items s h = h
 
+due_at : {S : Type 0} (d : Due) (items : List ReturnItem) (s : State S) → IsAt items s → IsAt items (due_left d s)
+due_at (due.Load active me instance count) items s h = load_at (due.Load active me instance count) items s h
+due_at (due.Close me instance) items s h =
+    let same = (released_leaves s.board.instances s.board.memory instance).0 in
+    (h.0, subst (λ ends. Counted ends s.flow.reading.input items) (sym same) h.1, h.2)
+due_at (due.Method me) items s h = h
+due_at (due.Open me instance) items s h = h
+
 handler_at : {S : Type 0} (c : Calls S) (f : ExceptionFrame) (items : List ReturnItem) (s : State S) → IsAt items s
     → IsAt items (worked_one c (Handler f) s)
 handler_at c f items s h = either items (is_full s) _ _ (caught_at c f stack_overflow items s h) h
@@ -172,7 +180,7 @@ worked_off c (Handler f ∷ items) s h =
     worked_off c items (worked_one c (Handler f) (with_items items s))
     (handler_at c f items (with_items items s) (refl, h.1, h.2))
 worked_off c (Caller d ∷ items) s h =
-    worked_off c items (worked_one c (Caller d) (with_items items s)) (load_at d items _ (refl, h.1, h.2))
+    worked_off c items (worked_one c (Caller d) (with_items items s)) (due_at d items _ (refl, h.1, h.2))
 worked_off c (Source r ∷ items) s h = reads_at (Source r ∷ items) s h
 worked_off c (Return to ∷ items) s h = reads_at (Return to ∷ items) s h
 worked_off c (Loop l ∷ items) s h = reads_at (Loop l ∷ items) s h

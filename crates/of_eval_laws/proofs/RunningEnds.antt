@@ -16,12 +16,12 @@ use Rattle.of_stacks.specs.Throws.{stack_overflow}
 use Rattle.of_memory.specs.DataSpace.{DataSpace, IsSound}
 use Rattle.of_memory.specs.Growth.{image_popped}
 use Rattle.of_eval.specs.State.{Calls, State, given_up, open_xt, with_items}
-use Rattle.of_eval.specs.Settling.{caught, fallen, given_back, given_up_since, is_full, is_same, load_left}
+use Rattle.of_eval.specs.Settling.{caught, due_left, fallen, given_back, given_up_since, is_full, is_same, load_left}
 use Rattle.of_eval.specs.Settling.{reading_on, settled, uncaught, worked_one}
 use Rattle.of_eval_laws.specs.Running.{EndLeaves, LatestEnd, SomeEnd, running}
 use Rattle.of_board.specs.declared.board.Board.{Board}
 use Rattle.of_eval_laws.specs.Throws.{image_more, images_ended, left_by, left_through}
-use Rattle.of_eval_laws.proofs.Released.{all_leave, due_leaves}
+use Rattle.of_eval_laws.proofs.Released.{all_leave, due_leaves, released_leaves}
 use Rattle.of_eval_laws.proofs.FramedSpace.{Stands, same, then_stands}
 use Rattle.of_eval_laws.proofs.RunningBytes.{all_run, popped, state_stands}
 use Rattle.of_eval_laws.proofs.SoundSpace.{popped_sound}
@@ -61,6 +61,12 @@ load_stands (due.Method me) s sound = same s.board.memory sound
 load_stands (due.Open me instance) s sound = same s.board.memory sound
 load_stands (due.Close me instance) s sound = same s.board.memory sound
 
+due_stands : {S : Type 0} (d : Due) (s : State S) → IsSound s.board.memory → StateStands s.board.memory (due_left d s)
+due_stands (due.Load active me instance count) s sound = load_stands (due.Load active me instance count) s sound
+due_stands (due.Close me instance) s sound = (released_leaves s.board.instances s.board.memory instance).1 sound
+due_stands (due.Method me) s sound = same s.board.memory sound
+due_stands (due.Open me instance) s sound = same s.board.memory sound
+
 -- ---- what is due
 
 worked_stands : {S : Type 0} (c : Calls S) (item : ReturnItem) (s : State S)
@@ -68,7 +74,7 @@ worked_stands : {S : Type 0} (c : Calls S) (item : ReturnItem) (s : State S)
 worked_stands c (Handler h) s sound =
     either s.board.memory (is_full s) _ _ (caught_stands c h stack_overflow s sound)
     (same s.board.memory sound)
-worked_stands c (Caller d) s sound = load_stands d _ sound
+worked_stands c (Caller d) s sound = due_stands d _ sound
 worked_stands c (Source r) s sound = same s.board.memory sound
 worked_stands c (Return to) s sound = same s.board.memory sound
 worked_stands c (Loop l) s sound = same s.board.memory sound

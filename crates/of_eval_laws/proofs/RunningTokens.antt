@@ -72,7 +72,7 @@ Begins m after = Laws → IsSound after × OneBegins m after
 
 -- a data space that is sound stays so while words run, and one image more may run
 abbrev running_rules : (S : Type 0) → Rules S
-running_rules S = record (keeping S (λ s. IsSound s.board.memory) (λ cells ih s p. (p, p, p))) {
+running_rules S = record (keeping S (λ s. IsSound s.board.memory) (λ cells d ih s k p. (p, p, p))) {
   Loads = λ s m. Begins s.board.memory m;
   loads = λ a n spread x s p shut e l. image_begins l s.board.memory a n spread x p e;
 }
@@ -250,7 +250,7 @@ worked_leaves l c (act.Appends e cells) s h sound =
 worked_leaves l c (act.Loads size m cells) s h sound = inr (h l)
 worked_leaves l c (act.Takes cells a) s h sound = worked_leaves l c a (with_stack cells s) h sound
 worked_leaves l c (act.Guards cells a) s h sound = worked_leaves l c a (guarded cells s) h sound
-worked_leaves l c (act.Enters cells ih a) s h sound = worked_leaves l c a (entered cells ih s) h sound
+worked_leaves l c (act.Enters cells d ih a) s h sound = worked_leaves l c a (entered cells d ih s) h.1 sound
 
 ends_leave : {S : Type 0} (at_end : Bool) (c : Calls S) (s : State S) → at_end ≡ true → IsSound s.board.memory
     → Leaves at_end s.board.memory (ended c s)

@@ -1,7 +1,8 @@
 -- One walk of the tables of words: what a word comes to is what a law asks of it, by the rules of the law.
-use Rattle.std.proofs.Common.{◌⊎◌, inl, inr, ◌≡◌, ◌==◌, ℕ, zero, suc, nat_le, nat_lt, Bool, true, false, List, [], ◌∷◌, length, Option}
+use Rattle.std.proofs.Common.{◌⊎◌, inl, inr, ◌≡◌, ◌==◌, ℕ, zero, suc, nat_le, nat_lt, Bool, true, false, List, []}
+use Rattle.std.proofs.Common.{◌∷◌, length, Option}
 use Rattle.std.proofs.Common.{Some, None}
-use Rattle.std.proofs.Common.{Result, Ok, Err, is_none, is_some, refl, ap, ◌∙◌, if◌then◌else◌}
+use Rattle.std.proofs.Common.{Result, Ok, Err, is_none, is_some, refl, ap, subst, ◌∙◌, if◌then◌else◌}
 use Rattle.std.specs.Prelude.{not, slice_get}
 use Rattle.of_cells.specs.declared.cells.Cell.{Cell}
 use Rattle.of_cells.specs.Numbers.{signed}
@@ -47,7 +48,15 @@ use Rattle.of_eval.specs.declared.executing.Runner.{Runner}
 use Rattle.of_eval.specs.declared.executing.Runner.TheVariants as runner
 use Rattle.of_instances.specs.declared.calling.CallingWord.{CallingWord}
 use Rattle.of_instances.specs.declared.calling.MethodCall.{MethodCall}
-use Rattle.of_instances.specs.Calling.{beneath, calling_entry}
+use Rattle.of_instances.specs.declared.calling.CallingWord.TheVariants as calling
+use Rattle.of_instances.specs.declared.calling.Operands.{Operands}
+use Rattle.of_instances.specs.Calling.{beneath, call_above, call_method_entry, call_of, call_package_entry}
+use Rattle.of_instances.specs.Calling.{call_parent_entry, calling_entry, close_in, close_of, close_package_entry}
+use Rattle.of_instances.specs.Calling.{method_of, xt_for}
+use Rattle.of_instances.specs.Faults.{of_instance}
+use Rattle.of_ihandles.specs.Instances.{package_of, parent_of}
+use Rattle.of_stacks.specs.declared.return_item.Due.{Due}
+use Rattle.of_eval_laws.specs.Returning.{IsCall}
 use Rattle.of_board.specs.declared.board.Board.{Board}
 use Rattle.of_fcodes.specs.Finding.{word_with_xt}
 use Rattle.of_flow.specs.Returns.{found}
@@ -116,11 +125,11 @@ pub record Rules (S : Type 0) : Type 1 where
   -- `execute`, `catch` and words that call a method leave the state so
   pub takes : (cells : List Cell) (s : State S) → Held s → Held (with_stack cells s)
   pub guards : (cells : List Cell) (s : State S) → Held s → Held (guarded cells s)
-  pub enters : (cells : List Cell) (ih : Cell) (s : State S) → Held s → Held (entered cells ih s)
+  pub enters : (cells : List Cell) (d : Due) (ih : Cell) (s : State S) → IsCall d → Held s → Held (entered cells d ih s)
   -- an item that may be dropped may be behind `execute`, and any behind `catch` and words that call a method
   pub drops_taken : (cells : List Cell) (s : State S) → Drops s → Drops (with_stack cells s)
   pub drops_guarded : (cells : List Cell) (s : State S) → Held s → Drops (guarded cells s)
-  pub drops_entered : (cells : List Cell) (ih : Cell) (s : State S) → Held s → Drops (entered cells ih s)
+  pub drops_entered : (cells : List Cell) (d : Due) (ih : Cell) (s : State S) → Held s → Drops (entered cells d ih s)
 
 abbrev pub IsMove : {S : Type 0} → Rules S → State S → Move → Type 0
 IsMove R s act.Keeps = Unit {0}
@@ -173,7 +182,7 @@ IsWork R s (act.Appends e cells) = R.Appends s
 IsWork R s (act.Loads size m cells) = R.Loads s m
 IsWork R s (act.Takes cells a) = IsWork R (with_stack cells s) a
 IsWork R s (act.Guards cells a) = IsWork R (guarded cells s) a
-IsWork R s (act.Enters cells ih a) = IsWork R (entered cells ih s) a
+IsWork R s (act.Enters cells d ih a) = IsCall d × IsWork R (entered cells d ih s) a
 
 -- the number of the cell that `throw` takes may be thrown, where a plan comes to it
 abbrev pub MayRaise : {S : Type 0} → Rules S → Option Plan → List Cell → Type 0
@@ -369,14 +378,59 @@ written_works R r (word.Parsing w) s p d h = R.fails _ refl
 written_works R r (word.Compiling w) s p d h = R.fails _ refl
 written_works R r w s p d h = R.works r w
 
--- where a plan stops, that is by a throw that the law allows
+-- what is due is that at the end of a method
+abbrev IsCallOf : Result (Option MethodCall) Throw → Type 0
+IsCallOf (Ok (Some m)) = IsCall m.due
+IsCallOf (Ok None) = Unit {0}
+IsCallOf (Err t) = Unit {0}
+
+method_due : (w : Board) (ih : Cell) (o : Operands) (r : Result Cell Throw) → IsCallOf (call_of w ih o r)
+method_due w ih o (Ok xt) = tt
+method_due w ih o (Err t) = tt
+
+above_due : (w : Board) (a n : Cell) (r : Result Cell Throw) → IsCallOf (call_above w a n r)
+above_due w a n (Ok parent) = method_due w parent _ (method_of w parent a n)
+above_due w a n (Err t) = tt
+
+close_due : (w : Board) (ih : Cell) (r : Result (Option Cell) Throw) → IsCallOf (close_of w ih r)
+close_due w ih (Ok None) = tt
+close_due w ih (Ok (Some xt)) = tt
+close_due w ih (Err t) = tt
+
+package_due : (cells : List Cell) (w : Board) → IsCallOf (call_package_entry cells w)
+unfolding call_package_entry
+package_due (ih ∷ xt ∷ cells) w = method_due w ih _ (xt_for xt (of_instance (package_of w.instances ih)))
+package_due _ w = tt
+
+named_due : (cells : List Cell) (w : Board) → IsCallOf (call_method_entry cells w)
+unfolding call_method_entry
+named_due (ih ∷ n ∷ a ∷ cells) w = method_due w ih _ (method_of w ih a n)
+named_due _ w = tt
+
+parent_due : (cells : List Cell) (w : Board) → IsCallOf (call_parent_entry cells w)
+unfolding call_parent_entry
+parent_due (n ∷ a ∷ cells) w = above_due w a n (of_instance (parent_of w.instances w.active.my_self))
+parent_due _ w = tt
+
+closing_due : (cells : List Cell) (w : Board) → IsCallOf (close_package_entry cells w)
+unfolding close_package_entry
+closing_due (ih ∷ cells) w = close_due w ih (close_in w.tree (of_instance (package_of w.instances ih)))
+closing_due [] w = tt
+
+calling_due : (k : CallingWord) (w : Board) → IsCallOf (calling_entry k w)
+calling_due calling.Package w = package_due w.stack w
+calling_due calling.Method w = named_due w.stack w
+calling_due calling.Parent w = parent_due w.stack w
+calling_due calling.Close w = closing_due w.stack w
+
+-- where a plan stops, that is by a throw that the law allows, and what is called is a method
 abbrev Stopping : {S : Type 0} → Rules S → Plan → Type 0
 Stopping R (Stops t) = R.Fails t
 Stopping R (Written w) = Unit {0}
 Stopping R (Own xt) = Unit {0}
 Stopping R (Execute cells p) = Stopping R p
 Stopping R (Catch cells p) = Stopping R p
-Stopping R (Call cells ih p) = Stopping R p
+Stopping R (Call cells d ih p) = IsCall d × Stopping R p
 
 stops_if : {S : Type 0} (R : Rules S) (b : Bool) (p q : Plan) → Stopping R p → Stopping R q
     → Stopping R (if b then p else q)
@@ -410,15 +464,16 @@ stops_unless : {S : Type 0} (R : Rules S) (o : Option Throw) (p : Plan) → IsLi
 stops_unless R None p l h = h
 stops_unless R (Some t) p l h = R.fails t l
 
-stops_call : {S : Type 0} (R : Rules S) (k : CallingWord) (r : Result MethodCall Throw) (f : Front)
+stops_call : {S : Type 0} (R : Rules S) (w : Word) (k : CallingWord) (r : Result (Option MethodCall) Throw) (f : Front)
     (inner : Front → ℕ → Plan) → calling_entry k f.board ≡ r → ((g : Front) (to : ℕ) → Stopping R (inner g to))
-    → Stopping R (call_plan r f inner)
-stops_call R k (Err t) f inner e h = R.calls k f.board t e
-stops_call R k (Ok m) f inner e h =
+    → Stopping R (call_plan w r f inner)
+stops_call R w k (Err t) f inner e h = R.calls k f.board t e
+stops_call R w k (Ok None) f inner e h = tt
+stops_call R w k (Ok (Some m)) f inner e h =
     let cells = beneath m.operands f.board.stack in
     stops_unless R (counting (call_faults f m.xt))
-    (Call cells m.instance (inner (entered cells m.instance f) m.xt.0)) (call_fault f m.xt)
-    (h (entered cells m.instance f) m.xt.0)
+    (Call cells m.due m.instance (inner (entered cells m.due m.instance f) m.xt.0)) (call_fault f m.xt)
+    (subst (λ r. IsCallOf r) e (calling_due k f.board), h (entered cells m.due m.instance f) m.xt.0)
 
 stops_behind : {S : Type 0} (R : Rules S) (o : Option ℕ) (f : Front) (inner : Front → ℕ → Plan)
     → ((g : Front) (to : ℕ) → Stopping R (inner g to)) → Stopping R (plan_behind o f inner)
@@ -430,7 +485,7 @@ stops_behind R (Some xt) f inner h = at_word (word_with_xt xt)
     by_runner w runner.Plain = tt
     by_runner w runner.Execute = stops_execute R f.board.stack f inner h
     by_runner w runner.Catch = stops_catch R f.board.stack f inner h
-    by_runner w (runner.Call k) = stops_call R k (calling_entry k f.board) f inner refl h
+    by_runner w (runner.Call k) = stops_call R w k (calling_entry k f.board) f inner refl h
 
     at_word : (o : Option Word) → Stopping R (plan_at o xt f inner)
     at_word None = tt
@@ -452,8 +507,11 @@ plan_works R r (Execute cells q) s l p d h =
     plan_works R r q (with_stack cells s) l (R.takes cells s p) (λ e. R.drops_taken cells s (d e)) h
 plan_works R r (Catch cells q) s l p d h =
     plan_works R r q (guarded cells s) l (R.guards cells s p) (λ e. R.drops_guarded cells s p) h
-plan_works R r (Call cells ih q) s l p d h =
-    plan_works R r q (entered cells ih s) l (R.enters cells ih s p) (λ e. R.drops_entered cells ih s p) h
+plan_works R r (Call cells on ih q) s l p d h =
+    let works =
+    plan_works R r q (entered cells on ih s) l.1 (R.enters cells on ih s l.0 p)
+    (λ e. R.drops_entered cells on ih s p) h in
+    (l.0, works)
 
 -- executing a word
 pub execution_works : {S : Type 0} (R : Rules S) → R.Runs → (xt : ℕ) (s : State S) → R.Held s

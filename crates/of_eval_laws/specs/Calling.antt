@@ -2,6 +2,7 @@
 -- `call-package`, `$call-method`).
 use Rattle.std.specs.Prelude.{◌≡◌, ◌<◌, ◌≤◌, ℕ, true, false, List, ◌∷◌, drop, length, Some, None, Ok, Err}
 use Rattle.of_cells.specs.declared.cells.Cell.{Cell}
+use Rattle.of_stacks.specs.declared.return_item.Due.{Due}
 use Rattle.of_stacks.specs.declared.return_item.Due.TheVariants as due
 use Rattle.of_stacks.specs.declared.return_item.ReturnItem.{ReturnItem}
 use Rattle.of_stacks.specs.declared.return_item.ReturnItem.TheVariants.{Caller}
@@ -11,20 +12,24 @@ use Rattle.of_fcodes.specs.declared.words.TreeWord.TheVariants as tree
 use Rattle.of_fcodes.specs.declared.words.Word.{Word}
 use Rattle.of_fcodes.specs.declared.words.Word.TheVariants as word
 use Rattle.of_compile.specs.Words.{is_word}
+use Rattle.of_ihandles.specs.Instances.{released}
+use Rattle.of_board.specs.declared.board.Board.{Board}
 use Rattle.of_instances.specs.declared.calling.CallingWord.{CallingWord}
 use Rattle.of_instances.specs.declared.calling.CallingWord.TheVariants as calling
 use Rattle.of_instances.specs.declared.calling.MethodCall.{MethodCall}
 use Rattle.of_instances.specs.Calling.{calling_entry, operand_cells}
 use Rattle.of_eval.specs.Doing.{executed}
-use Rattle.of_eval.specs.Settling.{settled}
+use Rattle.of_eval.specs.Settling.{caller_self, settled}
 use Rattle.of_eval.specs.State.{Calls, State, failed}
 use Rattle.of_eval_laws.specs.Going.{Is}
+use Rattle.of_eval_laws.specs.Returning.{IsCall}
 
 -- the words that call a method
 abbrev pub word_of : CallingWord → Word
 word_of calling.Package = word.Tree tree.CallPackage
 word_of calling.Method = word.Tree tree.CallMethod
 word_of calling.Parent = word.Tree tree.CallParent
+word_of calling.Close = word.Tree tree.ClosePackage
 
 -- the same state, where an instance is the current one, with another data stack and other items on the return stack
 abbrev pub for_instance : {S : Type 0} → Cell → List Cell → List ReturnItem → State S → State S
@@ -33,34 +38,50 @@ for_instance ih cells items s = record s {
   flow = record s.flow { items = items };
 }
 
+-- without an instance, if that is live
+abbrev pub released_in : {S : Type 0} → Cell → State S → State S
+released_in ih s = record s {
+  board = record s.board {
+    instances = (released s.board.instances s.board.memory ih).0;
+    memory = (released s.board.instances s.board.memory ih).1;
+  };
+}
+
 pub record CallsComeBack (S : Type 0) : Type 0 where
   -- The word of a method runs without the operands, for the instance that was found, above what keeps the current one;
   -- all else is as it was.
   pub runs :
       (c : Calls S) (xt : ℕ) (k : CallingWord) (m : MethodCall) (s : State S) → Is s.words xt (word_of k) →
-      calling_entry k s.board ≡ Ok m → is_word s.words.dictionary m.xt.0 ≡ true → length s.flow.items < 256 →
+      calling_entry k s.board ≡ Ok (Some m) → is_word s.words.dictionary m.xt.0 ≡ true → length s.flow.items < 256 →
       executed c xt s
       ≡ executed c m.xt.0
-      (for_instance m.instance (drop (length (operand_cells m.operands)) s.board.stack)
-      (Caller (due.Method s.board.active.my_self) ∷ s.flow.items) s)
+      (for_instance m.instance (drop (length (operand_cells m.operands)) s.board.stack) (Caller m.due ∷ s.flow.items) s)
+  -- What is due at its end brings back the instance that is the current one now.
+  pub keeps : (k : CallingWord) (b : Board) (m : MethodCall) → calling_entry k b ≡ Ok (Some m) →
+      caller_self m.due ≡ b.active.my_self
   -- Nothing changes where no method is found, where its number is no word, or where the return stack is full.
   pub refused :
       (c : Calls S) (xt : ℕ) (k : CallingWord) (t : Throw) (s : State S) → Is s.words xt (word_of k) →
       calling_entry k s.board ≡ Err t → executed c xt s ≡ failed t s
   pub no_word :
       (c : Calls S) (xt : ℕ) (k : CallingWord) (m : MethodCall) (s : State S) → Is s.words xt (word_of k) →
-      calling_entry k s.board ≡ Ok m → is_word s.words.dictionary m.xt.0 ≡ false →
+      calling_entry k s.board ≡ Ok (Some m) → is_word s.words.dictionary m.xt.0 ≡ false →
       executed c xt s ≡ failed bad_handle s
   pub full :
       (c : Calls S) (xt : ℕ) (k : CallingWord) (m : MethodCall) (s : State S) → Is s.words xt (word_of k) →
-      calling_entry k s.board ≡ Ok m → is_word s.words.dictionary m.xt.0 ≡ true → 256 ≤ length s.flow.items →
+      calling_entry k s.board ≡ Ok (Some m) → is_word s.words.dictionary m.xt.0 ≡ true → 256 ≤ length s.flow.items →
       executed c xt s ≡ failed return_stack_overflow s
-  -- When the method has ended, the caller's instance is the current one, and what is due beneath goes on.
+  -- When the method has ended, the caller's instance is the current one, and what is due beneath goes on; the instance
+  -- that was closed is released first.
   pub ends :
       (c : Calls S) (me : Cell) (r : List ReturnItem) (s : State S) →
       settled c (Caller (due.Method me) ∷ r) None s ≡ settled c r None (for_instance me s.board.stack r s)
+  pub closes :
+      (c : Calls S) (me ih : Cell) (r : List ReturnItem) (s : State S) →
+      settled c (Caller (due.Close me ih) ∷ r) None s
+      ≡ settled c r None (released_in ih (for_instance me s.board.stack r s))
   -- A throw goes on beneath; the handler that takes it brings back the instance that it keeps.
   pub thrown :
-      (c : Calls S) (me : Cell) (r : List ReturnItem) (t : Throw) (s : State S) →
-      settled c (Caller (due.Method me) ∷ r) (Some t) s
+      (c : Calls S) (d : Due) (r : List ReturnItem) (t : Throw) (s : State S) → IsCall d →
+      settled c (Caller d ∷ r) (Some t) s
       ≡ settled c r (Some t) (for_instance s.board.active.my_self s.board.stack r s)

@@ -5,7 +5,6 @@ use Rattle.of_cells.specs.declared.cells.Cell.{Cell}
 use Rattle.of_code.specs.declared.item.Item.{Item}
 use Rattle.of_stacks.specs.declared.return_item.Continuation.{Continuation}
 use Rattle.of_stacks.specs.declared.return_item.Continuation.TheVariants as continuation
-use Rattle.of_stacks.specs.declared.return_item.Due.TheVariants as due
 use Rattle.of_stacks.specs.declared.return_item.Input.{Input}
 use Rattle.of_stacks.specs.declared.return_item.Input.TheVariants as input
 use Rattle.of_stacks.specs.declared.return_item.LoopExit.{LoopExit}
@@ -34,7 +33,7 @@ use Rattle.of_eval.specs.Executing.{Call, Catch, Execute, Own, Plan, Stops, Writ
 use Rattle.of_eval.specs.Items.{Target, control_act}
 use Rattle.of_eval.specs.State.{Calls, State}
 use Rattle.of_eval.specs.Steps.{item_done, token_due}
-use Rattle.of_eval_laws.specs.Returning.{IsImage, is_code}
+use Rattle.of_eval_laws.specs.Returning.{IsCall, IsImage, is_code}
 
 -- ---- the target of a word of control
 
@@ -108,10 +107,7 @@ pushed_on (item ∷ items) r = pushed_on items (item ∷ r)
 -- a handler, behind which control goes on there, or the caller of a method
 abbrev pub IsKept : Continuation → ReturnItem → Type 0
 IsKept next (Handler h) = h.resume ≡ next
-IsKept next (Caller (due.Method me)) = Unit {0}
-IsKept next (Caller (due.Open me instance)) = ⊥
-IsKept next (Caller (due.Close me instance)) = ⊥
-IsKept next (Caller (due.Load active me instance count)) = ⊥
+IsKept next (Caller d) = IsCall d
 IsKept next (Return to) = ⊥
 IsKept next (Loop l) = ⊥
 IsKept next (User x) = ⊥
@@ -157,7 +153,8 @@ WordLeaves drops f after =
 -- that
 abbrev pub ExecutingLeaves : Bool → Flow → Flow → Type 0
 ExecutingLeaves drops f after =
-    (kept : List ReturnItem) × AllKept f.next kept × WordLeaves drops (record f { items = pushed_on kept f.items }) after
+    (kept : List ReturnItem) × AllKept f.next kept
+    × WordLeaves drops (record f { items = pushed_on kept f.items }) after
 
 -- the written word that runs at last, if one does; what `catch` and words that call a method run, runs within them
 abbrev pub last_word : Plan → Option Word
@@ -166,7 +163,7 @@ last_word (Written w) = Some w
 last_word (Own xt) = None
 last_word (Execute cells p) = last_word p
 last_word (Catch cells p) = None
-last_word (Call cells ih p) = None
+last_word (Call cells d ih p) = None
 
 -- `r>`, `unloop` and `exit` drop an item
 abbrev pub drops_item : Option Word → Bool
@@ -179,8 +176,8 @@ drops_item w = false
 
 -- What board of a step leave as it was, over any code of definitions.
 pub record FramesHold (S : Type 0) : Type 0 where
-  -- Executing a word leaves the items and what is read as they were, but for handlers, callers and one item on top, or begins an
-  -- image; it drops one item only where the word that runs at last drops one.
+  -- Executing a word leaves the items and what is read as they were, but for handlers, callers and one item on top, or
+  -- begins an image; it drops one item only where the word that runs at last drops one.
   pub words :
       (c : Calls S) (xt : ℕ) (s : State S) →
       ExecutingLeaves (drops_item (last_word (plan_in s xt))) s.flow (executed c xt s).state.flow

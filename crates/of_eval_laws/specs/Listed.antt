@@ -94,7 +94,7 @@ abbrev pub cell_in : Plan → List Cell → Option Cell
 cell_in (Written (word.Throws throws.Throw)) (x ∷ cells) = Some x
 cell_in (Execute left p) cells = cell_in p left
 cell_in (Catch left p) cells = cell_in p left
-cell_in (Call left ih p) cells = cell_in p left
+cell_in (Call left d ih p) cells = cell_in p left
 cell_in p cells = None
 
 abbrev pub cell_of : Option Plan → List Cell → Option Cell

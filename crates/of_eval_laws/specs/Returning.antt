@@ -6,6 +6,7 @@ use Rattle.of_code.specs.declared.item.Item.{Item}
 use Rattle.of_stacks.specs.declared.throws.Throw.{Throw}
 use Rattle.of_stacks.specs.declared.return_item.Continuation.{Continuation}
 use Rattle.of_stacks.specs.declared.return_item.Continuation.TheVariants as continuation
+use Rattle.of_stacks.specs.declared.return_item.Due.{Due}
 use Rattle.of_stacks.specs.declared.return_item.Due.TheVariants as caller
 use Rattle.of_stacks.specs.declared.return_item.Input.{Input}
 use Rattle.of_stacks.specs.declared.return_item.Input.TheVariants as input
@@ -69,6 +70,13 @@ IsRead r = IsImage r.input × (r.opened ≡ None)
 
 -- ---- the return stack
 
+-- what is due at the end of a method
+abbrev pub IsCall : Due → Type 0
+IsCall (caller.Method me) = Unit {0}
+IsCall (caller.Close me instance) = Unit {0}
+IsCall (caller.Open me instance) = ⊥
+IsCall (caller.Load active me instance count) = ⊥
+
 -- the loop is one of an image
 abbrev pub IsPosition : LoopExit → Type 0
 IsPosition (exit.Position e) = Unit {0}
@@ -100,10 +108,7 @@ module _ (image : List ℕ) (outer : Reading) where
       (code ≡ false)
       × (((s.input ≡ input.Nothing) × (now ≡ outer) × IsBase r)
       ⊎ (IsRead s × (is_return_top r ≡ true) × LeadsBack s true None r))
-  LeadsBack now code due (Caller (caller.Method me) ∷ r) = (is_some due ≡ true) × LeadsBack now code due r
-  LeadsBack now code due (Caller (caller.Open me instance) ∷ r) = ⊥
-  LeadsBack now code due (Caller (caller.Close me instance) ∷ r) = ⊥
-  LeadsBack now code due (Caller (caller.Load active me instance count) ∷ r) = ⊥
+  LeadsBack now code due (Caller d ∷ r) = IsCall d × (is_some due ≡ true) × LeadsBack now code due r
 
   -- an image is read, and the items lead back, with what is due on top
   abbrev pub IsDue : Flow → Type 0

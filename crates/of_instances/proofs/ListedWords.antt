@@ -1,5 +1,6 @@
 -- What these words throw has a listed number: each table's own throws, line by line.
-use Rattle.std.proofs.Common.{ℕ, zero, suc, Bool, true, false, List, [], ◌∷◌, length, nat_lt, Option, Some, None, Result, Ok}
+use Rattle.std.proofs.Common.{ℕ, zero, suc, Bool, true, false, List, [], ◌∷◌, length, nat_lt, Option, Some, None}
+use Rattle.std.proofs.Common.{Result, Ok}
 use Rattle.std.proofs.Common.{Err, refl}
 use Rattle.std.specs.Prelude.{◌==◌, ◌++◌, take, drop, codes, if◌then◌else◌}
 use Rattle.of_cells.specs.declared.cells.Cell.{Cell}
@@ -30,7 +31,8 @@ use Rattle.of_board.specs.declared.board.Board.{Board}
 use Rattle.of_board.specs.Active.{device_finished, device_opened}
 use Rattle.of_board.specs.declared.device_fault.DeviceFault.{DeviceFault}
 use Rattle.of_board.specs.declared.device_fault.DeviceFault.TheVariants as device
-use Rattle.of_ihandles.specs.Instances.{argument_span, arguments_set, most_instances, package_of, parent_of, units}
+use Rattle.of_ihandles.specs.Instances.{argument_span, arguments_set, closed, most_instances, package_of, parent_of}
+use Rattle.of_ihandles.specs.Instances.{units}
 use Rattle.of_ihandles.specs.Table.{InstanceTable}
 use Rattle.of_ihandles.specs.declared.instance_fault.InstanceFault.{InstanceFault}
 use Rattle.of_ihandles.specs.declared.instance_fault.InstanceFault.TheVariants as instance
@@ -39,7 +41,8 @@ use Rattle.of_instances.specs.declared.calling.CallingWord.{CallingWord}
 use Rattle.of_instances.specs.declared.calling.CallingWord.TheVariants as calling
 use Rattle.of_instances.specs.declared.calling.Operands.{Operands}
 use Rattle.of_instances.specs.Calling.{call_above, call_method_entry, call_of, call_package_entry, call_parent_entry}
-use Rattle.of_instances.specs.Calling.{calling_entry, method_in, method_of as calling_method, method_there, xt_for}
+use Rattle.of_instances.specs.Calling.{calling_entry, close_in, close_of, close_package_entry, method_in}
+use Rattle.of_instances.specs.Calling.{method_of as calling_method, method_there, xt_for}
 use Rattle.of_instances.specs.Encoding.{array, cells_left, decode_int_entry, decode_phys_entry, decode_string_entry}
 use Rattle.of_instances.specs.Encoding.{encode_bytes_entry, encode_int_entry, encode_phys_entry, encode_plus_entry}
 use Rattle.of_instances.specs.Encoding.{encode_string_entry, encoded_left, int_left, joined_left, phys_left, phys_read}
@@ -62,7 +65,7 @@ use Rattle.of_instances.specs.InstanceWords.{arguments_left, arguments_read, ins
 use Rattle.of_instances.specs.Left.{with_room, with_stack}
 use Rattle.of_instances.specs.TreeWords.{as_cell, child_entry, find_method_entry, find_package_entry, finished_left}
 use Rattle.of_instances.specs.TreeWords.{found_left, handle_left, method_left, method_of, new_device_entry}
-use Rattle.of_instances.specs.TreeWords.{package_left, peer_entry, tree_entry}
+use Rattle.of_instances.specs.TreeWords.{package_left, peer_entry, tree_entry, release_entry}
 
 -- ---- faults, and what is read
 
@@ -583,6 +586,12 @@ set_args (k ∷ u ∷ n ∷ a ∷ s) w =
     (text w.memory u k)
 set_args _ w = refl
 
+release : (s : List Cell) (w : Board) → ThrowsListed (release_entry s w)
+unfolding release_entry is_listed listed_numbers
+release [] w = refl
+release (ih ∷ s) w =
+    args_left s w (of_instance (closed w.instances w.memory ih)) (instances (closed w.instances w.memory ih))
+
 tree : (p : TreeWord) (w : Board) → ThrowsListed (tree_entry p w)
 unfolding tree_entry is_listed listed_numbers
 tree node.NewDevice w = new_device w w.active.«package»
@@ -593,7 +602,7 @@ tree node.FindPackage w = find_package w.stack w
 tree node.FindMethod w = find_method w.stack w
 tree node.OpenPackage w = refl
 tree node.OpenNamedPackage w = refl
-tree node.ClosePackage w = refl
+tree node.ClosePackage w = release w.stack w
 tree node.CallPackage w = refl
 tree node.CallParent w = refl
 tree node.CallMethod w = refl
@@ -625,27 +634,29 @@ method_for : (w : Board) (ih a n : Cell) → ThrowsListed (calling_method w ih a
 method_for w ih a n =
     method_found_in w.tree _ _ (instances (package_of w.instances ih)) (text w.memory a n)
 
-call_listed : (ih : Cell) (o : Operands) (r : Result Cell Throw) → ThrowsListed r → ThrowsListed (call_of ih o r)
-call_listed ih o (Ok xt) h = tt
-call_listed ih o (Err t) h = h
+call_listed : (w : Board) (ih : Cell) (o : Operands) (r : Result Cell Throw) → ThrowsListed r
+    → ThrowsListed (call_of w ih o r)
+call_listed w ih o (Ok xt) h = tt
+call_listed w ih o (Err t) h = h
 
 xt_listed : (xt : Cell) (r : Result Phandle Throw) → ThrowsListed r → ThrowsListed (xt_for xt r)
 xt_listed xt (Ok ph) h = tt
 xt_listed xt (Err t) h = h
 
 above_listed : (w : Board) (a n : Cell) (r : Result Cell Throw) → ThrowsListed r → ThrowsListed (call_above w a n r)
-above_listed w a n (Ok parent) h = call_listed parent _ _ (method_for w parent a n)
+above_listed w a n (Ok parent) h = call_listed w parent _ _ (method_for w parent a n)
 above_listed w a n (Err t) h = h
 
 call_package : (s : List Cell) (w : Board) → ThrowsListed (call_package_entry s w)
 unfolding call_package_entry is_listed listed_numbers
 call_package (ih ∷ xt ∷ s) w =
-    call_listed ih _ _ (xt_listed xt (of_instance (package_of w.instances ih)) (instances (package_of w.instances ih)))
+    call_listed w ih _ _
+    (xt_listed xt (of_instance (package_of w.instances ih)) (instances (package_of w.instances ih)))
 call_package _ w = refl
 
 call_method : (s : List Cell) (w : Board) → ThrowsListed (call_method_entry s w)
 unfolding call_method_entry is_listed listed_numbers
-call_method (ih ∷ n ∷ a ∷ s) w = call_listed ih _ _ (method_for w ih a n)
+call_method (ih ∷ n ∷ a ∷ s) w = call_listed w ih _ _ (method_for w ih a n)
 call_method _ w = refl
 
 call_parent : (s : List Cell) (w : Board) → ThrowsListed (call_parent_entry s w)
@@ -653,10 +664,28 @@ unfolding call_parent_entry is_listed listed_numbers
 call_parent (n ∷ a ∷ s) w = above_listed w a n _ (instances (parent_of w.instances w.active.my_self))
 call_parent _ w = refl
 
+close_found : (ns : List Node) (ph : Result Phandle Throw) → ThrowsListed ph → ThrowsListed (close_in ns ph)
+close_found ns (Ok ph) h = nodes (method_found ns ph (codes "close"))
+close_found ns (Err t) h = h
+
+close_listed : (w : Board) (ih : Cell) (r : Result (Option Cell) Throw) → ThrowsListed r
+    → ThrowsListed (close_of w ih r)
+close_listed w ih (Ok None) h = tt
+close_listed w ih (Ok (Some xt)) h = tt
+close_listed w ih (Err t) h = h
+
+close_package : (s : List Cell) (w : Board) → ThrowsListed (close_package_entry s w)
+unfolding close_package_entry is_listed listed_numbers
+close_package [] w = refl
+close_package (ih ∷ s) w =
+    close_listed w ih _
+    (close_found w.tree (of_instance (package_of w.instances ih)) (instances (package_of w.instances ih)))
+
 calls : (k : CallingWord) (w : Board) → ThrowsListed (calling_entry k w)
 calls calling.Package w = call_package w.stack w
 calls calling.Method w = call_method w.stack w
 calls calling.Parent w = call_parent w.stack w
+calls calling.Close w = close_package w.stack w
 
 pub throw_listed_numbers : ThrowListedNumbers
 throw_listed_numbers = record { properties = properties; tree = tree; calls = calls }

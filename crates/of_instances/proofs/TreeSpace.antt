@@ -22,6 +22,7 @@ use Rattle.of_nodes.specs.declared.phandles.Phandle.{Phandle}
 use Rattle.of_nodes.specs.declared.properties.Span.{Span}
 use Rattle.of_nodes.specs.declared.tree.Node.{Node}
 use Rattle.of_ihandles.specs.Instances.{argument_span, arguments_set, opened, package_of as package_found, parent_of}
+use Rattle.of_ihandles.specs.Instances.{closed}
 use Rattle.of_ihandles.specs.Instances.{released}
 use Rattle.of_ihandles.specs.SpaceKept.{InstancesKeepTheSpace, Keeps}
 use Rattle.of_ihandles.specs.Table.{InstanceTable}
@@ -39,7 +40,7 @@ use Rattle.of_instances.specs.Left.{with_room, with_stack}
 use Rattle.of_instances.specs.Reading.{package_at, text_at, text_read}
 use Rattle.of_instances.specs.TreeWords.{child_entry, find_method_entry, find_package_entry, finished_left, found_left}
 use Rattle.of_instances.specs.TreeWords.{handle_left, method_left, method_of, new_device_entry, package_left}
-use Rattle.of_instances.specs.TreeWords.{peer_entry, tree_entry}
+use Rattle.of_instances.specs.TreeWords.{peer_entry, tree_entry, release_entry}
 
 -- the images are as they were, and the data space is sound
 pub record IsKept (m after : DataSpace) : Type 0 where
@@ -244,6 +245,19 @@ set_args l (k ∷ u ∷ n ∷ a ∷ s) w sound =
     sets_both l s w (own_cells w) (text_at w.memory a n) (text_at w.memory u k) sound (text w.memory a n sound)
 set_args l _ w sound = tt
 
+closes : (l : InstancesKeepTheSpace) (s : List Cell) (w : Board) (ih : Cell)
+    (r : Result (Unit {0} × (InstanceTable × DataSpace)) InstanceFault) → IsSound w.memory
+    → closed w.instances w.memory ih ≡ r → BoardKept w.memory (instances_left s w (of_instance r))
+closes l s w ih (Ok x) sound e =
+    by_instances w.memory x.1.1 (l.by_close w.instances x.1.0 w.memory x.1.1 ih sound e)
+closes l s w ih (Err fault) sound e = tt
+
+release : (l : InstancesKeepTheSpace) (s : List Cell) (w : Board) → IsSound w.memory
+    → BoardKept w.memory (release_entry s w)
+unfolding release_entry
+release l [] w sound = tt
+release l (ih ∷ s) w sound = closes l s w ih (closed w.instances w.memory ih) sound refl
+
 -- ---- the group Tree
 
 tree : (l : InstancesKeepTheSpace) (p : TreeWord) (w : Board) → IsSound w.memory → BoardKept w.memory (tree_entry p w)
@@ -256,7 +270,7 @@ tree l node.FindPackage w sound = find_package w.stack w sound
 tree l node.FindMethod w sound = find_method w.stack w sound
 tree l node.OpenPackage w sound = tt
 tree l node.OpenNamedPackage w sound = tt
-tree l node.ClosePackage w sound = tt
+tree l node.ClosePackage w sound = release l w.stack w sound
 tree l node.CallPackage w sound = tt
 tree l node.CallParent w sound = tt
 tree l node.CallMethod w sound = tt

@@ -1,7 +1,9 @@
--- The words that call a method, by what they find: the word of which execution token they run, for which instance, and
--- which cells they take (IEEE 1275-1994, annex A). They change nothing themselves.
-use Rattle.std.specs.Prelude.{ℕ, List, [], ◌∷◌, length, drop, Option, Some, None, Result, Ok, Err}
+-- The words that call a method, by what they find: the word of which execution token they run, for which instance, what
+-- is due when that has ended, and which cells they take (IEEE 1275-1994, annex A). They change nothing themselves.
+use Rattle.std.specs.Prelude.{◌≡◌, ℕ, List, [], ◌∷◌, ◌++◌, length, drop, codes, Option, Some, None, Result, Ok, Err}
 use Rattle.of_cells.specs.declared.cells.Cell.{Cell}
+use Rattle.of_stacks.specs.declared.return_item.Due.{Due}
+use Rattle.of_stacks.specs.declared.return_item.Due.TheVariants as due
 use Rattle.of_stacks.specs.declared.throws.Throw.{Throw}
 use Rattle.of_stacks.specs.Throws.{no_method, stack_underflow}
 use Rattle.of_nodes.specs.declared.phandles.Phandle.{Phandle}
@@ -13,7 +15,7 @@ use Rattle.of_instances.specs.declared.calling.CallingWord.{CallingWord}
 use Rattle.of_instances.specs.declared.calling.CallingWord.TheVariants as calling
 use Rattle.of_instances.specs.declared.calling.MethodCall.{MethodCall}
 use Rattle.of_instances.specs.declared.calling.Operands.{Operands}
-use Rattle.of_instances.specs.declared.calling.Operands.TheVariants.{Two, Three}
+use Rattle.of_instances.specs.declared.calling.Operands.TheVariants.{One, Two, Three}
 use Rattle.of_instances.specs.Faults.{of_instance, of_tree}
 use Rattle.of_instances.specs.Reading.{text_at}
 
@@ -21,12 +23,19 @@ use Rattle.of_instances.specs.Reading.{text_at}
 
 -- the cells that a word takes, the top first
 abbrev pub operand_cells : Operands → List Cell
+operand_cells (One x) = x ∷ []
 operand_cells (Two x y) = y ∷ x ∷ []
 operand_cells (Three x y z) = z ∷ y ∷ x ∷ []
 
 -- the data stack without them
 abbrev pub beneath : Operands → List Cell → List Cell
 beneath o cells = drop (length (operand_cells o)) cells
+
+-- The operands of what is called stand on top of the data stack.
+abbrev pub TakesOperands : List Cell → Result (Option MethodCall) Throw → Type 0
+TakesOperands cells (Ok (Some m)) = cells ≡ operand_cells m.operands ++ beneath m.operands cells
+TakesOperands cells (Ok None) = Unit {0}
+TakesOperands cells (Err t) = Unit {0}
 
 -- ---- methods
 
@@ -47,10 +56,11 @@ method_of w ih a n = method_in w.tree (of_instance (package_of w.instances ih)) 
 
 -- ---- calls
 
--- an execution token is run for an instance
-abbrev pub call_of : Cell → Operands → Result Cell Throw → Result MethodCall Throw
-call_of ih o (Ok xt) = Ok (record { xt = xt; instance = ih; operands = o })
-call_of ih o (Err t) = Err t
+-- an execution token is run for an instance, and then the current one comes back
+abbrev pub call_of : Board → Cell → Operands → Result Cell Throw → Result (Option MethodCall) Throw
+call_of w ih o (Ok xt) =
+    Ok (Some (record { xt = xt; instance = ih; operands = o; due = due.Method w.active.my_self }))
+call_of w ih o (Err t) = Err t
 
 -- an execution token, if there is the instance
 abbrev pub xt_for : Cell → Result Phandle Throw → Result Cell Throw
@@ -58,27 +68,45 @@ xt_for xt (Ok ph) = Ok xt
 xt_for xt (Err t) = Err t
 
 -- the method of the parent
-abbrev pub call_above : Board → Cell → Cell → Result Cell Throw → Result MethodCall Throw
-call_above w a n (Ok parent) = call_of parent (Two a n) (method_of w parent a n)
+abbrev pub call_above : Board → Cell → Cell → Result Cell Throw → Result (Option MethodCall) Throw
+call_above w a n (Ok parent) = call_of w parent (Two a n) (method_of w parent a n)
 call_above w a n (Err t) = Err t
 
 -- `call-package` ( .. xt ih -- .. )
-unfoldable pub call_package_entry : List Cell → Board → Result MethodCall Throw
-call_package_entry (ih ∷ xt ∷ s) w = call_of ih (Two xt ih) (xt_for xt (of_instance (package_of w.instances ih)))
+unfoldable pub call_package_entry : List Cell → Board → Result (Option MethodCall) Throw
+call_package_entry (ih ∷ xt ∷ s) w = call_of w ih (Two xt ih) (xt_for xt (of_instance (package_of w.instances ih)))
 call_package_entry _ w = Err stack_underflow
 
 -- `$call-method` ( .. s n ih -- .. )
-unfoldable pub call_method_entry : List Cell → Board → Result MethodCall Throw
-call_method_entry (ih ∷ n ∷ a ∷ s) w = call_of ih (Three a n ih) (method_of w ih a n)
+unfoldable pub call_method_entry : List Cell → Board → Result (Option MethodCall) Throw
+call_method_entry (ih ∷ n ∷ a ∷ s) w = call_of w ih (Three a n ih) (method_of w ih a n)
 call_method_entry _ w = Err stack_underflow
 
 -- `$call-parent` ( .. s n -- .. ): the parent of the current instance
-unfoldable pub call_parent_entry : List Cell → Board → Result MethodCall Throw
+unfoldable pub call_parent_entry : List Cell → Board → Result (Option MethodCall) Throw
 call_parent_entry (n ∷ a ∷ s) w = call_above w a n (of_instance (parent_of w.instances w.active.my_self))
 call_parent_entry _ w = Err stack_underflow
 
+-- the method `close` of a package
+abbrev pub close_in : List Node → Result Phandle Throw → Result (Option Cell) Throw
+close_in ns (Ok ph) = of_tree (method_found ns ph (codes "close"))
+close_in ns (Err t) = Err t
+
+-- it is run for an instance, which is released then; a package without it is left to the word itself
+abbrev pub close_of : Board → Cell → Result (Option Cell) Throw → Result (Option MethodCall) Throw
+close_of w ih (Ok None) = Ok None
+close_of w ih (Ok (Some xt)) =
+    Ok (Some (record { xt = xt; instance = ih; operands = One ih; due = due.Close w.active.my_self ih }))
+close_of w ih (Err t) = Err t
+
+-- `close-package` ( ih -- )
+unfoldable pub close_package_entry : List Cell → Board → Result (Option MethodCall) Throw
+close_package_entry (ih ∷ s) w = close_of w ih (close_in w.tree (of_instance (package_of w.instances ih)))
+close_package_entry [] w = Err stack_underflow
+
 -- the table
-abbrev pub calling_entry : CallingWord → Board → Result MethodCall Throw
+abbrev pub calling_entry : CallingWord → Board → Result (Option MethodCall) Throw
 calling_entry calling.Package w = call_package_entry w.stack w
 calling_entry calling.Method w = call_method_entry w.stack w
 calling_entry calling.Parent w = call_parent_entry w.stack w
+calling_entry calling.Close w = close_package_entry w.stack w

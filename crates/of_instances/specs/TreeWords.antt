@@ -11,13 +11,15 @@ use Rattle.of_fcodes.specs.declared.words.TreeWord.TheVariants.{PackageOf, MyArg
 use Rattle.of_stacks.specs.declared.throws.Throw.{Throw}
 use Rattle.of_stacks.specs.Throws.{no_node, not_assigned, stack_underflow}
 use Rattle.of_nodes.specs.declared.phandles.Phandle.{Phandle}
+use Rattle.of_ihandles.specs.Instances.{closed}
 use Rattle.of_nodes.specs.Lookup.{package_found}
 use Rattle.of_nodes.specs.Nodes.{child_found, method_found, peer_found, phandle_of}
 use Rattle.of_board.specs.declared.board.Board.{Board}
 use Rattle.of_board.specs.Active.{device_finished, device_opened}
-use Rattle.of_instances.specs.Faults.{of_device, of_tree}
+use Rattle.of_instances.specs.Faults.{of_device, of_instance, of_tree}
 use Rattle.of_instances.specs.Finding.{yes}
-use Rattle.of_instances.specs.InstanceWords.{my_address_entry, my_args_entry, my_parent_entry, my_self_entry}
+use Rattle.of_instances.specs.InstanceWords.{instances_left, my_address_entry, my_args_entry, my_parent_entry}
+use Rattle.of_instances.specs.InstanceWords.{my_self_entry}
 use Rattle.of_instances.specs.InstanceWords.{my_space_entry, my_unit_entry, package_of_entry, set_args_entry}
 use Rattle.of_instances.specs.Reading.{package_at, text_at}
 use Rattle.of_instances.specs.Left.{number, with_stack}
@@ -86,7 +88,15 @@ unfoldable pub find_method_entry : List Cell → Board → Result Board Throw
 find_method_entry (ph ∷ n ∷ a ∷ s) w = method_of s w (package_at w.tree ph) (text_at w.memory a n)
 find_method_entry _ w = Err stack_underflow
 
--- the table, a word a line; the words that run a method are as unassigned
+-- ---- releasing
+
+-- `close-package` ( ih -- ) of a package without a method `close`
+unfoldable pub release_entry : List Cell → Board → Result Board Throw
+release_entry [] w = Err stack_underflow
+release_entry (ih ∷ s) w = instances_left s w (of_instance (closed w.instances w.memory ih))
+
+-- The table, a word a line. The words that call a method (specs/Calling) are as unassigned here, but for
+-- `close-package`, where there is none to call.
 unfoldable pub tree_entry : TreeWord → Board → Result Board Throw
 tree_entry NewDevice w = new_device_entry w w.active.«package»
 tree_entry FinishDevice w = finished_left (device_finished w)
@@ -95,7 +105,7 @@ tree_entry Peer w = peer_entry w.stack w
 tree_entry FindPackage w = find_package_entry w.stack w
 tree_entry OpenPackage w = Err not_assigned
 tree_entry OpenNamedPackage w = Err not_assigned
-tree_entry ClosePackage w = Err not_assigned
+tree_entry ClosePackage w = release_entry w.stack w
 tree_entry FindMethod w = find_method_entry w.stack w
 tree_entry CallPackage w = Err not_assigned
 tree_entry CallParent w = Err not_assigned

@@ -15,8 +15,8 @@ use of_stacks::Throw;
 /// The most instances that are ever opened, and so the most that one is below.
 const MOST_INSTANCES: usize = 65_536;
 
-/// ( s n -- true ) where no property of the name was found, or ( s n -- p n false ) of its value; -3 where the stack has
-/// no room.
+/// ( s n -- true ) where no property of the name was found, or ( s n -- p n false ) of its value; -3 where the stack
+/// has no room.
 fn leave_value(found: Option<Property>, board: &mut Board) -> Result<(), Throw>
     requires { 2 ≤ length board.old.stack }
     ensures value { Becomes (with_room (value_left (drop 2 board.old.stack) board.old (Ok found))) board.old board.new
@@ -80,8 +80,8 @@ fn inherited(board: &Board, name: &[u8]) -> Result<Option<Property>, Throw>
     Ok(None)
 }
 
-/// A property of the current instance's package, or of the nearest parent's that has one; of this package alone where no
-/// instance is current.
+/// A property of the current instance's package, or of the nearest parent's that has one; of this package alone where
+/// no instance is current.
 fn inherited_for(board: &Board, package: Phandle, name: &[u8]) -> Result<Option<Property>, Throw>
     ensures { result ≡ inherited_for (board.now.active.my_self.0 == 0) board.now (Ok «package») name.now }
 {

@@ -3,9 +3,9 @@ ghost use Rattle.of_stacks.specs.Stacks.{Becomes, Makes};
 ghost use Rattle.of_board.specs.Active.{device_finished};
 ghost use Rattle.of_instances.specs.TreeWords.{child_entry, find_method_entry, find_package_entry, finished_left};
 ghost use Rattle.of_instances.specs.TreeWords.{handle};
-ghost use Rattle.of_instances.specs.TreeWords.{new_device_entry, peer_entry, tree_entry, tree_grows};
+ghost use Rattle.of_instances.specs.TreeWords.{new_device_entry, peer_entry, release_entry, tree_entry, tree_grows};
 
-use crate::faults::{device_stop, of_tree};
+use crate::faults::{device_stop, of_instance, of_tree};
 use crate::instance_words::{
     my_address, my_args, my_parent, my_self, my_space, my_unit, package_of, set_args,
 };
@@ -128,13 +128,27 @@ fn find_method(board: &mut Board) -> Result<(), Throw>
     Ok(())
 }
 
+/// `close-package` ( ih -- ) of a package without a method `close` releases the instance; -260 without one.
+#[tactic(auto, unfolding(crate::specs::TreeWords::release_entry))]
+#[inline(never)]
+fn release(board: &mut Board) -> Result<(), Throw>
+    ensures value { Becomes (release_entry board.old.stack board.old) board.old board.new result }
+    ensures console { board.new.console ≡ board.old.console }
+{
+    let ihandle = board.stack.peek()?;
+    of_instance(board.instances.close(&mut board.memory, ihandle))?;
+    board.stack.drop_top(1);
+    Ok(())
+}
+
 /// Runs a word of the group Tree; a stop changes nothing.
 ///
 /// -4 where a cell is missing, then -259 where `new-device` finds no active package or `finish-device` no open
 /// `new-device`, -260 where an instance is missing, -263 where a handle is of no node, -9 where a range can't be read,
 /// -24 where a text is no address, -8 where there are 1,024 nodes or an instance finds no room, and -3 where the stack
-/// has none. The words that run a method throw -256. NoMemory may stand in place of any other answer of `new-device`
-/// and `set-args`.
+/// has none. `close-package` releases the instance, as where its package has no method `close`. The other words that
+/// call a method throw -256: what they run `find_call` says. NoMemory may stand in place of any other answer of
+/// `new-device` and `set-args`.
 #[tactic(auto, unfolding(crate::specs::TreeWords::tree_entry))]
 pub fn run_tree_word(word: TreeWord, board: &mut Board) -> Result<(), Stop>
     ensures value { Makes (tree_grows word) (tree_entry word board.old) board.old board.new result }
@@ -149,7 +163,7 @@ pub fn run_tree_word(word: TreeWord, board: &mut Board) -> Result<(), Stop>
         TreeWord::FindMethod => find_method(board)?,
         TreeWord::OpenPackage => return Err(Stop::Thrown(Throw::NOT_ASSIGNED)),
         TreeWord::OpenNamedPackage => return Err(Stop::Thrown(Throw::NOT_ASSIGNED)),
-        TreeWord::ClosePackage => return Err(Stop::Thrown(Throw::NOT_ASSIGNED)),
+        TreeWord::ClosePackage => release(board)?,
         TreeWord::CallPackage => return Err(Stop::Thrown(Throw::NOT_ASSIGNED)),
         TreeWord::CallParent => return Err(Stop::Thrown(Throw::NOT_ASSIGNED)),
         TreeWord::CallMethod => return Err(Stop::Thrown(Throw::NOT_ASSIGNED)),

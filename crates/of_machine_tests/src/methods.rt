@@ -63,6 +63,26 @@ const REFUSED: &str = "\
 /slot ca016d0800 b7 c2 011f a5 a6 0209 00|fault -9: invalid memory address$
 ";
 
+/// `close-package`: the method `close` runs for the instance, if there is one, and then that is released; where it
+/// throws, the instance stays open, and releasing twice does nothing.
+const CLOSED: &str = "\
+/slot 011f 0203 0206 0203 9b 0203 020b 00|e0000004 fault -260: no such instance$
+/slot 011f 0203 0206 0127 0203 020b 9b 00|d0000008
+/slot 011f 011f 0202 46 9b 00|300010
+/slot 011f 0203 0206 011f 0202 46 9b 00|300008
+/slot 011f ca05636c6f73650800 b7 0203 9b c2 0203 0206 0203 9b 0203 020b 00|\
+e0000004 e0000004 fault -260: no such instance$
+/slot ca05636c6f73650800 b7 0203 9b c2 011f 020a 0206 0203 9b 020a 020b 00 + /slot 0203 9b 00|\
+e0000000 e0000004 fault -260: no such instance$e0000008
+/slot ca05636c6f73650800 bc b5 0801 b7 11 7b c3 0800 0203 0206 c2 11 0801 c3 0800 0203 0206 0203 9b 0203 020b 00|\
+e0000000 fault -260: no such instance$
+/slot ca05636c6f73650800 b7 a4 0218 c2 b5 0801 b7 0203 0206 c2 11 0801 0217 9b 0203 020b 9b 00|ffffffff d0000008
+/slot 0206 00|fault -4: stack underflow$
+/slot a5 0206 00|fault -260: no such instance$
+/slot 011f 0203 47 0206 0206 00|fault -260: no such instance$
+/slot 011f 0203 11 0206 1d 0203 020b 00|fault -260: no such instance$
+";
+
 /// `get-inherited-property`: of the current instance's package, or of the nearest parent's that has it; the active
 /// package matters not, and a released parent is missed only where one is looked for in it.
 const INHERITED: &str = "\
@@ -95,6 +115,12 @@ fn throws_leave_methods(rt: HostRuntime) -> Result<(), Fail> {
 }
 
 #[test]
+fn packages_are_closed(rt: HostRuntime) -> Result<(), Fail> {
+    assert_eq!(rt; differing(rt.alloc(), CLOSED)?.as_str(), "");
+    Ok(())
+}
+
+#[test]
 fn properties_are_inherited(rt: HostRuntime) -> Result<(), Fail> {
     assert_eq!(rt; differing(rt.alloc(), INHERITED)?.as_str(), "");
     Ok(())
@@ -105,9 +131,10 @@ fn properties_are_inherited(rt: HostRuntime) -> Result<(), Fail> {
 fn refused_memory(rt: HostRuntime) -> Result<(), Fail> {
     let image = image_of(
         rt.alloc(),
-        "ca016d0800 bc 11 011f c3 0800 12016d 0203 020e 0203 9b 11 0127 0203 0208 0203 9b 00",
+        "ca016d0800 bc 11 011f c3 0800 12016d 0203 020e 0203 9b 11 0127 0203 0208 0203 9b \
+         ca05636c6f73650801 bc 11 011f c3 0801 0203 0206 0203 9b 00",
     )?;
-    let wanted = "e0000000 e0000000 ;/slot name=736c6f7400;/slot/";
+    let wanted = "e0000000 e0000000 e0000000 ;/slot name=736c6f7400;/slot/;/slot/";
     if let Some((keeps, tree)) = made_in_turn(rt.alloc(), &image)? {
         assert!(rt; keeps);
         assert_eq!(rt; tree.as_str(), wanted);
