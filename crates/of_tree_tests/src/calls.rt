@@ -1,5 +1,6 @@
 //! Calls on the nodes of a tree, one a line, and what is shown of their answers.
 
+use crate::running::number;
 use of_cells::Cell;
 use of_memory::Memory;
 use of_nodes::{NodeFault, Phandle, Property, Tree};
@@ -14,11 +15,6 @@ struct Call<'a> {
     target: &'a str,
     name: &'a [u8],
     value: &'a str,
-}
-
-/// A number in hexadecimal digits.
-fn number(digits: &str) -> u32 {
-    u32::from_str_radix(digits, 16).unwrap_or(0)
 }
 
 impl Call<'_> {
@@ -60,10 +56,15 @@ impl Call<'_> {
         }
     }
 
-    /// The bytes of the value: cells behind `#`, joined by commas, else those of the text, where `~` is a zero byte.
+    /// The bytes of the value: cells behind `#`, joined by commas, so many bytes of 1 behind `!`, else those of the
+    /// text, where `~` is a zero byte.
     fn bytes(&self, alloc: Global) -> Result<Vec<u8>, AllocError> {
         let mut bytes = Vec::new(alloc);
         if self.value == "-" {
+            return Ok(bytes);
+        }
+        if let Some(digits) = self.value.strip_prefix('!') {
+            bytes.resize(number(digits) as usize, 1)?;
             return Ok(bytes);
         }
         if let Some(cells) = self.value.strip_prefix('#') {
@@ -119,6 +120,14 @@ fn shown_xt(alloc: Global, xt: Option<Cell>) -> Result<String, AllocError> {
     }
 }
 
+/// The byte at an address.
+fn shown_byte(alloc: Global, memory: &Memory, address: Cell) -> Result<String, AllocError> {
+    match memory.read8(address) {
+        Ok(byte) => format!(in alloc; "{byte:x}"),
+        Err(fault) => format!(in alloc; "{fault}"),
+    }
+}
+
 /// What a call on a node's place or path answers.
 fn placed(
     alloc: Global,
@@ -155,8 +164,18 @@ fn had(alloc: Global, tree: &Tree, memory: &Memory, call: &Call<'_>) -> Result<S
         "property_at" => shown_property(alloc, tree.property_at(node, call.place())?)?,
         "method_at" => shown_method(alloc, tree.method_at(node, call.place())?)?,
         "address_cells" => format!(in alloc; "{}", tree.address_cells(memory, node)?)?,
+        "byte" => shown_byte(alloc, memory, node.0)?,
         _ => placed(alloc, tree, memory, call)?,
     })
+}
+
+/// Adds so many nodes below one, and gives the last.
+fn add_nodes(tree: &mut Tree, parent: Phandle, count: usize) -> Result<Phandle, NodeFault> {
+    let mut last = parent;
+    for _ in 0..count {
+        last = tree.add_node(parent)?;
+    }
+    Ok(last)
 }
 
 /// What a call answers.
@@ -169,6 +188,10 @@ fn answer(
     let node = call.node();
     match call.call {
         "add_node" => return Ok(shown_node(alloc, Some(tree.add_node(node)?))?),
+        "add_nodes" => {
+            let last = add_nodes(tree, node, call.place())?;
+            return Ok(shown_node(alloc, Some(last))?);
+        }
         "add_and_take_back" => {
             let made = tree.add_node(node)?;
             tree.take_back_node();

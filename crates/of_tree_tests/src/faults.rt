@@ -1,7 +1,6 @@
 //! Words that throw, and leave all as it was.
 
-use crate::running::{Trial, differing};
-use of_stacks::{Stop, Throw};
+use crate::running::differing;
 use std::test::Fail;
 
 /// Of several faults the first of the order counts: -4, -259, -263, -9, -32, -24, -262, -8, -3.
@@ -115,43 +114,20 @@ peer|throws -4|
 %c0000000 %1 %d0000000 find-method|c0000000 1 d0000000 throws -9|
 ";
 
-#[test]
-fn encoding(rt: HostRuntime) -> Result<(), Fail> {
-    assert_eq!(rt; differing(rt.alloc(), ENCODING)?.as_str(), "");
-    Ok(())
-}
-
-#[test]
-fn setting(rt: HostRuntime) -> Result<(), Fail> {
-    assert_eq!(rt; differing(rt.alloc(), SETTING)?.as_str(), "");
-    Ok(())
-}
-
-#[test]
-fn full_region(rt: HostRuntime) -> Result<(), Fail> {
-    assert_eq!(rt; differing(rt.alloc(), FULL)?.as_str(), "");
-    Ok(())
-}
-
-#[test]
-fn finding(rt: HostRuntime) -> Result<(), Fail> {
-    assert_eq!(rt; differing(rt.alloc(), FINDING)?.as_str(), "");
-    Ok(())
-}
-
-#[test]
-fn nodes(rt: HostRuntime) -> Result<(), Fail> {
-    assert_eq!(rt; differing(rt.alloc(), NODES)?.as_str(), "");
-    Ok(())
-}
-
 /// The words that run a method are as unassigned.
+const METHODS: &str = "\
+open-package|throws -256|
+$open-package|throws -256|
+close-package|throws -256|
+call-package|throws -256|
+$call-parent|throws -256|
+$call-method|throws -256|
+";
+
 #[test]
-fn methods(rt: HostRuntime) -> Result<(), Fail> {
-    let names = "open-package $open-package close-package call-package $call-parent $call-method";
-    for name in names.split_whitespace() {
-        let mut trial = Trial::new(rt.alloc())?;
-        assert_eq!(rt; trial.run(name), Err(Stop::Thrown(Throw(-256))), "{name}");
+fn lines(rt: HostRuntime) -> Result<(), Fail> {
+    for table in [ENCODING, SETTING, FULL, FINDING, NODES, METHODS] {
+        assert_eq!(rt; differing(rt.alloc(), table)?.as_str(), "");
     }
     Ok(())
 }

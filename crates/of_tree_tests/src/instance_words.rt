@@ -1,9 +1,7 @@
 //! The words over instances that run no method, on the instances that `new-device` opens, and property words there.
 
-use crate::running::{Trial, differing, left};
-use of_cells::Cell;
-use of_nodes::Phandle;
-use of_stacks::{Stop, Throw};
+use crate::histories;
+use crate::running::differing;
 use std::test::Fail;
 
 /// The current instance, the one that it was opened below, and packages of instances. An ihandle isn't used again, and
@@ -31,12 +29,6 @@ my-self|0|
 @2 new-device *ff my-self ihandle>phandle|256 cells|
 ";
 
-#[test]
-fn handles(rt: HostRuntime) -> Result<(), Fail> {
-    assert_eq!(rt; differing(rt.alloc(), HANDLES)?.as_str(), "");
-    Ok(())
-}
-
 /// Behind an image the current instance is the one that was current before it, even if that was released meanwhile;
 /// what was opened in the image is released.
 const IMAGES: &str = "\
@@ -52,12 +44,6 @@ const IMAGES: &str = "\
 @2 new-device [ new-device ] new-device my-args|300008 0|
 @2 new-device [ finish-device new-device ] new-device my-args|300000 0|
 ";
-
-#[test]
-fn images(rt: HostRuntime) -> Result<(), Fail> {
-    assert_eq!(rt; differing(rt.alloc(), IMAGES)?.as_str(), "");
-    Ok(())
-}
 
 /// Arguments stand in blocks of the instance region: each at the least address where it meets no other, of a length
 /// that is a multiple of 8, and at least 8. `set-args` takes the new block before it gives the old one back.
@@ -87,12 +73,6 @@ const ARGUMENTS: &str = "\
 @2 new-device *fe my-args|256 cells|
 ";
 
-#[test]
-fn arguments(rt: HostRuntime) -> Result<(), Fail> {
-    assert_eq!(rt; differing(rt.alloc(), ARGUMENTS)?.as_str(), "");
-    Ok(())
-}
-
 /// Physical addresses, all 0 at first, and the texts that set them: numbers may have more digits than they need,
 /// capital ones, and `-` in front.
 const UNITS: &str = "\
@@ -115,12 +95,6 @@ const UNITS: &str = "\
 @2 new-device *ff my-address|256 cells|
 @2 new-device *ff my-space|256 cells|
 ";
-
-#[test]
-fn units(rt: HostRuntime) -> Result<(), Fail> {
-    assert_eq!(rt; differing(rt.alloc(), UNITS)?.as_str(), "");
-    Ok(())
-}
 
 /// Addresses of as many cells as the parent's `#address-cells` says, 2 where that isn't 1 to 4.
 const COUNTS: &str = "\
@@ -153,12 +127,6 @@ const COUNTS: &str = "\
 @0 %3 encode-int \"#address-cells property @2 new-device @1 my-unit|0 0|name=7061636b6167657300
 ";
 
-#[test]
-fn counts(rt: HostRuntime) -> Result<(), Fail> {
-    assert_eq!(rt; differing(rt.alloc(), COUNTS)?.as_str(), "");
-    Ok(())
-}
-
 /// Texts that are no addresses, for 1, 2, 3 and 4 cells; an address that is refused leaves the cells on the stack.
 const BAD_UNITS: &str = "\
 @2 new-device %0 %0 \"1 set-args|0 0 100000 1 throws -24|
@@ -190,12 +158,6 @@ const BAD_UNITS: &str = "\
 @2 %4 encode-int \"#address-cells property new-device %0 %0 \"1,2,3,4,5 set-args|0 0 100012 9 throws -24|
 @2 %4 encode-int \"#address-cells property new-device %0 %0 \"1,2,3,4, set-args|0 0 100012 8 throws -24|
 ";
-
-#[test]
-fn bad_units(rt: HostRuntime) -> Result<(), Fail> {
-    assert_eq!(rt; differing(rt.alloc(), BAD_UNITS)?.as_str(), "");
-    Ok(())
-}
 
 /// Of several faults the first of the order counts: -4, -260, -9, -24, -8, -3.
 const FAULTS: &str = "\
@@ -235,12 +197,6 @@ my-space|throws -260|
 @2 new-device [ finish-device ] my-space|throws -260|
 ";
 
-#[test]
-fn faults(rt: HostRuntime) -> Result<(), Fail> {
-    assert_eq!(rt; differing(rt.alloc(), FAULTS)?.as_str(), "");
-    Ok(())
-}
-
 /// Faults of `set-args` and, where the instance region is full, of `new-device`. 0x1FFF8 bytes fill the region behind
 /// the block of the empty arguments.
 const FULL: &str = "\
@@ -262,12 +218,6 @@ set-args|throws -4|
 @2 new-device %100000 %1fff8 %0 %0 set-args new-device new-device|throws -8|
 @2 new-device %100000 %1fff8 %0 %0 set-args new-device @2 new-device|throws -8|name=736c6f7400
 ";
-
-#[test]
-fn full_region(rt: HostRuntime) -> Result<(), Fail> {
-    assert_eq!(rt; differing(rt.alloc(), FULL)?.as_str(), "");
-    Ok(())
-}
 
 /// Property words work on the package of the current instance, also where another one is active.
 const PROPERTIES: &str = "\
@@ -297,12 +247,6 @@ const PROPERTIES: &str = "\
 @2 new-device %0 %0 \"1,2 set-args my-address my-space %100 reg||reg=000000010000000200000100
 ";
 
-#[test]
-fn properties(rt: HostRuntime) -> Result<(), Fail> {
-    assert_eq!(rt; differing(rt.alloc(), PROPERTIES)?.as_str(), "");
-    Ok(())
-}
-
 /// Where the current instance was released, property words throw -260: behind -4, before -9, -32, -262 and -8.
 const RELEASED: &str = "\
 @2 new-device [ finish-device ] \"v \"x property|100000 1 100001 1 throws -260|
@@ -326,89 +270,81 @@ const RELEASED: &str = "\
 ";
 
 #[test]
-fn released(rt: HostRuntime) -> Result<(), Fail> {
-    assert_eq!(rt; differing(rt.alloc(), RELEASED)?.as_str(), "");
+fn instances(rt: HostRuntime) -> Result<(), Fail> {
+    for table in [HANDLES, IMAGES, ARGUMENTS, UNITS] {
+        assert_eq!(rt; differing(rt.alloc(), table)?.as_str(), "");
+    }
+    Ok(())
+}
+
+#[test]
+fn counts(rt: HostRuntime) -> Result<(), Fail> {
+    for table in [COUNTS, BAD_UNITS, FULL] {
+        assert_eq!(rt; differing(rt.alloc(), table)?.as_str(), "");
+    }
+    Ok(())
+}
+
+#[test]
+fn faults(rt: HostRuntime) -> Result<(), Fail> {
+    for table in [FAULTS, PROPERTIES, RELEASED] {
+        assert_eq!(rt; differing(rt.alloc(), table)?.as_str(), "");
+    }
     Ok(())
 }
 
 /// A refused `set-args` leaves arguments and address as they were.
-#[test]
-fn refused_arguments(rt: HostRuntime) -> Result<(), Fail> {
-    let mut trial = Trial::new(rt.alloc())?;
-    let set = trial.run_all("@2 new-device \"ab \"1,2 set-args");
-    assert_eq!(rt; set, Ok(()));
-    let refused = trial.run_all("\"cd \"3,4,5 set-args");
-    assert_eq!(rt; refused, Err(Stop::Thrown(Throw(-24))));
-    let full = trial.run_all("%100000 %1fff8 \"3,4 set-args");
-    assert_eq!(rt; full, Err(Stop::Thrown(Throw(-8))));
-    let ended = trial.run_all("2drop 2drop 2drop 2drop my-args my-unit my-args drop c@");
-    let shown = left(rt.alloc(), &trial.board, ended)?;
-    assert_eq!(rt; shown.as_str(), "300008 2 2 1 61 ");
-    Ok(())
-}
+const REFUSED_ARGUMENTS: &str = "\
+run @2 new-device \"ab \"1,2 set-args = | d000000c e0000000 1/1 0
+run \"cd \"3,4,5 set-args = 100005 2 100007 5 throws -24 | d000000c e0000000 1/1 0
+run %100000 %1fff8 \"3,4 set-args = 100005 2 100007 5 100000 1fff8 10000c 3 throws -8 | d000000c e0000000 1/1 0
+run 2drop 2drop 2drop 2drop my-args my-unit my-args drop c@ = 300008 2 2 1 61 | d000000c e0000000 1/1 0
+";
 
 /// A `new-device` that finds no room for its instance leaves no node, uses neither phandle nor ihandle, and is none to
 /// finish.
-#[test]
-fn refused_device(rt: HostRuntime) -> Result<(), Fail> {
-    let mut trial = Trial::new(rt.alloc())?;
-    let refused = trial.run_all(
-        "@2 new-device %100000 %1fff8 %0 %0 set-args new-device new-device",
-    );
-    assert_eq!(rt; refused, Err(Stop::Thrown(Throw(-8))));
-    assert_eq!(rt; trial.board.active.package, Some(Phandle::of(4)));
-    assert_eq!(rt; trial.board.active.my_self, Cell(0xe000_0004));
-    assert_eq!(rt; trial.board.active.new_devices.len(), 2);
-    assert_eq!(rt; trial.board.active.new_devices.ever(), 2);
-    assert_eq!(rt; trial.board.tree.child(Phandle::of(4)), Ok(None));
-    let ended = trial.run_all("finish-device new-device my-self my-self ihandle>phandle my-args");
-    let shown = left(rt.alloc(), &trial.board, ended)?;
-    assert_eq!(rt; shown.as_str(), "e0000008 d0000014 300000 0 ");
-    Ok(())
-}
+const REFUSED_DEVICE: &str = "\
+run @2 new-device %100000 %1fff8 %0 %0 set-args new-device new-device = throws -8 | d0000010 e0000004 2/2 0 1
+child d0000010 = - | d0000010 e0000004 2/2 0 1
+run finish-device new-device = | d0000014 e0000008 2/3 0 2
+run my-self my-self ihandle>phandle my-args = e0000008 d0000014 300000 0 | d0000014 e0000008 2/3 0 2
+";
 
 /// `my-unit` reads as many cells as are counted then, of four that `set-args` filled from the front.
-#[test]
-fn counts_that_change(rt: HostRuntime) -> Result<(), Fail> {
-    let mut trial = Trial::new(rt.alloc())?;
-    let set = trial.run_all("@2 new-device new-device %0 %0 \"1,2 set-args");
-    assert_eq!(rt; set, Ok(()));
-    trial.board.active.my_self = Cell(0xe000_0000);
-    let grown = trial.run_all("%4 encode-int \"#address-cells property");
-    assert_eq!(rt; grown, Ok(()));
-    trial.board.active.my_self = Cell(0xe000_0004);
-    let ended = trial.run_all("my-unit my-address my-space");
-    let shown = left(rt.alloc(), &trial.board, ended)?;
-    assert_eq!(rt; shown.as_str(), "0 0 2 1 0 0 2 1 ");
-    Ok(())
-}
+const COUNTS_CHANGE: &str = "\
+run @2 new-device new-device %0 %0 \"1,2 set-args = | d0000010 e0000004 2/2 0 1
+activate d0000010 e0000000 = done | d0000010 e0000000 2/2 0 1
+run %4 encode-int \"#address-cells property = | d0000010 e0000000 2/2 0 1
+activate d0000010 e0000004 = done | d0000010 e0000004 2/2 0 1
+run my-unit my-address my-space = 0 0 2 1 0 0 2 1 | d0000010 e0000004 2/2 0 1
+";
 
 /// An instance of the root, which has no parent: two cells count.
-#[test]
-fn an_instance_of_the_root(rt: HostRuntime) -> Result<(), Fail> {
-    let mut trial = Trial::new(rt.alloc())?;
-    let grown = trial.run_all("@0 %3 encode-int \"#address-cells property");
-    assert_eq!(rt; grown, Ok(()));
-    let root = trial
-        .board
-        .instances
-        .open(&mut trial.board.memory, Phandle::of(0), Cell::ZERO, b"")?;
-    trial.board.active.my_self = root;
-    let ended = trial.run_all("my-unit %0 %0 \"1,2 set-args my-unit my-self ihandle>phandle");
-    let shown = left(rt.alloc(), &trial.board, ended)?;
-    assert_eq!(rt; shown.as_str(), "0 0 2 1 d0000000 ");
-    Ok(())
-}
+const ROOT: &str = "\
+run @0 %3 encode-int \"#address-cells property = | d0000000 0 0/0
+open d0000000 = e0000000 | d0000000 0 0/0 0
+activate d0000000 e0000000 = done | d0000000 e0000000 0/0 0
+run my-unit %0 %0 \"1,2 set-args my-unit my-self ihandle>phandle = 0 0 2 1 d0000000 | d0000000 e0000000 0/0 0
+";
 
 /// Where an instance is current, property words need no active package, and `new-device` does.
+const NO_PACKAGE: &str = "\
+run @2 new-device = | d000000c e0000000 1/1 0
+activate - e0000000 = done | 0 e0000000 1/1 0
+run \"v \"x property \"x get-my-property new-device = 20003c 1 0 throws -259 | 0 e0000000 1/1 0
+run my-parent = 20003c 1 0 0 | 0 e0000000 1/1 0
+";
+
 #[test]
-fn no_active_package(rt: HostRuntime) -> Result<(), Fail> {
-    let mut trial = Trial::new(rt.alloc())?;
-    assert_eq!(rt; trial.run_all("@2 new-device"), Ok(()));
-    trial.board.active.package = None;
-    let ended = trial.run_all("\"v \"x property \"x get-my-property new-device");
-    let shown = left(rt.alloc(), &trial.board, ended)?;
-    assert_eq!(rt; shown.as_str(), "20003c 1 0 throws -259");
-    assert_eq!(rt; trial.run("my-parent"), Ok(()));
+fn histories(rt: HostRuntime) -> Result<(), Fail> {
+    for lines in [
+        REFUSED_ARGUMENTS,
+        REFUSED_DEVICE,
+        COUNTS_CHANGE,
+        ROOT,
+        NO_PACKAGE,
+    ] {
+        assert_eq!(rt; histories::differing(rt.alloc(), lines)?.as_str(), "");
+    }
     Ok(())
 }

@@ -1,5 +1,6 @@
 //! Calls on instances, one a line, and what is shown of their answers.
 
+use crate::running::number;
 use of_cells::Cell;
 use of_ihandles::{
     InstanceFault, Instances, Template, blocks_are_owned, ihandles_are_new, instances_begin,
@@ -12,21 +13,16 @@ use std::test::Fail;
 
 /// A call by its name and at most three words behind it. `-` stands for an empty text.
 #[derive(Clone, Copy)]
-struct Call<'a> {
-    call: &'a str,
-    first: &'a str,
-    second: &'a str,
-    third: &'a str,
-}
-
-/// A number in hexadecimal digits.
-fn number(digits: &str) -> u32 {
-    u32::from_str_radix(digits, 16).unwrap_or(0)
+pub(crate) struct Call<'a> {
+    pub(crate) call: &'a str,
+    pub(crate) first: &'a str,
+    pub(crate) second: &'a str,
+    pub(crate) third: &'a str,
 }
 
 impl Call<'_> {
     /// The call of a line.
-    fn read(line: &str) -> Call<'_> {
+    pub(crate) fn read(line: &str) -> Call<'_> {
         let mut words = line.split_whitespace();
         Call {
             call: words.next().unwrap_or(""),
@@ -42,7 +38,7 @@ impl Call<'_> {
     }
 
     /// The package that it is given.
-    fn package(&self) -> Phandle {
+    pub(crate) fn package(&self) -> Phandle {
         Phandle(Cell(number(self.first)))
     }
 
@@ -148,6 +144,12 @@ fn answer(
             let unit = cells(alloc, call.third)?;
             instances.set_args(memory, call.ihandle(), text(call.second), &unit)?
         }
+        "cycle" => {
+            for _ in 0..number(call.second) {
+                let ihandle = instances.open(memory, call.package(), Cell::ZERO, b"")?;
+                instances.close(memory, ihandle)?;
+            }
+        }
         _ => return had(alloc, instances, memory, call),
     }
     Ok(String::from_str(alloc, "done")?)
@@ -213,12 +215,6 @@ args 0 = no such instance
 args dffffffc = no such instance
 ";
 
-#[test]
-fn ihandles_are_never_used_again(rt: HostRuntime) -> Result<(), Fail> {
-    assert_eq!(rt; differing(rt.alloc(), OPENED)?.as_str(), "");
-    Ok(())
-}
-
 /// A release gives the blocks back; a second one, and one of no instance, changes nothing.
 const RELEASED: &str = "\
 open d0000008 0 ab = e0000000
@@ -243,12 +239,6 @@ args e000000c = 300008 0
 open d000000c 0 - = e0000010
 args e0000010 = 300010 0
 ";
-
-#[test]
-fn a_second_release_changes_nothing(rt: HostRuntime) -> Result<(), Fail> {
-    assert_eq!(rt; differing(rt.alloc(), RELEASED)?.as_str(), "");
-    Ok(())
-}
 
 /// The live instances get a new slot's blocks oldest first, a new instance the blocks of its arguments and then of the
 /// slots in the order of making.
@@ -300,12 +290,6 @@ slot_span e0000014 4 = 300078 4
 slot_at e0000014 4 = 1
 ";
 
-#[test]
-fn slots_are_each_instances_own(rt: HostRuntime) -> Result<(), Fail> {
-    assert_eq!(rt; differing(rt.alloc(), SLOTS)?.as_str(), "");
-    Ok(())
-}
-
 /// The new block is taken before the old one is given back.
 const ARGUMENTS: &str = "\
 open d0000008 0 ab = e0000000
@@ -327,12 +311,6 @@ open d0000008 0 - = e0000004
 args e0000004 = 300008 0
 set_args e0000008 x - = no such instance
 ";
-
-#[test]
-fn other_arguments_stand_in_another_block(rt: HostRuntime) -> Result<(), Fail> {
-    assert_eq!(rt; differing(rt.alloc(), ARGUMENTS)?.as_str(), "");
-    Ok(())
-}
 
 /// An opening that takes the whole region, and then each of its blocks finds no room in turn; nothing is taken then.
 const FULL: &str = "\
@@ -368,26 +346,36 @@ slot_span e0000008 5 = 300008 1fff8
 open d0000018 0 - = no room for the instance
 ";
 
+/// There are 65,536 openings.
+const OPENINGS: &str = "\
+cycle d0000008 ffff = done
+open d0000008 0 - = e003fffc
+open d0000008 0 - = no room for the instance
+";
+
 #[test]
-fn a_full_region_takes_nothing(rt: HostRuntime) -> Result<(), Fail> {
-    assert_eq!(rt; differing(rt.alloc(), FULL)?.as_str(), "");
+fn calls(rt: HostRuntime) -> Result<(), Fail> {
+    for lines in [OPENED, RELEASED, SLOTS, ARGUMENTS, FULL, OPENINGS] {
+        assert_eq!(rt; differing(rt.alloc(), lines)?.as_str(), "");
+    }
     Ok(())
 }
 
-#[test]
-fn openings_are_65536(rt: HostRuntime) -> Result<(), Fail> {
-    let mut memory = Memory::new(rt.alloc())?;
-    let mut instances = Instances::new(rt.alloc());
+/// Whether an opening and then a slot are made, or refused for memory alone, and no block is taken for what is
+/// refused.
+fn opens_or_takes_nothing(instances: &mut Instances, memory: &mut Memory) -> bool {
     let package = Phandle::of(2);
-    for _ in 1..65_536 {
-        let ihandle = instances.open(&mut memory, package, Cell::ZERO, b"")?;
-        instances.close(&mut memory, ihandle)?;
+    let free = match instances.open(memory, package, Cell::ZERO, b"") {
+        Ok(_) => Cell(0x30_0008),
+        Err(InstanceFault::NoMemory) => Cell(0x30_0000),
+        Err(_) => return false,
+    };
+    match instances.slot(memory, package, Template::Value(Cell::ONE)) {
+        Ok(_) => true,
+        Err(fault) => {
+            fault == InstanceFault::NoMemory && memory.instance_take(Cell::ZERO) == Ok(free)
+        }
     }
-    let last = instances.open(&mut memory, package, Cell::ZERO, b"");
-    assert_eq!(rt; last, Ok(Cell(0xe003_fffc)));
-    let refused = instances.open(&mut memory, package, Cell::ZERO, b"");
-    assert_eq!(rt; refused, Err(InstanceFault::Full));
-    Ok(())
 }
 
 // To be run with one allocation after another refused.
@@ -395,16 +383,6 @@ fn openings_are_65536(rt: HostRuntime) -> Result<(), Fail> {
 fn a_refused_growth_takes_no_block(rt: HostRuntime) -> Result<(), Fail> {
     let mut memory = Memory::new(rt.alloc())?;
     let mut instances = Instances::new(rt.alloc());
-    let package = Phandle::of(2);
-    let mut free = Cell(0x30_0000);
-    match instances.open(&mut memory, package, Cell::ZERO, b"") {
-        Ok(_) => free = Cell(0x30_0008),
-        Err(fault) => assert_eq!(rt; fault, InstanceFault::NoMemory),
-    }
-    match instances.slot(&mut memory, package, Template::Value(Cell::ONE)) {
-        Ok(_) => return Ok(()),
-        Err(fault) => assert_eq!(rt; fault, InstanceFault::NoMemory),
-    }
-    assert_eq!(rt; memory.instance_take(Cell::ZERO), Ok(free));
+    assert!(rt; opens_or_takes_nothing(&mut instances, &mut memory));
     Ok(())
 }

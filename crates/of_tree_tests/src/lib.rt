@@ -11,6 +11,8 @@ mod console;
 #[cfg(test)]
 mod faults;
 #[cfg(test)]
+mod histories;
+#[cfg(test)]
 mod instance_words;
 #[cfg(test)]
 mod instances;

@@ -8,6 +8,7 @@ use of_nodes::{
     methods_are_found, paths_find, properties_are_found, stored_stays, tree_finds, tree_is_shown,
     ways_lead,
 };
+use std::alloc::Global;
 use std::test::Fail;
 
 #[test]
@@ -29,13 +30,12 @@ fn laws_hold() {
 
 /// A text is parted at the first of a byte.
 #[test]
-fn texts_are_parted(rt: HostRuntime) -> Result<(), Fail> {
+fn texts_are_parted(rt: HostRuntime) {
     assert_eq!(rt; before(b"disk:a:b", b':'), b"disk".as_slice());
     assert_eq!(rt; before(b"disk", b':'), b"disk".as_slice());
-    let rest = behind(b"disk:a:b", b':').ok_or("no byte")?;
+    let rest = behind(b"disk:a:b", b':').unwrap_or(b"none");
     assert_eq!(rt; rest, b"a:b".as_slice());
-    assert_eq!(rt; behind(b"disk", b':').is_none(), true);
-    Ok(())
+    assert!(rt; behind(b"disk", b':').is_none());
 }
 
 /// The tree at first, and a node that is added to it.
@@ -59,12 +59,6 @@ property d000000c reg = -
 property_at d000000c 0 = -
 ";
 
-#[test]
-fn the_tree_at_first(rt: HostRuntime) -> Result<(), Fail> {
-    assert_eq!(rt; differing(rt.alloc(), FIRST)?.as_str(), "");
-    Ok(())
-}
-
 /// A node that is taken back is none, and its phandle is that of the next.
 const TAKEN_BACK: &str = "\
 add_and_take_back d0000008 = d000000c
@@ -83,12 +77,6 @@ add_and_take_back d0000010 = no such node
 parent d000000c = d0000004
 add_node d000000c = d0000010
 ";
-
-#[test]
-fn a_node_is_taken_back(rt: HostRuntime) -> Result<(), Fail> {
-    assert_eq!(rt; differing(rt.alloc(), TAKEN_BACK)?.as_str(), "");
-    Ok(())
-}
 
 /// Two cards, two nodes of one name, each with one below it, a node without a name, and two packages of one name.
 /// Paths, from the root or from `/packages`, lead to them: the oldest of a name counts, of packages the newest.
@@ -176,12 +164,6 @@ path_of d0000024 = /packages/
 path_of d000002c = /packages/p
 ";
 
-#[test]
-fn nodes_by_their_paths(rt: HostRuntime) -> Result<(), Fail> {
-    assert_eq!(rt; differing(rt.alloc(), PATHS)?.as_str(), "");
-    Ok(())
-}
-
 /// A path has the unit addresses, and a unit address as many cells as the parent says, 2 where it says nothing.
 const UNITS: &str = "\
 add_node d0000008 = d000000c
@@ -208,12 +190,6 @@ address_cells d0000008 = 2
 path_of d000000c = /slot/card@1,2
 ";
 
-#[test]
-fn a_path_has_the_unit_addresses(rt: HostRuntime) -> Result<(), Fail> {
-    assert_eq!(rt; differing(rt.alloc(), UNITS)?.as_str(), "");
-    Ok(())
-}
-
 /// A property that is set again keeps its name and its place among the others, and puts its value alone.
 const REPLACED: &str = "\
 add_node d0000008 = d000000c
@@ -232,12 +208,6 @@ property d000000c name = -
 next_property d000000c - = 20004c 3 200050 0
 ";
 
-#[test]
-fn a_replaced_property_puts_its_value_alone(rt: HostRuntime) -> Result<(), Fail> {
-    assert_eq!(rt; differing(rt.alloc(), REPLACED)?.as_str(), "");
-    Ok(())
-}
-
 /// Names that are refused: nothing is set, and nothing is taken from the property region.
 const REFUSED: &str = "\
 set_property d0000008 a/b 1234 = invalid name argument
@@ -253,12 +223,6 @@ set_property d0000008 !0[`{|}~ 1 = done
 set_property d0000008 @ 1 = invalid name argument
 set_property d0000008 : 1 = invalid name argument
 ";
-
-#[test]
-fn a_node_keeps_its_good_name(rt: HostRuntime) -> Result<(), Fail> {
-    assert_eq!(rt; differing(rt.alloc(), REFUSED)?.as_str(), "");
-    Ok(())
-}
 
 /// Methods are found whatever the case of their names; the newest of a name counts, until it is taken back.
 const METHODS: &str = "\
@@ -284,48 +248,55 @@ method d0000008 abcdefghijklmnopqrstuvwxyzabcdef = -
 method 0 open = no such node
 ";
 
-#[test]
-fn a_newer_method_takes_the_place_of_its_name(rt: HostRuntime) -> Result<(), Fail> {
-    assert_eq!(rt; differing(rt.alloc(), METHODS)?.as_str(), "");
-    Ok(())
-}
+/// The property region is filled to its last byte: `!1ffc4` stands for so many bytes of 1.
+const FULL: &str = "\
+set_property d0000008 a !1ffc5 = no room for the property
+set_property d0000008 a !1ffc4 = done
+byte 21ffff = 1
+set_property d0000008 b - = no room for the property
+";
+
+/// There are 1,024 nodes, three of them from the beginning.
+const MANY: &str = "\
+add_nodes d0000000 3fd = d0000ffc
+add_node d0000000 = too many nodes
+peer d0000ffc = -
+set_property d0000ffc name last~ = done
+path_of d0000ffc = /last
+add_method d0000ffc open 1 = done
+method d0000ffc open = 1
+";
 
 #[test]
-fn the_property_region_is_filled_to_its_last_byte(rt: HostRuntime) -> Result<(), Fail> {
-    let mut memory = Memory::new(rt.alloc())?;
-    let mut tree = Tree::new(rt.alloc(), &mut memory)?;
-    let slot = Phandle::of(2);
-    let mut value = Vec::new(rt.alloc());
-    value.resize("131013".parse()?, 1)?;
-    let refused = tree.set_property(&mut memory, slot, b"a", value.as_slice());
-    assert_eq!(rt; refused, Err(NodeFault::PropertyFull));
-    value.truncate("131012".parse()?);
-    tree.set_property(&mut memory, slot, b"a", value.as_slice())?;
-    assert_eq!(rt; memory.read8(Cell(0x21_ffff)), Ok(1));
-    let refused = tree.set_property(&mut memory, slot, b"b", b"");
-    assert_eq!(rt; refused, Err(NodeFault::PropertyFull));
-    Ok(())
-}
-
-#[test]
-fn nodes_are_1024(rt: HostRuntime) -> Result<(), Fail> {
-    let mut memory = Memory::new(rt.alloc())?;
-    let mut tree = Tree::new(rt.alloc(), &mut memory)?;
-    for _ in 3..1024 {
-        tree.add_node(Phandle::of(0))?;
+fn calls(rt: HostRuntime) -> Result<(), Fail> {
+    for lines in [
+        FIRST, TAKEN_BACK, PATHS, UNITS, REPLACED, REFUSED, METHODS, FULL, MANY,
+    ] {
+        assert_eq!(rt; differing(rt.alloc(), lines)?.as_str(), "");
     }
-    let refused = tree.add_node(Phandle::of(0));
-    assert_eq!(rt; refused, Err(NodeFault::TooManyNodes));
-    let last = Phandle::of(1023);
-    assert_eq!(rt; tree.peer(last), Ok(None));
-    tree.set_property(&mut memory, last, b"name", b"last\0")?;
-    assert_eq!(rt;
-        tree.path_of(&memory, last)?.as_slice(),
-        b"/last".as_slice()
-    );
-    tree.add_method(last, b"open", Cell(1))?;
-    assert_eq!(rt; tree.method(last, b"open"), Ok(Some(Cell(1))));
     Ok(())
+}
+
+/// Whether a property is set, or else refused for memory alone, and nothing is put for it.
+fn sets_or_puts_nothing(tree: &mut Tree, memory: &mut Memory) -> bool {
+    let slot = Phandle::of(2);
+    match tree.set_property(memory, slot, b"reg", b"1234") {
+        Ok(()) => true,
+        Err(fault) => {
+            fault == NodeFault::NoMemory
+                && tree.property(slot, b"reg") == Ok(None)
+                && memory.put_property(b"") == Ok(Cell(0x20_0038))
+        }
+    }
+}
+
+/// Whether a node is added, or else refused for memory alone, and there is none.
+fn adds_or_changes_nothing(tree: &mut Tree) -> bool {
+    let slot = Phandle::of(2);
+    match tree.add_node(slot) {
+        Ok(_) => true,
+        Err(fault) => fault == NodeFault::NoMemory && tree.child(slot) == Ok(None),
+    }
 }
 
 // To be run with one allocation after another refused.
@@ -333,17 +304,15 @@ fn nodes_are_1024(rt: HostRuntime) -> Result<(), Fail> {
 fn a_refused_growth_changes_nothing(rt: HostRuntime) -> Result<(), Fail> {
     let mut memory = Memory::new(rt.alloc())?;
     let mut tree = Tree::new(rt.alloc(), &mut memory)?;
-    let slot = Phandle::of(2);
-    if let Err(fault) = tree.set_property(&mut memory, slot, b"reg", b"1234") {
-        assert_eq!(rt; fault, NodeFault::NoMemory);
-        assert_eq!(rt; tree.property(slot, b"reg"), Ok(None));
-        assert_eq!(rt; memory.put_property(b""), Ok(Cell(0x20_0038)));
-    }
-    if let Err(fault) = tree.add_node(slot) {
-        assert_eq!(rt; fault, NodeFault::NoMemory);
-        assert_eq!(rt; tree.child(slot), Ok(None));
-    }
+    assert!(rt; sets_or_puts_nothing(&mut tree, &mut memory));
+    assert!(rt; adds_or_changes_nothing(&mut tree));
     Ok(())
+}
+
+/// Whether a tree finds no room in a property region, of which it takes nothing then.
+fn finds_no_room(alloc: Global, memory: &mut Memory) -> bool {
+    let refused = Tree::new(alloc, memory);
+    matches!(&refused, Err(NodeFault::PropertyFull)) && memory.property_room() == 36
 }
 
 /// The names of the first three nodes take 37 bytes; where there are 36, none is put.
@@ -351,12 +320,9 @@ fn a_refused_growth_changes_nothing(rt: HostRuntime) -> Result<(), Fail> {
 fn a_tree_without_room(rt: HostRuntime) -> Result<(), Fail> {
     let mut memory = Memory::new(rt.alloc())?;
     assert_eq!(rt; memory.property_room(), 0x1fff0);
-    let mut value = Vec::new(rt.alloc());
-    value.resize("131020".parse()?, 1)?;
+    let value = vec![in rt.alloc(); 1u8; 131_020]?;
     memory.put_property(value.as_slice())?;
     assert_eq!(rt; memory.property_room(), 36);
-    let refused = Tree::new(rt.alloc(), &mut memory);
-    assert!(rt; matches!(&refused, Err(NodeFault::PropertyFull)));
-    assert_eq!(rt; memory.property_room(), 36);
+    assert!(rt; finds_no_room(rt.alloc(), &mut memory));
     Ok(())
 }

@@ -1,9 +1,9 @@
 //! Ordinary words over the board.
 
-use crate::running::{Trial, left};
+use crate::running::{Trial, left, number};
 use of_cells::Cell;
 use of_fcodes::{PrimitiveWord, StacksWord};
-use of_stacks::DataStack;
+use of_stacks::{DataStack, Throw};
 use of_words::{difference, exchange, is_less, run_primitive, sum};
 use std::alloc::Global;
 use std::test::Fail;
@@ -51,21 +51,46 @@ fn lines(rt: HostRuntime) -> Result<(), Fail> {
     Ok(())
 }
 
-/// The words that stand where they are called: 7 and 2 give 9, 5 and 0, and change places.
-#[test]
-fn inline(rt: HostRuntime) -> Result<(), Fail> {
-    let mut stack = DataStack::new();
-    for x in [7, 2, 7, 2, 7, 2] {
-        stack.try_push(Cell(x))?;
+/// The words that stand where they are called, each behind two numbers and before what they leave.
+const INLINE: &str = "\
+7 2 sum 9
+7 2 difference 5
+7 2 exchange 2 7
+2 7 is_less ffffffff
+";
+
+/// Runs the word of a name that stands where it is called.
+fn run_inline(name: &str, stack: &mut DataStack) -> Result<(), Throw> {
+    match name {
+        "sum" => sum(stack),
+        "difference" => difference(stack),
+        "exchange" => exchange(stack),
+        _ => is_less(stack),
     }
-    sum(&mut stack)?;
-    assert_eq!(rt; stack.pop(), Ok(Cell(9)));
-    difference(&mut stack)?;
-    assert_eq!(rt; stack.pop(), Ok(Cell(5)));
-    exchange(&mut stack)?;
-    assert_eq!(rt; stack.cells(), [Cell(2), Cell(7)].as_slice());
-    is_less(&mut stack)?;
-    assert_eq!(rt; stack.pop(), Ok(Cell(0xffff_ffff)));
+}
+
+/// A line as it should be: its two numbers and its word, and what the word leaves.
+fn inline(alloc: Global, line: &str) -> Result<String, Fail> {
+    let mut words = line.split_whitespace();
+    let first = words.next().unwrap_or("");
+    let second = words.next().unwrap_or("");
+    let name = words.next().unwrap_or("");
+    let mut stack = DataStack::new();
+    stack.try_push(Cell(number(first)))?;
+    stack.try_push(Cell(number(second)))?;
+    run_inline(name, &mut stack)?;
+    let mut text = format!(in alloc; "{first} {second} {name}")?;
+    for cell in stack.cells() {
+        write!(text, " {:x}", cell.0)?;
+    }
+    Ok(text)
+}
+
+#[test]
+fn inline_words(rt: HostRuntime) -> Result<(), Fail> {
+    for line in INLINE.lines() {
+        assert_eq!(rt; inline(rt.alloc(), line)?.as_str(), line);
+    }
     Ok(())
 }
 

@@ -1,3 +1,6 @@
+//! Property values: calls that encode and decode them, one a line, and what they answer.
+
+use crate::running::number;
 use of_cells::Cell;
 use of_memory::Memory;
 use of_props::{
@@ -5,71 +8,185 @@ use of_props::{
     decode_string, decodings_are_refused, encode_bytes, encode_int, encode_phys, encode_string,
     encodings_are_refused, ints_read_back, join, strings_read_back,
 };
+use std::alloc::{AllocError, Global};
 use std::test::Fail;
 
-/// An array by its two numbers.
-fn array(address: u32, length: u32) -> Array {
-    Array {
-        address: Cell(address),
-        length: Cell(length),
+/// A call by its name and at most four numbers behind it.
+#[derive(Clone, Copy)]
+struct Call<'a> {
+    call: &'a str,
+    first: Cell,
+    second: Cell,
+    third: Cell,
+    fourth: Cell,
+}
+
+impl Call<'_> {
+    /// The call of a line.
+    fn read(line: &str) -> Call<'_> {
+        let mut words = line.split_whitespace();
+        Call {
+            call: words.next().unwrap_or(""),
+            first: Cell(number(words.next().unwrap_or(""))),
+            second: Cell(number(words.next().unwrap_or(""))),
+            third: Cell(number(words.next().unwrap_or(""))),
+            fourth: Cell(number(words.next().unwrap_or(""))),
+        }
+    }
+
+    /// The array that it is given.
+    fn array(&self) -> Array {
+        Array {
+            address: self.first,
+            length: self.second,
+        }
+    }
+
+    /// The second array that it is given.
+    fn other(&self) -> Array {
+        Array {
+            address: self.third,
+            length: self.fourth,
+        }
     }
 }
 
-#[test]
-fn a_number_and_what_follows(rt: HostRuntime) -> Result<(), Fail> {
-    let mut memory = Memory::new(rt.alloc())?;
-    let number = encode_int(&mut memory, Cell(0x0102_0304))?;
-    let other = encode_bytes(&mut memory, Cell(0x10_0002), Cell(2))?;
-    let both = join(number, other)?;
-    assert_eq!(rt; both, array(0x10_0000, 6));
-    let decoded = decode_int(&memory, both)?;
-    assert_eq!(rt; decoded, (Cell(0x0102_0304), array(0x10_0004, 2)));
-    assert_eq!(rt; memory.read8(Cell(0x10_0000)), Ok(1));
-    assert_eq!(rt; decode_int(&memory, other), Err(PropFault::Short));
-    Ok(())
+/// What a call answers; what is decoded comes before the array behind it.
+#[derive(Clone, Copy)]
+enum Answer {
+    Done,
+    Number(Cell),
+    Array(Array),
+    Cell(Cell, Array),
+    Text(Array, Array),
+    Cells(Cell, Cell, Array),
 }
 
-#[test]
-fn strings_end_at_the_first_zero_byte(rt: HostRuntime) -> Result<(), Fail> {
-    let mut memory = Memory::new(rt.alloc())?;
-    let letters = encode_int(&mut memory, Cell(0x6162_6364))?;
-    let text = encode_string(&mut memory, letters.address, letters.length)?;
-    assert_eq!(rt; text, array(0x10_0004, 5));
-    let decoded = decode_string(&memory, join(letters, text)?)?;
-    assert_eq!(rt; decoded, (array(0x10_0000, 8), array(0x10_0009, 0)));
-    assert_eq!(rt; decode_string(&memory, letters), Err(PropFault::Short));
-    Ok(())
+/// Where an array stands, and how long it is.
+fn shown_array(alloc: Global, array: Array) -> Result<String, AllocError> {
+    format!(in alloc; "{:x} {:x}", array.address.0, array.length.0)
 }
 
-#[test]
-fn cells_of_a_physical_address(rt: HostRuntime) -> Result<(), Fail> {
-    let mut memory = Memory::new(rt.alloc())?;
-    let place = encode_phys(&mut memory, &[Cell(1), Cell(0x8000_0000)])?;
-    assert_eq!(rt; place, array(0x10_0000, 8));
-    assert_eq!(rt; memory.read32(Cell(0x10_0004)), Ok(Cell(0x8000_0000)));
-    let (cells, rest) = decode_phys(&memory, place, 2)?;
-    assert_eq!(rt; cells.as_slice(), [Cell(1), Cell(0x8000_0000)].as_slice());
-    assert_eq!(rt; rest, array(0x10_0008, 0));
-    assert_eq!(rt; join(place, place), Err(PropFault::NotAdjacent));
-    let nothing = array(0x10_0004, 0);
-    assert_eq!(rt; join(nothing, place), Err(PropFault::NotAdjacent));
-    assert_eq!(rt; join(nothing, nothing), Ok(nothing));
-    Ok(())
+/// An answer as text.
+fn shown(alloc: Global, answer: Answer) -> Result<String, AllocError> {
+    let (before, array) = match answer {
+        Answer::Done => return String::from_str(alloc, "done"),
+        Answer::Number(number) => return format!(in alloc; "{:x}", number.0),
+        Answer::Array(array) => return shown_array(alloc, array),
+        Answer::Cell(cell, array) => (format!(in alloc; "{:x}", cell.0)?, array),
+        Answer::Text(text, array) => (shown_array(alloc, text)?, array),
+        Answer::Cells(high, low, array) => (format!(in alloc; "{:x} {:x}", high.0, low.0)?, array),
+    };
+    let behind = shown_array(alloc, array)?;
+    format!(in alloc; "{before} {behind}")
 }
 
+/// A physical address of two cells.
+fn two_cells(memory: &Memory, array: Array) -> Result<Answer, PropFault> {
+    let (cells, behind) = decode_phys(memory, array, 2)?;
+    match cells.as_slice() {
+        [high, low] => Ok(Answer::Cells(*high, *low, behind)),
+        _ => Err(PropFault::Short),
+    }
+}
+
+/// What is read or decoded.
+fn found(memory: &Memory, call: &Call<'_>) -> Result<Answer, PropFault> {
+    match call.call {
+        "decode_int" => {
+            let (number, behind) = decode_int(memory, call.array())?;
+            Ok(Answer::Cell(number, behind))
+        }
+        "decode_string" => {
+            let (text, behind) = decode_string(memory, call.array())?;
+            Ok(Answer::Text(text, behind))
+        }
+        "decode_phys" => two_cells(memory, call.array()),
+        "read8" => Ok(Answer::Number(Cell(memory.read8(call.first)? as u32))),
+        "read32" => Ok(Answer::Number(memory.read32(call.first)?)),
+        _ => Ok(Answer::Number(memory.here())),
+    }
+}
+
+/// What a call answers; `phys` has two cells.
+fn answered(memory: &mut Memory, call: &Call<'_>) -> Result<Answer, PropFault> {
+    let array = match call.call {
+        "int" => encode_int(memory, call.first)?,
+        "bytes" => encode_bytes(memory, call.first, call.second)?,
+        "string" => encode_string(memory, call.first, call.second)?,
+        "phys" => encode_phys(memory, &[call.first, call.second])?,
+        "join" => join(call.array(), call.other())?,
+        "allot" => {
+            memory.allot(call.first)?;
+            return Ok(Answer::Done);
+        }
+        _ => return found(memory, call),
+    };
+    Ok(Answer::Array(array))
+}
+
+/// The lines that answer something else, each with what it answers. A line has a call, and behind `=` what it answers
+/// in the memory that the lines before it have made of the first.
+fn differing(alloc: Global, lines: &str) -> Result<String, Fail> {
+    let mut text = String::new(alloc);
+    let mut memory = Memory::new(alloc)?;
+    for line in lines.lines() {
+        let (call, wanted) = line.split_once('=').unwrap_or(("", ""));
+        let given = match answered(&mut memory, &Call::read(call)) {
+            Ok(answer) => shown(alloc, answer)?,
+            Err(fault) => format!(in alloc; "{fault}")?,
+        };
+        if given.as_str() != wanted.trim() {
+            write!(text, "{line}: {given}\n")?;
+        }
+    }
+    Ok(text)
+}
+
+/// A number and what follows it.
+const NUMBERS: &str = "\
+int 1020304 = 100000 4
+bytes 100002 2 = 100004 2
+join 100000 4 100004 2 = 100000 6
+decode_int 100000 6 = 1020304 100004 2
+read8 100000 = 1
+decode_int 100004 2 = property value too short
+";
+
+/// A string ends at the first zero byte.
+const STRINGS: &str = "\
+int 61626364 = 100000 4
+string 100000 4 = 100004 5
+join 100000 4 100004 5 = 100000 9
+decode_string 100000 9 = 100000 8 100009 0
+decode_string 100000 4 = property value too short
+";
+
+/// The cells of a physical address, and arrays that adjoin or don't.
+const CELLS: &str = "\
+phys 1 80000000 = 100000 8
+read32 100004 = 80000000
+decode_phys 100000 8 = 1 80000000 100008 0
+join 100000 8 100000 8 = arrays not adjacent
+join 100004 0 100000 8 = arrays not adjacent
+join 100004 0 100004 0 = 100004 0
+";
+
+/// Addresses count before lengths.
+const FAULTS: &str = "\
+decode_int 0 2 = invalid memory address
+decode_string 140000 0 = property value too short
+allot 3fffd = done
+int 1 = no room in the region
+string 13ffff 2 = invalid memory address
+here = 13fffd
+";
+
 #[test]
-fn addresses_count_before_lengths(rt: HostRuntime) -> Result<(), Fail> {
-    let mut memory = Memory::new(rt.alloc())?;
-    assert_eq!(rt; decode_int(&memory, array(0, 2)), Err(PropFault::Address));
-    assert_eq!(rt;
-        decode_string(&memory, array(0x14_0000, 0)),
-        Err(PropFault::Short)
-    );
-    memory.allot(Cell(0x3_fffd))?;
-    assert_eq!(rt; encode_int(&mut memory, Cell(1)), Err(PropFault::Full));
-    let text = encode_string(&mut memory, Cell(0x13_ffff), Cell(2));
-    assert_eq!(rt; text, Err(PropFault::Address));
-    assert_eq!(rt; memory.here(), Cell(0x13_fffd));
+fn calls(rt: HostRuntime) -> Result<(), Fail> {
+    for lines in [NUMBERS, STRINGS, CELLS, FAULTS] {
+        assert_eq!(rt; differing(rt.alloc(), lines)?.as_str(), "");
+    }
     Ok(())
 }
 

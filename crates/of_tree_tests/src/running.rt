@@ -122,7 +122,7 @@ impl Trial {
 }
 
 /// A number in hexadecimal digits.
-fn number(digits: &str) -> u32 {
+pub(crate) fn number(digits: &str) -> u32 {
     u32::from_str_radix(digits, 16).unwrap_or(0)
 }
 

@@ -1,10 +1,8 @@
 //! Words that don't throw.
 
-use crate::running::{Trial, differing};
-use of_cells::Cell;
+use crate::histories;
+use crate::running::differing;
 use of_instances::{images_stay, tree_words_throw_listed};
-use of_nodes::Phandle;
-use of_stacks::Stop;
 use std::test::Fail;
 
 /// Values at `here`, and what is read of them.
@@ -31,12 +29,6 @@ const ENCODED: &str = "\
 *fd %1 encode-int decode-int|256 cells|
 ";
 
-#[test]
-fn encoded(rt: HostRuntime) -> Result<(), Fail> {
-    assert_eq!(rt; differing(rt.alloc(), ENCODED)?.as_str(), "");
-    Ok(())
-}
-
 /// Properties that are set and deleted. Those that `reg`, `model`, `device-type` and `device-name` set leave `here`
 /// where it is.
 const SET: &str = "\
@@ -57,12 +49,6 @@ const SET: &str = "\
 @2 \"a/b delete-property %0 %0 delete-property||name=736c6f7400
 ";
 
-#[test]
-fn set(rt: HostRuntime) -> Result<(), Fail> {
-    assert_eq!(rt; differing(rt.alloc(), SET)?.as_str(), "");
-    Ok(())
-}
-
 /// Properties that are found. The names and values of the first nodes lie from 0x200010 to 0x200035.
 const FOUND: &str = "\
 @2 \"name get-my-property|200030 5 0|name=736c6f7400
@@ -80,12 +66,6 @@ const FOUND: &str = "\
 \"x %d0000008 next-property|0|
 @2 new-device %0 %0 %d000000c next-property|0|
 ";
-
-#[test]
-fn found(rt: HostRuntime) -> Result<(), Fail> {
-    assert_eq!(rt; differing(rt.alloc(), FOUND)?.as_str(), "");
-    Ok(())
-}
 
 /// Nodes that are made and found.
 const NODES: &str = "\
@@ -109,12 +89,6 @@ const NODES: &str = "\
 \"open %d0000008 find-method|0|
 ";
 
-#[test]
-fn nodes(rt: HostRuntime) -> Result<(), Fail> {
-    assert_eq!(rt; differing(rt.alloc(), NODES)?.as_str(), "");
-    Ok(())
-}
-
 /// Images, which begin at `[` and end at `]`: at the end each `new-device` that was opened in the image is open no
 /// more, also where the image finished older ones, and the package that was active before is active. So is the
 /// instance, even if the image released it.
@@ -133,41 +107,31 @@ const IMAGES: &str = "\
 ";
 
 #[test]
-fn images(rt: HostRuntime) -> Result<(), Fail> {
-    assert_eq!(rt; differing(rt.alloc(), IMAGES)?.as_str(), "");
+fn lines(rt: HostRuntime) -> Result<(), Fail> {
+    for table in [ENCODED, SET, FOUND, NODES, IMAGES] {
+        assert_eq!(rt; differing(rt.alloc(), table)?.as_str(), "");
+    }
     Ok(())
 }
 
 /// A method is found whatever the case of its name.
-#[test]
-fn methods(rt: HostRuntime) -> Result<(), Fail> {
-    let mut trial = Trial::new(rt.alloc())?;
-    trial
-        .board
-        .tree
-        .add_method(Phandle::of(2), b"open", Cell(0xc000_052c))?;
-    assert_eq!(rt; trial.run_all("\"OPEN %d0000008 find-method"), Ok(()));
-    assert_eq!(rt;
-        trial.board.stack.top_two(),
-        Ok((Cell(0xc000_052c), Cell::TRUE))
-    );
-    Ok(())
-}
+const METHODS: &str = "\
+add_open d0000008 c000052c = done | 0 0 0/0
+run \"OPEN %d0000008 find-method = c000052c ffffffff | 0 0 0/0
+";
 
 /// There are at most 1,024 nodes, three of them from the beginning. A `new-device` that is refused isn't counted.
+const MANY_NODES: &str = "\
+activate d0000008 - = done | d0000008 0 0/0
+repeat 3fd new-device finish-device = | d0000008 0 0/1021
+run new-device = throws -8 | d0000008 0 0/1021
+";
+
 #[test]
-fn many_nodes(rt: HostRuntime) -> Result<(), Fail> {
-    let mut trial = Trial::new(rt.alloc())?;
-    trial.board.active.package = Some(Phandle::of(2));
-    for _ in 0..1021 {
-        assert_eq!(rt; trial.run("new-device"), Ok(()));
-        assert_eq!(rt; trial.run("finish-device"), Ok(()));
+fn histories(rt: HostRuntime) -> Result<(), Fail> {
+    for lines in [METHODS, MANY_NODES] {
+        assert_eq!(rt; histories::differing(rt.alloc(), lines)?.as_str(), "");
     }
-    let ended = trial.run("new-device");
-    assert_eq!(rt; ended, Err(Stop::Thrown(of_stacks::Throw(-8))));
-    assert_eq!(rt; trial.board.active.package, Some(Phandle::of(2)));
-    assert_eq!(rt; trial.board.active.new_devices.len(), 0);
-    assert_eq!(rt; trial.board.active.new_devices.ever(), 1021);
     Ok(())
 }
 
