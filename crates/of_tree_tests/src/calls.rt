@@ -17,6 +17,14 @@ struct Call<'a> {
     value: &'a str,
 }
 
+/// Appends the bytes of cells, which stand between commas.
+fn push_cells(bytes: &mut Vec<u8>, cells: &str) -> Result<(), AllocError> {
+    for digits in cells.split(',') {
+        bytes.extend_from_slice(&number(digits).to_be_bytes())?;
+    }
+    Ok(())
+}
+
 impl Call<'_> {
     /// The call of a line.
     fn read(line: &str) -> Call<'_> {
@@ -68,9 +76,7 @@ impl Call<'_> {
             return Ok(bytes);
         }
         if let Some(cells) = self.value.strip_prefix('#') {
-            for digits in cells.split(',') {
-                bytes.extend_from_slice(&number(digits).to_be_bytes())?;
-            }
+            push_cells(&mut bytes, cells)?;
             return Ok(bytes);
         }
         for byte in self.value.as_bytes() {
@@ -128,45 +134,67 @@ fn shown_byte(alloc: Global, memory: &Memory, address: Cell) -> Result<String, A
     }
 }
 
-/// What a call on a node's place or path answers.
-fn placed(
+/// The node that a call leads to.
+fn led_to(tree: &Tree, memory: &Memory, call: &Call<'_>) -> Result<Option<Phandle>, NodeFault> {
+    match call.call {
+        "parent" => tree.parent(call.node()),
+        "child" => tree.child(call.node()),
+        "peer" => tree.peer(call.node()),
+        "after" => tree.after(call.node()),
+        "find" => Ok(tree.find(memory, call.target.as_bytes())),
+        "find_package" => Ok(tree.find_package(memory, call.target.as_bytes())),
+        _ => tree.find_from(memory, call.node(), call.name),
+    }
+}
+
+/// A node's component of a path, or its path.
+fn named(
     alloc: Global,
     tree: &Tree,
     memory: &Memory,
     call: &Call<'_>,
 ) -> Result<String, NodeFault> {
-    Ok(match call.call {
-        "parent" => shown_node(alloc, tree.parent(call.node())?)?,
-        "child" => shown_node(alloc, tree.child(call.node())?)?,
-        "peer" => shown_node(alloc, tree.peer(call.node())?)?,
-        "after" => shown_node(alloc, tree.after(call.node())?)?,
-        "find" => shown_node(alloc, tree.find(memory, call.target.as_bytes()))?,
-        "find_package" => shown_node(alloc, tree.find_package(memory, call.target.as_bytes()))?,
-        "find_from" => shown_node(alloc, tree.find_from(memory, call.node(), call.name)?)?,
-        "component_of" => {
-            let component = tree.component_of(memory, call.node())?;
-            String::from_str(alloc, std::str::from_utf8(&component).unwrap_or(""))?
-        }
-        _ => {
-            let path = tree.path_of(memory, call.node())?;
-            String::from_str(alloc, std::str::from_utf8(&path).unwrap_or(""))?
-        }
-    })
+    let text = match call.call {
+        "component_of" => tree.component_of(memory, call.node())?,
+        _ => tree.path_of(memory, call.node())?,
+    };
+    Ok(String::from_str(alloc, std::str::from_utf8(&text).unwrap_or(""))?)
+}
+
+/// The property that a call asks for.
+fn property_of(tree: &Tree, call: &Call<'_>) -> Result<Option<Property>, NodeFault> {
+    match call.call {
+        "property" => tree.property(call.node(), call.name),
+        "next_property" => tree.next_property(call.node(), call.name),
+        _ => tree.property_at(call.node(), call.place()),
+    }
+}
+
+/// How many cells an address below a node has.
+fn shown_count(
+    alloc: Global,
+    tree: &Tree,
+    memory: &Memory,
+    node: Phandle,
+) -> Result<String, NodeFault> {
+    let count = tree.address_cells(memory, node)?;
+    Ok(format!(in alloc; "{count}")?)
 }
 
 /// What a call that asks for what a node has answers.
 fn had(alloc: Global, tree: &Tree, memory: &Memory, call: &Call<'_>) -> Result<String, NodeFault> {
     let node = call.node();
-    Ok(match call.call {
-        "property" => shown_property(alloc, tree.property(node, call.name)?)?,
-        "next_property" => shown_property(alloc, tree.next_property(node, call.name)?)?,
-        "method" => shown_xt(alloc, tree.method(node, call.name)?)?,
-        "property_at" => shown_property(alloc, tree.property_at(node, call.place())?)?,
-        "method_at" => shown_method(alloc, tree.method_at(node, call.place())?)?,
-        "address_cells" => format!(in alloc; "{}", tree.address_cells(memory, node)?)?,
-        "byte" => shown_byte(alloc, memory, node.0)?,
-        _ => placed(alloc, tree, memory, call)?,
-    })
+    match call.call {
+        "property" | "next_property" | "property_at" => {
+            Ok(shown_property(alloc, property_of(tree, call)?)?)
+        }
+        "method" => Ok(shown_xt(alloc, tree.method(node, call.name)?)?),
+        "method_at" => Ok(shown_method(alloc, tree.method_at(node, call.place())?)?),
+        "address_cells" => shown_count(alloc, tree, memory, node),
+        "byte" => Ok(shown_byte(alloc, memory, node.0)?),
+        "component_of" | "path_of" => named(alloc, tree, memory, call),
+        _ => Ok(shown_node(alloc, led_to(tree, memory, call)?)?),
+    }
 }
 
 /// Adds so many nodes below one, and gives the last.
@@ -178,6 +206,22 @@ fn add_nodes(tree: &mut Tree, parent: Phandle, count: usize) -> Result<Phandle, 
     Ok(last)
 }
 
+/// Adds a node and takes it back.
+fn add_and_take_back(tree: &mut Tree, parent: Phandle) -> Result<Phandle, NodeFault> {
+    let made = tree.add_node(parent)?;
+    tree.take_back_node();
+    Ok(made)
+}
+
+/// The node that a call adds.
+fn added(tree: &mut Tree, call: &Call<'_>) -> Result<Phandle, NodeFault> {
+    match call.call {
+        "add_node" => tree.add_node(call.node()),
+        "add_nodes" => add_nodes(tree, call.node(), call.place()),
+        _ => add_and_take_back(tree, call.node()),
+    }
+}
+
 /// What a call answers.
 fn answer(
     alloc: Global,
@@ -187,15 +231,8 @@ fn answer(
 ) -> Result<String, NodeFault> {
     let node = call.node();
     match call.call {
-        "add_node" => return Ok(shown_node(alloc, Some(tree.add_node(node)?))?),
-        "add_nodes" => {
-            let last = add_nodes(tree, node, call.place())?;
-            return Ok(shown_node(alloc, Some(last))?);
-        }
-        "add_and_take_back" => {
-            let made = tree.add_node(node)?;
-            tree.take_back_node();
-            return Ok(shown_node(alloc, Some(made))?);
+        "add_node" | "add_nodes" | "add_and_take_back" => {
+            return Ok(shown_node(alloc, Some(added(tree, call)?))?);
         }
         "set_property" => tree.set_property(memory, node, call.name, &call.bytes(alloc)?)?,
         "delete_property" => tree.delete_property(node, call.name)?,
@@ -206,21 +243,41 @@ fn answer(
     Ok(String::from_str(alloc, "done")?)
 }
 
-/// The lines that answer something else, each with what it answers. A line has a call, and behind `=` what it answers
-/// on the tree that the lines before it have made of the first tree.
-pub(crate) fn differing(alloc: Global, lines: &str) -> Result<String, Fail> {
+/// What a call answers, or why it is refused.
+fn given(
+    alloc: Global,
+    tree: &mut Tree,
+    memory: &mut Memory,
+    call: &Call<'_>,
+) -> Result<String, AllocError> {
+    match answer(alloc, tree, memory, call) {
+        Ok(given) => Ok(given),
+        Err(fault) => format!(in alloc; "{fault}"),
+    }
+}
+
+/// The lines that answer something else on a tree.
+fn differing_on(
+    alloc: Global,
+    tree: &mut Tree,
+    memory: &mut Memory,
+    lines: &str,
+) -> Result<String, AllocError> {
     let mut text = String::new(alloc);
-    let mut memory = Memory::new(alloc)?;
-    let mut tree = Tree::new(alloc, &mut memory)?;
     for line in lines.lines() {
         let (call, wanted) = line.split_once('=').unwrap_or(("", ""));
-        let given = match answer(alloc, &mut tree, &mut memory, &Call::read(call)) {
-            Ok(given) => given,
-            Err(fault) => format!(in alloc; "{fault}")?,
-        };
+        let given = given(alloc, tree, memory, &Call::read(call))?;
         if given.as_str() != wanted.trim() {
-            text.push_str(&format!(in alloc; "{line}: {given}\n")?)?;
+            write!(text, "{line}: {given}\n")?;
         }
     }
     Ok(text)
+}
+
+/// The lines that answer something else, each with what it answers. A line has a call, and behind `=` what it answers
+/// on the tree that the lines before it have made of the first tree.
+pub(crate) fn differing(alloc: Global, lines: &str) -> Result<String, Fail> {
+    let mut memory = Memory::new(alloc)?;
+    let mut tree = Tree::new(alloc, &mut memory)?;
+    Ok(differing_on(alloc, &mut tree, &mut memory, lines)?)
 }

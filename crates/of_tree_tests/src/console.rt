@@ -3,17 +3,23 @@
 use of_board::Console;
 use of_cells::Cell;
 use of_stacks::Throw;
+use std::alloc::AllocError;
 use std::test::Fail;
+
+/// Prints texts as they are, before a space, and at the right end of a width.
+fn print_texts(console: &mut Console) -> Result<(), AllocError> {
+    console.print(b"ab")?;
+    console.print_spaced(b"12")?;
+    console.print_at_right(5, b"-1")?;
+    console.print_at_right(2, b"123")?;
+    console.print_at_right(-1, b"4")
+}
 
 #[test]
 fn texts(rt: HostRuntime) -> Result<(), Fail> {
     let mut console = Console::new(rt.alloc());
     assert_eq!(rt; console.bytes(), "".as_bytes());
-    console.print(b"ab")?;
-    console.print_spaced(b"12")?;
-    console.print_at_right(5, b"-1")?;
-    console.print_at_right(2, b"123")?;
-    console.print_at_right(-1, b"4")?;
+    print_texts(&mut console)?;
     assert_eq!(rt; console.bytes(), "ab12    -11234".as_bytes());
     Ok(())
 }

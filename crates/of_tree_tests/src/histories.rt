@@ -125,21 +125,24 @@ fn repeat(trial: &mut Trial, times: u32, words: &str) -> Result<(), Stop> {
     Ok(())
 }
 
-/// What a line's call answers, or what its words leave: those behind `run`, or behind `repeat` and how many times.
-fn answered(alloc: Global, trial: &mut Trial, line: &str) -> Result<String, Fail> {
+/// Runs the words of a line: those behind `run`, or behind `repeat` and how many times.
+fn run(trial: &mut Trial, line: &str) -> Option<Result<(), Stop>> {
     if let Some(words) = line.strip_prefix("run ") {
-        let ended = trial.run_all(words);
+        return Some(trial.run_all(words));
+    }
+    let (times, words) = line.strip_prefix("repeat ")?.split_once(' ')?;
+    Some(repeat(trial, number(times), words))
+}
+
+/// What a line's call answers, or what its words leave.
+fn answered(alloc: Global, trial: &mut Trial, line: &str) -> Result<String, AllocError> {
+    if let Some(ended) = run(trial, line) {
         return left(alloc, &trial.board, ended);
     }
-    if let Some(rest) = line.strip_prefix("repeat ") {
-        let (times, words) = rest.split_once(' ').unwrap_or(("", ""));
-        let ended = repeat(trial, number(times), words);
-        return left(alloc, &trial.board, ended);
+    match on_board(&mut trial.board, &Call::read(line)) {
+        Ok(answer) => answer.shown(alloc),
+        Err(fault) => format!(in alloc; "{fault}"),
     }
-    Ok(match on_board(&mut trial.board, &Call::read(line)) {
-        Ok(answer) => answer.shown(alloc)?,
-        Err(fault) => format!(in alloc; "{fault}")?,
-    })
 }
 
 /// Which of the first five instances are live, by their numbers.
@@ -169,23 +172,28 @@ fn active(alloc: Global, board: &Board) -> Result<String, AllocError> {
 }
 
 /// What a line's call answers, and what is active then.
-fn given(alloc: Global, trial: &mut Trial, line: &str) -> Result<String, Fail> {
+fn given(alloc: Global, trial: &mut Trial, line: &str) -> Result<String, AllocError> {
     let answer = answered(alloc, trial, line)?;
     let active = active(alloc, &trial.board)?;
-    Ok(format!(in alloc; "{} | {active}", answer.trim_end())?)
+    format!(in alloc; "{} | {active}", answer.trim_end())
 }
 
-/// The lines that give something else, each with what it gives. A line has a call, and behind `=` what it answers on
-/// the board that the lines before it have made of the first board, and what is active then.
-pub(crate) fn differing(alloc: Global, lines: &str) -> Result<String, Fail> {
+/// The lines that give something else on a board.
+fn differing_on(alloc: Global, trial: &mut Trial, lines: &str) -> Result<String, AllocError> {
     let mut text = String::new(alloc);
-    let mut trial = Trial::new(alloc)?;
     for line in lines.lines() {
         let (call, wanted) = line.split_once(" =").unwrap_or(("", ""));
-        let given = given(alloc, &mut trial, call)?;
+        let given = given(alloc, trial, call)?;
         if given.trim_start() != wanted.trim_start() {
             write!(text, "{line}: {given}\n")?;
         }
     }
     Ok(text)
+}
+
+/// The lines that give something else, each with what it gives. A line has a call, and behind `=` what it answers on
+/// the board that the lines before it have made of the first board, and what is active then.
+pub(crate) fn differing(alloc: Global, lines: &str) -> Result<String, Fail> {
+    let mut trial = Trial::new(alloc)?;
+    Ok(differing_on(alloc, &mut trial, lines)?)
 }

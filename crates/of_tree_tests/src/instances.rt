@@ -88,6 +88,21 @@ fn shown_text(alloc: Global, memory: &Memory, span: Span) -> Result<String, Allo
     }
 }
 
+/// A physical address.
+fn shown_unit(alloc: Global, unit: [Cell; 4]) -> Result<String, AllocError> {
+    let [high, next, third, low] = unit;
+    format!(in alloc; "{:x},{:x},{:x},{:x}", high.0, next.0, third.0, low.0)
+}
+
+/// The cell that a call asks for.
+fn cell_of(instances: &Instances, memory: &Memory, call: &Call<'_>) -> Result<Cell, InstanceFault> {
+    match call.call {
+        "package" => Ok(instances.package(call.ihandle())?.0),
+        "parent" => instances.parent(call.ihandle()),
+        _ => instances.slot_at(memory, call.ihandle(), call.slot()),
+    }
+}
+
 /// What a call that asks for something answers.
 fn had(
     alloc: Global,
@@ -97,24 +112,52 @@ fn had(
 ) -> Result<String, InstanceFault> {
     let ihandle = call.ihandle();
     Ok(match call.call {
-        "package" => format!(in alloc; "{:x}", instances.package(ihandle)?.0.0)?,
-        "parent" => format!(in alloc; "{:x}", instances.parent(ihandle)?.0)?,
-        "unit" => {
-            let [high, next, third, low] = instances.unit(ihandle)?;
-            format!(in alloc; "{:x},{:x},{:x},{:x}", high.0, next.0, third.0, low.0)?
+        "package" | "parent" | "slot_at" => {
+            format!(in alloc; "{:x}", cell_of(instances, memory, call)?.0)?
         }
+        "unit" => shown_unit(alloc, instances.unit(ihandle)?)?,
         "args" => shown_span(alloc, instances.args(ihandle)?)?,
         "text" => shown_text(alloc, memory, instances.args(ihandle)?)?,
         "slot_span" => shown_span(alloc, instances.slot_span(ihandle, call.slot())?)?,
-        "slot_at" => {
-            format!(in alloc; "{:x}", instances.slot_at(memory, ihandle, call.slot())?.0)?
-        }
         _ => String::from_str(alloc, "no such call")?,
     })
 }
 
-/// What a call answers.
-fn answer(
+/// Opens and closes an instance so many times.
+fn cycle(
+    instances: &mut Instances,
+    memory: &mut Memory,
+    package: Phandle,
+    times: u32,
+) -> Result<(), InstanceFault> {
+    for _ in 0..times {
+        let ihandle = instances.open(memory, package, Cell::ZERO, b"")?;
+        instances.close(memory, ihandle)?;
+    }
+    Ok(())
+}
+
+/// Does what a call says that changes instances and answers nothing. Answers whether it is such a call.
+fn change(
+    instances: &mut Instances,
+    memory: &mut Memory,
+    call: &Call<'_>,
+) -> Result<bool, InstanceFault> {
+    let ihandle = call.ihandle();
+    match call.call {
+        "close" => instances.close(memory, ihandle)?,
+        "release" => instances.release(memory, ihandle),
+        "cycle" => cycle(instances, memory, call.package(), number(call.second))?,
+        "set_slot" => {
+            instances.set_slot(memory, ihandle, call.slot(), Cell(number(call.third)))?;
+        }
+        _ => return Ok(false),
+    }
+    Ok(true)
+}
+
+/// What a call that makes something answers, or else one that asks.
+fn made(
     alloc: Global,
     instances: &mut Instances,
     memory: &mut Memory,
@@ -124,54 +167,63 @@ fn answer(
         "open" => {
             let parent = Cell(number(call.second));
             let ihandle = instances.open(memory, call.package(), parent, text(call.third))?;
-            return Ok(format!(in alloc; "{:x}", ihandle.0)?);
+            Ok(format!(in alloc; "{:x}", ihandle.0)?)
         }
         "slot" => {
             let slot = instances.slot(memory, call.package(), call.template())?;
-            return Ok(format!(in alloc; "{slot}")?);
-        }
-        "close" => instances.close(memory, call.ihandle())?,
-        "release" => instances.release(memory, call.ihandle()),
-        "set_slot" => {
-            instances.set_slot(
-                memory,
-                call.ihandle(),
-                call.slot(),
-                Cell(number(call.third)),
-            )?
+            Ok(format!(in alloc; "{slot}")?)
         }
         "set_args" => {
             let unit = cells(alloc, call.third)?;
-            instances.set_args(memory, call.ihandle(), text(call.second), &unit)?
+            instances.set_args(memory, call.ihandle(), text(call.second), &unit)?;
+            Ok(String::from_str(alloc, "done")?)
         }
-        "cycle" => {
-            for _ in 0..number(call.second) {
-                let ihandle = instances.open(memory, call.package(), Cell::ZERO, b"")?;
-                instances.close(memory, ihandle)?;
-            }
-        }
-        _ => return had(alloc, instances, memory, call),
+        _ => had(alloc, instances, memory, call),
     }
-    Ok(String::from_str(alloc, "done")?)
+}
+
+/// What a call answers, or why it is refused.
+fn given(
+    alloc: Global,
+    instances: &mut Instances,
+    memory: &mut Memory,
+    call: &Call<'_>,
+) -> Result<String, AllocError> {
+    let answer = match change(instances, memory, call) {
+        Ok(true) => return String::from_str(alloc, "done"),
+        Ok(false) => made(alloc, instances, memory, call),
+        Err(fault) => Err(fault),
+    };
+    match answer {
+        Ok(text) => Ok(text),
+        Err(fault) => format!(in alloc; "{fault}"),
+    }
+}
+
+/// The lines that answer something else on instances.
+fn differing_on(
+    alloc: Global,
+    instances: &mut Instances,
+    memory: &mut Memory,
+    lines: &str,
+) -> Result<String, AllocError> {
+    let mut text = String::new(alloc);
+    for line in lines.lines() {
+        let (call, wanted) = line.split_once('=').unwrap_or(("", ""));
+        let given = given(alloc, instances, memory, &Call::read(call))?;
+        if given.as_str() != wanted.trim() {
+            write!(text, "{line}: {given}\n")?;
+        }
+    }
+    Ok(text)
 }
 
 /// The lines that answer something else, each with what it answers. A line has a call, and behind `=` what it answers
 /// behind the lines before it.
 fn differing(alloc: Global, lines: &str) -> Result<String, Fail> {
-    let mut text = String::new(alloc);
     let mut memory = Memory::new(alloc)?;
     let mut instances = Instances::new(alloc);
-    for line in lines.lines() {
-        let (call, wanted) = line.split_once('=').unwrap_or(("", ""));
-        let given = match answer(alloc, &mut instances, &mut memory, &Call::read(call)) {
-            Ok(given) => given,
-            Err(fault) => format!(in alloc; "{fault}")?,
-        };
-        if given.as_str() != wanted.trim() {
-            text.push_str(&format!(in alloc; "{line}: {given}\n")?)?;
-        }
-    }
-    Ok(text)
+    Ok(differing_on(alloc, &mut instances, &mut memory, lines)?)
 }
 
 #[test]

@@ -1,11 +1,12 @@
 //! Ordinary words over the board.
 
 use crate::running::{Trial, left, number};
+use of_board::Board;
 use of_cells::Cell;
 use of_fcodes::{PrimitiveWord, StacksWord};
-use of_stacks::{DataStack, Throw};
+use of_stacks::{DataStack, Stop};
 use of_words::{difference, exchange, is_less, run_primitive, sum};
-use std::alloc::Global;
+use std::alloc::{AllocError, Global};
 use std::test::Fail;
 
 /// Lines of words, each with what it prints and what it leaves. Numbers are printed in hexadecimal at first.
@@ -22,84 +23,92 @@ const LINES: &str = "\
 key||throws -256
 ";
 
-/// What the words of a line print, each newline as `~`, and what they leave.
-fn shown(alloc: Global, words: &str) -> Result<String, Fail> {
+/// What is printed, each newline as `~`, and what words leave.
+fn shown(alloc: Global, board: &Board, ended: Result<(), Stop>) -> Result<String, AllocError> {
+    let mut text = String::new(alloc);
+    for byte in board.console.bytes() {
+        match *byte {
+            b'\n' => text.push('~')?,
+            byte => text.push(char::from(byte))?,
+        }
+    }
+    let left = left(alloc, board, ended)?;
+    write!(text, "|{}", left.trim_end())?;
+    Ok(text)
+}
+
+/// What words print and leave on a new board.
+fn given(alloc: Global, words: &str) -> Result<String, Fail> {
     let mut trial = Trial::new(alloc)?;
     let ended = trial.run_all(words);
-    let mut text = String::new(alloc);
-    for byte in trial.board.console.bytes() {
-        text.push(if *byte == b'\n' {
-            '~'
-        } else {
-            char::from(*byte)
-        })?;
-    }
-    text.push('|')?;
-    let cells = left(alloc, &trial.board, ended)?;
-    text.push_str(cells.trim_end())?;
-    Ok(text)
+    Ok(shown(alloc, &trial.board, ended)?)
 }
 
 #[test]
 fn lines(rt: HostRuntime) -> Result<(), Fail> {
     for line in LINES.lines() {
-        let Some((words, wanted)) = line.split_once('|') else {
-            continue;
-        };
-        assert_eq!(rt; shown(rt.alloc(), words)?.as_str(), wanted);
+        let (words, wanted) = line.split_once('|').unwrap_or(("", ""));
+        assert_eq!(rt; given(rt.alloc(), words)?.as_str(), wanted);
     }
     Ok(())
 }
 
-/// The words that stand where they are called, each behind two numbers and before what they leave.
+/// The words that stand where they are called, each behind the cells that it finds and before those that it leaves.
 const INLINE: &str = "\
-7 2 sum 9
-7 2 difference 5
-7 2 exchange 2 7
-2 7 is_less ffffffff
+7 2 7 2 7 2|sum|7 2 7 2 9
+7 2 7 2|difference|7 2 5
+7 2|exchange|2 7
+2 7|is_less|ffffffff
 ";
 
-/// Runs the word of a name that stands where it is called.
-fn run_inline(name: &str, stack: &mut DataStack) -> Result<(), Throw> {
-    match name {
-        "sum" => sum(stack),
-        "difference" => difference(stack),
-        "exchange" => exchange(stack),
-        _ => is_less(stack),
+/// Runs the word of a name that stands where it is called, behind some cells.
+fn run_inline(stack: &mut DataStack, cells: &str, name: &str) -> Result<(), Stop> {
+    for digits in cells.split_whitespace() {
+        stack.try_push(Cell(number(digits)))?;
     }
+    match name {
+        "sum" => sum(stack)?,
+        "difference" => difference(stack)?,
+        "exchange" => exchange(stack)?,
+        _ => is_less(stack)?,
+    }
+    Ok(())
 }
 
-/// A line as it should be: its two numbers and its word, and what the word leaves.
-fn inline(alloc: Global, line: &str) -> Result<String, Fail> {
-    let mut words = line.split_whitespace();
-    let first = words.next().unwrap_or("");
-    let second = words.next().unwrap_or("");
-    let name = words.next().unwrap_or("");
+/// What a word that stands where it is called leaves.
+fn left_inline(alloc: Global, cells: &str, name: &str) -> Result<String, Fail> {
     let mut stack = DataStack::new();
-    stack.try_push(Cell(number(first)))?;
-    stack.try_push(Cell(number(second)))?;
-    run_inline(name, &mut stack)?;
-    let mut text = format!(in alloc; "{first} {second} {name}")?;
+    run_inline(&mut stack, cells, name)?;
+    let mut text = String::new(alloc);
     for cell in stack.cells() {
-        write!(text, " {:x}", cell.0)?;
+        write!(text, "{:x} ", cell.0)?;
     }
     Ok(text)
 }
 
 #[test]
-fn inline_words(rt: HostRuntime) -> Result<(), Fail> {
+fn inline(rt: HostRuntime) -> Result<(), Fail> {
     for line in INLINE.lines() {
-        assert_eq!(rt; inline(rt.alloc(), line)?.as_str(), line);
+        let (cells, rest) = line.split_once('|').unwrap_or(("", ""));
+        let (name, wanted) = rest.split_once('|').unwrap_or(("", ""));
+        assert_eq!(rt; left_inline(rt.alloc(), cells, name)?.trim_end(), wanted);
     }
     Ok(())
 }
 
+/// What `dup` leaves as a primitive on a new board, behind a 3.
+fn doubled(alloc: Global) -> Result<String, Fail> {
+    let mut trial = Trial::new(alloc)?;
+    let board = &mut trial.board;
+    let ended = match board.stack.try_push(Cell(3)) {
+        Ok(()) => run_primitive(PrimitiveWord::Stacks(StacksWord::Dup), board),
+        Err(fault) => Err(Stop::Thrown(fault)),
+    };
+    Ok(left(alloc, board, ended)?)
+}
+
 #[test]
 fn primitives(rt: HostRuntime) -> Result<(), Fail> {
-    let mut trial = Trial::new(rt.alloc())?;
-    trial.board.stack.try_push(Cell(3))?;
-    let ended = run_primitive(PrimitiveWord::Stacks(StacksWord::Dup), &mut trial.board);
-    assert_eq!(rt; ended, Ok(()));
-    assert_eq!(rt; trial.board.stack.cells(), [Cell(3), Cell(3)].as_slice());
+    assert_eq!(rt; doubled(rt.alloc())?.as_str(), "3 3 ");
     Ok(())
 }

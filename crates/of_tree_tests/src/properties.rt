@@ -125,22 +125,32 @@ fn answered(memory: &mut Memory, call: &Call<'_>) -> Result<Answer, PropFault> {
     Ok(Answer::Array(array))
 }
 
-/// The lines that answer something else, each with what it answers. A line has a call, and behind `=` what it answers
-/// in the memory that the lines before it have made of the first.
-fn differing(alloc: Global, lines: &str) -> Result<String, Fail> {
+/// What a call answers, or why it is refused.
+fn given(alloc: Global, memory: &mut Memory, call: &Call<'_>) -> Result<String, AllocError> {
+    match answered(memory, call) {
+        Ok(answer) => shown(alloc, answer),
+        Err(fault) => format!(in alloc; "{fault}"),
+    }
+}
+
+/// The lines that answer something else in a memory.
+fn differing_in(alloc: Global, memory: &mut Memory, lines: &str) -> Result<String, AllocError> {
     let mut text = String::new(alloc);
-    let mut memory = Memory::new(alloc)?;
     for line in lines.lines() {
         let (call, wanted) = line.split_once('=').unwrap_or(("", ""));
-        let given = match answered(&mut memory, &Call::read(call)) {
-            Ok(answer) => shown(alloc, answer)?,
-            Err(fault) => format!(in alloc; "{fault}")?,
-        };
+        let given = given(alloc, memory, &Call::read(call))?;
         if given.as_str() != wanted.trim() {
             write!(text, "{line}: {given}\n")?;
         }
     }
     Ok(text)
+}
+
+/// The lines that answer something else, each with what it answers. A line has a call, and behind `=` what it answers
+/// in the memory that the lines before it have made of the first.
+fn differing(alloc: Global, lines: &str) -> Result<String, Fail> {
+    let mut memory = Memory::new(alloc)?;
+    Ok(differing_in(alloc, &mut memory, lines)?)
 }
 
 /// A number and what follows it.

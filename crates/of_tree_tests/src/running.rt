@@ -7,9 +7,9 @@ use of_format::Pictured;
 use of_ihandles::Instances;
 use of_instances::{run_properties_word, run_tree_word};
 use of_memory::Memory;
-use of_nodes::{Phandle, Tree};
+use of_nodes::{Phandle, Property, Tree};
 use of_stacks::{DataStack, Stop, Throw};
-use std::alloc::Global;
+use std::alloc::{AllocError, Global};
 use std::test::Fail;
 
 /// The board that the words run over, and what was there when the latest image began.
@@ -127,61 +127,82 @@ pub(crate) fn number(digits: &str) -> u32 {
 }
 
 /// The cells of the stack, or how many there are where they are more than 8, and what was thrown.
-pub(crate) fn left(alloc: Global, board: &Board, ended: Result<(), Stop>) -> Result<String, Fail> {
+pub(crate) fn left(
+    alloc: Global,
+    board: &Board,
+    ended: Result<(), Stop>,
+) -> Result<String, AllocError> {
     let mut text = String::new(alloc);
     let depth = board.stack.depth();
     if depth > 8 {
-        text.push_str(&format!(in alloc; "{depth} cells ")?)?;
+        write!(text, "{depth} cells ")?;
     } else {
         for x in board.stack.cells() {
-            text.push_str(&format!(in alloc; "{:x} ", x.0)?)?;
+            write!(text, "{:x} ", x.0)?;
         }
     }
     match ended {
         Ok(()) => {}
-        Err(Stop::Thrown(Throw(code))) => text.push_str(&format!(in alloc; "throws {code}")?)?,
+        Err(Stop::Thrown(Throw(code))) => write!(text, "throws {code}")?,
         Err(Stop::NoMemory) => text.push_str("finds no memory")?,
     }
     Ok(text)
 }
 
 /// The bytes of a value in hexadecimal digits, or how many there are where they are more than 16.
-fn show_value(alloc: Global, text: &mut String, value: &[u8]) -> Result<(), Fail> {
+fn show_value(text: &mut String, value: &[u8]) -> Result<(), AllocError> {
     if value.len() > 16 {
-        text.push_str(&format!(in alloc; "{:x} bytes", value.len())?)?;
-        return Ok(());
+        return write!(text, "{:x} bytes ", value.len());
     }
     for byte in value {
-        text.push_str(&format!(in alloc; "{byte:02x}")?)?;
+        write!(text, "{byte:02x}")?;
     }
+    text.push(' ')
+}
+
+/// A property's name and value.
+fn show_property(text: &mut String, memory: &Memory, property: Property) -> Result<(), Fail> {
+    let Property { name, value } = property;
+    for byte in memory.slice(name.address, name.length)? {
+        text.push(char::from(*byte))?;
+    }
+    text.push('=')?;
+    let value = memory.slice(value.address, value.length)?;
+    show_value(text, value)?;
     Ok(())
 }
 
 /// The properties of the active package in their order.
-pub(crate) fn properties(alloc: Global, board: &Board) -> Result<String, Fail> {
-    let mut text = String::new(alloc);
+fn show_properties(text: &mut String, board: &Board) -> Result<(), Fail> {
     let Some(node) = board.active.package else {
-        return Ok(text);
+        return Ok(());
     };
     let mut name: &[u8] = &[];
     for _ in 0..9 {
         let Ok(Some(property)) = board.tree.next_property(node, name) else {
-            return Ok(text);
+            return Ok(());
         };
+        show_property(text, &board.memory, property)?;
         name = board
             .memory
             .slice(property.name.address, property.name.length)?;
-        for byte in name {
-            text.push(char::from(*byte))?;
-        }
-        text.push('=')?;
-        let value = board
-            .memory
-            .slice(property.value.address, property.value.length)?;
-        show_value(alloc, &mut text, value)?;
-        text.push(' ')?;
     }
+    Ok(())
+}
+
+/// What words leave, and the properties of the package that is active then.
+fn shown(alloc: Global, board: &Board, ended: Result<(), Stop>) -> Result<String, Fail> {
+    let left = left(alloc, board, ended)?;
+    let mut text = format!(in alloc; "{}|", left.trim_end())?;
+    show_properties(&mut text, board)?;
     Ok(text)
+}
+
+/// What words leave on a new board.
+fn given(alloc: Global, words: &str) -> Result<String, Fail> {
+    let mut trial = Trial::new(alloc)?;
+    let ended = trial.run_all(words);
+    shown(alloc, &trial.board, ended)
 }
 
 /// The lines of a table that leave something else, each with what it leaves. A line has words, what they leave, and
@@ -190,13 +211,9 @@ pub(crate) fn differing(alloc: Global, table: &str) -> Result<String, Fail> {
     let mut text = String::new(alloc);
     for line in table.lines() {
         let (words, wanted) = line.split_once('|').unwrap_or(("", ""));
-        let mut trial = Trial::new(alloc)?;
-        let ended = trial.run_all(words);
-        let stack = left(alloc, &trial.board, ended)?;
-        let properties = properties(alloc, &trial.board)?;
-        let given = format!(in alloc; "{}|{}", stack.trim_end(), properties.trim_end())?;
-        if given.as_str() != wanted {
-            text.push_str(&format!(in alloc; "{words}|{given}\n")?)?;
+        let given = given(alloc, words)?;
+        if given.trim_end() != wanted {
+            write!(text, "{words}|{given}\n")?;
         }
     }
     Ok(text)
