@@ -1,0 +1,6 @@
+-- The goals at which wrong bodies are refused.
+use Rattle.std.proofs.Common.{rules}
+use Rattle.of_compile.proofs.coding.Coding.reserve_for.Goals as goal
+
+pub returns-clause-refused : goal.returns-clause-refused
+returns-clause-refused g c = search rules

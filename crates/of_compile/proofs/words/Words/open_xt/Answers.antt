@@ -1,0 +1,6 @@
+-- The goals at which wrong bodies are refused.
+use Rattle.std.proofs.Common.{rules}
+use Rattle.of_compile.proofs.words.Words.open_xt.Goals as goal
+
+pub returns-in-Some : goal.returns-in-Some
+returns-in-Some c = search rules
