@@ -14,3 +14,10 @@ invariant_of-self-2 c =
     (name_is_linked c.self.inside.words.items c.self.inside.older.items _ w c.args.name.now c.key_of.result
     c.in_ok-older.older _ c.self.invariant (omega (arith, c.requires, ap length c.self.view_is)) refl c.key_of.ensures
     (omega arith) c.in_ok-older.ensures.old (λ q. c.in_ok-older.ensures.updates.0 q ∙ rw number refl)))
+
+-- The goals at which wrong bodies are refused.
+pub returns-then-len-ge-CAPACITY-clause-added : goal.returns-then-len-ge-CAPACITY-clause-added
+returns-then-len-ge-CAPACITY-clause-added c = search rules
+
+pub key_of-requires : goal.key_of-requires
+key_of-requires c = search rules
