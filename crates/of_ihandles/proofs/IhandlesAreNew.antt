@@ -3,7 +3,7 @@ use Rattle.std.proofs.Common.{◌≡◌, ◌≢◌, ℕ, zero, suc, ◌+◌, ◌
 use Rattle.std.proofs.Common.{◌/◌, ◌%◌, ◌&&◌, ◌<◌, ◌≤◌, inl, inr, Bool, true}
 use Rattle.std.proofs.Common.{false}
 use Rattle.std.proofs.Common.{List, [], ◌∷◌, ◌++◌, length, get_or, replicate, Option, Some, None, Result, Ok, Err}
-use Rattle.std.proofs.Common.{refl, sym}
+use Rattle.std.proofs.Common.{◌⊎◌, refl, subst, sym}
 use Rattle.std.proofs.Common.{ap, ◌∙◌, arith, nat_le, nat_lt, get_or-set_other, get_or-set_same}
 use Rattle.std.specs.Prelude.{◌==◌, count_by, set}
 use Rattle.std.proofs.lemmas.Bool.{cases_lt}
@@ -18,6 +18,7 @@ use Rattle.of_ihandles.specs.declared.instances.Instance.{Instance}
 use Rattle.of_ihandles.specs.declared.slots.Template.{Template}
 use Rattle.of_ihandles.specs.Blocks.{all_begun, begun, blocks_taken, copy_taken, given, given_all}
 use Rattle.of_ihandles.specs.Ihandles.{HasArguments, IhandlesAreNew, IsOpened, IsReleased, OthersStay, StaysOpen}
+use Rattle.of_ihandles.specs.Instances.{release_left, released}
 use Rattle.of_ihandles.specs.Instances.{arguments_at, arguments_by, arguments_left, arguments_set, closed, closed_at}
 use Rattle.of_ihandles.specs.Instances.{closed_by, first_ihandle, found, ihandle_of, instance_at, is_open}
 use Rattle.of_ihandles.specs.Instances.{lengths_of}
@@ -241,6 +242,32 @@ by_close t after m left ih e = by_number (number_of (length t.made) ih) refl e
     by_number None f h = absurd cc
     by_number (Some k) f h = at k f (get_or t.made k None) refl h
 
+-- what releasing leaves of the instances, if there is the one
+by_release : (t after : InstanceTable) (m left : DataSpace) (ih : Cell) → released t m ih ≡ (after, left)
+    → IsReleased t after ih ⊎ ((found t ih ≡ None) × (after ≡ t) × (left ≡ m))
+by_release t after m left ih e = go (closed t m ih) refl e
+  where
+    at : (k : ℕ) (i : Option Instance) (fault : InstanceFault) → closed_at t m k i ≡ Err fault → i ≡ None
+    at k None fault f = refl
+    at k (Some i) fault f = cc
+
+    missing : (o : Option ℕ) (fault : InstanceFault) → closed_by t m o ≡ Err fault → numbered t o ≡ None
+    missing None fault f = refl
+    missing (Some k) fault f = at k (get_or t.made k None) fault f
+
+    go : (r : Result (Unit {0} × (InstanceTable × DataSpace)) InstanceFault) → closed t m ih ≡ r
+        → release_left t m r ≡ (after, left)
+        → IsReleased t after ih ⊎ ((found t ih ≡ None) × (after ≡ t) × (left ≡ m))
+    go (Err fault) f h =
+        inr (
+          missing (number_of (length t.made) ih) fault f,
+          sym (ap (λ (p : InstanceTable × DataSpace). p.0) h),
+          sym (ap (λ (p : InstanceTable × DataSpace). p.1) h),
+        )
+    go (Ok x) f h =
+        let same : x.1.0 ≡ after = ap (λ (p : InstanceTable × DataSpace). p.0) h in
+        inl (subst (λ a. IsReleased t a ih) same (by_close t x.1.0 m x.1.1 ih f))
+
 by_arguments :
     (t after : InstanceTable) (m left : DataSpace) (ih : Cell) (arguments : List ℕ) (unit : List Cell)
     → arguments_set t m ih arguments unit ≡ Ok (tt, (after, left)) → HasArguments t after ih unit
@@ -349,6 +376,7 @@ pub ihandles_are_new : IhandlesAreNew
 ihandles_are_new = record {
   by_open = by_open;
   by_close = by_close;
+  by_release = by_release;
   by_slot = by_slot;
   by_arguments = by_arguments;
 }

@@ -1,7 +1,7 @@
 -- The law `blocks_are_owned`: each call keeps the region's blocks those of the live instances, and these don't meet.
 use Rattle.std.proofs.Common.{◌≡◌, ◌≢◌, ℕ, zero, suc, ◌+◌, ◌<◌, ◌≤◌, ◌⊎◌, inl, inr, Bool, true, false, List, [], ◌∷◌}
 use Rattle.std.proofs.Common.{◌++◌}
-use Rattle.std.proofs.Common.{length, get_or, replicate, Option, Some, None, Result, Ok, Err, refl, sym, ap, ◌∙◌}
+use Rattle.std.proofs.Common.{length, get_or, replicate, Option, Some, None, Result, Ok, Err, refl, sym, subst, ap, ◌∙◌}
 use Rattle.std.proofs.Common.{arith}
 use Rattle.std.proofs.Common.{nat_le}
 use Rattle.std.specs.Prelude.{count_by, set}
@@ -20,6 +20,7 @@ use Rattle.of_ihandles.specs.declared.instance_fault.InstanceFault.{InstanceFaul
 use Rattle.of_ihandles.specs.declared.instances.Instance.{Instance}
 use Rattle.of_ihandles.specs.declared.slots.Template.{Template}
 use Rattle.of_ihandles.specs.Blocks.{all_begun, begun, blocks_taken, copy_taken, given, given_all}
+use Rattle.of_ihandles.specs.Instances.{release_left, released}
 use Rattle.of_ihandles.specs.Instances.{arguments_at, arguments_by, arguments_left, arguments_set, closed, closed_at}
 use Rattle.of_ihandles.specs.Instances.{closed_by}
 use Rattle.of_ihandles.specs.Instances.{ihandle_of, instance_at, is_open, lengths_of, most_instances, no_instances}
@@ -115,6 +116,15 @@ by_close t after m left ih own e = numbered (number_of (length t.made) ih) e
     numbered : (o : Option ℕ) → closed_by t m o ≡ Ok (tt, (after, left)) → OwnBlocks after left
     numbered None h = absurd cc
     numbered (Some k) h = at k (get_or t.made k None) refl h
+
+by_release : (t after : InstanceTable) (m left : DataSpace) (ih : Cell)
+    → OwnBlocks t m → released t m ih ≡ (after, left) → OwnBlocks after left
+by_release t after m left ih has e = go (closed t m ih) refl e
+  where
+    go : (r : Result (Unit {0} × (InstanceTable × DataSpace)) InstanceFault) → closed t m ih ≡ r
+        → release_left t m r ≡ (after, left) → OwnBlocks after left
+    go (Err fault) f h = subst (λ (p : InstanceTable × DataSpace). OwnBlocks p.0 p.1) h has
+    go (Ok x) f h = subst (λ (p : InstanceTable × DataSpace). OwnBlocks p.0 p.1) h (by_close t x.1.0 m x.1.1 ih has f)
 
 -- ---- slots
 
@@ -344,6 +354,7 @@ blocks_are_owned = record {
   at_first = at_first;
   by_open = by_open;
   by_close = by_close;
+  by_release = by_release;
   by_slot = by_slot;
   by_store = by_store;
   by_arguments = by_arguments;

@@ -36,7 +36,8 @@ use Rattle.of_ihandles.specs.Table.{InstanceTable}
 use Rattle.of_ihandles.proofs.BlockAccess.{reads, rounded_up}
 use Rattle.of_ihandles.proofs.BlockCounts.{count-cons, none, once}
 use Rattle.of_ihandles.proofs.OwnedByCalls.{apart, counted_once, held_itself, laid_from}
-use Rattle.of_ihandles.proofs.SlotsByCalls.{at_first, by_arguments, by_close, by_open, by_slot, lengths, sizes}
+use Rattle.of_ihandles.proofs.SlotsByCalls.{at_first, by_arguments, by_close, by_open, by_release, by_slot}
+use Rattle.of_ihandles.proofs.SlotsByCalls.{lengths, sizes}
 
 abbrev Entries : Type 0
 Entries = List (Option Instance)
@@ -479,6 +480,7 @@ slots_are_own = record {
   at_first = at_first;
   by_open = by_open;
   by_close = by_close;
+  by_release = by_release;
   by_slot = by_slot;
   by_arguments = by_arguments;
   there = there;

@@ -1,6 +1,7 @@
 -- Each call keeps a block for each slot in each live instance of its package.
 use Rattle.std.proofs.Common.{◌≡◌, ℕ, zero, suc, ◌<◌, ◌⊎◌, inl, inr, Bool, true, false, List, [], ◌∷◌, ◌++◌, length}
-use Rattle.std.proofs.Common.{get_or, map, take, replicate, Option, Some, None, Result, Ok, Err, refl, sym, ap, ◌∙◌}
+use Rattle.std.proofs.Common.{get_or, map, take, replicate, Option, Some, None, Result, Ok, Err, refl, sym, subst}
+use Rattle.std.proofs.Common.{ap, ◌∙◌}
 use Rattle.std.proofs.Common.{arith}
 use Rattle.std.proofs.Common.{nat_le, append-nil}
 use Rattle.std.specs.Prelude.{count_by, set}
@@ -19,6 +20,7 @@ use Rattle.of_ihandles.specs.declared.instances.Instance.{Instance}
 use Rattle.of_ihandles.specs.declared.slots.Slot.{Slot}
 use Rattle.of_ihandles.specs.declared.slots.Template.{Template}
 use Rattle.of_ihandles.specs.Blocks.{all_begun, all_left, begun, blocks_taken, copy_taken, given, given_all, spans}
+use Rattle.of_ihandles.specs.Instances.{release_left, released}
 use Rattle.of_ihandles.specs.Instances.{arguments_at, arguments_by, arguments_left, arguments_set, closed, closed_at}
 use Rattle.of_ihandles.specs.Instances.{closed_by}
 use Rattle.of_ihandles.specs.Instances.{ihandle_of, instance_at, is_open, lengths_of, most_instances, no_instances}
@@ -299,6 +301,15 @@ by_close t after m left ih has e = numbered (number_of (length t.made) ih) e
     numbered : (o : Option ℕ) → closed_by t m o ≡ Ok (tt, (after, left)) → HasSlots after
     numbered None h = absurd cc
     numbered (Some k) h = at k (get_or t.made k None) h
+
+pub by_release : (t after : InstanceTable) (m left : DataSpace) (ih : Cell)
+    → HasSlots t → released t m ih ≡ (after, left) → HasSlots after
+by_release t after m left ih has e = go (closed t m ih) refl e
+  where
+    go : (r : Result (Unit {0} × (InstanceTable × DataSpace)) InstanceFault) → closed t m ih ≡ r
+        → release_left t m r ≡ (after, left) → HasSlots after
+    go (Err fault) f h = subst (λ (p : InstanceTable × DataSpace). HasSlots p.0) h has
+    go (Ok x) f h = subst (λ (p : InstanceTable × DataSpace). HasSlots p.0) h (by_close t x.1.0 m x.1.1 ih has f)
 
 pub by_arguments :
     (t after : InstanceTable) (m left : DataSpace) (ih : Cell) (arguments : List ℕ) (unit : List Cell)

@@ -1,9 +1,10 @@
 -- An ihandle is that of one instance, from its opening to its release (IEEE 1275-1994, annex A, `open-package`).
-use Rattle.std.specs.Prelude.{ℕ, ◌≡◌, suc, List, length, replicate, None, Ok}
+use Rattle.std.specs.Prelude.{ℕ, ◌≡◌, ◌⊎◌, suc, List, length, replicate, None, Ok}
 use Rattle.of_cells.specs.declared.cells.Cell.{Cell}
 use Rattle.of_memory.specs.DataSpace.{DataSpace}
 use Rattle.of_nodes.specs.declared.phandles.Phandle.{Phandle}
 use Rattle.of_ihandles.specs.declared.slots.Template.{Template}
+use Rattle.of_ihandles.specs.Instances.{released}
 use Rattle.of_ihandles.specs.Instances.{argument_span, arguments_set, closed, found, ihandle_of, opened, package_of}
 use Rattle.of_ihandles.specs.Instances.{parent_of, slotted, unit_of, units, zero_cell}
 use Rattle.of_ihandles.specs.Table.{InstanceTable}
@@ -50,6 +51,9 @@ pub record IhandlesAreNew : Type 0 where
       → opened t m ph parent arguments ≡ Ok (ih, (after, left)) → IsOpened t after ph parent ih
   pub by_close : (t after : InstanceTable) (m left : DataSpace) (ih : Cell)
       → closed t m ih ≡ Ok (tt, (after, left)) → IsReleased t after ih
+  -- nothing changes where there is no live instance
+  pub by_release : (t after : InstanceTable) (m left : DataSpace) (ih : Cell) → released t m ih ≡ (after, left)
+      → IsReleased t after ih ⊎ ((found t ih ≡ None) × (after ≡ t) × (left ≡ m))
   pub by_slot : (t after : InstanceTable) (m left : DataSpace) (ph : Phandle) (template : Template) (n : ℕ)
       → slotted t m ph template ≡ Ok (n, (after, left)) → StaysOpen t after
   pub by_arguments : (t after : InstanceTable) (m left : DataSpace) (ih : Cell) (arguments : List ℕ) (unit : List Cell)

@@ -9,6 +9,7 @@ use Rattle.of_nodes.specs.declared.properties.Span.{Span}
 use Rattle.of_ihandles.specs.declared.instances.Instance.{Instance}
 use Rattle.of_ihandles.specs.declared.slots.Slot.{Slot}
 use Rattle.of_ihandles.specs.declared.slots.Template.{Template}
+use Rattle.of_ihandles.specs.Instances.{released}
 use Rattle.of_ihandles.specs.Instances.{argument_span, arguments_set, closed, found, no_instances, opened}
 use Rattle.of_ihandles.specs.Instances.{slot_block}
 use Rattle.of_ihandles.specs.Instances.{slot_read, slot_stored, slotted}
@@ -44,6 +45,8 @@ pub record SlotsAreOwn : Type 0 where
       → HasSlots t → opened t m ph parent arguments ≡ Ok (ih, (after, left)) → HasSlots after
   pub by_close : (t after : InstanceTable) (m left : DataSpace) (ih : Cell)
       → HasSlots t → closed t m ih ≡ Ok (tt, (after, left)) → HasSlots after
+  pub by_release : (t after : InstanceTable) (m left : DataSpace) (ih : Cell)
+      → HasSlots t → released t m ih ≡ (after, left) → HasSlots after
   pub by_slot : (t after : InstanceTable) (m left : DataSpace) (ph : Phandle) (template : Template) (n : ℕ)
       → HasSlots t → slotted t m ph template ≡ Ok (n, (after, left)) → HasSlots after
   pub by_arguments : (t after : InstanceTable) (m left : DataSpace) (ih : Cell) (arguments : List ℕ) (unit : List Cell)

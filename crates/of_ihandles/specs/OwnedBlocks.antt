@@ -10,6 +10,7 @@ use Rattle.of_nodes.specs.declared.phandles.Phandle.{Phandle}
 use Rattle.of_nodes.specs.declared.properties.Span.{Span}
 use Rattle.of_ihandles.specs.declared.instances.Instance.{Instance}
 use Rattle.of_ihandles.specs.declared.slots.Template.{Template}
+use Rattle.of_ihandles.specs.Instances.{released}
 use Rattle.of_ihandles.specs.Instances.{arguments_set, closed, no_instances, opened, slot_stored, slotted}
 use Rattle.of_ihandles.specs.Table.{InstanceTable}
 
@@ -44,6 +45,8 @@ pub record BlocksAreOwned : Type 0 where
       → OwnBlocks t m → opened t m ph parent arguments ≡ Ok (ih, (after, left)) → OwnBlocks after left
   pub by_close : (t after : InstanceTable) (m left : DataSpace) (ih : Cell)
       → OwnBlocks t m → closed t m ih ≡ Ok (tt, (after, left)) → OwnBlocks after left
+  pub by_release : (t after : InstanceTable) (m left : DataSpace) (ih : Cell)
+      → OwnBlocks t m → released t m ih ≡ (after, left) → OwnBlocks after left
   pub by_slot : (t after : InstanceTable) (m left : DataSpace) (ph : Phandle) (template : Template) (n : ℕ)
       → OwnBlocks t m → slotted t m ph template ≡ Ok (n, (after, left)) → OwnBlocks after left
   pub by_store : (t : InstanceTable) (m left : DataSpace) (ih : Cell) (n : ℕ) (x : Cell)

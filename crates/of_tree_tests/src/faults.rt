@@ -89,7 +89,11 @@ const FINDING: &str = "\
 %c0000000 %1 get-my-property|c0000000 1 throws -259|
 @2 %c0000000 %1 get-my-property|c0000000 1 throws -9|name=736c6f7400
 @2 *fe \"name get-my-property|256 cells throws -3|name=736c6f7400
-get-inherited-property|throws -256|
+%1 get-inherited-property|1 throws -4|
+%c0000000 %1 get-inherited-property|c0000000 1 throws -259|
+@2 %c0000000 %1 get-inherited-property|c0000000 1 throws -9|name=736c6f7400
+@2 *fe \"name get-inherited-property|256 cells throws -3|name=736c6f7400
+@2 \"q get-inherited-property|ffffffff|name=736c6f7400
 %1 %2 get-package-property|1 2 throws -4|
 %c0000000 %1 %d000000c get-package-property|c0000000 1 d000000c throws -263|
 %c0000000 %1 %d0000008 get-package-property|c0000000 1 d0000008 throws -9|
@@ -112,13 +116,14 @@ peer|throws -4|
 %1 %2 find-method|1 2 throws -4|
 %c0000000 %1 %0 find-method|c0000000 1 0 throws -263|
 %c0000000 %1 %d0000000 find-method|c0000000 1 d0000000 throws -9|
+close-package|throws -4|
+%0 close-package|0 throws -260|
 ";
 
-/// The words that run a method are as unassigned.
+/// The words that always run a method, where there is one, are as unassigned on the board alone.
 const METHODS: &str = "\
 open-package|throws -256|
 $open-package|throws -256|
-close-package|throws -256|
 call-package|throws -256|
 $call-parent|throws -256|
 $call-method|throws -256|
