@@ -4,7 +4,8 @@ use crate::tree::{differing, made_in_turn};
 use std::test::Fail;
 
 /// Images, and behind `|` what they print: a method's current instance is the one that it is called for, and the
-/// caller's comes back at its end. The method `m` prints its instance.
+/// caller's comes back at its end. The method `m` prints its instance. In the last three it does nothing: the operands
+/// are gone, and what stood beneath them is there.
 const CALLED: &str = "\
 /slot ca016d0800 b7 0203 9b c2 12016d 0203 020e 00|e0000000
 /slot ca016d0800 b7 0203 9b c2 12014d 0203 020e 00|e0000000
@@ -18,6 +19,9 @@ const CALLED: &str = "\
 /slot ca016d0800 b7 0203 9b c2 00 + /slot 12016d 0203 020e 00|e0000004
 /slot 011f 11 0203 020a 11 0208 1d 9b 0203 9b 00|e0000000 e0000004
 /slot 011f 11 0203 020a 11 0208 0217 9b 9b 0203 9b 00|0 e0000000 e0000004
+/slot ca016d0800 b7 c2 a8 12016d 0203 020e 51 9d 9d 00|1 3
+/slot ca016d0800 b7 c2 011f a8 12016d 0209 51 9d 9d 00|1 3
+/slot b5 0800 b7 c2 a8 11 0800 0203 0208 51 9d 9d 00|1 3
 ";
 
 /// Methods that call others: each `new-device`'s `m` prints its instance before and behind the call of its parent's.
@@ -77,6 +81,8 @@ e0000000 e0000004 fault -260: no such instance$e0000008
 /slot ca05636c6f73650800 bc b5 0801 b7 11 7b c3 0800 0203 0206 c2 11 0801 c3 0800 0203 0206 0203 9b 0203 020b 00|\
 e0000000 fault -260: no such instance$
 /slot ca05636c6f73650800 b7 a4 0218 c2 b5 0801 b7 0203 0206 c2 11 0801 0217 9b 0203 020b 9b 00|ffffffff d0000008
+/slot 011f a8 0203 0206 51 9d 9d 00|1 3
+/slot ca05636c6f73650800 b7 c2 011f a8 020a 0206 51 9d 9d 00|1 3
 /slot 0206 00|fault -4: stack underflow$
 /slot a5 0206 00|fault -260: no such instance$
 /slot 011f 0203 47 0206 0206 00|fault -260: no such instance$
