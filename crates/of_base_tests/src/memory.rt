@@ -44,6 +44,13 @@ fn region(memory: &mut Memory, word: &str, x: Cell, y: Cell) -> Result<Cell, Mem
         "latest" => Ok(memory.latest_start()),
         "fits" => Ok(Cell(u32::from(memory.image_fits(x.0 as usize)))),
         "end" => memory.end_of(x),
+        "duplicate" => {
+            let Ok(copy) = memory.duplicate() else {
+                return Err(NoMemory);
+            };
+            *memory = copy;
+            Ok(Cell(0))
+        }
         "pop" => {
             memory.image_pop();
             Ok(Cell(0))
@@ -92,7 +99,8 @@ fn call(memory: &mut Memory, line: &[&str], x: Cell, y: Cell, z: Cell) -> Result
 }
 
 /// Calls in turn on a new memory, a line each: the group, the word, three cells, a text, and what
-/// the call answers, in hexadecimal, or a fault by its name. An empty text is `-`.
+/// the call answers, in hexadecimal, or a fault by its name. An empty text is `-`. After `duplicate`
+/// the calls go to the copy.
 fn run(rt: &impl Abort, alloc: Global, lines: &str) -> Result<(), Fail> {
     let mut memory = Memory::new(alloc)?;
     for line in lines.lines() {
@@ -221,6 +229,7 @@ region take 9 0 0 - 400000
 region take 8 0 0 - 400010
 region take 0 0 0 - 400018
 region take 1 0 0 - 400020
+region duplicate 0 0 0 - 0
 range fill 400000 28 7 - 0
 range fill 400000 29 7 - Address
 region end 400012 0 0 - 400018
@@ -251,6 +260,7 @@ region instance c 0 0 - 300008
 access write32 300000 5 0 - 0
 region release 300000 9 0 - BadBlock
 region release 300000 8 0 - 0
+region duplicate 0 0 0 - 0
 access read32 300000 0 0 - 5
 region instance 8 0 0 - 300000
 access read32 300000 0 0 - 0
@@ -266,6 +276,7 @@ put append 0 0 0 abc 100000
 put append 0 0 0 de 100003
 access read32 100000 0 0 - 61626364
 put append-copy 100001 3 0 xy 100005
+region duplicate 0 0 0 - 0
 access read32 100004 0 0 - 65626364
 access read16 100008 0 0 - 7879
 region here 0 0 0 - 10000a
@@ -307,6 +318,7 @@ region latest 0 0 0 - 600000
 put is-latest 0 0 0 - 1
 put image 0 0 0 abc 600000
 put image 0 0 0 de 600003
+region duplicate 0 0 0 - 0
 put is-latest 0 0 0 de 1
 region latest 0 0 0 - 600003
 region fits 3fffb 0 0 - 1

@@ -1,10 +1,11 @@
-ghost use Rattle.std.specs.Prelude.{◌≡◌, ◌<◌, [], ◌∷◌, length, reverse, MatchOption};
+ghost use Rattle.std.specs.Prelude.{◌≡◌, ◌<◌, [], ◌∷◌, length, reverse, IfOk, MatchOption};
 ghost use Rattle.of_memory.specs.Regions.{image_count};
 ghost use Rattle.of_memory.specs.DataSpace.{free_after};
 ghost use Rattle.of_memory.specs.Images.{latest_start};
 
 use crate::regions::IMAGE_START;
 use arrayvec::ArrayVec;
+use std::alloc::AllocError;
 use std::marker::Model;
 
 /// How many images run at once at most: the return stack has an item for each.
@@ -55,6 +56,17 @@ impl ImageEnds {
             start: IMAGE_START,
             free: IMAGE_START,
         }
+    }
+
+    /// The same ends once more.
+    pub(crate) fn duplicate(&self) -> Result<ImageEnds, AllocError>
+        ensures { IfOk result (λ s. s ≡ self.now) }
+    {
+        Ok(ImageEnds {
+            ends: self.ends.clone()?,
+            start: self.start,
+            free: self.free,
+        })
     }
 
     /// How many images run.

@@ -28,7 +28,7 @@ const MARKS: usize = 16384;
 /// The data space: the bytes of the data, property, instance, heap, scratch and image regions, and
 /// what is taken of each.
 ///
-/// Only `new` and `heap_take` take memory.
+/// Only `new`, `duplicate` and `heap_take` take memory.
 #[derive(Drop)]
 pub struct Memory {
     bytes: Vec<u8>,
@@ -94,6 +94,26 @@ impl Memory {
             properties_end: FIRST_PROPERTY,
             images: ImageEnds::new(),
             heap: Vec::new(alloc),
+            instances,
+        })
+    }
+
+    /// Another data space with the same bytes, `here`, images and live blocks.
+    ///
+    /// All memory for it is taken at once; the error says that there is none.
+    pub fn duplicate(&self) -> Result<Memory, AllocError>
+        ensures { IfOk result (λ m. m ≡ self.now) }
+    {
+        let alloc = *self.bytes.allocator();
+        let bytes = Vec::from_slice(alloc, &self.bytes)?;
+        let mut instances = Vec::with_capacity(alloc, MARKS)?;
+        instances.extend_from_slice(&self.instances)?;
+        Ok(Memory {
+            bytes,
+            here: self.here,
+            properties_end: self.properties_end,
+            images: self.images.duplicate()?,
+            heap: Vec::from_slice(alloc, &self.heap)?,
             instances,
         })
     }
