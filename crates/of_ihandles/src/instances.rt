@@ -346,6 +346,14 @@ impl Instances {
         let _ = self.close(memory, ihandle);
     }
 
+    /// Forgets the latest opening, as if it had never been; blocks that its instance has stay as they are in memory. It
+    /// is for a caller who opened an instance and brings back the data space of before.
+    pub fn take_back(&mut self)
+        ensures { self.new ≡ record self.old { made = take (length self.old.made - 1) self.old.made } }
+    {
+        let _ = self.made.pop();
+    }
+
     /// Gives an instance other arguments, which are copied, and another unit (IEEE 1275-1994, annex A, `set-args`):
     /// the first four of these cells, the high cell first, and 0 for those that are missing. The new block is taken
     /// before the old one is given back.
