@@ -4,9 +4,9 @@ ghost use Rattle.of_stacks.specs.Returns.{has_due_top};
 ghost use Rattle.of_memory.specs.Growth.{with_state};
 ghost use Rattle.of_eval.specs.State.{Leaves, flat_calls, given_up, open_xt, with_compiling};
 ghost use Rattle.of_eval.specs.Settling.{caller_self, caught, cut_one, due_left, ended, given_back, given_up_since};
-ghost use Rattle.of_eval.specs.Settling.{going_back, is_same, load_left, nothing_read, or_nothing, package_of};
-ghost use Rattle.of_eval.specs.Settling.{reading_on};
-ghost use Rattle.of_eval.specs.Settling.{settled, source_ended, still_thrown, thrown_in, uncaught, worked_one};
+ghost use Rattle.of_eval.specs.Settling.{going_back, is_same, load_left, nothing_read, open_answered, or_nothing};
+ghost use Rattle.of_eval.specs.Settling.{package_of, reading_on, released_in, settled, source_ended, still_thrown};
+ghost use Rattle.of_eval.specs.Settling.{thrown_at, thrown_in, uncaught, worked_one};
 
 use crate::eval::Eval;
 use crate::executing::is_opened;
@@ -140,20 +140,42 @@ impl<C: CodeStore> Eval<C> {
         }
     }
 
-    /// What is due at a caller is done, but for the current instance: the run of a loaded image has ended, or the
-    /// instance that was closed is released.
+    /// What is due at a caller is done, but for the current instance: the run of a loaded image has ended, the instance
+    /// that was closed is released, or `open` has answered.
     fn leave_due(&mut self, due: Due)
         ensures state { self.new ≡ due_left due self.old }
         ensures running { self.new.flow.is_running ≡ self.old.flow.is_running }
     {
         match due {
             Due::Load { .. } => self.leave_load(due),
-            Due::Close { instance, .. } => {
-                self.board
-                    .instances
-                    .release(&mut self.board.memory, instance);
-            }
-            Due::Method { .. } | Due::Open { .. } => {}
+            Due::Close { instance, .. } => self.release(instance),
+            Due::Open { instance, .. } => self.answer_open(instance),
+            Due::Method { .. } => {}
+        }
+    }
+
+    /// Releases an instance, if it is live.
+    fn release(&mut self, instance: Cell)
+        ensures { self.new ≡ released_in instance self.old }
+    {
+        self.board
+            .instances
+            .release(&mut self.board.memory, instance);
+    }
+
+    /// Leaves what `open-package` leaves: the new instance, or 0 where `open` answered so, and the instance is released
+    /// then. Nothing is done where there is no answer.
+    fn answer_open(&mut self, instance: Cell)
+        ensures state { self.new ≡ open_answered instance self.old.board.stack self.old }
+        ensures running { self.new.flow.is_running ≡ self.old.flow.is_running }
+    {
+        let Ok(answer) = self.board.stack.peek() else {
+            return;
+        };
+        if answer.0 == 0 {
+            self.release(instance);
+        } else {
+            self.board.stack.replace_top(instance);
         }
     }
 
@@ -211,9 +233,32 @@ impl<C: CodeStore> Eval<C> {
         }
     }
 
+    /// What is thrown at an item beneath a finished word: -4 where `open` has left nothing.
+    fn late_throw(&self, item: ReturnItem) -> Option<Throw>
+        ensures thrown { result ≡ thrown_at item self.now }
+        ensures running { is_some result ≡ true → self.now.flow.is_running ≡ true }
+    {
+        match item {
+            ReturnItem::Caller(Due::Open { .. }) => {
+                if self.flow.is_running && self.board.stack.depth() < 1 {
+                    Some(Throw::STACK_UNDERFLOW)
+                } else {
+                    None
+                }
+            }
+            ReturnItem::Caller(_)
+            | ReturnItem::Handler(_)
+            | ReturnItem::Return(_)
+            | ReturnItem::Loop(_)
+            | ReturnItem::User(_)
+            | ReturnItem::Source(_) => None,
+        }
+    }
+
     /// Does what is due at an item beneath a finished word.
     fn pop_due(&mut self, item: ReturnItem)
-        ensures { self.new ≡ worked_one flat_calls item self.old }
+        ensures state { self.new ≡ worked_one flat_calls item self.old }
+        ensures running { self.new.flow.is_running ≡ self.old.flow.is_running }
     {
         match item {
             ReturnItem::Handler(frame) => {
@@ -266,9 +311,10 @@ impl<C: CodeStore> Eval<C> {
                 if !item.is_due() {
                     return;
                 }
+                let thrown = self.late_throw(item);
                 let _ = self.flow.items.pop();
                 self.pop_due(item);
-                self.finish_step(None);
+                self.finish_step(thrown);
             }
         }
     }

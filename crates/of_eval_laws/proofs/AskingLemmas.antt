@@ -42,11 +42,13 @@ use Rattle.of_eval_laws.proofs.WalkWords.{IsWork, Rules}
 
 -- an act that runs no ordinary word, and appends nothing
 abbrev asking : (S : Type 0) → Rules S
-asking S = record (keeping S (λ s. Unit {0}) (λ cells d ih s k p. (tt, tt, tt))) {
+asking S = record (keeping S (λ s. Unit {0}) ((λ cells d ih s k p. (tt, tt, tt)), (λ x s o p. tt))) {
   Runs = ⊥;
   Works = λ w. ⊥;
   Appends = λ s. ⊥;
+  Opening = ⊥;
   works = λ r w. absurd r;
+  may_open = λ r. absurd r;
   opens = λ r s p e. absurd r;
 }
 
@@ -61,6 +63,8 @@ work_none (act.Appends e cells) s h = absurd h
 work_none (act.Takes cells a) s h = work_none a (with_stack cells s) h
 work_none (act.Guards cells a) s h = work_none a (guarded cells s) h
 work_none (act.Enters cells d ih a) s h = work_none a (entered cells d ih s) h.1
+work_none (act.Opens x a) s h = absurd h.0
+work_none (act.Refuses t) s h = absurd h.0
 work_none a s h = refl
 
 -- so it asks for memory only there

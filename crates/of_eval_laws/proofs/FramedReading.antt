@@ -31,7 +31,7 @@ use Rattle.of_eval.specs.Defining.{by_making, closed_if, define_entry, definitio
 use Rattle.of_eval.specs.Defining.{semicolon_entry, string_kept, string_put, string_refused, word_defined}
 use Rattle.of_eval.specs.Doing.{acted, appended, executed, gone, input_at, worked}
 use Rattle.of_eval.specs.Doing as doing
-use Rattle.of_eval.specs.Executing.{entered, guarded, plan_in}
+use Rattle.of_eval.specs.Executing.{entered, furnished, guarded, plan_in}
 use Rattle.of_flow.specs.Returns.{found}
 use Rattle.of_eval.specs.Items.{item_act}
 use Rattle.of_eval.specs.Methods.{then_known}
@@ -142,6 +142,8 @@ worked_reads c (act.Loads size m cells) s = inr refl
 worked_reads c (act.Takes cells a) s = worked_reads c a (with_stack cells s)
 worked_reads c (act.Guards cells a) s = worked_reads c a (guarded cells s)
 worked_reads c (act.Enters cells d ih a) s = worked_reads c a (entered cells d ih s)
+worked_reads c (act.Opens x a) s = worked_reads c a (furnished x s)
+worked_reads c (act.Refuses t) s = inl refl
 
 acted_reads : {S : Type 0} (c : Calls S) (a : Act) (s : State S) → IsAct (free S) (reading_turns S ⊥) s a
     → Reads s.flow.reading (acted c a s)

@@ -14,7 +14,7 @@ use Rattle.of_board.specs.declared.board.Board.{Board}
 use Rattle.of_eval.specs.Acts.{Move, To, WordAct, front_of}
 use Rattle.of_eval.specs.Acts as act
 use Rattle.of_eval.specs.Doing.{appended, executed, worked}
-use Rattle.of_eval.specs.Executing.{entered, execution, frame_of, guarded, plan_in}
+use Rattle.of_eval.specs.Executing.{entered, execution, frame_of, furnished, guarded, plan_in}
 use Rattle.of_eval.specs.State.{Calls, State, by_board, with_stack}
 use Rattle.of_words.specs.Words.{word_entry}
 use Rattle.of_eval_laws.specs.Returning.{IsCall}
@@ -33,7 +33,7 @@ NoLoop (Caller d) = Unit {0}
 
 -- an item may be dropped, or a handler is on top, which no word drops; no word of control runs
 abbrev stacking : (S : Type 0) → Bool → Rules S
-stacking S d = record (keeping S (λ s. Unit {0}) (λ cells d ih s k p. (tt, tt, tt))) {
+stacking S d = record (keeping S (λ s. Unit {0}) ((λ cells d ih s k p. (tt, tt, tt)), (λ x s o p. tt))) {
   Item = λ s i. NoLoop i;
   Drops = λ s. (d ≡ true) ⊎ (has_due_top s.flow.items ≡ true);
   Aims = λ s n. ⊥;
@@ -41,6 +41,7 @@ stacking S d = record (keeping S (λ s. Unit {0}) (λ cells d ih s k p. (tt, tt,
   drops_taken = λ cells s h. h;
   drops_guarded = λ cells s p. inr refl;
   drops_entered = λ cells d ih s p. inr refl;
+  drops_furnished = λ x s h. h;
 }
 
 -- what is dropped isn't due
@@ -149,6 +150,8 @@ worked_leaves d c (act.Guards cells a) s h =
 worked_leaves drops c (act.Enters cells d ih a) s h =
     enters drops cells d ih s (worked c a (entered cells d ih s)).state h.0
     (worked_leaves drops c a (entered cells d ih s) h.1)
+worked_leaves d c (act.Opens x a) s h = worked_leaves d c a (furnished x s) h.2
+worked_leaves d c (act.Refuses t) s h = stays d s s refl
 
 pub executed_leaves : {S : Type 0} (c : Calls S) (xt : ℕ) (s : State S)
     → Leaves (drops_item (last_word (plan_in s xt))) s (executed c xt s).state

@@ -14,13 +14,13 @@ use Rattle.of_eval.specs.declared.load_fault.LoadFault.TheVariants.{ImageTooLong
 use Rattle.of_eval.specs.State.{Calls, State}
 use Rattle.of_eval.specs.Settling.{settled, thrown_in}
 use Rattle.of_eval.specs.Steps.{due, settled_of, stepped, steps_from}
-use Rattle.of_eval_laws.specs.Running.{DueLeaves, GoOn, ImagesRun, OthersRun, RunningImage, SomeEnd, is_at_end}
-use Rattle.of_eval_laws.specs.Running.{running}
+use Rattle.of_eval_laws.specs.Running.{DueLeaves, GoOn, ImagesRun, LatestEnd, OneBegins, OthersRun, RunningImage}
+use Rattle.of_eval_laws.specs.Running.{SomeEnd, is_at_end, running, throws_late}
 use Rattle.of_eval_laws.specs.Sound.{HasSoundSpace}
 use Rattle.of_eval_laws.proofs.FramedSpace.{Stands, then_stands}
 use Rattle.of_eval_laws.proofs.Begun.{Opened, image_stands, opened_stands}
 use Rattle.of_eval_laws.proofs.RunningBytes.{all_run}
-use Rattle.of_eval_laws.proofs.RunningEnds.{cut_off, end_leaves, left_ends, then_end, worked_off}
+use Rattle.of_eval_laws.proofs.RunningEnds.{end_leaves, left_ends, settles_ends, then_end, worked_off}
 use Rattle.of_eval_laws.proofs.SoundSteps.{kept_sound, step_sound, steps_keep}
 use Rattle.of_eval_laws.proofs.RunningTokens.{due_leaves}
 use Rattle.of_eval_laws.proofs.RunningWords.{Kept, KeptBy, Laws}
@@ -44,31 +44,40 @@ goes_on m after last r (inr (full, (image, e))) st = inr (image, all_run after l
 abbrev StepLeaves : DataSpace → DataSpace → Type 0
 StepLeaves m after = SomeEnd m after ⊎ GoOn m after
 
-kept_then : (b : Bool) (m after last : DataSpace) → IsSound m → Kept b m after → Stands after last
+-- and then some of the latest end
+ends_then : (m after last : DataSpace) → LatestEnd 1 m after → SomeEnd after last → SomeEnd m last
+ends_then m after last e h = then_end m after last 1 e h
+
+begins_then : (m after last : DataSpace) → OneBegins m after → SomeEnd after last → StepLeaves m last
+begins_then m after last (image, e) (zero, h) = inr (inr (image, h ∙ e))
+begins_then m after last (image, e) (suc n, h) = inl (n, h ∙ ap (λ x. drop (suc n) x) e)
+
+kept_ends : (b : Bool) (m after last : DataSpace) → IsSound m → Kept b m after → SomeEnd after last
     → StepLeaves m last
-kept_then false m after last r h st = inr (goes_on m after last r h st)
-kept_then true m after last r (inl h) st = inr (goes_on m after last r (inl h) st)
-kept_then true m after last r (inr (full, inl e)) st = inl (1, all_run after last full.images st ∙ e)
-kept_then true m after last r (inr (full, inr one)) st = inr (goes_on m after last r (inr (full, one)) st)
+kept_ends false m after last r (inl h) e = inl (then_end m after last 0 (all_run m after r.images h) e)
+kept_ends false m after last r (inr (full, one)) e = begins_then m after last one e
+kept_ends true m after last r (inl h) e = inl (then_end m after last 0 (all_run m after r.images h) e)
+kept_ends true m after last r (inr (full, inl e)) h = inl (ends_then m after last e h)
+kept_ends true m after last r (inr (full, inr one)) e = begins_then m after last one e
 
 settles : {S : Type 0} (b : Bool) (c : Calls S) (m : DataSpace) (e : Result (Unit {0}) Throw) (s : State S)
     → IsSound m → KeptBy b m s.board.memory e
     → StepLeaves m (settled c s.flow.items (thrown_in e) s).board.memory
 settles b c m (Ok x) s r h =
-    kept_then b m s.board.memory (settled c s.flow.items None s).board.memory r h
-    (worked_off c s.flow.items s (kept_sound b m s.board.memory h))
+    kept_ends b m s.board.memory (settled c s.flow.items None s).board.memory r h
+    (settles_ends c s.flow.items None s (kept_sound b m s.board.memory h)).1
 settles b c m (Err t) s r h =
     inl
     (then_end m s.board.memory (settled c s.flow.items (Some t) s).board.memory 0 (all_run m s.board.memory r.images h)
-    (cut_off c s.flow.items t s h.2).1)
+    (settles_ends c s.flow.items (Some t) s h.2).1)
 
 nothing_ends : {S : Type 0} (c : Calls S) (m : DataSpace) (e : Result (Unit {0}) Throw) (s : State S) → IsSound m
-    → e ≡ Ok tt → KeptBy false m s.board.memory e
+    → e ≡ Ok tt → throws_late s.flow.items s.board.stack ≡ false → KeptBy false m s.board.memory e
     → GoOn m (settled c s.flow.items (thrown_in e) s).board.memory
-nothing_ends c m (Ok x) s r done h =
+nothing_ends c m (Ok x) s r done late h =
     goes_on m s.board.memory (settled c s.flow.items None s).board.memory r h
-    (worked_off c s.flow.items s (kept_sound false m s.board.memory h))
-nothing_ends c m (Err t) s r done h = absurd cc
+    (worked_off c s.flow.items s late (kept_sound false m s.board.memory h))
+nothing_ends c m (Err t) s r done late h = absurd cc
 
 -- ---- one step, or none where nothing runs
 
@@ -89,12 +98,14 @@ step_leaves l c s sound =
 
 step_goes_on : {S : Type 0} (l : Laws) (c : Calls S) (s : State S) → IsSound s.board.memory
     → is_at_end s.flow.next s ≡ false
-    → (due c s.flow.next s).ended ≡ Ok tt → GoOn s.board.memory (stepped c s).board.memory
+    → (let o = due c s.flow.next s in
+    (o.ended ≡ Ok tt → throws_late o.state.flow.items o.state.board.stack ≡ false
+    → GoOn s.board.memory (stepped c s).board.memory))
 unfolding stepped
-step_goes_on l c s sound inside done =
+step_goes_on l c s sound inside done late =
     let o = due c s.flow.next s in
     either (λ x. GoOn s.board.memory x) s.flow.is_running (settled_of c o) s
-    (nothing_ends c s.board.memory o.ended o.state sound done
+    (nothing_ends c s.board.memory o.ended o.state sound done late
     (subst (λ b. KeptBy b s.board.memory o.state.board.memory o.ended) inside (due_leaves l c s.flow.next s sound)))
     (inl refl)
 
@@ -174,7 +185,7 @@ images_run l S = record {
       due_left (is_at_end s.flow.next s) s.board.memory o.state.board.memory o.ended sound.images
       (due_leaves l c s.flow.next s sound);
   settled = λ c items thrown s sound. end_leaves c items thrown s sound;
-  go_on = λ c s sound inside done. step_goes_on l c s sound inside done;
+  go_on = λ c s sound inside done late. step_goes_on l c s sound inside done late;
   step = λ c s sound. step_leaves l c s sound;
   steps = λ c n s after sound e. steps_run l c n s after sound e;
 }

@@ -27,7 +27,7 @@ use Rattle.of_board.specs.declared.board.Board.{Board}
 use Rattle.of_eval.specs.Acts.{Act, Move, To, WordAct}
 use Rattle.of_eval.specs.Acts as act
 use Rattle.of_eval.specs.Doing.{appended, worked}
-use Rattle.of_eval.specs.Executing.{entered, guarded}
+use Rattle.of_eval.specs.Executing.{entered, furnished, guarded}
 use Rattle.of_eval.specs.State.{Calls, State, by_board, open_xt, with_stack}
 use Rattle.of_words.specs.Words.{word_entry}
 use Rattle.of_eval_laws.specs.Returning.{IsCall, IsPosition, Leads, LeadsBack, is_code, is_outer}
@@ -179,7 +179,7 @@ module _ (image : List ℕ) (outer : Reading) where
   abbrev pub leading : (S : Type 0) → Bool → Rules S
   leading S code =
       record (keeping S (λ s. Runs code s)
-      (λ cells d ih s k p. (p, guarded_runs code cells s p, entered_runs code cells d ih s k p))) {
+      ((λ cells d ih s k p. (p, guarded_runs code cells s p, entered_runs code cells d ih s k p)), (λ x s o p. p))) {
         Item = λ s i. IsItem code s i;
         Aims = λ s n. (code ≡ true) × Rests code s;
         Known = λ s w. w.defining ≡ s.words.defining;
@@ -328,3 +328,5 @@ module _ (image : List ℕ) (outer : Reading) where
       worked_leads code c a (guarded cells s) h (guarded_runs code cells s p)
   worked_leads code c (act.Enters cells d ih a) s h p =
       worked_leads code c a (entered cells d ih s) h.1 (entered_runs code cells d ih s h.0 p)
+  worked_leads code c (act.Opens x a) s h p = worked_leads code c a (furnished x s) h.2 p
+  worked_leads code c (act.Refuses t) s h p = p.0

@@ -2,6 +2,7 @@
 -- back, or nothing runs.
 use Rattle.std.proofs.Common.{◌≡◌, ◌⊎◌, inl, inr, ℕ, Bool, true, false, List, [], ◌∷◌, Option, Some, None}
 use Rattle.std.proofs.Common.{is_some, refl, sym, ◌∙◌, subst, if◌then◌else◌}
+use Rattle.std.specs.Prelude.{◌==◌}
 use Rattle.std.specs.Option.{option_map}
 use Rattle.of_cells.specs.declared.cells.Cell.{Cell}
 use Rattle.of_stacks.specs.declared.throws.Throw.{Throw}
@@ -20,7 +21,7 @@ use Rattle.of_dict.specs.Words.{xt_of}
 use Rattle.of_board.specs.Active.{with_self}
 use Rattle.of_eval.specs.State.{Calls, State, given_up, open_xt, with_board, with_items}
 use Rattle.of_eval.specs.Settling.{caller_self, caught, due_left, given_up_since, is_full, is_same, resumed, settled}
-use Rattle.of_eval.specs.Settling.{reading_on}
+use Rattle.of_eval.specs.Settling.{due_throw, open_answered, reading_on}
 use Rattle.of_eval_laws.specs.Throws.{ThrowsSettle}
 use Rattle.of_eval_laws.specs.Returning.{IsBase, IsNested, IsRead, IsShut, LeadsBack, LeadsOn, is_code}
 use Rattle.of_eval_laws.specs.Returning.{is_outer, is_return_top}
@@ -134,6 +135,19 @@ module _ (image : List ℕ) (outer : Reading) where
       }
   worked_ready c h r s false x = record { items = refl; read = x.read; leads = x.leads.3; shut = x.shut }
 
+  ready_if : {S : Type 0} (b : Bool) (r : List ReturnItem) (x y : State S) → IsReady r x → IsReady r y
+      → IsReady r (if b then x else y)
+  ready_if true r x y hx hy = hx
+  ready_if false r x y hx hy = hy
+
+  -- the answer of `open` changes nothing of control
+  answered_ready : {S : Type 0} (ih : Cell) (cells : List Cell) (r : List ReturnItem) (s : State S) → IsReady r s
+      → IsReady r (open_answered ih cells s)
+  answered_ready ih [] r s x = x
+  answered_ready ih (y ∷ cells) r s x =
+      ready_if (y.0 == 0) r _ _ (record { items = x.items; read = x.read; leads = x.leads; shut = x.shut })
+      (record { items = x.items; read = x.read; leads = x.leads; shut = x.shut })
+
   -- a method has ended
   method_ready : {S : Type 0} (d : Due) (r : List ReturnItem) (s : State S) → IsReady (Caller d ∷ r) s
       → IsReady r (due_left d (with_board (with_self s.board (caller_self d)) (with_items r s)))
@@ -141,7 +155,9 @@ module _ (image : List ℕ) (outer : Reading) where
   method_ready (caller.Method me) r s x = record { items = refl; read = x.read; leads = x.leads.2; shut = x.shut }
   method_ready (caller.Close me instance) r s x =
       record { items = refl; read = x.read; leads = x.leads.2; shut = x.shut }
-  method_ready (caller.Open me instance) r s x = absurd x.leads.0
+  method_ready (caller.Open me instance) r s x =
+      answered_ready instance s.board.stack r _
+      (record { items = refl; read = x.read; leads = x.leads.2; shut = x.shut })
   method_ready (caller.Load active me instance count) r s x = absurd x.leads.0
 
   module _ {S : Type 0} (c : Calls S) (laws : ThrowsSettle S) where
@@ -150,17 +166,6 @@ module _ (image : List ℕ) (outer : Reading) where
     rested r s x h =
         let lead = subst (λ (y : List ReturnItem). Back s.flow.reading (is_code s.flow.next) None y) (sym x.items) h in
         ((x.read, lead), (λ o. x.shut (subst (λ (y : List ReturnItem). is_outer y ≡ true) x.items o)))
-
-    pub works : (r : List ReturnItem) (s : State S) → IsReady r s
-        → IsNested image outer (settled c r None s).flow × IsShut image outer (settled c r None s)
-    unfolding settled
-    works [] s x = absurd x.leads
-    works (Handler h ∷ r) s x = works r _ (worked_ready c h r s (is_full s) x)
-    works (Loop l ∷ r) s x = rested (Loop l ∷ r) s x x.leads
-    works (User y ∷ r) s x = rested (User y ∷ r) s x x.leads
-    works (Return to ∷ r) s x = rested (Return to ∷ r) s x x.leads
-    works (Source y ∷ r) s x = rested (Source y ∷ r) s x x.leads
-    works (Caller d ∷ r) s x = works r _ (method_ready d r s x)
 
     -- ---- what is thrown
 
@@ -198,19 +203,42 @@ module _ (image : List ℕ) (outer : Reading) where
         (falls u t (subst (λ (y : List ReturnItem). latest_handler y ≡ None) (sym e) o.2.0))
     source_cut r s x u t e (inr i) h = h i.0 i.2
 
-    pub cuts : (r : List ReturnItem) (s : State S) (t : Throw) (code : Bool) (due : Option Continuation)
-        → IsRead s.flow.reading → Back s.flow.reading code due r → IsSettled (settled c r (Some t) s)
+    -- what is due leads back, or what is thrown lies above what does
+    abbrev pub Leading : Option Throw → List ReturnItem → State S → Type 0
+    Leading None r s = IsReady r s
+    Leading (Some t) r s =
+        (code : Bool) × (due : Option Continuation) × IsRead s.flow.reading × Back s.flow.reading code due r
+
+    late_leads : (t : Option Throw) (r : List ReturnItem) (s : State S) → IsReady r s → Leading t r s
+    late_leads None r s x = x
+    late_leads (Some t) r s x = (is_code s.flow.next, Some s.flow.next, x.read, x.leads)
+
+    pub settles : (r : List ReturnItem) (thrown : Option Throw) (s : State S) → Leading thrown r s
+        → IsSettled (settled c r thrown s)
     unfolding settled
-    cuts [] s t code due read l = absurd l
-    cuts (Handler h ∷ r) s t code due read l =
-        λ running. works r (caught c h t (with_items r s)) (caught_ready h t r s code due read l)
-    cuts (Loop x ∷ r) s t code due read l = cuts r (with_items r s) t code None read l.1
-    cuts (User x ∷ r) s t code due read l = cuts r (with_items r s) t code None read l
-    cuts (Return to ∷ r) s t code due read l = cuts r (with_items r s) t (is_code to) (Some to) read l.1
-    cuts (Source x ∷ r) s t code due read l =
+    settles [] None s x = absurd x.leads
+    settles (Handler h ∷ r) None s x = settles r None _ (worked_ready c h r s (is_full s) x)
+    settles (Loop l ∷ r) None s x = λ running. rested (Loop l ∷ r) s x x.leads
+    settles (User y ∷ r) None s x = λ running. rested (User y ∷ r) s x x.leads
+    settles (Return to ∷ r) None s x = λ running. rested (Return to ∷ r) s x x.leads
+    settles (Source y ∷ r) None s x = λ running. rested (Source y ∷ r) s x x.leads
+    settles (Caller d ∷ r) None s x =
+        settles r (due_throw d s) _ (late_leads (due_throw d s) r _ (method_ready d r s x))
+    settles [] (Some t) s (code, due, read, l) = absurd l
+    settles (Handler h ∷ r) (Some t) s (code, due, read, l) =
+        settles r None (caught c h t (with_items r s)) (caught_ready h t r s code due read l)
+    settles (Loop x ∷ r) (Some t) s (code, due, read, l) =
+        settles r (Some t) (with_items r s) (code, None, read, l.1)
+    settles (User x ∷ r) (Some t) s (code, due, read, l) = settles r (Some t) (with_items r s) (code, None, read, l)
+    settles (Return to ∷ r) (Some t) s (code, due, read, l) =
+        settles r (Some t) (with_items r s) (is_code to, Some to, read, l.1)
+    settles (Source x ∷ r) (Some t) s (code, due, read, l) =
         let u = reading_on x (with_items r s) in
-        source_cut r s x u t refl l.1 (λ i k. cuts r u t true None i k)
-    cuts (Caller (caller.Method me) ∷ r) s t code due read l = cuts r (with_items r s) t code due read l.2
-    cuts (Caller (caller.Close me instance) ∷ r) s t code due read l = cuts r (with_items r s) t code due read l.2
-    cuts (Caller (caller.Open me instance) ∷ r) s t code due read l = absurd l.0
-    cuts (Caller (caller.Load active me instance count) ∷ r) s t code due read l = absurd l.0
+        source_cut r s x u t refl l.1 (λ i k. settles r (Some t) u (true, None, i, k))
+    settles (Caller (caller.Method me) ∷ r) (Some t) s (code, due, read, l) =
+        settles r (Some t) (with_items r s) (code, due, read, l.2)
+    settles (Caller (caller.Close me instance) ∷ r) (Some t) s (code, due, read, l) =
+        settles r (Some t) (with_items r s) (code, due, read, l.2)
+    settles (Caller (caller.Open me instance) ∷ r) (Some t) s (code, due, read, l) =
+        settles r (Some t) (with_items r s) (code, due, read, l.2)
+    settles (Caller (caller.Load active me instance count) ∷ r) (Some t) s (code, due, read, l) = absurd l.0

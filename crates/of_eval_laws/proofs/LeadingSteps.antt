@@ -51,7 +51,7 @@ use Rattle.of_eval_laws.proofs.LeadingActs.{Back, BackAs, IsInner, Rests, Runs, 
 use Rattle.of_eval_laws.proofs.LeadingActs.{turned}
 use Rattle.of_eval_laws.proofs.LeadingActs.{none_open, worked_leads}
 use Rattle.of_eval_laws.proofs.LeadingBack.{InImage, ended_due}
-use Rattle.of_eval_laws.proofs.LeadingEnds.{IsSettled, cuts, due_too, works}
+use Rattle.of_eval_laws.proofs.LeadingEnds.{IsSettled, due_too, settles}
 use Rattle.of_eval_laws.proofs.MethodLemmas.{known_flow}
 use Rattle.of_eval_laws.proofs.ThrowsSettle.{throws_settle}
 use Rattle.of_eval_laws.proofs.Walk.{IsAct, IsPlace, item_acts, typed_acts}
@@ -317,11 +317,11 @@ module _ (image : List ℕ) (outer : Reading) where
   settled_leads : {S : Type 0} (c : Calls S) (thrown : Option Throw) (s : State S) → Leads image outer s
       → IsSettled image outer (settled c s.flow.items thrown s)
   settled_leads {S} c None s h =
-      λ running.
-      works image outer c (throws_settle S) s.flow.items s
+      settles image outer c (throws_settle S) s.flow.items None s
       (record { items = refl; read = h.0.0; leads = h.0.1; shut = h.1 })
   settled_leads {S} c (Some t) s h =
-      cuts image outer c (throws_settle S) s.flow.items s t (is_code s.flow.next) (Some s.flow.next) h.0.0 h.0.1
+      settles image outer c (throws_settle S) s.flow.items (Some t) s
+      (is_code s.flow.next, Some s.flow.next, h.0.0, h.0.1)
 
   due_leads : {S : Type 0} (c : Calls S) (to : Continuation) (s : State S) → s.flow.next ≡ to → is_back s ≡ false
       → LeadsOn image outer s → Leads image outer (due c to s).state

@@ -121,7 +121,7 @@ not_none o e none = false≢true (sym e ∙ ap (λ x. is_none x) none)
 abbrev pub placed : Rules Definitions
 placed =
     record (keeping Definitions (λ s. AllPlaced s)
-    (λ cells d ih s k p. (p, guarded_placed cells s p, entered_placed cells d ih s p))) {
+    ((λ cells d ih s k p. (p, guarded_placed cells s p, entered_placed cells d ih s p)), (λ x s o p. p))) {
       Item = λ s i. IsItemIn (finished_end s.code) i;
       Target = λ s to. IsPlacedIn (finished_end s.code) to;
       Aims = λ s n. IsPlacedIn (finished_end s.code) (continuation.Code n);

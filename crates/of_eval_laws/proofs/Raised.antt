@@ -46,7 +46,7 @@ use Rattle.of_eval.specs.Acts as act
 use Rattle.of_eval.specs.Defining.{by_making, define_entry, known_at_once, semicolon_entry, string_compiled}
 use Rattle.of_eval.specs.Defining.{string_element, string_kept, string_put, string_refused, word_defined}
 use Rattle.of_eval.specs.Doing.{acted, worked}
-use Rattle.of_eval.specs.Executing.{entered, guarded, plan_in}
+use Rattle.of_eval.specs.Executing.{entered, furnished, guarded, plan_in}
 use Rattle.of_eval.specs.Items.{item_act}
 use Rattle.of_eval.specs.Methods.{then_known}
 use Rattle.of_eval.specs.Settling.{ended, is_same}
@@ -111,6 +111,7 @@ listing S law methods taken = record (free S) {
   fails = λ t h. h;
   faults = λ f. law.faults f;
   calls = λ k w t e. subst (λ r. ThrowsListed r) e (methods.calls k w);
+  declines = λ w ph a n t e. subst (λ r. ThrowsListed r) e (methods.opens w ph a n);
 }
 
 -- and a definition is ended where that may be
@@ -142,6 +143,8 @@ worked_raises c l taken ends (act.Takes cells a) s h = worked_raises c l taken e
 worked_raises c l taken ends (act.Guards cells a) s h = worked_raises c l taken ends a (guarded cells s) h
 worked_raises c l taken ends (act.Enters cells d ih a) s h =
     worked_raises c l taken ends a (entered cells d ih s) h.1
+worked_raises c l taken ends (act.Opens x a) s h = worked_raises c l taken ends a (furnished x s) h.2
+worked_raises c l taken ends (act.Refuses t) s h = inl h.1
 
 -- ---- defining and compiling
 

@@ -43,7 +43,7 @@ use Rattle.of_eval.specs.Defining.{rounded_to, semicolon_entry, string_compiled,
 use Rattle.of_eval.specs.Defining.{string_refused, word_defined}
 use Rattle.of_eval.specs.Doing.{acted, appended, gone, input_at, read_at, worked}
 use Rattle.of_eval.specs.Doing as doing
-use Rattle.of_eval.specs.Executing.{entered, guarded, plan_in}
+use Rattle.of_eval.specs.Executing.{entered, furnished, guarded, plan_in}
 use Rattle.of_eval.specs.Items.{item_act}
 use Rattle.of_eval.specs.Methods.{as_method, known_if, method_made, then_known, xt_cell}
 use Rattle.of_eval.specs.Settling.{ended, is_same}
@@ -337,6 +337,10 @@ worked_reads l c (act.Loads size m cells) s w sound h = ((ap length w.1 ∙ ap s
 worked_reads l c (act.Takes cells a) s w sound h = worked_reads l c a (with_stack cells s) w sound h
 worked_reads l c (act.Guards cells a) s w sound h = worked_reads l c a (guarded cells s) w sound h
 worked_reads l c (act.Enters cells d ih a) s w sound h = worked_reads l c a (entered cells d ih s) w.1 sound h
+worked_reads l c (act.Opens x a) s w sound h =
+    let kept = l.tree.opened s.board w.1.0 w.1.1 w.1.2 w.1.3 x sound w.1.4 in
+    worked_reads l c a (furnished x s) w.2 kept.1 (same_images x.1.images s kept.0.0 h)
+worked_reads l c (act.Refuses t) s w sound h = h
 
 -- ---- acts
 

@@ -1,5 +1,7 @@
 -- The law `images_are_readings`: what is cut and worked off at the end of a step, and at the end of an image.
 use Rattle.std.proofs.Common.{◌≡◌, inl, inr, ℕ, suc, Bool, true, false, List, [], ◌∷◌, length, Option, Some, None}
+use Rattle.std.specs.Prelude.{◌==◌}
+use Rattle.of_cells.specs.declared.cells.Cell.{Cell}
 use Rattle.std.proofs.Common.{refl, sym, ap, ◌∙◌, subst, arith, is_some, if◌then◌else◌}
 use Rattle.of_stacks.specs.declared.throws.Throw.{Throw}
 use Rattle.of_stacks.specs.declared.return_item.Due.{Due}
@@ -18,7 +20,7 @@ use Rattle.of_flow.specs.declared.control_state.Flow.{Flow}
 use Rattle.of_eval.specs.State.{Calls, State, given_up, open_xt, with_items}
 use Rattle.of_eval.specs.Settling.{caught, due_left, fallen, given_back, going_back, is_full, is_same}
 use Rattle.of_eval.specs.Settling.{load_left, or_nothing, reading_on, resumed, settled, source_ended, uncaught}
-use Rattle.of_eval.specs.Settling.{worked_one}
+use Rattle.of_eval.specs.Settling.{due_throw, open_answered, released_in, worked_one}
 use Rattle.of_eval_laws.specs.Readings.{BeganInside, is_image, kept_readings, readings}
 use Rattle.of_eval_laws.specs.Returning.{is_return_top}
 use Rattle.of_eval_laws.specs.Throws.{image_more}
@@ -160,31 +162,26 @@ load_at (due.Method me) items s h = h
 load_at (due.Open me instance) items s h = h
 load_at (due.Close me instance) items s h = h
 
+released_at : {S : Type 0} (ih : Cell) (items : List ReturnItem) (s : State S) → IsAt items s
+    → IsAt items (released_in ih s)
+released_at ih items s h =
+    let same = (released_leaves s.board.instances s.board.memory ih).0 in
+    (h.0, subst (λ ends. Counted ends s.flow.reading.input items) (sym same) h.1, h.2)
+
+answered_at : {S : Type 0} (ih : Cell) (cells : List Cell) (items : List ReturnItem) (s : State S) → IsAt items s
+    → IsAt items (open_answered ih cells s)
+answered_at ih [] items s h = h
+answered_at ih (x ∷ cells) items s h = either items (x.0 == 0) _ _ (released_at ih items s h) h
+
 due_at : {S : Type 0} (d : Due) (items : List ReturnItem) (s : State S) → IsAt items s → IsAt items (due_left d s)
 due_at (due.Load active me instance count) items s h = load_at (due.Load active me instance count) items s h
-due_at (due.Close me instance) items s h =
-    let same = (released_leaves s.board.instances s.board.memory instance).0 in
-    (h.0, subst (λ ends. Counted ends s.flow.reading.input items) (sym same) h.1, h.2)
+due_at (due.Close me instance) items s h = released_at instance items s h
 due_at (due.Method me) items s h = h
-due_at (due.Open me instance) items s h = h
+due_at (due.Open me instance) items s h = answered_at instance s.board.stack items s h
 
 handler_at : {S : Type 0} (c : Calls S) (f : ExceptionFrame) (items : List ReturnItem) (s : State S) → IsAt items s
     → IsAt items (worked_one c (Handler f) s)
 handler_at c f items s h = either items (is_full s) _ _ (caught_at c f stack_overflow items s h) h
-
-worked_off : {S : Type 0} (c : Calls S) (items : List ReturnItem) (s : State S) → IsAt items s
-    → Reads (settled c items None s)
-unfolding settled
-worked_off c [] s h = reads_at [] s h
-worked_off c (Handler f ∷ items) s h =
-    worked_off c items (worked_one c (Handler f) (with_items items s))
-    (handler_at c f items (with_items items s) (refl, h.1, h.2))
-worked_off c (Caller d ∷ items) s h =
-    worked_off c items (worked_one c (Caller d) (with_items items s)) (due_at d items _ (refl, h.1, h.2))
-worked_off c (Source r ∷ items) s h = reads_at (Source r ∷ items) s h
-worked_off c (Return to ∷ items) s h = reads_at (Return to ∷ items) s h
-worked_off c (Loop l ∷ items) s h = reads_at (Loop l ∷ items) s h
-worked_off c (User x ∷ items) s h = reads_at (User x ∷ items) s h
 
 -- what was read first of all is no image, so where all is cut none is left
 fallen_at : {S : Type 0} (t : Throw) (s : State S) → IsAt [] s → IsAt [] (fallen t s)
@@ -203,23 +200,37 @@ source_at r items s h = (
   (λ e. none_beneath s.flow.reading.input (image_more r.input (kept_readings items)) (h.2 e)),
 )
 
-cut_off : {S : Type 0} (c : Calls S) (items : List ReturnItem) (t : Throw) (s : State S) → IsAt items s
-    → Reads (settled c items (Some t) s)
+-- what is due is worked off, and what is thrown is caught
+settles : {S : Type 0} (c : Calls S) (items : List ReturnItem) (thrown : Option Throw) (s : State S) → IsAt items s
+    → Reads (settled c items thrown s)
 unfolding settled
-cut_off c [] t s h = reads_at [] (uncaught c t s) (given_up_at c [] (fallen t s) (fallen_at t s h))
-cut_off c (Return to ∷ items) t s h = cut_off c items t (with_items items s) (refl, h.1, h.2)
-cut_off c (Loop l ∷ items) t s h = cut_off c items t (with_items items s) (refl, h.1, h.2)
-cut_off c (User x ∷ items) t s h = cut_off c items t (with_items items s) (refl, h.1, h.2)
-cut_off c (Handler f ∷ items) t s h =
-    worked_off c items (caught c f t (with_items items s)) (caught_at c f t items (with_items items s) (refl, h.1, h.2))
-cut_off c (Source r ∷ items) t s h = cut_off c items t (reading_on r (with_items items s)) (source_at r items s h)
-cut_off c (Caller d ∷ items) t s h =
-    cut_off c items t (load_left d (with_items items s)) (load_at d items (with_items items s) (refl, h.1, h.2))
+settles c [] None s h = reads_at [] s h
+settles c (Handler f ∷ items) None s h =
+    settles c items None (worked_one c (Handler f) (with_items items s))
+    (handler_at c f items (with_items items s) (refl, h.1, h.2))
+settles c (Caller d ∷ items) None s h =
+    settles c items (due_throw d s) (worked_one c (Caller d) (with_items items s))
+    (due_at d items _ (refl, h.1, h.2))
+settles c (Source r ∷ items) None s h = reads_at (Source r ∷ items) s h
+settles c (Return to ∷ items) None s h = reads_at (Return to ∷ items) s h
+settles c (Loop l ∷ items) None s h = reads_at (Loop l ∷ items) s h
+settles c (User x ∷ items) None s h = reads_at (User x ∷ items) s h
+settles c [] (Some t) s h = reads_at [] (uncaught c t s) (given_up_at c [] (fallen t s) (fallen_at t s h))
+settles c (Return to ∷ items) (Some t) s h = settles c items (Some t) (with_items items s) (refl, h.1, h.2)
+settles c (Loop l ∷ items) (Some t) s h = settles c items (Some t) (with_items items s) (refl, h.1, h.2)
+settles c (User x ∷ items) (Some t) s h = settles c items (Some t) (with_items items s) (refl, h.1, h.2)
+settles c (Handler f ∷ items) (Some t) s h =
+    settles c items None (caught c f t (with_items items s))
+    (caught_at c f t items (with_items items s) (refl, h.1, h.2))
+settles c (Source r ∷ items) (Some t) s h =
+    settles c items (Some t) (reading_on r (with_items items s)) (source_at r items s h)
+settles c (Caller d ∷ items) (Some t) s h =
+    settles c items (Some t) (load_left d (with_items items s))
+    (load_at d items (with_items items s) (refl, h.1, h.2))
 
 pub settled_reads : {S : Type 0} (c : Calls S) (thrown : Option Throw) (s : State S) → Reads s
     → Reads (settled c s.flow.items thrown s)
-settled_reads c None s h = worked_off c s.flow.items s (refl, h.0, h.1)
-settled_reads c (Some t) s h = cut_off c s.flow.items t s (refl, h.0, h.1)
+settled_reads c thrown s h = settles c s.flow.items thrown s (refl, h.0, h.1)
 
 -- ---- a throw that none takes
 

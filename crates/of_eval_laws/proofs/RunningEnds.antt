@@ -1,6 +1,7 @@
 -- The law `images_run`: what is worked off and what a throw cuts at the end of a step leave of the images that run.
 use Rattle.std.proofs.Common.{◌≡◌, ℕ, suc, ◌+◌, Bool, true, false, List, [], ◌∷◌, drop, Option, Some}
-use Rattle.std.proofs.Common.{None, refl, ap, ◌∙◌, arith, is_some, if◌then◌else◌}
+use Rattle.std.proofs.Common.{None, refl, ap, subst, sym, ◌∙◌, arith, is_some, if◌then◌else◌}
+use Rattle.std.specs.Prelude.{◌&&◌, ◌==◌}
 use Rattle.std.proofs.lemmas.List.{drop-drop}
 use Rattle.of_cells.specs.declared.cells.Cell.{Cell}
 use Rattle.of_stacks.specs.declared.throws.Throw.{Throw}
@@ -12,13 +13,13 @@ use Rattle.of_stacks.specs.declared.return_item.Input.TheVariants as input
 use Rattle.of_stacks.specs.declared.return_item.ReturnItem.{ReturnItem}
 use Rattle.of_stacks.specs.declared.return_item.ReturnItem.TheVariants.{Return, Loop, User, Handler, Source, Caller}
 use Rattle.of_stacks.specs.Returns.{is_due}
-use Rattle.of_stacks.specs.Throws.{stack_overflow}
+use Rattle.of_stacks.specs.Throws.{stack_overflow, stack_underflow}
 use Rattle.of_memory.specs.DataSpace.{DataSpace, IsSound}
 use Rattle.of_memory.specs.Growth.{image_popped}
 use Rattle.of_eval.specs.State.{Calls, State, given_up, open_xt, with_items}
 use Rattle.of_eval.specs.Settling.{caught, due_left, fallen, given_back, given_up_since, is_full, is_same, load_left}
-use Rattle.of_eval.specs.Settling.{reading_on, settled, uncaught, worked_one}
-use Rattle.of_eval_laws.specs.Running.{EndLeaves, LatestEnd, SomeEnd, running}
+use Rattle.of_eval.specs.Settling.{is_empty, open_answered, reading_on, settled, thrown_at, uncaught, worked_one}
+use Rattle.of_eval_laws.specs.Running.{EndLeaves, LatestEnd, SomeEnd, running, throws_late}
 use Rattle.of_board.specs.declared.board.Board.{Board}
 use Rattle.of_eval_laws.specs.Throws.{image_more, images_ended, left_by, left_through}
 use Rattle.of_eval_laws.proofs.Released.{all_leave, due_leaves, released_leaves}
@@ -61,11 +62,18 @@ load_stands (due.Method me) s sound = same s.board.memory sound
 load_stands (due.Open me instance) s sound = same s.board.memory sound
 load_stands (due.Close me instance) s sound = same s.board.memory sound
 
+answered_stands : {S : Type 0} (ih : Cell) (cells : List Cell) (s : State S) → IsSound s.board.memory
+    → StateStands s.board.memory (open_answered ih cells s)
+answered_stands ih [] s sound = same s.board.memory sound
+answered_stands ih (x ∷ cells) s sound =
+    either s.board.memory (x.0 == 0) _ _ ((released_leaves s.board.instances s.board.memory ih).1 sound)
+    (same s.board.memory sound)
+
 due_stands : {S : Type 0} (d : Due) (s : State S) → IsSound s.board.memory → StateStands s.board.memory (due_left d s)
 due_stands (due.Load active me instance count) s sound = load_stands (due.Load active me instance count) s sound
 due_stands (due.Close me instance) s sound = (released_leaves s.board.instances s.board.memory instance).1 sound
 due_stands (due.Method me) s sound = same s.board.memory sound
-due_stands (due.Open me instance) s sound = same s.board.memory sound
+due_stands (due.Open me instance) s sound = answered_stands instance s.board.stack s sound
 
 -- ---- what is due
 
@@ -80,17 +88,110 @@ worked_stands c (Return to) s sound = same s.board.memory sound
 worked_stands c (Loop l) s sound = same s.board.memory sound
 worked_stands c (User x) s sound = same s.board.memory sound
 
-pub worked_off : {S : Type 0} (c : Calls S) (items : List ReturnItem) (s : State S) → IsSound s.board.memory
-    → StateStands s.board.memory (settled c items None s)
+-- ---- where nothing is thrown late
+
+is_full_if : {S : Type 0} (b : Bool) (x y : State S) → is_empty x.board.stack ≡ false → is_empty y.board.stack ≡ false
+    → is_empty (if b then x else y).board.stack ≡ false
+is_full_if true x y hx hy = hx
+is_full_if false x y hx hy = hy
+
+since_full : {S : Type 0} (c : Calls S) (o : Option Cell) (s : State S) → is_empty s.board.stack ≡ false
+    → is_empty (given_up_since c o s).board.stack ≡ false
+since_full c o s h =
+    is_full_if (is_same (open_xt s) o) s (given_up c s) h (is_full_if (is_some s.words.defining) _ s h h)
+
+answered_full : {S : Type 0} (ih : Cell) (cells : List Cell) (s : State S) → is_empty s.board.stack ≡ false
+    → is_empty (open_answered ih cells s).board.stack ≡ false
+answered_full ih [] s h = h
+answered_full ih (x ∷ cells) s h = is_full_if (x.0 == 0) _ _ h refl
+
+due_full : {S : Type 0} (d : Due) (s : State S) → is_empty s.board.stack ≡ false
+    → is_empty (due_left d s).board.stack ≡ false
+due_full (due.Load active me instance count) s h = h
+due_full (due.Close me instance) s h = h
+due_full (due.Method me) s h = h
+due_full (due.Open me instance) s h = answered_full instance s.board.stack s h
+
+handler_full : {S : Type 0} (c : Calls S) (h : ExceptionFrame) (s : State S)
+    → is_empty (worked_one c (Handler h) s).board.stack ≡ false
+handler_full c h s = is_full_if (is_full s) _ _ (since_full c h.opened _ refl) refl
+
+worked_full : {S : Type 0} (c : Calls S) (item : ReturnItem) (s : State S) → is_empty s.board.stack ≡ false
+    → is_empty (worked_one c item s).board.stack ≡ false
+worked_full c (Handler h) s f = handler_full c h s
+worked_full c (Caller d) s f = due_full d _ f
+worked_full c (Source r) s f = f
+worked_full c (Return to) s f = f
+worked_full c (Loop l) s f = f
+worked_full c (User x) s f = f
+
+no_late : (b e : Bool) (t : Throw) → e ≡ false → (if b && e then Some t else None) ≡ None
+no_late true true t h = absurd cc
+no_late true false t h = refl
+no_late false e t h = refl
+
+-- where the data stack has a cell, none is missing
+full_late : {S : Type 0} (item : ReturnItem) (s : State S) → is_empty s.board.stack ≡ false → thrown_at item s ≡ None
+full_late (Handler h) s f = refl
+full_late (Source r) s f = refl
+full_late (Return to) s f = refl
+full_late (Loop l) s f = refl
+full_late (User x) s f = refl
+full_late (Caller (due.Load active me instance count)) s f = refl
+full_late (Caller (due.Close me instance)) s f = refl
+full_late (Caller (due.Method me)) s f = refl
+full_late (Caller (due.Open me instance)) s f =
+    no_late s.flow.is_running (is_empty s.board.stack) stack_underflow f
+
+full_off : {S : Type 0} (c : Calls S) (items : List ReturnItem) (s : State S) → is_empty s.board.stack ≡ false
+    → IsSound s.board.memory → StateStands s.board.memory (settled c items None s)
 unfolding settled
-worked_off c [] s r = same s.board.memory r
-worked_off c (item ∷ items) s r =
+full_off c [] s f r = same s.board.memory r
+full_off c (item ∷ items) s f r =
     let next = worked_one c item (with_items items s) in
     let kept = worked_stands c item (with_items items s) r in
-    either s.board.memory (is_due item) (settled c items None next) s
-    (then_stands s.board.memory next.board.memory (settled c items None next).board.memory kept
-    (worked_off c items next kept.2))
+    let rest : StateStands next.board.memory (settled c items (thrown_at item s) next) =
+    subst (λ t. StateStands next.board.memory (settled c items t next)) (sym (full_late item s f))
+    (full_off c items next (worked_full c item (with_items items s) f) kept.2) in
+    either s.board.memory (is_due item) (settled c items (thrown_at item s) next) s
+    (then_stands s.board.memory next.board.memory (settled c items (thrown_at item s) next).board.memory kept rest)
     (same s.board.memory r)
+
+-- a caller that isn't that of `open`
+called_off : {S : Type 0} (c : Calls S) (items : List ReturnItem) (s next : State S)
+    → StateStands s.board.memory next → StateStands next.board.memory (settled c items None next)
+    → StateStands s.board.memory (settled c items None next)
+called_off c items s next kept rest =
+    then_stands s.board.memory next.board.memory (settled c items None next).board.memory kept rest
+
+pub worked_off : {S : Type 0} (c : Calls S) (items : List ReturnItem) (s : State S)
+    → throws_late items s.board.stack ≡ false → IsSound s.board.memory
+    → StateStands s.board.memory (settled c items None s)
+unfolding settled
+worked_off c [] s e r = same s.board.memory r
+worked_off c (Handler h ∷ items) s e r =
+    let next = worked_one c (Handler h) (with_items items s) in
+    let kept = worked_stands c (Handler h) (with_items items s) r in
+    called_off c items s next kept (full_off c items next (handler_full c h (with_items items s)) kept.2)
+worked_off c (Caller (due.Open me instance) ∷ items) s e r =
+    full_off c (Caller (due.Open me instance) ∷ items) s e r
+worked_off c (Caller (due.Method me) ∷ items) s e r =
+    let next = worked_one c (Caller (due.Method me)) (with_items items s) in
+    let kept = worked_stands c (Caller (due.Method me)) (with_items items s) r in
+    called_off c items s next kept (worked_off c items next e kept.2)
+worked_off c (Caller (due.Close me instance) ∷ items) s e r =
+    let next = worked_one c (Caller (due.Close me instance)) (with_items items s) in
+    let kept = worked_stands c (Caller (due.Close me instance)) (with_items items s) r in
+    called_off c items s next kept (worked_off c items next e kept.2)
+worked_off c (Caller (due.Load active me instance count) ∷ items) s e r =
+    let load = Caller (due.Load active me instance count) in
+    let next = worked_one c load (with_items items s) in
+    let kept = worked_stands c load (with_items items s) r in
+    called_off c items s next kept (worked_off c items next e kept.2)
+worked_off c (Source x ∷ items) s e r = same s.board.memory r
+worked_off c (Return to ∷ items) s e r = same s.board.memory r
+worked_off c (Loop l ∷ items) s e r = same s.board.memory r
+worked_off c (User x ∷ items) s e r = same s.board.memory r
 
 -- ---- what is thrown
 
@@ -126,36 +227,46 @@ uncaught_ends c t s r =
     (then_stands s.board.memory (fallen t s).board.memory (uncaught c t s).board.memory kept
     (given_up_stands c (fallen t s) kept.2))
 
-caught_ends : {S : Type 0} (c : Calls S) (h : ExceptionFrame) (t : Throw) (items : List ReturnItem) (s : State S)
-    → IsSound s.board.memory → SomeEnded s.board.memory (settled c items None (caught c h t s)).board.memory
-caught_ends c h t items s r =
-    let next = caught c h t s in
-    let kept = caught_stands c h t s r in
-    none_end s.board.memory (settled c items None next).board.memory r
-    (then_stands s.board.memory next.board.memory (settled c items None next).board.memory kept
-    (worked_off c items next kept.2))
+-- what stands, and then some end
+stood_ends : (m after last : DataSpace) → IsSound m → Stands m after → SomeEnded after last → SomeEnded m last
+stood_ends m after last sound kept rest =
+    (rest.0, then_end m after last 0 (all_run m after sound.images kept) rest.1)
 
-pub cut_off : {S : Type 0} (c : Calls S) (items : List ReturnItem) (t : Throw) (s : State S) → IsSound s.board.memory
-    → SomeEnded s.board.memory (settled c items (Some t) s).board.memory
+ends_if : {S : Type 0} (m : DataSpace) (b : Bool) (x y : State S) → SomeEnded m x.board.memory
+    → SomeEnded m y.board.memory → SomeEnded m (if b then x else y).board.memory
+ends_if m true x y hx hy = hx
+ends_if m false x y hx hy = hy
+
+pub settles_ends : {S : Type 0} (c : Calls S) (items : List ReturnItem) (thrown : Option Throw) (s : State S)
+    → IsSound s.board.memory → SomeEnded s.board.memory (settled c items thrown s).board.memory
 unfolding settled
-cut_off c [] t s r = uncaught_ends c t s r
-cut_off c (Return to ∷ items) t s r = cut_off c items t (with_items items s) r
-cut_off c (Loop l ∷ items) t s r = cut_off c items t (with_items items s) r
-cut_off c (User x ∷ items) t s r = cut_off c items t (with_items items s) r
-cut_off c (Handler h ∷ items) t s r = caught_ends c h t items (with_items items s) r
-cut_off c (Source x ∷ items) t s r =
+settles_ends c [] None s r = none_end s.board.memory s.board.memory r (same s.board.memory r)
+settles_ends c (item ∷ items) None s r =
+    let next = worked_one c item (with_items items s) in
+    let kept = worked_stands c item (with_items items s) r in
+    ends_if s.board.memory (is_due item) (settled c items (thrown_at item s) next) s
+    (stood_ends s.board.memory next.board.memory (settled c items (thrown_at item s) next).board.memory r kept
+    (settles_ends c items (thrown_at item s) next kept.2))
+    (none_end s.board.memory s.board.memory r (same s.board.memory r))
+settles_ends c [] (Some t) s r = uncaught_ends c t s r
+settles_ends c (Return to ∷ items) (Some t) s r = settles_ends c items (Some t) (with_items items s) r
+settles_ends c (Loop l ∷ items) (Some t) s r = settles_ends c items (Some t) (with_items items s) r
+settles_ends c (User x ∷ items) (Some t) s r = settles_ends c items (Some t) (with_items items s) r
+settles_ends c (Handler h ∷ items) (Some t) s r =
+    let next = caught c h t (with_items items s) in
+    let kept = caught_stands c h t (with_items items s) r in
+    stood_ends s.board.memory next.board.memory (settled c items None next).board.memory r kept
+    (settles_ends c items None next kept.2)
+settles_ends c (Source x ∷ items) (Some t) s r =
     let i = s.flow.reading.input in
     let next = reading_on x (with_items items s) in
     back_ends i s.board.memory (settled c items (Some t) next).board.memory r
-    (cut_off c items t next (back_sound i s.board.memory r))
-cut_off c (Caller d ∷ items) t s r =
+    (settles_ends c items (Some t) next (back_sound i s.board.memory r))
+settles_ends c (Caller d ∷ items) (Some t) s r =
     let next = load_left d (with_items items s) in
     let kept = load_stands d (with_items items s) r in
-    let rest = cut_off c items t next kept.2 in (
-      rest.0,
-      then_end s.board.memory next.board.memory (settled c items (Some t) next).board.memory 0
-          (all_run s.board.memory next.board.memory r.images kept) rest.1,
-    )
+    stood_ends s.board.memory next.board.memory (settled c items (Some t) next).board.memory r kept
+    (settles_ends c items (Some t) next kept.2)
 
 -- ---- so many images
 
@@ -186,12 +297,14 @@ left_ends now (Handler h ∷ items) b r = left_ends now items b r
 -- ---- the end of a step
 
 pub end_leaves : {S : Type 0} (c : Calls S) (items : List ReturnItem) (thrown : Option Throw) (s : State S)
-    → IsSound s.board.memory → EndLeaves s.board.memory (settled c items thrown s).board.memory thrown
-end_leaves c items None s r =
-    all_run s.board.memory (settled c items None s).board.memory r.images (worked_off c items s r)
-end_leaves c items (Some t) s r = (cut_off c items t s r).1
+    → IsSound s.board.memory
+    → EndLeaves (throws_late items s.board.stack) s.board.memory (settled c items thrown s).board.memory thrown
+end_leaves c items None s r = (
+  (λ e. all_run s.board.memory (settled c items None s).board.memory r.images (worked_off c items s e r)),
+  (settles_ends c items None s r).1,
+)
+end_leaves c items (Some t) s r = (settles_ends c items (Some t) s r).1
 
 pub settled_sound : {S : Type 0} (c : Calls S) (items : List ReturnItem) (thrown : Option Throw) (s : State S)
     → IsSound s.board.memory → IsSound (settled c items thrown s).board.memory
-settled_sound c items None s r = (worked_off c items s r).2
-settled_sound c items (Some t) s r = (cut_off c items t s r).0
+settled_sound c items thrown s r = (settles_ends c items thrown s r).0

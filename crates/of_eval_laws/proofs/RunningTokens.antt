@@ -1,7 +1,7 @@
 -- The law `images_run`: what an item and a token leave of the images that run.
 use Rattle.std.proofs.Common.{◌≡◌, inl, inr, ℕ, ◌+◌, ◌≤◌, Bool, true, false, ◌&&◌, not, List, [], ◌∷◌, ◌++◌, length}
 use Rattle.std.proofs.Common.{replicate, Option, Some, None, Result, Ok, Err, is_none, is_some, refl, sym, subst}
-use Rattle.std.proofs.Common.{arith, nat_le, if◌then◌else◌}
+use Rattle.std.proofs.Common.{ap, arith, nat_le, ◌∙◌, if◌then◌else◌}
 use Rattle.std.proofs.lemmas.Bool.{leb-true, ltb-false}
 use Rattle.std.proofs.lemmas.List.{length-replicate}
 use Rattle.of_cells.specs.declared.cells.Cell.{Cell}
@@ -41,7 +41,7 @@ use Rattle.of_eval.specs.Defining.{rounded, rounded_to, semicolon_entry, string_
 use Rattle.of_eval.specs.Defining.{string_refused, word_defined}
 use Rattle.of_eval.specs.Doing.{acted, appended, gone, worked}
 use Rattle.of_eval.specs.Doing as doing
-use Rattle.of_eval.specs.Executing.{entered, guarded, plan_in}
+use Rattle.of_eval.specs.Executing.{entered, furnished, guarded, plan_in}
 use Rattle.of_eval.specs.Items.{item_act}
 use Rattle.of_eval.specs.Methods.{as_method, known_if, method_made, then_known, xt_cell}
 use Rattle.of_eval.specs.Settling.{ended, given_back, is_same}
@@ -52,7 +52,9 @@ use Rattle.of_flow.specs.Tokens.{typed_of}
 use Rattle.of_eval_laws.specs.Listed.{plan_of_item}
 use Rattle.of_eval_laws.specs.Running.{OneBegins, is_at_end, reading_ends, token_ends}
 use Rattle.of_eval_laws.proofs.FramedMemory.{append_stands}
-use Rattle.of_eval_laws.proofs.FramedSpace.{AddressStands, Stands, below_stands, same, then_stands}
+use Rattle.of_eval_laws.proofs.FramedSpace.{AddressStands, Stands, below_stands, kept_stands, same, then_stands}
+use Rattle.of_eval_laws.proofs.RunningBytes.{all_run}
+use Rattle.of_ihandles.specs.Table.{InstanceTable}
 use Rattle.of_eval_laws.proofs.PlacedActs.{found_none}
 use Rattle.of_eval_laws.specs.Sound.{AreBytes}
 use Rattle.of_eval_laws.proofs.RunningBytes.{popped, state_stands}
@@ -62,20 +64,29 @@ use Rattle.of_eval_laws.proofs.RunningWords.{Kept, KeptBy, Laws, Leaves, either,
 use Rattle.of_eval_laws.proofs.Walk.{IsAct, Turns, item_acts, typed_acts}
 use Rattle.of_eval_laws.proofs.WalkFree.{anywhere, free_turns, keeping}
 use Rattle.of_eval_laws.proofs.WalkTyped.{typed_may}
-use Rattle.of_eval_laws.proofs.WalkWords.{IsWork, Rules, all_executed}
+use Rattle.of_eval_laws.proofs.WalkWords.{IsOpening, IsWork, Rules, all_executed}
 
 -- a data space with one image more, by the laws of the layers below
 abbrev Begins : DataSpace → DataSpace → Type 0
 Begins m after = Laws → IsSound after × OneBegins m after
 
+-- the images stand while an instance is opened
+instance_stands : {S : Type 0} (l : Laws) (x : InstanceTable × DataSpace) (s : State S) → IsOpening x s
+    → IsSound s.board.memory → Stands s.board.memory x.1
+instance_stands l x s o sound =
+    let kept = l.tree.opened s.board o.0 o.1 o.2 o.3 x sound o.4 in
+    kept_stands s.board.memory x.1 kept.0 kept.1
+
 -- ---- the rules
 
 -- a data space that is sound stays so while words run, and one image more may run
 abbrev running_rules : (S : Type 0) → Rules S
-running_rules S = record (keeping S (λ s. IsSound s.board.memory) (λ cells d ih s k p. (p, p, p))) {
-  Loads = λ s m. Begins s.board.memory m;
-  loads = λ a n spread x s p shut e l. image_begins l s.board.memory a n spread x p e;
-}
+running_rules S =
+    record (keeping S (λ s. (Laws → IsSound s.board.memory))
+    ((λ cells d ih s k p. (p, p, p)), (λ x s o p l. (instance_stands l x s o (p l)).2))) {
+      Loads = λ s m. Begins s.board.memory m;
+      loads = λ a n spread x s p shut e l. image_begins l s.board.memory a n spread x (p l) e;
+    }
 
 -- and where an image ends, that is by `end0` or `end1`
 abbrev running_turns : (S : Type 0) → Bool → Turns (running_rules S)
@@ -235,6 +246,21 @@ gone_leaves : {S : Type 0} (to : To) (s : State S) → IsSound s.board.memory
 gone_leaves act.Behind s sound = left s.board.memory sound
 gone_leaves (act.Next to) s sound = left s.board.memory sound
 
+-- the images stand, and then more is done
+stood_kept : (m after last : DataSpace) → IsSound m → Stands m after → Kept false after last → Kept false m last
+stood_kept m after last sound h (inl k) = inl (then_stands m after last h k)
+stood_kept m after last sound h (inr (full, (image, e))) =
+    inr (full, (image, e ∙ ap (λ x. image ∷ x) (all_run m after sound.images h)))
+
+stood_by : (m after last : DataSpace) (e : Result (Unit {0}) Throw) → IsSound m → Stands m after
+    → KeptBy false after last e → KeptBy false m last e
+stood_by m after last (Ok x) sound h k = stood_kept m after last sound h k
+stood_by m after last (Err t) sound h k = then_stands m after last h k
+
+stood_leaves : {S : Type 0} (m after : DataSpace) (o : Outcome S) → IsSound m → Stands m after → Leaves false after o
+    → Leaves false m o
+stood_leaves m after o sound h k = stood_by m after o.state.board.memory o.ended sound h k
+
 worked_leaves : {S : Type 0} (l : Laws) (c : Calls S) (a : WordAct) (s : State S) → IsWork (running_rules S) s a
     → IsSound s.board.memory → Leaves false s.board.memory (worked c a s)
 unfolding worked
@@ -251,6 +277,11 @@ worked_leaves l c (act.Loads size m cells) s h sound = inr (h l)
 worked_leaves l c (act.Takes cells a) s h sound = worked_leaves l c a (with_stack cells s) h sound
 worked_leaves l c (act.Guards cells a) s h sound = worked_leaves l c a (guarded cells s) h sound
 worked_leaves l c (act.Enters cells d ih a) s h sound = worked_leaves l c a (entered cells d ih s) h.1 sound
+worked_leaves l c (act.Opens x a) s h sound =
+    let kept = instance_stands l x s h.1 sound in
+    stood_leaves s.board.memory x.1 (worked c a (furnished x s)) sound kept
+    (worked_leaves l c a (furnished x s) h.2 kept.2)
+worked_leaves l c (act.Refuses t) s h sound = same s.board.memory sound
 
 ends_leave : {S : Type 0} (at_end : Bool) (c : Calls S) (s : State S) → at_end ≡ true → IsSound s.board.memory
     → Leaves at_end s.board.memory (ended c s)
@@ -287,8 +318,8 @@ item_due_leaves {S} l c (Some x) s sound =
     let on = with_next (continuation.Code x.1.cell) s in
     let R = running_rules S in
     acted_leaves l c false (item_act x.0 (front_of on)) on
-    (item_acts R (running_turns S false) x.0 on (anywhere R (λ n y. tt) (target_of x.0) on) sound
-    (all_executed R tt (plan_of_item x.0 (plan_in on)) on sound tt (λ y e. tt)))
+    (item_acts R (running_turns S false) x.0 on (anywhere R (λ n y. tt) (target_of x.0) on) (λ m. sound)
+    (all_executed R tt (plan_of_item x.0 (plan_in on)) on (λ m. sound) tt (λ y e. tt)))
     sound
 
 -- ---- tokens
@@ -302,7 +333,7 @@ found_leaves {S} l c (Some x) size position s sound =
     let R = running_rules S in
     let T = running_turns S (token_ends (Some x)) in
     acted_leaves l c (token_ends (Some x)) (act_of (typed_of x.0) here (front_of on)) on
-    (typed_acts R T (typed_of x.0) here on sound
+    (typed_acts R T (typed_of x.0) here on (λ m. sound)
     (typed_may R T (word_numbered x.0.code.0) x.0.code x.0.argument on.flow.is_compiling on
     (record {
       positions = tt;
@@ -310,7 +341,7 @@ found_leaves {S} l c (Some x) size position s sound =
       makes = λ e. tt;
       closes = λ e z. tt;
       appends = λ e. tt;
-      executes = all_executed R tt _ on sound tt (λ y e. tt);
+      executes = all_executed R tt _ on (λ m. sound) tt (λ y e. tt);
     })))
     sound
 

@@ -21,7 +21,7 @@ use Rattle.of_compile.specs.Defining.{abandoned, dropped}
 use Rattle.of_compile.specs.Words.{WordsState}
 use Rattle.of_eval.specs.State.{Calls, State, open_xt, with_board, with_compiling, with_items}
 use Rattle.of_eval.specs.Settling.{caller_self, caught, fallen, given_back, is_full, is_same, load_left, reading_on}
-use Rattle.of_eval.specs.Settling.{due_left, resumed, settled, uncaught}
+use Rattle.of_eval.specs.Settling.{due_left, due_throw, resumed, settled, uncaught}
 use Rattle.of_eval_laws.specs.Throws.{EndsAll, GoesOnBehind, IsCaught, LeavesDefinition, ThrowsSettle, above_left}
 use Rattle.of_eval_laws.specs.Throws.{all_left, is_opened_since, is_passed, left_by, left_through}
 
@@ -305,7 +305,7 @@ nought_left c h r s e = rw e refl
 
 called_back : {S : Type 0} (c : Calls S) (d : Due) (r : List ReturnItem) (s : State S)
     → settled c (Caller d ∷ r) None s
-    ≡ settled c r None (due_left d (with_board (with_self s.board (caller_self d)) (with_items r s)))
+    ≡ settled c r (due_throw d s) (due_left d (with_board (with_self s.board (caller_self d)) (with_items r s)))
 unfolding settled
 called_back c d r s = refl
 

@@ -7,17 +7,20 @@ use Rattle.of_stacks.specs.declared.return_item.Due.TheVariants as due
 use Rattle.of_board.specs.Active.{no_self}
 use Rattle.of_stacks.specs.declared.return_item.LoopParameters.{LoopParameters}
 use Rattle.of_stacks.specs.declared.return_item.ReturnItem.TheVariants.{Loop}
-use Rattle.of_eval.specs.Executing.{entered, guarded}
+use Rattle.of_memory.specs.DataSpace.{DataSpace}
+use Rattle.of_ihandles.specs.Table.{InstanceTable}
+use Rattle.of_eval.specs.Executing.{entered, furnished, guarded}
 use Rattle.of_eval.specs.State.{State, with_stack}
 use Rattle.of_eval_laws.specs.Returning.{IsCall}
 use Rattle.of_eval_laws.proofs.Walk.{IsPlace, Turns}
-use Rattle.of_eval_laws.proofs.WalkWords.{Rules}
+use Rattle.of_eval_laws.proofs.WalkWords.{IsOpening, Rules}
 
--- what is so of the state stays so while a word takes cells, is guarded, or a method is called
+-- what is so of the state stays so while a word takes cells, is guarded, a method is called, or an instance is opened
 abbrev pub Stays : {S : Type 0} → (State S → Type 0) → Type 0
 Stays {S} Held =
-    (cells : List Cell) (d : Due) (ih : Cell) (s : State S) → IsCall d → Held s
-    → Held (with_stack cells s) × Held (guarded cells s) × Held (entered cells d ih s)
+    ((cells : List Cell) (d : Due) (ih : Cell) (s : State S) → IsCall d → Held s
+    → Held (with_stack cells s) × Held (guarded cells s) × Held (entered cells d ih s))
+    × ((x : InstanceTable × DataSpace) (s : State S) → IsOpening x s → Held s → Held (furnished x s))
 
 -- this is so of the state, and nothing is asked of acts
 abbrev pub keeping : (S : Type 0) (Held : State S → Type 0) → Stays Held → Rules S
@@ -34,6 +37,7 @@ keeping S Held stays = record {
   Known = λ s w. Unit {0};
   Appends = λ s. Unit {0};
   Loads = λ s m. Unit {0};
+  Opening = Unit {0};
   works = λ r w. tt;
   fails = λ t l. tt;
   faults = λ f. tt;
@@ -48,12 +52,16 @@ keeping S Held stays = record {
   opens = λ r s p e. tt;
   loads = λ a n spread x s p shut e. tt;
   calls = λ k w t e. tt;
-  takes = λ cells s p. (stays cells (due.Method no_self) no_self s tt p).0;
-  guards = λ cells s p. (stays cells (due.Method no_self) no_self s tt p).1;
-  enters = λ cells d ih s k p. (stays cells d ih s k p).2;
+  may_open = λ r. tt;
+  declines = λ w ph a n t e. tt;
+  takes = λ cells s p. (stays.0 cells (due.Method no_self) no_self s tt p).0;
+  guards = λ cells s p. (stays.0 cells (due.Method no_self) no_self s tt p).1;
+  enters = λ cells d ih s k p. (stays.0 cells d ih s k p).2;
+  furnishes = λ x s o p. stays.1 x s o p;
   drops_taken = λ cells s d. tt;
   drops_guarded = λ cells s p. tt;
   drops_entered = λ cells d ih s p. tt;
+  drops_furnished = λ x s d. d;
 }
 
 -- where nothing is asked of what is dropped, of loops that are pushed and of where control goes on
@@ -79,7 +87,7 @@ free_turns R drop loop aims = record {
 
 -- nothing is asked of the state, either
 abbrev pub free : (S : Type 0) → Rules S
-free S = keeping S (λ s. Unit {0}) (λ cells d ih s k p. (tt, tt, tt))
+free S = keeping S (λ s. Unit {0}) ((λ cells d ih s k p. (tt, tt, tt)), (λ x s o p. tt))
 
 -- nor of the target of an item
 pub anywhere : {S : Type 0} (R : Rules S) → ((n : ℕ) (s : State S) → R.Aims s n)

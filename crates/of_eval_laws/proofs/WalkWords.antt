@@ -40,10 +40,11 @@ use Rattle.of_compile.specs.Words.{WordsState, is_word, numbered, own_word}
 use Rattle.of_eval.specs.Acts.{Front, Move, To, WordAct, front_of, knowing, leaving}
 use Rattle.of_eval.specs.Acts as act
 use Rattle.of_eval.specs.ByteLoading.{copying, length_at, load_act, loading, loading_faults, spread_of, start_at}
-use Rattle.of_eval.specs.Executing.{Call, Catch, Execute, Own, Plan, Stops, Written, act_of_plan, call_faults}
-use Rattle.of_eval.specs.Executing.{call_plan, catch_plan, comma_act, comma_faults, dictionary_act, dropping, entered}
-use Rattle.of_eval.specs.Executing.{executable, execute_plan, execution, guarded, is_opened, own_act, plan, plan_at}
-use Rattle.of_eval.specs.Executing.{plan_behind, plan_in, planned, runner_of, unless_stopped}
+use Rattle.of_eval.specs.Executing.{Call, Catch, Declines, Execute, Open, Own, Plan, Stops, Written, act_of_plan}
+use Rattle.of_eval.specs.Executing.{call_faults, call_plan, callee_plan, catch_plan, comma_act, comma_faults}
+use Rattle.of_eval.specs.Executing.{dictionary_act, dropping, entered, executable, execute_plan, execution, furnished}
+use Rattle.of_eval.specs.Executing.{guarded, is_opened, opening_plan, own_act, plan, plan_at, plan_behind, plan_in}
+use Rattle.of_eval.specs.Executing.{planned, runner_of, unless_stopped}
 use Rattle.of_eval.specs.declared.executing.Runner.{Runner}
 use Rattle.of_eval.specs.declared.executing.Runner.TheVariants as runner
 use Rattle.of_instances.specs.declared.calling.CallingWord.{CallingWord}
@@ -52,7 +53,15 @@ use Rattle.of_instances.specs.declared.calling.CallingWord.TheVariants as callin
 use Rattle.of_instances.specs.declared.calling.Operands.{Operands}
 use Rattle.of_instances.specs.Calling.{beneath, call_above, call_method_entry, call_of, call_package_entry}
 use Rattle.of_instances.specs.Calling.{call_parent_entry, calling_entry, close_in, close_of, close_package_entry}
-use Rattle.of_instances.specs.Calling.{method_of, xt_for}
+use Rattle.of_instances.specs.Calling.{method_of, new_instance, none_found as no_package, open_at, open_found, open_in}
+use Rattle.of_instances.specs.Calling.{open_named, open_named_entry, open_of, open_package_entry, xt_for}
+use Rattle.of_instances.specs.declared.calling.Callee.{Callee}
+use Rattle.of_instances.specs.declared.calling.Callee.TheVariants.{Live, New}
+use Rattle.of_instances.specs.Reading.{package_at, text_at}
+use Rattle.of_nodes.specs.declared.phandles.Phandle.{Phandle}
+use Rattle.of_nodes.specs.Lookup.{package_found}
+use Rattle.of_ihandles.specs.Table.{InstanceTable}
+use Rattle.of_stacks.specs.declared.return_item.Due.TheVariants as due
 use Rattle.of_instances.specs.Faults.{of_instance}
 use Rattle.of_ihandles.specs.Instances.{package_of, parent_of}
 use Rattle.of_stacks.specs.declared.return_item.Due.{Due}
@@ -71,6 +80,10 @@ use Rattle.of_eval_laws.proofs.ListedFaults.{from_body_listed, get_token_listed}
 use Rattle.of_eval_laws.proofs.ListedFaults.{index_listed, loop_listed, return_listed, set_token_listed, store_listed}
 use Rattle.of_eval_laws.proofs.ListedFaults.{to_body_listed, user_listed, within_listed}
 use Rattle.of_eval_laws.proofs.ListedWords.{comma_fault, finds, loading_fault, products}
+
+-- an opening leaves these instances and this data space
+abbrev pub IsOpening : {S : Type 0} → InstanceTable × DataSpace → State S → Type 0
+IsOpening x s = (ph : Phandle) × (a : Cell) × (n : Cell) × (ih : Cell) × (new_instance s.board ph a n ≡ Ok (ih, x))
 
 -- What a law asks of the acts of words, and why what the tables look at has it.
 pub record Rules (S : Type 0) : Type 1 where
@@ -92,6 +105,8 @@ pub record Rules (S : Type 0) : Type 1 where
   pub Known : State S → WordsState → Type 0
   pub Appends : State S → Type 0
   pub Loads : State S → DataSpace → Type 0
+  -- where an instance is opened
+  pub Opening : Type 0
   -- an ordinary word runs; what the tables throw is listed, or a fault of memory
   pub works : Runs → (w : Word) → Works w
   pub fails : (t : Throw) → is_listed t ≡ true → Fails t
@@ -122,14 +137,19 @@ pub record Rules (S : Type 0) : Type 1 where
       image_pushed_from s.board.memory a n spread ≡ Ok x → Loads s x.1
   -- what the words throw that call a method
   pub calls : (k : CallingWord) (w : Board) (t : Throw) → calling_entry k w ≡ Err t → Fails t
+  -- an instance is opened, or that is refused
+  pub may_open : Runs → Opening
+  pub declines : (w : Board) (ph : Phandle) (a n : Cell) (t : Throw) → new_instance w ph a n ≡ Err t → Fails t
   -- `execute`, `catch` and words that call a method leave the state so
   pub takes : (cells : List Cell) (s : State S) → Held s → Held (with_stack cells s)
   pub guards : (cells : List Cell) (s : State S) → Held s → Held (guarded cells s)
   pub enters : (cells : List Cell) (d : Due) (ih : Cell) (s : State S) → IsCall d → Held s → Held (entered cells d ih s)
+  pub furnishes : (x : InstanceTable × DataSpace) (s : State S) → IsOpening x s → Held s → Held (furnished x s)
   -- an item that may be dropped may be behind `execute`, and any behind `catch` and words that call a method
   pub drops_taken : (cells : List Cell) (s : State S) → Drops s → Drops (with_stack cells s)
   pub drops_guarded : (cells : List Cell) (s : State S) → Held s → Drops (guarded cells s)
   pub drops_entered : (cells : List Cell) (d : Due) (ih : Cell) (s : State S) → Held s → Drops (entered cells d ih s)
+  pub drops_furnished : (x : InstanceTable × DataSpace) (s : State S) → Drops s → Drops (furnished x s)
 
 abbrev pub IsMove : {S : Type 0} → Rules S → State S → Move → Type 0
 IsMove R s act.Keeps = Unit {0}
@@ -183,6 +203,8 @@ IsWork R s (act.Loads size m cells) = R.Loads s m
 IsWork R s (act.Takes cells a) = IsWork R (with_stack cells s) a
 IsWork R s (act.Guards cells a) = IsWork R (guarded cells s) a
 IsWork R s (act.Enters cells d ih a) = IsCall d × IsWork R (entered cells d ih s) a
+IsWork R s (act.Opens x a) = R.Opening × IsOpening x s × IsWork R (furnished x s) a
+IsWork R s (act.Refuses t) = R.Opening × R.Fails t
 
 -- the number of the cell that `throw` takes may be thrown, where a plan comes to it
 abbrev pub MayRaise : {S : Type 0} → Rules S → Option Plan → List Cell → Type 0
@@ -379,8 +401,12 @@ written_works R r (word.Compiling w) s p d h = R.fails _ refl
 written_works R r w s p d h = R.works r w
 
 -- what is due is that at the end of a method
+abbrev IsCallee : Callee → Type 0
+IsCallee (Live ih d) = IsCall d
+IsCallee (New ph a n) = Unit {0}
+
 abbrev IsCallOf : Result (Option MethodCall) Throw → Type 0
-IsCallOf (Ok (Some m)) = IsCall m.due
+IsCallOf (Ok (Some m)) = IsCallee m.callee
 IsCallOf (Ok None) = Unit {0}
 IsCallOf (Err t) = Unit {0}
 
@@ -396,6 +422,32 @@ close_due : (w : Board) (ih : Cell) (r : Result (Option Cell) Throw) → IsCallO
 close_due w ih (Ok None) = tt
 close_due w ih (Ok (Some xt)) = tt
 close_due w ih (Err t) = tt
+
+opens_due : (ph : Phandle) (a n : Cell) (o : Operands) (r : Result (Option Cell) Throw) → IsCallOf (open_of ph a n o r)
+opens_due ph a n o (Ok None) = tt
+opens_due ph a n o (Ok (Some xt)) = tt
+opens_due ph a n o (Err t) = tt
+
+open_due : (w : Board) (ph : Phandle) (a n : Cell) (o : Operands) (r : Result (List ℕ) Throw)
+    → IsCallOf (open_in w ph a n o r)
+open_due w ph a n o (Ok arguments) = opens_due ph a n o _
+open_due w ph a n o (Err t) = tt
+
+there_due : (w : Board) (a n : Cell) (o : Operands) (r : Result Phandle Throw) → IsCallOf (open_at w a n o r)
+there_due w a n o (Ok ph) = open_due w ph a n o (text_at w.memory a n)
+there_due w a n o (Err t) = tt
+
+none_due : (r : Result (List ℕ) Throw) → IsCallOf (no_package r)
+none_due (Ok arguments) = tt
+none_due (Err t) = tt
+
+found_due : (w : Board) (a n : Cell) (o : Operands) (ph : Option Phandle) → IsCallOf (open_found w a n o ph)
+found_due w a n o None = none_due (text_at w.memory a n)
+found_due w a n o (Some ph) = open_due w ph a n o (text_at w.memory a n)
+
+path_due : (w : Board) (a n : Cell) (o : Operands) (r : Result (List ℕ) Throw) → IsCallOf (open_named w a n o r)
+path_due w a n o (Ok path) = found_due w a n o (package_found w.memory w.tree path)
+path_due w a n o (Err t) = tt
 
 package_due : (cells : List Cell) (w : Board) → IsCallOf (call_package_entry cells w)
 unfolding call_package_entry
@@ -417,40 +469,59 @@ unfolding close_package_entry
 closing_due (ih ∷ cells) w = close_due w ih (close_in w.tree (of_instance (package_of w.instances ih)))
 closing_due [] w = tt
 
+opening_due : (cells : List Cell) (w : Board) → IsCallOf (open_package_entry cells w)
+unfolding open_package_entry
+opening_due (ph ∷ n ∷ a ∷ cells) w = there_due w a n _ (package_at w.tree ph)
+opening_due _ w = tt
+
+opening_named_due : (cells : List Cell) (w : Board) → IsCallOf (open_named_entry cells w)
+unfolding open_named_entry
+opening_named_due (k ∷ p ∷ n ∷ a ∷ cells) w = path_due w a n _ (text_at w.memory p k)
+opening_named_due _ w = tt
+
 calling_due : (k : CallingWord) (w : Board) → IsCallOf (calling_entry k w)
 calling_due calling.Package w = package_due w.stack w
 calling_due calling.Method w = named_due w.stack w
 calling_due calling.Parent w = parent_due w.stack w
 calling_due calling.Close w = closing_due w.stack w
+calling_due calling.Open w = opening_due w.stack w
+calling_due calling.OpenNamed w = opening_named_due w.stack w
 
--- where a plan stops, that is by a throw that the law allows, and what is called is a method
-abbrev Stopping : {S : Type 0} → Rules S → Plan → Type 0
-Stopping R (Stops t) = R.Fails t
-Stopping R (Written w) = Unit {0}
-Stopping R (Own xt) = Unit {0}
-Stopping R (Execute cells p) = Stopping R p
-Stopping R (Catch cells p) = Stopping R p
-Stopping R (Call cells d ih p) = IsCall d × Stopping R p
+-- where a plan stops, that is by a throw that the law allows; what is called is a method, and what is opened is opened
+-- so
+abbrev Stopping : {S : Type 0} → Rules S → Front → Plan → Type 0
+Stopping R f (Stops t) = R.Fails t
+Stopping R f (Written w) = Unit {0}
+Stopping R f (Own xt) = Unit {0}
+Stopping R f (Execute cells p) = Stopping R (with_stack cells f) p
+Stopping R f (Catch cells p) = Stopping R (guarded cells f) p
+Stopping R f (Call cells d ih p) = IsCall d × Stopping R (entered cells d ih f) p
+Stopping R f (Open x p) = IsOpening x f × Stopping R (furnished x f) p
+Stopping R f (Declines t) = R.Fails t
 
-stops_if : {S : Type 0} (R : Rules S) (b : Bool) (p q : Plan) → Stopping R p → Stopping R q
-    → Stopping R (if b then p else q)
-stops_if R true p q hp hq = hp
-stops_if R false p q hp hq = hq
+-- what runs inside does
+abbrev Inside : {S : Type 0} → Rules S → (Front → ℕ → Plan) → Type 0
+Inside R inner = (g : Front) (to : ℕ) → Stopping R g (inner g to)
+
+stops_if : {S : Type 0} (R : Rules S) (f : Front) (b : Bool) (p q : Plan) → Stopping R f p → Stopping R f q
+    → Stopping R f (if b then p else q)
+stops_if R f true p q hp hq = hp
+stops_if R f false p q hp hq = hq
 
 stops_execute : {S : Type 0} (R : Rules S) (cells : List Cell) (f : Front) (inner : Front → ℕ → Plan)
-    → ((g : Front) (to : ℕ) → Stopping R (inner g to)) → Stopping R (execute_plan cells f inner)
+    → Inside R inner → Stopping R f (execute_plan cells f inner)
 unfolding is_listed listed_numbers
 stops_execute R [] f inner h = R.fails _ refl
 stops_execute R (x ∷ cells) f inner h =
-    stops_if R (is_word f.words.dictionary x.0) (Execute cells (inner (with_stack cells f) x.0)) (Stops bad_handle)
+    stops_if R f (is_word f.words.dictionary x.0) (Execute cells (inner (with_stack cells f) x.0)) (Stops bad_handle)
     (h (with_stack cells f) x.0) (R.fails _ refl)
 
 stops_catch : {S : Type 0} (R : Rules S) (cells : List Cell) (f : Front) (inner : Front → ℕ → Plan)
-    → ((g : Front) (to : ℕ) → Stopping R (inner g to)) → Stopping R (catch_plan cells f inner)
+    → Inside R inner → Stopping R f (catch_plan cells f inner)
 unfolding is_listed listed_numbers
 stops_catch R [] f inner h = R.fails _ refl
 stops_catch R (x ∷ cells) f inner h =
-    stops_if R (nat_le 256 (length f.flow.items)) (Stops return_stack_overflow)
+    stops_if R f (nat_le 256 (length f.flow.items)) (Stops return_stack_overflow)
     (Catch cells (inner (guarded cells f) x.0)) (R.fails _ refl) (h (guarded cells f) x.0)
 
 call_fault : (f : Front) (xt : Cell) → IsListedFault (counting (call_faults f xt))
@@ -459,44 +530,55 @@ call_fault f xt =
     counted_listed _ _ (fault_listed (not (is_word f.words.dictionary xt.0)) bad_handle refl)
     (counted_listed _ None (fault_listed (nat_le 256 (length f.flow.items)) return_stack_overflow refl) tt)
 
-stops_unless : {S : Type 0} (R : Rules S) (o : Option Throw) (p : Plan) → IsListedFault o → Stopping R p
-    → Stopping R (unless_stopped o p)
-stops_unless R None p l h = h
-stops_unless R (Some t) p l h = R.fails t l
+stops_unless : {S : Type 0} (R : Rules S) (f : Front) (o : Option Throw) (p : Plan) → IsListedFault o
+    → Stopping R f p → Stopping R f (unless_stopped o p)
+stops_unless R f None p l h = h
+stops_unless R f (Some t) p l h = R.fails t l
+
+stops_opening : {S : Type 0} (R : Rules S) (ph : Phandle) (a n : Cell)
+    (r : Result (Cell × (InstanceTable × DataSpace)) Throw) (m : MethodCall) (f : Front) (inner : Front → ℕ → Plan)
+    → new_instance f.board ph a n ≡ r → Inside R inner → Stopping R f (opening_plan r m f inner)
+stops_opening R ph a n (Ok x) m f inner e h =
+    let cells = beneath m.operands f.board.stack in
+    let d = due.Open f.board.active.my_self x.0 in
+    ((ph, a, n, x.0, e), (tt, h (entered cells d x.0 (furnished x.1 f)) m.xt.0))
+stops_opening R ph a n (Err t) m f inner e h = R.declines f.board ph a n t e
+
+stops_callee : {S : Type 0} (R : Rules S) (k : Callee) (m : MethodCall) (f : Front) (inner : Front → ℕ → Plan)
+    → IsCallee k → Inside R inner → Stopping R f (callee_plan k m f inner)
+stops_callee R (Live ih d) m f inner c h = (c, h (entered (beneath m.operands f.board.stack) d ih f) m.xt.0)
+stops_callee R (New ph a n) m f inner c h = stops_opening R ph a n (new_instance f.board ph a n) m f inner refl h
 
 stops_call : {S : Type 0} (R : Rules S) (w : Word) (k : CallingWord) (r : Result (Option MethodCall) Throw) (f : Front)
-    (inner : Front → ℕ → Plan) → calling_entry k f.board ≡ r → ((g : Front) (to : ℕ) → Stopping R (inner g to))
-    → Stopping R (call_plan w r f inner)
+    (inner : Front → ℕ → Plan) → calling_entry k f.board ≡ r → Inside R inner → Stopping R f (call_plan w r f inner)
 stops_call R w k (Err t) f inner e h = R.calls k f.board t e
 stops_call R w k (Ok None) f inner e h = tt
 stops_call R w k (Ok (Some m)) f inner e h =
-    let cells = beneath m.operands f.board.stack in
-    stops_unless R (counting (call_faults f m.xt))
-    (Call cells m.due m.instance (inner (entered cells m.due m.instance f) m.xt.0)) (call_fault f m.xt)
-    (subst (λ r. IsCallOf r) e (calling_due k f.board), h (entered cells m.due m.instance f) m.xt.0)
+    stops_unless R f (counting (call_faults f m.xt)) (callee_plan m.callee m f inner) (call_fault f m.xt)
+    (stops_callee R m.callee m f inner (subst (λ r. IsCallOf r) e (calling_due k f.board)) h)
 
 stops_behind : {S : Type 0} (R : Rules S) (o : Option ℕ) (f : Front) (inner : Front → ℕ → Plan)
-    → ((g : Front) (to : ℕ) → Stopping R (inner g to)) → Stopping R (plan_behind o f inner)
+    → Inside R inner → Stopping R f (plan_behind o f inner)
 unfolding is_listed listed_numbers
 stops_behind R None f inner h = R.fails _ refl
 stops_behind R (Some xt) f inner h = at_word (word_with_xt xt)
   where
-    by_runner : (w : Word) (r : Runner) → Stopping R (planned w r f inner)
+    by_runner : (w : Word) (r : Runner) → Stopping R f (planned w r f inner)
     by_runner w runner.Plain = tt
     by_runner w runner.Execute = stops_execute R f.board.stack f inner h
     by_runner w runner.Catch = stops_catch R f.board.stack f inner h
     by_runner w (runner.Call k) = stops_call R w k (calling_entry k f.board) f inner refl h
 
-    at_word : (o : Option Word) → Stopping R (plan_at o xt f inner)
+    at_word : (o : Option Word) → Stopping R f (plan_at o xt f inner)
     at_word None = tt
     at_word (Some w) = by_runner w (runner_of w)
 
-plan_stops : {S : Type 0} (R : Rules S) (n : ℕ) (f : Front) (xt : ℕ) → Stopping R (plan n f xt)
+plan_stops : {S : Type 0} (R : Rules S) (n : ℕ) (f : Front) (xt : ℕ) → Stopping R f (plan n f xt)
 unfolding plan is_listed listed_numbers
 plan_stops R zero f xt = stops_behind R (executable f.words xt) f _ (λ g to. R.fails _ refl)
 plan_stops R (suc n) f xt = stops_behind R (executable f.words xt) f _ (λ g to. plan_stops R n g to)
 
-plan_works : {S : Type 0} (R : Rules S) → R.Runs → (q : Plan) (s : State S) → Stopping R q → R.Held s
+plan_works : {S : Type 0} (R : Rules S) → R.Runs → (q : Plan) (s : State S) → Stopping R (front_of s) q → R.Held s
     → (drops_item (last_word q) ≡ true → R.Drops s) → MayRaise R (Some q) s.board.stack
     → IsWork R s (act_of_plan q (front_of s))
 unfolding act_of_plan
@@ -512,6 +594,11 @@ plan_works R r (Call cells on ih q) s l p d h =
     plan_works R r q (entered cells on ih s) l.1 (R.enters cells on ih s l.0 p)
     (λ e. R.drops_entered cells on ih s p) h in
     (l.0, works)
+plan_works R r (Open x q) s l p d h =
+    let works =
+    plan_works R r q (furnished x s) l.1 (R.furnishes x s l.0 p) (λ e. R.drops_furnished x s (d e)) h in
+    (R.may_open r, l.0, works)
+plan_works R r (Declines t) s l p d h = (R.may_open r, l)
 
 -- executing a word
 pub execution_works : {S : Type 0} (R : Rules S) → R.Runs → (xt : ℕ) (s : State S) → R.Held s

@@ -29,7 +29,7 @@ use Rattle.of_flow.specs.declared.control.ControlWord.TheVariants as control
 use Rattle.of_flow.specs.declared.control_state.Flow.{Flow}
 use Rattle.of_eval.specs.Acts.{Act, Does, Fails, Goes, Moves, Next}
 use Rattle.of_eval.specs.Doing.{executed}
-use Rattle.of_eval.specs.Executing.{Call, Catch, Execute, Own, Plan, Stops, Written, plan_in}
+use Rattle.of_eval.specs.Executing.{Call, Catch, Declines, Execute, Open, Own, Plan, Stops, Written, plan_in}
 use Rattle.of_eval.specs.Items.{Target, control_act}
 use Rattle.of_eval.specs.State.{Calls, State}
 use Rattle.of_eval.specs.Steps.{item_done, token_due}
@@ -164,6 +164,8 @@ last_word (Own xt) = None
 last_word (Execute cells p) = last_word p
 last_word (Catch cells p) = None
 last_word (Call cells d ih p) = None
+last_word (Open x p) = last_word p
+last_word (Declines t) = None
 
 -- `r>`, `unloop` and `exit` drop an item
 abbrev pub drops_item : Option Word → Bool

@@ -27,7 +27,7 @@ use Rattle.of_memory.specs.Images.{latest_image}
 use Rattle.of_compile.specs.Structured.{Definitions}
 use Rattle.of_compile.specs.Coding.{Coding}
 use Rattle.of_board.specs.declared.board.Board.{Board}
-use Rattle.of_eval.specs.Executing.{Call, Catch, Execute, Plan, Written, plan_in}
+use Rattle.of_eval.specs.Executing.{Call, Catch, Execute, Open, Plan, Written, plan_in}
 use Rattle.of_eval.specs.State.{Calls, State, flat_calls, with_next}
 use Rattle.of_eval.specs.Steps.{due, read_on}
 use Rattle.of_words.specs.Words.{word_entry}
@@ -95,6 +95,7 @@ cell_in (Written (word.Throws throws.Throw)) (x ∷ cells) = Some x
 cell_in (Execute left p) cells = cell_in p left
 cell_in (Catch left p) cells = cell_in p left
 cell_in (Call left d ih p) cells = cell_in p left
+cell_in (Open x p) cells = cell_in p cells
 cell_in p cells = None
 
 abbrev pub cell_of : Option Plan → List Cell → Option Cell

@@ -74,7 +74,7 @@ IsRead r = IsImage r.input × (r.opened ≡ None)
 abbrev pub IsCall : Due → Type 0
 IsCall (caller.Method me) = Unit {0}
 IsCall (caller.Close me instance) = Unit {0}
-IsCall (caller.Open me instance) = ⊥
+IsCall (caller.Open me instance) = Unit {0}
 IsCall (caller.Load active me instance count) = ⊥
 
 -- the loop is one of an image

@@ -2,12 +2,15 @@
 use Rattle.std.specs.Prelude.{◌≡◌, ◌⊎◌, ℕ, ◌-◌, Bool, true, false, List, [], ◌∷◌, ◌++◌, drop, Option, Some, None}
 use Rattle.std.specs.Prelude.{Result, Ok}
 use Rattle.std.specs.Prelude.{Err}
+use Rattle.of_cells.specs.declared.cells.Cell.{Cell}
 use Rattle.of_stacks.specs.declared.throws.Throw.{Throw}
 use Rattle.of_stacks.specs.declared.return_item.Continuation.{Continuation}
 use Rattle.of_stacks.specs.declared.return_item.Continuation.TheVariants as continuation
 use Rattle.of_stacks.specs.declared.return_item.Input.{Input}
 use Rattle.of_stacks.specs.declared.return_item.Input.TheVariants as input
+use Rattle.of_stacks.specs.declared.return_item.Due.TheVariants as due
 use Rattle.of_stacks.specs.declared.return_item.ReturnItem.{ReturnItem}
+use Rattle.of_stacks.specs.declared.return_item.ReturnItem.TheVariants.{Return, Loop, User, Handler, Source, Caller}
 use Rattle.of_fcodes.specs.Lookup.{word_numbered}
 use Rattle.of_stream.specs.Decoding.{Token, token_from}
 use Rattle.of_memory.specs.DataSpace.{DataSpace, IsSound, bytes_from, free_after}
@@ -15,8 +18,8 @@ use Rattle.of_memory.specs.Images.{latest_image}
 use Rattle.of_nodes.specs.declared.phandles.Phandle.{Phandle}
 use Rattle.of_board.specs.declared.board.Board.{Board}
 use Rattle.of_eval.specs.State.{Calls, State}
-use Rattle.of_eval.specs.Settling.{settled}
-use Rattle.of_eval.specs.Steps.{due, stepped, steps_from}
+use Rattle.of_eval.specs.Settling.{is_empty, settled}
+use Rattle.of_eval.specs.Steps.{due as due_next, stepped, steps_from}
 use Rattle.of_eval.specs.Loading.{begun, load_fault}
 use Rattle.of_eval_laws.specs.Frames.{ends_image}
 use Rattle.of_eval_laws.specs.Throws.{images_ended, left_through}
@@ -94,10 +97,23 @@ abbrev pub DueLeaves : Bool → DataSpace → DataSpace → Result (Unit {0}) Th
 DueLeaves at_end m after (Ok x) = WorkLeaves at_end m after
 DueLeaves at_end m after (Err t) = AllRun m after
 
--- what is worked off at the end of a step ends none; a throw may end some
-abbrev pub EndLeaves : DataSpace → DataSpace → Option Throw → Type 0
-EndLeaves m after None = AllRun m after
-EndLeaves m after (Some t) = SomeEnd m after
+-- whether an `open` has ended, which is due first, that has left no answer: for that something is thrown
+abbrev pub throws_late : List ReturnItem → List Cell → Bool
+throws_late [] cells = false
+throws_late (Caller (due.Open me instance) ∷ r) cells = is_empty cells
+throws_late (Caller (due.Method me) ∷ r) cells = throws_late r cells
+throws_late (Caller (due.Close me instance) ∷ r) cells = throws_late r cells
+throws_late (Caller (due.Load active me instance count) ∷ r) cells = throws_late r cells
+throws_late (Handler h ∷ r) cells = false
+throws_late (Source x ∷ r) cells = false
+throws_late (Return to ∷ r) cells = false
+throws_late (Loop l ∷ r) cells = false
+throws_late (User x ∷ r) cells = false
+
+-- what is worked off at the end of a step ends none, unless that throws; a throw may end some
+abbrev pub EndLeaves : (late : Bool) → DataSpace → DataSpace → Option Throw → Type 0
+EndLeaves late m after None = (late ≡ false → AllRun m after) × SomeEnd m after
+EndLeaves late m after (Some t) = SomeEnd m after
 
 -- ---- the law
 
@@ -115,16 +131,18 @@ pub record ImagesRun (S : Type 0) : Type 0 where
   -- What a token or an item does leaves the images as they were; it may begin one, and at its end it ends the latest.
   pub done :
       (c : Calls S) (s : State S) → IsSound s.board.memory →
-      let o = due c s.flow.next s in
+      let o = due_next c s.flow.next s in
       DueLeaves (is_at_end s.flow.next s) s.board.memory o.state.board.memory o.ended
   -- The end of a step leaves them as they were, but for those that a throw ends.
   pub settled :
       (c : Calls S) (items : List ReturnItem) (thrown : Option Throw) (s : State S) → IsSound s.board.memory →
-      EndLeaves s.board.memory (settled c items thrown s).board.memory thrown
-  -- In a step that isn't the end of an image and throws nothing they go on.
+      EndLeaves (throws_late items s.board.stack) s.board.memory (settled c items thrown s).board.memory thrown
+  -- In a step that isn't the end of an image and throws nothing, at its end either, they go on.
   pub go_on :
       (c : Calls S) (s : State S) → IsSound s.board.memory →
-      is_at_end s.flow.next s ≡ false → (due c s.flow.next s).ended ≡ Ok tt →
+      is_at_end s.flow.next s ≡ false →
+      let o = due_next c s.flow.next s in
+      o.ended ≡ Ok tt → throws_late o.state.flow.items o.state.board.stack ≡ false →
       GoOn s.board.memory (stepped c s).board.memory
   -- In each step they go on, or some of the latest end: an image that still runs has the bytes that it had.
   pub step :

@@ -23,8 +23,8 @@ use Rattle.of_board.specs.Active.{all_finished, image_left, no_self, with_self}
 use Rattle.of_board.specs.declared.board.Board.{Board}
 use Rattle.of_board.specs.Text.{fault_printed}
 use Rattle.of_eval.specs.State.{Calls, State, open_xt, with_board, with_items}
-use Rattle.of_eval.specs.Settling.{caller_self, given_back, is_full, is_same, due_left, nothing_read, package_of}
-use Rattle.of_eval.specs.Settling.{settled}
+use Rattle.of_eval.specs.Settling.{caller_self, given_back, is_full, is_same, due_left, due_throw, nothing_read}
+use Rattle.of_eval.specs.Settling.{package_of, settled}
 
 -- ---- what a throw cuts
 
@@ -187,11 +187,11 @@ pub record ThrowsSettle (S : Type 0) : Type 0 where
       (c : Calls S) (h : ExceptionFrame) (r : List ReturnItem) (s : State S) → is_full s ≡ true →
       IsCaught c stack_overflow [] h r s (settled c (Handler h ∷ r) None s)
   -- A caller brings back the current instance, and the load of an image where words worked before; an instance that was
-  -- closed is released.
+  -- closed is released, and one that was opened is what its `open` answers. Where that has left nothing, it is thrown.
   pub brings_back :
       (c : Calls S) (d : Due) (r : List ReturnItem) (s : State S) →
       settled c (Caller d ∷ r) None s
-      ≡ settled c r None
+      ≡ settled c r (due_throw d s)
       (due_left d (with_board (with_self s.board (caller_self d)) (with_items r s)))
   -- A throw passes returns, loops and cells of the program: what lies beneath decides.
   pub passes :

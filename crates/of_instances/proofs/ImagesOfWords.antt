@@ -45,7 +45,7 @@ use Rattle.of_instances.specs.Setting.{string_entry, string_made}
 use Rattle.of_instances.specs.Left.{with_room}
 use Rattle.of_instances.proofs.ImagesKept.{AddressStands, IsReady, NamedStands, PutStands, Stands, append_stands}
 use Rattle.of_instances.proofs.ImagesKept.{images_kept, named_stands, put_stands, same}
-use Rattle.of_instances.proofs.TreeSpace.{left}
+use Rattle.of_instances.proofs.TreeSpace.{left, opens}
 
 -- what is left of a board keeps the images
 abbrev BoardStands : DataSpace → Result Board Throw → Type 0
@@ -379,4 +379,7 @@ images_stay l = record {
       (subst (λ r. BoardStands w.memory r) e (properties p w (sound.bytes, sound.properties_from)));
   tree = λ p w after sound e. (left l p w after sound e).images;
   sound = λ p w after sound e. (left l p w after sound e).sound;
+  opened = λ w ph a n ih x sound e.
+      let kept = opens l w ph a n ih x sound e in
+      (kept.images, kept.sound);
 }

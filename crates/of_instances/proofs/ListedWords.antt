@@ -31,8 +31,8 @@ use Rattle.of_board.specs.declared.board.Board.{Board}
 use Rattle.of_board.specs.Active.{device_finished, device_opened}
 use Rattle.of_board.specs.declared.device_fault.DeviceFault.{DeviceFault}
 use Rattle.of_board.specs.declared.device_fault.DeviceFault.TheVariants as device
-use Rattle.of_ihandles.specs.Instances.{argument_span, arguments_set, closed, most_instances, package_of, parent_of}
-use Rattle.of_ihandles.specs.Instances.{units}
+use Rattle.of_ihandles.specs.Instances.{argument_span, arguments_set, closed, most_instances, opened, package_of}
+use Rattle.of_ihandles.specs.Instances.{parent_of, units}
 use Rattle.of_ihandles.specs.Table.{InstanceTable}
 use Rattle.of_ihandles.specs.declared.instance_fault.InstanceFault.{InstanceFault}
 use Rattle.of_ihandles.specs.declared.instance_fault.InstanceFault.TheVariants as instance
@@ -42,7 +42,10 @@ use Rattle.of_instances.specs.declared.calling.CallingWord.TheVariants as callin
 use Rattle.of_instances.specs.declared.calling.Operands.{Operands}
 use Rattle.of_instances.specs.Calling.{call_above, call_method_entry, call_of, call_package_entry, call_parent_entry}
 use Rattle.of_instances.specs.Calling.{calling_entry, close_in, close_of, close_package_entry, method_in}
-use Rattle.of_instances.specs.Calling.{method_of as calling_method, method_there, xt_for}
+use Rattle.of_instances.specs.Calling.{method_of as calling_method, method_there, new_instance, none_found, open_at}
+use Rattle.of_instances.specs.Calling.{open_found, open_in, open_named, open_named_entry, open_of, open_package_entry}
+use Rattle.of_instances.specs.Calling.{opened_with, xt_for}
+use Rattle.of_instances.specs.TreeWords.{named_unopened_entry, unopened_entry}
 use Rattle.of_instances.specs.Encoding.{array, cells_left, decode_int_entry, decode_phys_entry, decode_string_entry}
 use Rattle.of_instances.specs.Encoding.{encode_bytes_entry, encode_int_entry, encode_phys_entry, encode_plus_entry}
 use Rattle.of_instances.specs.Encoding.{encode_string_entry, encoded_left, int_left, joined_left, phys_left, phys_read}
@@ -592,6 +595,16 @@ release [] w = refl
 release (ih ∷ s) w =
     args_left s w (of_instance (closed w.instances w.memory ih)) (instances (closed w.instances w.memory ih))
 
+unopened : (s : List Cell) (w : Board) → ThrowsListed (unopened_entry s w)
+unfolding unopened_entry is_listed listed_numbers
+unopened (ph ∷ n ∷ a ∷ s) w = tt
+unopened _ w = refl
+
+named_unopened : (s : List Cell) (w : Board) → ThrowsListed (named_unopened_entry s w)
+unfolding named_unopened_entry is_listed listed_numbers
+named_unopened (k ∷ p ∷ n ∷ a ∷ s) w = tt
+named_unopened _ w = refl
+
 tree : (p : TreeWord) (w : Board) → ThrowsListed (tree_entry p w)
 unfolding tree_entry is_listed listed_numbers
 tree node.NewDevice w = new_device w w.active.«package»
@@ -600,8 +613,8 @@ tree node.Child w = child w.stack w
 tree node.Peer w = peer w.stack w
 tree node.FindPackage w = find_package w.stack w
 tree node.FindMethod w = find_method w.stack w
-tree node.OpenPackage w = refl
-tree node.OpenNamedPackage w = refl
+tree node.OpenPackage w = unopened w.stack w
+tree node.OpenNamedPackage w = named_unopened w.stack w
 tree node.ClosePackage w = release w.stack w
 tree node.CallPackage w = refl
 tree node.CallParent w = refl
@@ -681,11 +694,61 @@ close_package (ih ∷ s) w =
     close_listed w ih _
     (close_found w.tree (of_instance (package_of w.instances ih)) (instances (package_of w.instances ih)))
 
+open_listed : (ph : Phandle) (a n : Cell) (o : Operands) (r : Result (Option Cell) Throw) → ThrowsListed r
+    → ThrowsListed (open_of ph a n o r)
+open_listed ph a n o (Ok None) h = tt
+open_listed ph a n o (Ok (Some xt)) h = tt
+open_listed ph a n o (Err t) h = h
+
+open_package_listed : (w : Board) (ph : Phandle) (a n : Cell) (o : Operands) (r : Result (List ℕ) Throw)
+    → ThrowsListed r → ThrowsListed (open_in w ph a n o r)
+open_package_listed w ph a n o (Ok arguments) h =
+    open_listed ph a n o _ (nodes (method_found w.tree ph (codes "open")))
+open_package_listed w ph a n o (Err t) h = h
+
+open_there : (w : Board) (a n : Cell) (o : Operands) (r : Result Phandle Throw) → ThrowsListed r
+    → ThrowsListed (open_at w a n o r)
+open_there w a n o (Ok ph) h = open_package_listed w ph a n o (text_at w.memory a n) (text w.memory a n)
+open_there w a n o (Err t) h = h
+
+open_package : (s : List Cell) (w : Board) → ThrowsListed (open_package_entry s w)
+unfolding open_package_entry is_listed listed_numbers
+open_package (ph ∷ n ∷ a ∷ s) w = open_there w a n _ (package_at w.tree ph) (one_package w.tree ph)
+open_package _ w = refl
+
+none_listed : (r : Result (List ℕ) Throw) → ThrowsListed r → ThrowsListed (none_found r)
+none_listed (Ok arguments) h = tt
+none_listed (Err t) h = h
+
+path_listed : (w : Board) (a n : Cell) (o : Operands) (ph : Option Phandle) → ThrowsListed (open_found w a n o ph)
+path_listed w a n o None = none_listed (text_at w.memory a n) (text w.memory a n)
+path_listed w a n o (Some ph) = open_package_listed w ph a n o (text_at w.memory a n) (text w.memory a n)
+
+named_listed : (w : Board) (a n : Cell) (o : Operands) (r : Result (List ℕ) Throw) → ThrowsListed r
+    → ThrowsListed (open_named w a n o r)
+named_listed w a n o (Ok path) h = path_listed w a n o (package_found w.memory w.tree path)
+named_listed w a n o (Err t) h = h
+
+named : (s : List Cell) (w : Board) → ThrowsListed (open_named_entry s w)
+unfolding open_named_entry is_listed listed_numbers
+named (k ∷ p ∷ n ∷ a ∷ s) w = named_listed w a n _ (text_at w.memory p k) (text w.memory p k)
+named _ w = refl
+
 calls : (k : CallingWord) (w : Board) → ThrowsListed (calling_entry k w)
 calls calling.Package w = call_package w.stack w
 calls calling.Method w = call_method w.stack w
 calls calling.Parent w = call_parent w.stack w
 calls calling.Close w = close_package w.stack w
+calls calling.Open w = open_package w.stack w
+calls calling.OpenNamed w = named w.stack w
+
+opened_listed : (w : Board) (ph : Phandle) (r : Result (List ℕ) Throw) → ThrowsListed r
+    → ThrowsListed (opened_with w ph r)
+opened_listed w ph (Ok arguments) h = instances (opened w.instances w.memory ph w.active.my_self arguments)
+opened_listed w ph (Err t) h = h
+
+opens : (w : Board) (ph : Phandle) (a n : Cell) → ThrowsListed (new_instance w ph a n)
+opens w ph a n = opened_listed w ph (text_at w.memory a n) (text w.memory a n)
 
 pub throw_listed_numbers : ThrowListedNumbers
-throw_listed_numbers = record { properties = properties; tree = tree; calls = calls }
+throw_listed_numbers = record { properties = properties; tree = tree; calls = calls; opens = opens }

@@ -31,6 +31,7 @@ use Rattle.of_board.specs.Active.{device_begun, device_made, finished, latest}
 use Rattle.of_board.specs.declared.active.NewDevice.{NewDevice}
 use Rattle.of_board.specs.declared.board.Board.{Board}
 use Rattle.of_instances.specs.Faults.{of_device, of_instance}
+use Rattle.of_instances.specs.Calling.{new_instance, opened_with}
 use Rattle.of_instances.specs.InstanceWords.{behind_high, cell_left, high, my_address_entry, my_args_entry}
 use Rattle.of_instances.specs.InstanceWords.{my_parent_entry, my_self_entry, my_space_entry, my_unit_entry, own_unit}
 use Rattle.of_instances.specs.InstanceWords.{package_of_entry, phandle_left, span_left, unit_left}
@@ -40,7 +41,7 @@ use Rattle.of_instances.specs.Left.{with_room, with_stack}
 use Rattle.of_instances.specs.Reading.{package_at, text_at, text_read}
 use Rattle.of_instances.specs.TreeWords.{child_entry, find_method_entry, find_package_entry, finished_left, found_left}
 use Rattle.of_instances.specs.TreeWords.{handle_left, method_left, method_of, new_device_entry, package_left}
-use Rattle.of_instances.specs.TreeWords.{peer_entry, tree_entry, release_entry}
+use Rattle.of_instances.specs.TreeWords.{named_unopened_entry, peer_entry, tree_entry, release_entry, unopened_entry}
 
 -- the images are as they were, and the data space is sound
 pub record IsKept (m after : DataSpace) : Type 0 where
@@ -258,6 +259,43 @@ unfolding release_entry
 release l [] w sound = tt
 release l (ih ∷ s) w sound = closes l s w ih (closed w.instances w.memory ih) sound refl
 
+unopened : (s : List Cell) (w : Board) → IsSound w.memory → BoardKept w.memory (unopened_entry s w)
+unfolding unopened_entry
+unopened (ph ∷ n ∷ a ∷ s) w sound = same w.memory sound
+unopened _ w sound = tt
+
+named_unopened : (s : List Cell) (w : Board) → IsSound w.memory → BoardKept w.memory (named_unopened_entry s w)
+unfolding named_unopened_entry
+named_unopened (k ∷ p ∷ n ∷ a ∷ s) w sound = same w.memory sound
+named_unopened _ w sound = tt
+
+-- ---- a new instance
+
+-- what is left of the data space
+abbrev OpenedKept : DataSpace → Result (Cell × (InstanceTable × DataSpace)) Throw → Type 0
+OpenedKept m (Ok x) = IsKept m x.1.1
+OpenedKept m (Err t) = Unit {0}
+
+opening : (l : InstancesKeepTheSpace) (w : Board) (ph : Phandle) (arguments : List ℕ)
+    (r : Result (Cell × (InstanceTable × DataSpace)) InstanceFault) → IsSound w.memory → AreBytes arguments
+    → opened w.instances w.memory ph w.active.my_self arguments ≡ r → OpenedKept w.memory (of_instance r)
+opening l w ph arguments (Ok x) sound small e =
+    by_instances w.memory x.1.1
+    (l.by_open w.instances x.1.0 w.memory x.1.1 ph w.active.my_self x.0 arguments sound small e)
+opening l w ph arguments (Err fault) sound small e = tt
+
+opening_with : (l : InstancesKeepTheSpace) (w : Board) (ph : Phandle) (r : Result (List ℕ) Throw) → IsSound w.memory
+    → IsText r → OpenedKept w.memory (opened_with w ph r)
+opening_with l w ph (Ok arguments) sound small =
+    opening l w ph arguments (opened w.instances w.memory ph w.active.my_self arguments) sound small refl
+opening_with l w ph (Err t) sound small = tt
+
+pub opens : (l : InstancesKeepTheSpace) (w : Board) (ph : Phandle) (a n ih : Cell) (x : InstanceTable × DataSpace)
+    → IsSound w.memory → new_instance w ph a n ≡ Ok (ih, x) → IsKept w.memory x.1
+opens l w ph a n ih x sound e =
+    subst (λ r. OpenedKept w.memory r) e
+    (opening_with l w ph (text_at w.memory a n) sound (text w.memory a n sound))
+
 -- ---- the group Tree
 
 tree : (l : InstancesKeepTheSpace) (p : TreeWord) (w : Board) → IsSound w.memory → BoardKept w.memory (tree_entry p w)
@@ -268,8 +306,8 @@ tree l node.Child w sound = child w.stack w sound
 tree l node.Peer w sound = peer w.stack w sound
 tree l node.FindPackage w sound = find_package w.stack w sound
 tree l node.FindMethod w sound = find_method w.stack w sound
-tree l node.OpenPackage w sound = tt
-tree l node.OpenNamedPackage w sound = tt
+tree l node.OpenPackage w sound = unopened w.stack w sound
+tree l node.OpenNamedPackage w sound = named_unopened w.stack w sound
 tree l node.ClosePackage w sound = release l w.stack w sound
 tree l node.CallPackage w sound = tt
 tree l node.CallParent w sound = tt

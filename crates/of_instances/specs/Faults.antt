@@ -36,6 +36,12 @@ instance_throw instance.NoInstance = no_instance
 instance_throw instance.Full = dictionary_overflow
 instance_throw instance.NoMemory = aborted
 
+-- why a word stops for a fault of an instance
+abbrev pub instance_stop : InstanceFault → Stop
+instance_stop instance.NoInstance = Thrown no_instance
+instance_stop instance.Full = Thrown dictionary_overflow
+instance_stop instance.NoMemory = Refused
+
 -- what `new-device` throws, and why it stops
 abbrev pub device_throw : DeviceFault → Throw
 device_throw (Node fault) = node_throw fault
@@ -43,9 +49,7 @@ device_throw (Instance fault) = instance_throw fault
 
 abbrev pub device_stop : DeviceFault → Stop
 device_stop (Node fault) = stop_of fault
-device_stop (Instance instance.NoInstance) = Thrown no_instance
-device_stop (Instance instance.Full) = Thrown dictionary_overflow
-device_stop (Instance instance.NoMemory) = Refused
+device_stop (Instance fault) = instance_stop fault
 
 -- what a word throws for a fault of a property array
 abbrev pub array_throw : PropFault → Throw

@@ -2,9 +2,13 @@
 use Rattle.std.specs.Prelude.{◌≡◌, Ok}
 use Rattle.of_fcodes.specs.declared.words.PropertiesWord.{PropertiesWord}
 use Rattle.of_fcodes.specs.declared.words.TreeWord.{TreeWord}
-use Rattle.of_memory.specs.DataSpace.{IsSound}
+use Rattle.of_memory.specs.DataSpace.{DataSpace, IsSound}
 use Rattle.of_memory.specs.ImageRegion.{KeepsImages}
 use Rattle.of_board.specs.declared.board.Board.{Board}
+use Rattle.of_cells.specs.declared.cells.Cell.{Cell}
+use Rattle.of_nodes.specs.declared.phandles.Phandle.{Phandle}
+use Rattle.of_ihandles.specs.Table.{InstanceTable}
+use Rattle.of_instances.specs.Calling.{new_instance}
 use Rattle.of_instances.specs.PropertyWords.{properties_entry}
 use Rattle.of_instances.specs.TreeWords.{tree_entry}
 
@@ -16,3 +20,7 @@ pub record ImagesStay : Type 0 where
       → KeepsImages w.memory after.memory
   pub sound : (word : TreeWord) (w after : Board) → IsSound w.memory → tree_entry word w ≡ Ok after
       → IsSound after.memory
+  -- so does the opening of an instance
+  pub opened : (w : Board) (ph : Phandle) (address length ih : Cell) (x : InstanceTable × DataSpace)
+      → IsSound w.memory → new_instance w ph address length ≡ Ok (ih, x)
+      → KeepsImages w.memory x.1 × IsSound x.1

@@ -95,16 +95,28 @@ unfoldable pub release_entry : List Cell → Board → Result Board Throw
 release_entry [] w = Err stack_underflow
 release_entry (ih ∷ s) w = instances_left s w (of_instance (closed w.instances w.memory ih))
 
--- The table, a word a line. The words that call a method (specs/Calling) are as unassigned here, but for
--- `close-package`, where there is none to call.
+-- ---- opening nothing
+
+-- `open-package` ( s n ph -- 0 ) of a package without a method `open`
+unfoldable pub unopened_entry : List Cell → Board → Result Board Throw
+unopened_entry (ph ∷ n ∷ a ∷ s) w = Ok (with_stack w (number 0 ∷ s))
+unopened_entry _ w = Err stack_underflow
+
+-- `$open-package` ( args n name n -- 0 ) of such a package, or of none
+unfoldable pub named_unopened_entry : List Cell → Board → Result Board Throw
+named_unopened_entry (k ∷ p ∷ n ∷ a ∷ s) w = Ok (with_stack w (number 0 ∷ s))
+named_unopened_entry _ w = Err stack_underflow
+
+-- The table, a word a line. The words that call a method (specs/Calling) are as unassigned here, but for those that may
+-- find none to call.
 unfoldable pub tree_entry : TreeWord → Board → Result Board Throw
 tree_entry NewDevice w = new_device_entry w w.active.«package»
 tree_entry FinishDevice w = finished_left (device_finished w)
 tree_entry Child w = child_entry w.stack w
 tree_entry Peer w = peer_entry w.stack w
 tree_entry FindPackage w = find_package_entry w.stack w
-tree_entry OpenPackage w = Err not_assigned
-tree_entry OpenNamedPackage w = Err not_assigned
+tree_entry OpenPackage w = unopened_entry w.stack w
+tree_entry OpenNamedPackage w = named_unopened_entry w.stack w
 tree_entry ClosePackage w = release_entry w.stack w
 tree_entry FindMethod w = find_method_entry w.stack w
 tree_entry CallPackage w = Err not_assigned

@@ -1,6 +1,6 @@
 ghost use Rattle.std.specs.Prelude.{◌≡◌};
-ghost use Rattle.of_instances.specs.Faults.{array_throw, device_stop, instance_throw, node_throw, of_array};
-ghost use Rattle.of_instances.specs.Faults.{of_instance, of_tree, stop_of};
+ghost use Rattle.of_instances.specs.Faults.{array_throw, device_stop, instance_stop, instance_throw, node_throw};
+ghost use Rattle.of_instances.specs.Faults.{of_array, of_instance, of_tree, stop_of};
 
 use of_board::DeviceFault;
 use of_ihandles::InstanceFault;
@@ -50,15 +50,24 @@ pub(crate) fn instance_throw(fault: InstanceFault) -> Throw
     }
 }
 
+/// Why a word stops for a fault of an instance.
+pub(crate) fn instance_stop(fault: InstanceFault) -> Stop
+    ensures { result ≡ instance_stop fault }
+{
+    match fault {
+        InstanceFault::NoInstance => Stop::Thrown(Throw::NO_INSTANCE),
+        InstanceFault::Full => Stop::Thrown(Throw::DICTIONARY_OVERFLOW),
+        InstanceFault::NoMemory => Stop::NoMemory,
+    }
+}
+
 /// Why `new-device` stops.
 pub(crate) fn device_stop(fault: DeviceFault) -> Stop
     ensures { result ≡ device_stop fault }
 {
     match fault {
         DeviceFault::Node(fault) => stop_of(fault),
-        DeviceFault::Instance(InstanceFault::NoMemory) => Stop::NoMemory,
-        DeviceFault::Instance(InstanceFault::NoInstance) => Stop::Thrown(Throw::NO_INSTANCE),
-        DeviceFault::Instance(InstanceFault::Full) => Stop::Thrown(Throw::DICTIONARY_OVERFLOW),
+        DeviceFault::Instance(fault) => instance_stop(fault),
     }
 }
 

@@ -2,7 +2,7 @@ ghost use Rattle.std.specs.Prelude.{◌≡◌, true};
 ghost use Rattle.of_stacks.specs.Stacks.{Becomes, Makes};
 ghost use Rattle.of_board.specs.Active.{device_finished};
 ghost use Rattle.of_instances.specs.TreeWords.{child_entry, find_method_entry, find_package_entry, finished_left};
-ghost use Rattle.of_instances.specs.TreeWords.{handle};
+ghost use Rattle.of_instances.specs.TreeWords.{handle, named_unopened_entry, unopened_entry};
 ghost use Rattle.of_instances.specs.TreeWords.{new_device_entry, peer_entry, release_entry, tree_entry, tree_grows};
 
 use crate::faults::{device_stop, of_instance, of_tree};
@@ -141,14 +141,40 @@ fn release(board: &mut Board) -> Result<(), Throw>
     Ok(())
 }
 
+/// `open-package` ( s n ph -- 0 ) of a package without a method `open`.
+#[tactic(auto, unfolding(crate::specs::TreeWords::unopened_entry))]
+#[inline(never)]
+fn unopened(board: &mut Board) -> Result<(), Throw>
+    ensures value { Becomes (unopened_entry board.old.stack board.old) board.old board.new result }
+    ensures console { board.new.console ≡ board.old.console }
+{
+    board.stack.top_three()?;
+    board.stack.drop_top(3);
+    board.stack.push(Cell::ZERO);
+    Ok(())
+}
+
+/// `$open-package` ( args n name n -- 0 ) of such a package, or of none.
+#[tactic(auto, unfolding(crate::specs::TreeWords::named_unopened_entry))]
+#[inline(never)]
+fn named_unopened(board: &mut Board) -> Result<(), Throw>
+    ensures value { Becomes (named_unopened_entry board.old.stack board.old) board.old board.new result }
+    ensures console { board.new.console ≡ board.old.console }
+{
+    board.stack.top_four()?;
+    board.stack.drop_top(4);
+    board.stack.push(Cell::ZERO);
+    Ok(())
+}
+
 /// Runs a word of the group Tree; a stop changes nothing.
 ///
 /// -4 where a cell is missing, then -259 where `new-device` finds no active package or `finish-device` no open
 /// `new-device`, -260 where an instance is missing, -263 where a handle is of no node, -9 where a range can't be read,
 /// -24 where a text is no address, -8 where there are 1,024 nodes or an instance finds no room, and -3 where the stack
-/// has none. `close-package` releases the instance, as where its package has no method `close`. The other words that
-/// call a method throw -256: what they run `find_call` says. NoMemory may stand in place of any other answer of
-/// `new-device` and `set-args`.
+/// has none. `close-package` releases the instance, as where its package has no method `close`, and `open-package` and
+/// `$open-package` leave 0, as where there is no method `open`. The other words that call a method throw -256: what
+/// they run `find_call` says. NoMemory may stand in place of any other answer of `new-device` and `set-args`.
 #[tactic(auto, unfolding(crate::specs::TreeWords::tree_entry))]
 pub fn run_tree_word(word: TreeWord, board: &mut Board) -> Result<(), Stop>
     ensures value { Makes (tree_grows word) (tree_entry word board.old) board.old board.new result }
@@ -161,8 +187,8 @@ pub fn run_tree_word(word: TreeWord, board: &mut Board) -> Result<(), Stop>
         TreeWord::Peer => peer(board)?,
         TreeWord::FindPackage => find_package(board)?,
         TreeWord::FindMethod => find_method(board)?,
-        TreeWord::OpenPackage => return Err(Stop::Thrown(Throw::NOT_ASSIGNED)),
-        TreeWord::OpenNamedPackage => return Err(Stop::Thrown(Throw::NOT_ASSIGNED)),
+        TreeWord::OpenPackage => unopened(board)?,
+        TreeWord::OpenNamedPackage => named_unopened(board)?,
         TreeWord::ClosePackage => release(board)?,
         TreeWord::CallPackage => return Err(Stop::Thrown(Throw::NOT_ASSIGNED)),
         TreeWord::CallParent => return Err(Stop::Thrown(Throw::NOT_ASSIGNED)),

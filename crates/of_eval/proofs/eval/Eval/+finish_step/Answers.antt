@@ -1,7 +1,7 @@
 use Rattle.std.proofs.Common.{rules, ◌≡◌, [], drop, true, Some, None}
 use Rattle.of_stacks.specs.Returns.{is_due, top_item}
 use Rattle.of_eval.specs.State.{flat_calls, with_items}
-use Rattle.of_eval.specs.Settling.{cut_one, settled, still_thrown, uncaught, worked_one}
+use Rattle.of_eval.specs.Settling.{cut_one, settled, still_thrown, thrown_at, uncaught, worked_one}
 use Rattle.of_eval.proofs.Settled.{cuts_on, falls_on, stops_on, works_on}
 use Rattle.of_eval.proofs.eval.Eval.+finish_step.Goals as goal
 
@@ -47,8 +47,9 @@ returns-else-not-is_due-clause-state g t c =
     let rest : c.pop-in-None.new.self ≡ drop 1 s.flow.items = search rules in
     let work : c.pop_due.new.self ≡ worked_one flat_calls c.in-Some-peek.item (with_items c.pop-in-None.new.self s)
     = search rules in
-    let on : c.finish_step-in-None.new.self ≡ settled flat_calls c.pop_due.new.self.flow.items None c.pop_due.new.self
-    = search rules in
+    let late : c.late_throw-thrown.result ≡ thrown_at c.in-Some-peek.item s = search rules in
+    let on : c.finish_step-in-None.new.self
+    ≡ settled flat_calls c.pop_due.new.self.flow.items c.late_throw-thrown.result c.pop_due.new.self = search rules in
     let thrown : c.args.thrown ≡ None = search rules in
-    works_on flat_calls c.pop-in-None.new.self c.in-Some-peek.item c.args.thrown s c.pop_due.new.self
-    c.finish_step-in-None.new.self top due rest work on thrown
+    works_on flat_calls c.pop-in-None.new.self c.in-Some-peek.item c.late_throw-thrown.result c.args.thrown s
+    c.pop_due.new.self c.finish_step-in-None.new.self top due rest late work on thrown
