@@ -15,7 +15,7 @@ le_false x y h = grind (arith, common_steps)
 pub le_from : (x y : ℕ) → nat_le x y ≡ true → x ≤ y
 le_from x y h = grind (arith, common_steps)
 
-true_or_false : (p : Bool) → (p ≡ true) ⊎ (p ≡ false)
+pub true_or_false : (p : Bool) → (p ≡ true) ⊎ (p ≡ false)
 true_or_false true = inl refl
 true_or_false false = inr refl
 

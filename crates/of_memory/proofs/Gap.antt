@@ -61,7 +61,7 @@ here low high size i bs eighth fits apart laid ordered =
     }
 
 -- and one beyond the first block
-later :
+pub later :
     (low high size i j a : ℕ) (b : Block) (bs : List Block) → AreLaid low high (b ∷ bs) → b.at < low + size
     → IsGapFrom (b.at + b.size) high size (i + 1) j a bs → IsGapFrom low high size i j a (b ∷ bs)
 later low high size i j a b bs laid beyond_it g =
@@ -194,11 +194,11 @@ pub low_eighth : (low high : ℕ) (bs : List Block) → AreLaid low high bs → 
 low_eighth low high [] h = h.1
 low_eighth low high (b ∷ bs) h = h.0.low_eighth
 
-pub is_gap :
+-- the same, counted from the first block
+pub from_start :
     (low high size j a : ℕ) (bs : List Block) → AreLaid low high bs → 0 < size → size % 8 ≡ 0
-    → gap high size 0 low bs ≡ Some (j, a) → IsGap low high bs size j a
-is_gap low high size j a bs laid some eighths e =
-    let g = gap_some low high size 0 j a bs laid some eighths e in
+    → IsGapFrom low high size 0 j a bs → IsGap low high bs size j a
+from_start low high size j a bs laid some eighths g =
     let same : j - 0 ≡ j = omega arith in
     let ordered : insert bs j (block_at a size) ≡ with_block (block_at a size) bs = rw same at g.ordered in
     record {
@@ -209,6 +209,12 @@ is_gap low high size j a bs laid some eighths e =
       inserted = ordered;
       laid = rw (← ordered) (rw same at g.laid);
     }
+
+pub is_gap :
+    (low high size j a : ℕ) (bs : List Block) → AreLaid low high bs → 0 < size → size % 8 ≡ 0
+    → gap high size 0 low bs ≡ Some (j, a) → IsGap low high bs size j a
+is_gap low high size j a bs laid some eighths e =
+    from_start low high size j a bs laid some eighths (gap_some low high size 0 j a bs laid some eighths e)
 
 pub no_gap :
     (low high size : ℕ) (bs : List Block) → AreLaid low high bs → 0 < size → gap high size 0 low bs ≡ None

@@ -4,6 +4,7 @@ pub mod Laid
 pub mod Reach
 pub mod Free
 pub mod Gap
+pub mod Filled
 pub mod Room
 pub mod Readable
 pub mod Faults

@@ -1,5 +1,6 @@
 -- Where a block finds room in a list of live blocks.
-use Rattle.std.specs.Prelude.{ℕ, ◌≤◌, ◌+◌, ◌≡◌, if◌then◌else◌, Bool, true, false, List, [], ◌∷◌, length, Some, None}
+use Rattle.std.specs.Prelude.{ℕ, zero, suc, ◌≤◌, ◌+◌, ◌≡◌, if◌then◌else◌, Bool, true, false, List, [], ◌∷◌, length}
+use Rattle.std.specs.Prelude.{Some, None}
 use Rattle.std.specs.List.{insert}
 use Rattle.of_cells.specs.declared.cells.Cell.{Cell}
 use Rattle.of_memory.specs.Blocks.{AreLaid, holds, IsLeastFree, least_free, rounded, with_block}
@@ -29,3 +30,15 @@ find_room low high blocks (n ∷ ns) =
       | None ↦ false
       | Some a ↦ find_room low high (with_block (block_at a (rounded n.0)) blocks) ns
     ]
+
+-- the first n blocks stand right behind one another from low on: there is no gap among them
+abbrev pub IsFilled : ℕ → List Block → ℕ → Type 0
+IsFilled low bs zero = Unit {0}
+IsFilled low [] (suc n) = ⊥
+IsFilled low (b ∷ bs) (suc n) = (b.at ≡ low) × IsFilled (b.at + b.size) bs n
+
+-- where the first n blocks end; low, if there are none
+abbrev pub first_end : ℕ → List Block → ℕ → ℕ
+first_end low bs zero = low
+first_end low [] (suc n) = low
+first_end low (b ∷ bs) (suc n) = first_end (b.at + b.size) bs n

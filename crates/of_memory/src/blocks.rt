@@ -1,10 +1,10 @@
 ghost use Rattle.std.specs.Prelude.{find, drop, ◌≡◌, ◌≢◌, ℕ, ◌+◌, ◌*◌, ◌%◌, ◌<◌, ◌≤◌, ◌^◌, vec_len, vec_capacity};
 ghost use Rattle.std.specs.Prelude.{length, Some, None, Ok, Err, IfOk, IfSome, MatchOption};
-ghost use Rattle.std.specs.List.{position};
+ghost use Rattle.std.specs.List.{insert, position};
 ghost use Rattle.of_memory.specs.Access.{all_from, end_found};
 ghost use Rattle.of_memory.specs.Regions.{longest, heap_start, heap_limit};
 ghost use Rattle.of_memory.specs.Blocks.{AreLaid, IsLeastFree, holds, is_block, is_live, least_free, rounded};
-ghost use Rattle.of_memory.specs.BlockSearch.{IsGap, find_room, reach};
+ghost use Rattle.of_memory.specs.BlockSearch.{IsFilled, IsGap, block_at, find_room, first_end, reach};
 ghost use Rattle.of_memory.specs.BlockCalls.{block_taken, block_given};
 ghost use Rattle.of_memory.specs.Outcomes.{Becomes, Takes, TakesNoMemory};
 
@@ -19,11 +19,27 @@ pub(crate) struct Block {
     pub(crate) size: u32,
 }
 
+/// The live blocks of a region in order, and how many of the first stand right behind one another
+/// from the beginning of the region on. A search for a gap passes these by.
+#[derive(Drop)]
+pub(crate) struct BlockList {
+    pub(crate) blocks: Vec<Block>,
+    pub(crate) filled: usize,
+}
+
 /// Where a block finds room: how many blocks stand before it, and its address.
 #[derive(Clone, Copy)]
-pub(crate) struct Gap {
-    pub(crate) index: usize,
-    pub(crate) at: u32,
+struct Gap {
+    index: usize,
+    at: u32,
+}
+
+/// The same, and how many of the first blocks stand right behind one another once it is there.
+#[derive(Clone, Copy)]
+struct Room {
+    index: usize,
+    at: u32,
+    filled: usize,
 }
 
 /// The size of the block for so many bytes.
@@ -108,6 +124,7 @@ fn first_gap(blocks: &[Block], low: u32, high: u32, size: u32) -> Option<Gap>
     requires eighths { size % 8 ≡ 0 }
     ensures none { result ≡ None → least_free low high blocks.now size ≡ None }
     ensures some { IfSome result (λ g. IsGap low high blocks.now size g.index g.at) }
+    ensures first { IfSome result (λ g. g.index ≡ 0 → g.at ≡ low) }
 {
     let mut next = low;
     for (i, b) in blocks.iter().enumerate() {
@@ -126,35 +143,85 @@ fn first_gap(blocks: &[Block], low: u32, high: u32, size: u32) -> Option<Gap>
     }
 }
 
+/// Where the first `count` blocks end; `low`, if there are none.
+fn first_end(blocks: &[Block], low: u32, count: usize) -> u32
+    requires within { count ≤ length blocks.now }
+    requires fits { first_end low blocks.now count < 2 ^ 32 }
+    ensures { result ≡ first_end low blocks.now count }
+{
+    if count == 0 {
+        return low;
+    }
+    let b = blocks[count - 1];
+    b.at + b.size
+}
+
+/// The first room for `size` bytes between `low` and `high`. It is sought behind the first `filled`
+/// blocks, and behind those that stand right behind them.
+fn first_room(blocks: &[Block], filled: usize, low: u32, high: u32, size: u32) -> Option<Room>
+    requires laid { AreLaid low high blocks.now }
+    requires filled { IsFilled low blocks.now filled }
+    requires fits { high + size < 2 ^ 32 }
+    requires some { 0 < size }
+    requires eighths { size % 8 ≡ 0 }
+    ensures none { result ≡ None → least_free low high blocks.now size ≡ None }
+    ensures some { IfSome result (λ r. IsGap low high blocks.now size r.index r.at) }
+    ensures filled { IfSome result (λ r. IsFilled low (insert blocks.now r.index (block_at r.at size)) r.filled) }
+{
+    let mut count = filled;
+    let mut next = first_end(blocks, low, filled);
+    while count < blocks.len() && blocks[count].at == next {
+        next += blocks[count].size;
+        count += 1;
+    }
+    let gap = first_gap(&blocks[count..], next, high, size)?;
+    if gap.index > 0 {
+        return Some(Room {
+            index: count + gap.index,
+            at: gap.at,
+            filled: count,
+        });
+    }
+    Some(Room {
+        index: count,
+        at: gap.at,
+        filled: count + 1,
+    })
+}
+
 /// Takes a block for `len` bytes between `low` and `high`, at the least free address.
 #[tactic(auto, using(crate::proofs::Free::too_long))]
 pub(crate) fn take_block(
-    blocks: &mut Vec<Block>,
+    list: &mut BlockList,
     low: u32,
     high: u32,
     len: u32,
 ) -> Result<Cell, MemFault>
-    requires laid { AreLaid low high blocks.old.items }
+    requires laid { AreLaid low high list.old.blocks.items }
+    requires filled { IsFilled low list.old.blocks.items list.old.filled }
     requires short { high ≤ low + longest }
     requires fits { high + longest < 2 ^ 31 }
-    ensures taken { Takes result blocks.old.items blocks.new.items (block_taken low high blocks.old.items len) }
-    ensures laid { AreLaid low high blocks.new.items }
-    ensures least { IfOk result (λ a. IsLeastFree low high blocks.old.items (rounded len) a.0) }
+    ensures taken { let old = list.old.blocks.items in
+        Takes result old list.new.blocks.items (block_taken low high old len) }
+    ensures laid { AreLaid low high list.new.blocks.items }
+    ensures filled { IsFilled low list.new.blocks.items list.new.filled }
+    ensures least { IfOk result (λ a. IsLeastFree low high list.old.blocks.items (rounded len) a.0) }
     ensures from { IfOk result (λ a. low ≤ a.0) }
     ensures to { IfOk result (λ a. a.0 + rounded len ≤ high) }
     ensures short { IfOk result (λ a. len ≤ longest) }
-    ensures room { high ≤ low + 8 * vec_capacity blocks.old → result ≢ Err MemFault.NoMemory }
-    ensures capacity { vec_capacity blocks.old ≤ vec_capacity blocks.new }
+    ensures room { high ≤ low + 8 * vec_capacity list.old.blocks → result ≢ Err MemFault.NoMemory }
+    ensures capacity { vec_capacity list.old.blocks ≤ vec_capacity list.new.blocks }
 {
     if len > LONGEST {
         return Err(MemFault::Full);
     }
     let size = block_size(len);
-    let Some(gap) = first_gap(blocks, low, high, size) else {
+    let Some(room) = first_room(&list.blocks, list.filled, low, high, size) else {
         return Err(MemFault::Full);
     };
-    blocks.insert(gap.index, Block { at: gap.at, size })?;
-    Ok(Cell(gap.at))
+    list.blocks.insert(room.index, Block { at: room.at, size })?;
+    list.filled = room.filled;
+    Ok(Cell(room.at))
 }
 
 /// Which block stands at `addr` with `size` bytes.
@@ -167,41 +234,47 @@ fn block_index(blocks: &[Block], addr: u32, size: u32) -> Option<usize>
 
 /// Gives back the block for `len` bytes at `addr`, between `low` and `high`.
 pub(crate) fn give_block(
-    blocks: &mut Vec<Block>,
+    list: &mut BlockList,
     low: u32,
     high: u32,
     addr: u32,
     len: u32,
 ) -> Result<(), MemFault>
-    requires laid { AreLaid low high blocks.old.items }
+    requires laid { AreLaid low high list.old.blocks.items }
+    requires filled { IsFilled low list.old.blocks.items list.old.filled }
     requires short { high ≤ low + longest }
-    ensures given { Becomes result blocks.old.items blocks.new.items (block_given blocks.old.items addr len) }
-    ensures laid { AreLaid low high blocks.new.items }
+    ensures given { let old = list.old.blocks.items in
+        Becomes result old list.new.blocks.items (block_given old addr len) }
+    ensures laid { AreLaid low high list.new.blocks.items }
+    ensures filled { IsFilled low list.new.blocks.items list.new.filled }
     ensures memory { TakesNoMemory result }
-    ensures capacity { vec_capacity blocks.old ≤ vec_capacity blocks.new }
+    ensures capacity { vec_capacity list.old.blocks ≤ vec_capacity list.new.blocks }
 {
     if len > LONGEST {
         return Err(MemFault::BadBlock);
     }
     let size = block_size(len);
-    let Some(i) = block_index(blocks, addr, size) else {
+    let Some(i) = block_index(&list.blocks, addr, size) else {
         return Err(MemFault::BadBlock);
     };
-    blocks.remove(i);
+    list.blocks.remove(i);
+    list.filled = list.filled.min(i);
     Ok(())
 }
 
 /// Whether blocks for all lengths find room, taken one after another. Each is given back at once,
 /// so that the blocks are the same afterwards.
 #[tactic(auto, using(crate::proofs::Free::too_long))]
-pub(crate) fn has_room(blocks: &mut Vec<Block>, low: u32, high: u32, lengths: &[Cell]) -> bool
-    requires laid { AreLaid low high blocks.old.items }
+pub(crate) fn has_room(list: &mut BlockList, low: u32, high: u32, lengths: &[Cell]) -> bool
+    requires laid { AreLaid low high list.old.blocks.items }
+    requires filled { IsFilled low list.old.blocks.items list.old.filled }
     requires short { high ≤ low + longest }
     requires fits { high + longest < 2 ^ 31 }
-    requires room { high ≤ low + 8 * vec_capacity blocks.old }
-    ensures value { result ≡ find_room low high blocks.old.items lengths.now }
-    ensures same { blocks.new.items ≡ blocks.old.items }
-    ensures capacity { vec_capacity blocks.old ≤ vec_capacity blocks.new }
+    requires room { high ≤ low + 8 * vec_capacity list.old.blocks }
+    ensures value { result ≡ find_room low high list.old.blocks.items lengths.now }
+    ensures same { list.new.blocks.items ≡ list.old.blocks.items }
+    ensures filled { IsFilled low list.new.blocks.items list.new.filled }
+    ensures capacity { vec_capacity list.old.blocks ≤ vec_capacity list.new.blocks }
 {
     let [len, rest @ ..] = lengths else {
         return true;
@@ -210,14 +283,16 @@ pub(crate) fn has_room(blocks: &mut Vec<Block>, low: u32, high: u32, lengths: &[
         return false;
     }
     let size = block_size(len.0);
-    let Some(gap) = first_gap(blocks, low, high, size) else {
+    let Some(room) = first_room(&list.blocks, list.filled, low, high, size) else {
         return false;
     };
     // The list has room for every block of its region.
-    let Ok(()) = blocks.insert(gap.index, Block { at: gap.at, size }) else {
+    let Ok(()) = list.blocks.insert(room.index, Block { at: room.at, size }) else {
         return false;
     };
-    let room = has_room(blocks, low, high, rest);
-    blocks.remove(gap.index);
-    room
+    list.filled = room.filled;
+    let all = has_room(list, low, high, rest);
+    list.blocks.remove(room.index);
+    list.filled = list.filled.min(room.index);
+    all
 }

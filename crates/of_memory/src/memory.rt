@@ -5,7 +5,7 @@ ghost use Rattle.of_memory.specs.Regions.{byte_count};
 ghost use Rattle.of_memory.specs.Access.{every, spread_over};
 ghost use Rattle.of_memory.specs.DataSpace.{fresh, zeros_with, with_bytes};
 
-use crate::blocks::Block;
+use crate::blocks::BlockList;
 use crate::gather::{gather, shift};
 use crate::images::ImageEnds;
 use crate::regions::{BASE_LOW, BYTES, DATA_START, FIRST_PROPERTY, place};
@@ -35,13 +35,14 @@ pub struct Memory {
     here: u32,
     properties_end: u32,
     images: ImageEnds,
-    heap: Vec<Block>,
-    instances: Vec<Block>,
+    heap: BlockList,
+    instances: BlockList,
 }
 
 impl Model for Memory {
     ghost use Rattle.std.specs.Prelude.{◌≤◌, vec_capacity};
-    ghost use Rattle.of_memory.specs.Regions.{instance_blocks};
+    ghost use Rattle.of_memory.specs.Regions.{heap_start, instance_start, instance_blocks};
+    ghost use Rattle.of_memory.specs.BlockSearch.{IsFilled};
     ghost use Rattle.of_memory.specs.DataSpace.{DataSpace, IsSound};
 
     ghost Value = { DataSpace };
@@ -51,8 +52,8 @@ impl Model for Memory {
       here = m.here;
       properties_end = m.properties_end;
       images = m.images;
-      heap = m.heap.items;
-      instances = m.instances.items;
+      heap = m.heap.blocks.items;
+      instances = m.instances.blocks.items;
     } };
 
     ghost invariant = { λ m. IsSound (record {
@@ -60,9 +61,11 @@ impl Model for Memory {
       here = m.here;
       properties_end = m.properties_end;
       images = m.images;
-      heap = m.heap.items;
-      instances = m.instances.items;
-    }) × (instance_blocks ≤ vec_capacity m.instances) };
+      heap = m.heap.blocks.items;
+      instances = m.instances.blocks.items;
+    }) × ((instance_blocks ≤ vec_capacity m.instances.blocks)
+        × IsFilled heap_start m.heap.blocks.items m.heap.filled
+        × IsFilled instance_start m.instances.blocks.items m.instances.filled) };
 }
 
 /// So many zeros, but for one byte.
@@ -93,8 +96,14 @@ impl Memory {
             here: DATA_START,
             properties_end: FIRST_PROPERTY,
             images: ImageEnds::new(),
-            heap: Vec::new(alloc),
-            instances,
+            heap: BlockList {
+                blocks: Vec::new(alloc),
+                filled: 0,
+            },
+            instances: BlockList {
+                blocks: instances,
+                filled: 0,
+            },
         })
     }
 
@@ -107,14 +116,20 @@ impl Memory {
         let alloc = *self.bytes.allocator();
         let bytes = Vec::from_slice(alloc, &self.bytes)?;
         let mut instances = Vec::with_capacity(alloc, MARKS)?;
-        instances.extend_from_slice(&self.instances)?;
+        instances.extend_from_slice(&self.instances.blocks)?;
         Ok(Memory {
             bytes,
             here: self.here,
             properties_end: self.properties_end,
             images: self.images.duplicate()?,
-            heap: Vec::from_slice(alloc, &self.heap)?,
-            instances,
+            heap: BlockList {
+                blocks: Vec::from_slice(alloc, &self.heap.blocks)?,
+                filled: self.heap.filled,
+            },
+            instances: BlockList {
+                blocks: instances,
+                filled: self.instances.filled,
+            },
         })
     }
 

@@ -28,7 +28,7 @@ impl Memory {
             return false;
         }
         if region.is_heap() {
-            covers(&self.heap, addr, len)
+            covers(&self.heap.blocks, addr, len)
         } else {
             true
         }
@@ -151,7 +151,7 @@ impl Memory {
             return Err(MemFault::Address);
         };
         if region.is_heap() {
-            return block_end(&self.heap, addr.0);
+            return block_end(&self.heap.blocks, addr.0);
         }
         let within = addr.0 % SPAN;
         if within >= region.size() {

@@ -7,6 +7,7 @@ use Rattle.of_memory.proofs.blocks.first_gap.Goals as goal
 pub loop-i-init : goal.loop-i-init
 loop-i-init c = record {
   on = laid_ordered c.args.low c.args.high c.args.blocks.now c.requires.laid;
+  first = λ _. refl;
   rest = refl;
 }
 
@@ -24,6 +25,7 @@ loop-i-preserved c =
     laid_at c.args.low c.args.high bs c.loop-i.i (record { at = 0; size = 0 }) c.requires.laid c.loop-i-test.true in
     record {
       on = w.high;
+      first = λ e. absurd (omega (arith, e));
       rest = gap_step c.args.high c.args.size c.loop-i.i c.loop-i.next _ _ _
           (drop_more bs c.loop-i.i (record { at = 0; size = 0 }) c.loop-i-test.true) c.if-next-size.false
           ∙ c.loop-i.invariant.rest;

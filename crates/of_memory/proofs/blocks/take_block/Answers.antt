@@ -6,7 +6,7 @@ use Rattle.of_memory.proofs.blocks.take_block.Goals as goal
 
 pub returns-then-len-gt-LONGEST-clause-taken : goal.returns-then-len-gt-LONGEST-clause-taken
 returns-then-len-gt-LONGEST-clause-taken c =
-    let bs = c.args.blocks.now.items in
+    let bs = c.args.list.now.blocks.items in
     let size = rounded c.args.len in
     let none =
     too_long c.args.low c.args.high size bs (low_eighth c.args.low c.args.high bs c.requires.laid) (omega arith) in
@@ -14,9 +14,9 @@ returns-then-len-gt-LONGEST-clause-taken c =
 
 pub returns-in_err-insert-clause-room : goal.returns-in_err-insert-clause-room
 returns-in_err-insert-clause-room c room refused =
-    let bs = c.args.blocks.now.items in
+    let bs = c.args.list.now.blocks.items in
     let same : length c.deref.result.now ≡ length bs = ap length c.deref.ensures.value in
     let more =
-    room_for c.args.low c.args.high c.block_size-size.result c.in-Some.gap.index c.in-Some.gap.at c.deref.result.now
+    room_for c.args.low c.args.high c.block_size-size.result c.in-Some.room.index c.in-Some.room.at c.deref.result.now
     c.in-Some.ensures.some in
     absurd (omega (arith, room, same, more, c.in_err-insert.ensures.full))
