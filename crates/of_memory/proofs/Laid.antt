@@ -49,7 +49,8 @@ pub heap_block :
 heap_block bs i d h l =
     let w : IsWithin heap_start heap_limit (get_or bs i d) = laid_at heap_start heap_limit bs i d h l in w.high
 
-laid_lower : (low mid high : ℕ) (bs : List Block) → low ≤ mid → low % 8 ≡ 0 → AreLaid mid high bs → AreLaid low high bs
+pub laid_lower : (low mid high : ℕ) (bs : List Block) → low ≤ mid → low % 8 ≡ 0 → AreLaid mid high bs
+    → AreLaid low high bs
 laid_lower low mid high [] le e h = (omega (arith, h.0), e)
 laid_lower low mid high (b ∷ bs) le e h =
     let first : IsLaid low b = record {

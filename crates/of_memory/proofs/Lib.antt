@@ -5,6 +5,7 @@ pub mod Reach
 pub mod Free
 pub mod Gap
 pub mod Filled
+pub mod Begun
 pub mod Room
 pub mod Readable
 pub mod Faults

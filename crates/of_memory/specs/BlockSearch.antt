@@ -1,7 +1,7 @@
 -- Where a block finds room in a list of live blocks.
 use Rattle.std.specs.Prelude.{ℕ, zero, suc, ◌≤◌, ◌+◌, ◌≡◌, if◌then◌else◌, Bool, true, false, List, [], ◌∷◌, length}
-use Rattle.std.specs.Prelude.{Some, None}
-use Rattle.std.specs.List.{insert}
+use Rattle.std.specs.Prelude.{nat_lt, Some, None}
+use Rattle.std.specs.List.{insert, prefix_len}
 use Rattle.of_cells.specs.declared.cells.Cell.{Cell}
 use Rattle.of_memory.specs.Blocks.{AreLaid, holds, IsLeastFree, least_free, rounded, with_block}
 use Rattle.of_memory.specs.declared.blocks.Block.{Block}
@@ -21,6 +21,10 @@ pub record IsGap (low high : ℕ) (blocks : List Block) (size i a : ℕ) : Type 
 abbrev pub reach : List Block → ℕ → ℕ
 reach [] x = x
 reach (b ∷ bs) x = reach bs (if holds x b then b.at + b.size else x)
+
+-- how many of the first blocks begin before the address
+abbrev pub begun : ℕ → List Block → ℕ
+begun a blocks = prefix_len (λ b. nat_lt b.at a) blocks
 
 -- blocks for all lengths find room, taken one after another
 abbrev pub find_room : ℕ → ℕ → List Block → List Cell → Bool

@@ -4,7 +4,7 @@ ghost use Rattle.std.specs.List.{insert, position};
 ghost use Rattle.of_memory.specs.Access.{all_from, end_found};
 ghost use Rattle.of_memory.specs.Regions.{longest, heap_start, heap_limit};
 ghost use Rattle.of_memory.specs.Blocks.{AreLaid, IsLeastFree, holds, is_block, is_live, least_free, rounded};
-ghost use Rattle.of_memory.specs.BlockSearch.{IsFilled, IsGap, block_at, find_room, first_end, reach};
+ghost use Rattle.of_memory.specs.BlockSearch.{IsFilled, IsGap, begun, block_at, find_room, first_end, reach};
 ghost use Rattle.of_memory.specs.BlockCalls.{block_taken, block_given};
 ghost use Rattle.of_memory.specs.Outcomes.{Becomes, Takes, TakesNoMemory};
 
@@ -224,12 +224,35 @@ pub(crate) fn take_block(
     Ok(Cell(room.at))
 }
 
+/// How many of the first blocks begin before the address, by bisection.
+fn begun_before(blocks: &[Block], addr: u32) -> usize
+    requires { AreLaid 0 (2 ^ 32) blocks.now }
+    ensures { result ≡ begun addr blocks.now }
+{
+    let mut low = 0;
+    let mut high = blocks.len();
+    while low < high {
+        let middle = low + (high - low) / 2;
+        if blocks[middle].at < addr {
+            low = middle + 1;
+        } else {
+            high = middle;
+        }
+    }
+    low
+}
+
 /// Which block stands at `addr` with `size` bytes.
 fn block_index(blocks: &[Block], addr: u32, size: u32) -> Option<usize>
+    requires { AreLaid 0 (2 ^ 32) blocks.now }
     ensures value { result ≡ position (is_block addr size) blocks.now }
     ensures within { IfSome result (λ i. i < length blocks.now) }
 {
-    blocks.iter().position(|b| b.at == addr && b.size == size)
+    let i = begun_before(blocks, addr);
+    if i < blocks.len() && blocks[i].at == addr && blocks[i].size == size {
+        return Some(i);
+    }
+    None
 }
 
 /// Gives back the block for `len` bytes at `addr`, between `low` and `high`.
