@@ -2,3 +2,4 @@ pub mod Text
 pub mod OpenDevices
 pub mod Active
 pub mod DeviceOutcomes
+pub mod Nest

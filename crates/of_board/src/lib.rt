@@ -6,8 +6,10 @@ mod board;
 mod console;
 mod device_fault;
 mod devices;
+mod laws;
 
 pub use active::{Active, NewDevice, NewDevices};
 pub use board::Board;
 pub use console::Console;
 pub use device_fault::DeviceFault;
+pub use laws::instances_nest;

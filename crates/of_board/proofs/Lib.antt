@@ -1,0 +1,2 @@
+-- Nest: which instances are released at the end of a load.
+pub mod Nest
