@@ -1,7 +1,7 @@
 #!/usr/bin/env bash
 # Prints what instances cost, in instructions as callgrind counts them: a `new-device` with its instance, where so many
 # nodes have one each, and a call of a method by `$call-method`, by `call-package` and by `$call-parent`, with the
-# return of an empty method and the loop around it.
+# return of an empty method and the loop around it; and opening an instance with an empty `open`, and closing it.
 # usage: bench/instances.sh
 set -euo pipefail
 top=$(cd "$(dirname "${BASH_SOURCE[0]}")/.." && pwd)
@@ -38,3 +38,4 @@ turn 'a colon definition' 'b50800 b7 c2' '0800' 0007 fffd
 turn '$call-method' "$method" '12016d 0203 020e' 000c fff8
 turn 'call-package' "$method" '11 0800 0203 0208' 000c fff8
 turn '$call-parent' "$method 011f" '12016d 0209' 000a fffa
+turn 'open-package and close-package' 'ca046f70656e0800 b7 a4 c2' '1200 0203 020b 0205 0206' 000f fff5

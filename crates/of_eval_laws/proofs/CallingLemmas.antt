@@ -10,19 +10,9 @@ use Rattle.of_compile.specs.Words.{is_word}
 use Rattle.of_instances.specs.declared.calling.CallingWord.{CallingWord}
 use Rattle.of_instances.specs.declared.calling.CallingWord.TheVariants as calling
 use Rattle.of_instances.specs.declared.calling.MethodCall.{MethodCall}
-use Rattle.of_instances.specs.declared.calling.Operands.{Operands}
-use Rattle.of_instances.specs.Calling.{call_above, call_method_entry, call_of, call_package_entry, call_parent_entry}
-use Rattle.of_instances.specs.Calling.{calling_entry, close_in, close_of, close_package_entry, method_of, none_found}
-use Rattle.of_instances.specs.Calling.{open_at, open_found, open_in, open_named, open_named_entry, open_of}
-use Rattle.of_instances.specs.Calling.{open_package_entry, xt_for}
+use Rattle.of_instances.specs.Calling.{calling_entry}
 use Rattle.of_instances.specs.declared.calling.Callee.{Callee}
 use Rattle.of_instances.specs.declared.calling.Callee.TheVariants.{Live, New}
-use Rattle.of_instances.specs.Reading.{package_at, text_at}
-use Rattle.of_nodes.specs.declared.phandles.Phandle.{Phandle}
-use Rattle.of_nodes.specs.Lookup.{package_found}
-use Rattle.of_instances.specs.Faults.{of_instance}
-use Rattle.of_ihandles.specs.Instances.{package_of, parent_of}
-use Rattle.of_board.specs.declared.board.Board.{Board}
 use Rattle.of_stacks.specs.declared.return_item.Due.{Due}
 use Rattle.of_stacks.specs.declared.return_item.Due.TheVariants as due
 use Rattle.of_stacks.specs.declared.return_item.ReturnItem.{ReturnItem}
@@ -31,11 +21,12 @@ use Rattle.of_eval.specs.Acts.{front_of}
 use Rattle.of_eval.specs.Doing.{executed, worked}
 use Rattle.of_eval.specs.Executing.{Plan, PlansUnroll, act_of_plan, call_plan, callee_plan, execution}
 use Rattle.of_eval.specs.Executing.{opening_plan, plan_of, unless_stopped}
-use Rattle.of_eval.specs.Settling.{caller_self, settled}
+use Rattle.of_eval.specs.Settling.{settled}
 use Rattle.of_eval.specs.State.{Calls, State, failed, with_stack}
 use Rattle.of_eval_laws.specs.Calling.{CallsComeBack, IsCalled, for_instance, released_in, word_of}
 use Rattle.of_eval_laws.specs.Returning.{IsCall}
 use Rattle.of_eval_laws.specs.Going.{Is}
+use Rattle.of_eval_laws.proofs.Callees.{HasCallee, IsCallee, callees}
 use Rattle.of_eval_laws.proofs.GoingLemmas.{behind, has_item, has_none, performed}
 
 -- the plan of such a word, by what it finds
@@ -67,94 +58,6 @@ call_is law c xt calling.OpenNamed s h r e =
     ap (λ p. performed c p s)
     (behind law xt s h.0 (word_of calling.OpenNamed) h.1 h.2
     ∙ ap (λ x. call_plan (word_of calling.OpenNamed) x (front_of s) plan_of) e)
-
--- what is due brings back the current instance
-abbrev IsBack : Board → Callee → Type 0
-IsBack b (Live ih d) = caller_self d ≡ b.active.my_self
-IsBack b (New ph a n) = Unit {0}
-
-abbrev BringsBack : Board → Result (Option MethodCall) Throw → Type 0
-BringsBack b (Ok (Some m)) = IsBack b m.callee
-BringsBack b (Ok None) = Unit {0}
-BringsBack b (Err t) = Unit {0}
-
-method_back : (w : Board) (ih : Cell) (o : Operands) (r : Result Cell Throw) → BringsBack w (call_of w ih o r)
-method_back w ih o (Ok xt) = refl
-method_back w ih o (Err t) = tt
-
-above_back : (w : Board) (a n : Cell) (r : Result Cell Throw) → BringsBack w (call_above w a n r)
-above_back w a n (Ok parent) = method_back w parent _ (method_of w parent a n)
-above_back w a n (Err t) = tt
-
-close_back : (w : Board) (ih : Cell) (r : Result (Option Cell) Throw) → BringsBack w (close_of w ih r)
-close_back w ih (Ok None) = tt
-close_back w ih (Ok (Some xt)) = refl
-close_back w ih (Err t) = tt
-
-opens_back : (w : Board) (ph : Phandle) (a n : Cell) (o : Operands) (r : Result (Option Cell) Throw)
-    → BringsBack w (open_of ph a n o r)
-opens_back w ph a n o (Ok None) = tt
-opens_back w ph a n o (Ok (Some xt)) = tt
-opens_back w ph a n o (Err t) = tt
-
-open_back : (w : Board) (ph : Phandle) (a n : Cell) (o : Operands) (r : Result (List ℕ) Throw)
-    → BringsBack w (open_in w ph a n o r)
-open_back w ph a n o (Ok arguments) = opens_back w ph a n o _
-open_back w ph a n o (Err t) = tt
-
-there_back : (w : Board) (a n : Cell) (o : Operands) (r : Result Phandle Throw) → BringsBack w (open_at w a n o r)
-there_back w a n o (Ok ph) = open_back w ph a n o (text_at w.memory a n)
-there_back w a n o (Err t) = tt
-
-none_back : (w : Board) (r : Result (List ℕ) Throw) → BringsBack w (none_found r)
-none_back w (Ok arguments) = tt
-none_back w (Err t) = tt
-
-found_back : (w : Board) (a n : Cell) (o : Operands) (ph : Option Phandle) → BringsBack w (open_found w a n o ph)
-found_back w a n o None = none_back w (text_at w.memory a n)
-found_back w a n o (Some ph) = open_back w ph a n o (text_at w.memory a n)
-
-path_back : (w : Board) (a n : Cell) (o : Operands) (r : Result (List ℕ) Throw) → BringsBack w (open_named w a n o r)
-path_back w a n o (Ok path) = found_back w a n o (package_found w.memory w.tree path)
-path_back w a n o (Err t) = tt
-
-opening_back : (cells : List Cell) (w : Board) → BringsBack w (open_package_entry cells w)
-unfolding open_package_entry
-opening_back (ph ∷ n ∷ a ∷ cells) w = there_back w a n _ (package_at w.tree ph)
-opening_back _ w = tt
-
-opening_named_back : (cells : List Cell) (w : Board) → BringsBack w (open_named_entry cells w)
-unfolding open_named_entry
-opening_named_back (k ∷ p ∷ n ∷ a ∷ cells) w = path_back w a n _ (text_at w.memory p k)
-opening_named_back _ w = tt
-
-package_back : (cells : List Cell) (w : Board) → BringsBack w (call_package_entry cells w)
-unfolding call_package_entry
-package_back (ih ∷ xt ∷ cells) w = method_back w ih _ (xt_for xt (of_instance (package_of w.instances ih)))
-package_back _ w = tt
-
-named_back : (cells : List Cell) (w : Board) → BringsBack w (call_method_entry cells w)
-unfolding call_method_entry
-named_back (ih ∷ n ∷ a ∷ cells) w = method_back w ih _ (method_of w ih a n)
-named_back _ w = tt
-
-parent_back : (cells : List Cell) (w : Board) → BringsBack w (call_parent_entry cells w)
-unfolding call_parent_entry
-parent_back (n ∷ a ∷ cells) w = above_back w a n (of_instance (parent_of w.instances w.active.my_self))
-parent_back _ w = tt
-
-closing_back : (cells : List Cell) (w : Board) → BringsBack w (close_package_entry cells w)
-unfolding close_package_entry
-closing_back (ih ∷ cells) w = close_back w ih (close_in w.tree (of_instance (package_of w.instances ih)))
-closing_back [] w = tt
-
-calling_back : (k : CallingWord) (w : Board) → BringsBack w (calling_entry k w)
-calling_back calling.Package w = package_back w.stack w
-calling_back calling.Method w = named_back w.stack w
-calling_back calling.Parent w = parent_back w.stack w
-calling_back calling.Close w = closing_back w.stack w
-calling_back calling.Open w = opening_back w.stack w
-calling_back calling.OpenNamed w = opening_named_back w.stack w
 
 -- the faults of a call, by whether the number is a word, and whether the return stack is full
 abbrev faults_by : Bool → Bool → Option Throw
@@ -198,7 +101,7 @@ calls_come_back {S} law = record {
   no_word = λ c xt k m s h e w. not_one c xt k m s h e w (nat_le 256 (length s.flow.items)) refl;
   full = λ c xt k m s h e w l. found law c xt k m s h e true true w (has_none (length s.flow.items) l);
   keeps = λ k b m ih d e f.
-      subst (λ x. IsBack b x) f (subst (λ r. BringsBack b r) e (calling_back k b));
+      (subst (λ x. IsCallee b x) f (subst (λ r. HasCallee b r) e (callees k b))).1;
   ends = λ c me r s. refl;
   closes = λ c me ih r s. refl;
   answers_true = λ c me ih x cells r s e t. answers c me ih x cells r s e false t;

@@ -16,7 +16,7 @@
 -- RunningBytes, RunningEnds, RunningWords, RunningTokens: what becomes of the images that run and of the data space,
 -- from bytes up to what comes next. SoundSteps: the law `space_stays_sound`. ImagesRun: the law `images_run`.
 -- ReadingsEnds, ReadingsActs, ImagesReadings: the law `images_are_readings`, from the end of a step up to steps.
--- CallingLemmas: the law `calls_come_back`.
+-- Callees, CallingLemmas: for which instance a method runs, and the law `calls_come_back`.
 -- GoingLemmas: the laws `items_go`, `definitions_run`, `catch_keeps`, `ends_go_back`, `loads_begin`.
 -- TokenLemmas: the laws `tokens_are_typed`, `tokens_go` and `throw_takes`.
 -- AskingLemmas: the law `memory_is_asked`.
@@ -28,6 +28,7 @@ pub mod HomeLemmas
 pub mod ListedLemmas
 pub mod ListedFaults
 pub mod ListedWords
+pub mod Callees
 pub mod WalkWords
 pub mod Walk
 pub mod WalkTyped

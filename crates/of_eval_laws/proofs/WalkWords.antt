@@ -49,21 +49,14 @@ use Rattle.of_eval.specs.declared.executing.Runner.{Runner}
 use Rattle.of_eval.specs.declared.executing.Runner.TheVariants as runner
 use Rattle.of_instances.specs.declared.calling.CallingWord.{CallingWord}
 use Rattle.of_instances.specs.declared.calling.MethodCall.{MethodCall}
-use Rattle.of_instances.specs.declared.calling.CallingWord.TheVariants as calling
-use Rattle.of_instances.specs.declared.calling.Operands.{Operands}
-use Rattle.of_instances.specs.Calling.{beneath, call_above, call_method_entry, call_of, call_package_entry}
-use Rattle.of_instances.specs.Calling.{call_parent_entry, calling_entry, close_in, close_of, close_package_entry}
-use Rattle.of_instances.specs.Calling.{method_of, new_instance, none_found as no_package, open_at, open_found, open_in}
-use Rattle.of_instances.specs.Calling.{open_named, open_named_entry, open_of, open_package_entry, xt_for}
+use Rattle.of_instances.specs.Calling.{beneath}
+use Rattle.of_instances.specs.Calling.{calling_entry}
+use Rattle.of_instances.specs.Calling.{new_instance}
 use Rattle.of_instances.specs.declared.calling.Callee.{Callee}
 use Rattle.of_instances.specs.declared.calling.Callee.TheVariants.{Live, New}
-use Rattle.of_instances.specs.Reading.{package_at, text_at}
 use Rattle.of_nodes.specs.declared.phandles.Phandle.{Phandle}
-use Rattle.of_nodes.specs.Lookup.{package_found}
 use Rattle.of_ihandles.specs.Table.{InstanceTable}
 use Rattle.of_stacks.specs.declared.return_item.Due.TheVariants as due
-use Rattle.of_instances.specs.Faults.{of_instance}
-use Rattle.of_ihandles.specs.Instances.{package_of, parent_of}
 use Rattle.of_stacks.specs.declared.return_item.Due.{Due}
 use Rattle.of_eval_laws.specs.Returning.{IsCall}
 use Rattle.of_board.specs.declared.board.Board.{Board}
@@ -75,6 +68,7 @@ use Rattle.of_eval.specs.Executing.{unlooping, written_act}
 use Rattle.of_eval.specs.State.{State, open_xt, with_stack}
 use Rattle.of_eval_laws.specs.Frames.{drops_item, last_word}
 use Rattle.of_eval_laws.specs.Listed.{cell_of}
+use Rattle.of_eval_laws.proofs.Callees.{HasCallee, IsCallee, callees}
 use Rattle.of_eval_laws.proofs.ListedFaults.{IsListedFault, behavior_listed, counted_listed, fault_listed}
 use Rattle.of_eval_laws.proofs.ListedFaults.{from_body_listed, get_token_listed}
 use Rattle.of_eval_laws.proofs.ListedFaults.{index_listed, loop_listed, return_listed, set_token_listed, store_listed}
@@ -400,93 +394,6 @@ written_works R r (word.Parsing w) s p d h = R.fails _ refl
 written_works R r (word.Compiling w) s p d h = R.fails _ refl
 written_works R r w s p d h = R.works r w
 
--- what is due is that at the end of a method
-abbrev IsCallee : Callee → Type 0
-IsCallee (Live ih d) = IsCall d
-IsCallee (New ph a n) = Unit {0}
-
-abbrev IsCallOf : Result (Option MethodCall) Throw → Type 0
-IsCallOf (Ok (Some m)) = IsCallee m.callee
-IsCallOf (Ok None) = Unit {0}
-IsCallOf (Err t) = Unit {0}
-
-method_due : (w : Board) (ih : Cell) (o : Operands) (r : Result Cell Throw) → IsCallOf (call_of w ih o r)
-method_due w ih o (Ok xt) = tt
-method_due w ih o (Err t) = tt
-
-above_due : (w : Board) (a n : Cell) (r : Result Cell Throw) → IsCallOf (call_above w a n r)
-above_due w a n (Ok parent) = method_due w parent _ (method_of w parent a n)
-above_due w a n (Err t) = tt
-
-close_due : (w : Board) (ih : Cell) (r : Result (Option Cell) Throw) → IsCallOf (close_of w ih r)
-close_due w ih (Ok None) = tt
-close_due w ih (Ok (Some xt)) = tt
-close_due w ih (Err t) = tt
-
-opens_due : (ph : Phandle) (a n : Cell) (o : Operands) (r : Result (Option Cell) Throw) → IsCallOf (open_of ph a n o r)
-opens_due ph a n o (Ok None) = tt
-opens_due ph a n o (Ok (Some xt)) = tt
-opens_due ph a n o (Err t) = tt
-
-open_due : (w : Board) (ph : Phandle) (a n : Cell) (o : Operands) (r : Result (List ℕ) Throw)
-    → IsCallOf (open_in w ph a n o r)
-open_due w ph a n o (Ok arguments) = opens_due ph a n o _
-open_due w ph a n o (Err t) = tt
-
-there_due : (w : Board) (a n : Cell) (o : Operands) (r : Result Phandle Throw) → IsCallOf (open_at w a n o r)
-there_due w a n o (Ok ph) = open_due w ph a n o (text_at w.memory a n)
-there_due w a n o (Err t) = tt
-
-none_due : (r : Result (List ℕ) Throw) → IsCallOf (no_package r)
-none_due (Ok arguments) = tt
-none_due (Err t) = tt
-
-found_due : (w : Board) (a n : Cell) (o : Operands) (ph : Option Phandle) → IsCallOf (open_found w a n o ph)
-found_due w a n o None = none_due (text_at w.memory a n)
-found_due w a n o (Some ph) = open_due w ph a n o (text_at w.memory a n)
-
-path_due : (w : Board) (a n : Cell) (o : Operands) (r : Result (List ℕ) Throw) → IsCallOf (open_named w a n o r)
-path_due w a n o (Ok path) = found_due w a n o (package_found w.memory w.tree path)
-path_due w a n o (Err t) = tt
-
-package_due : (cells : List Cell) (w : Board) → IsCallOf (call_package_entry cells w)
-unfolding call_package_entry
-package_due (ih ∷ xt ∷ cells) w = method_due w ih _ (xt_for xt (of_instance (package_of w.instances ih)))
-package_due _ w = tt
-
-named_due : (cells : List Cell) (w : Board) → IsCallOf (call_method_entry cells w)
-unfolding call_method_entry
-named_due (ih ∷ n ∷ a ∷ cells) w = method_due w ih _ (method_of w ih a n)
-named_due _ w = tt
-
-parent_due : (cells : List Cell) (w : Board) → IsCallOf (call_parent_entry cells w)
-unfolding call_parent_entry
-parent_due (n ∷ a ∷ cells) w = above_due w a n (of_instance (parent_of w.instances w.active.my_self))
-parent_due _ w = tt
-
-closing_due : (cells : List Cell) (w : Board) → IsCallOf (close_package_entry cells w)
-unfolding close_package_entry
-closing_due (ih ∷ cells) w = close_due w ih (close_in w.tree (of_instance (package_of w.instances ih)))
-closing_due [] w = tt
-
-opening_due : (cells : List Cell) (w : Board) → IsCallOf (open_package_entry cells w)
-unfolding open_package_entry
-opening_due (ph ∷ n ∷ a ∷ cells) w = there_due w a n _ (package_at w.tree ph)
-opening_due _ w = tt
-
-opening_named_due : (cells : List Cell) (w : Board) → IsCallOf (open_named_entry cells w)
-unfolding open_named_entry
-opening_named_due (k ∷ p ∷ n ∷ a ∷ cells) w = path_due w a n _ (text_at w.memory p k)
-opening_named_due _ w = tt
-
-calling_due : (k : CallingWord) (w : Board) → IsCallOf (calling_entry k w)
-calling_due calling.Package w = package_due w.stack w
-calling_due calling.Method w = named_due w.stack w
-calling_due calling.Parent w = parent_due w.stack w
-calling_due calling.Close w = closing_due w.stack w
-calling_due calling.Open w = opening_due w.stack w
-calling_due calling.OpenNamed w = opening_named_due w.stack w
-
 -- where a plan stops, that is by a throw that the law allows; what is called is a method, and what is opened is opened
 -- so
 abbrev Stopping : {S : Type 0} → Rules S → Front → Plan → Type 0
@@ -545,8 +452,8 @@ stops_opening R ph a n (Ok x) m f inner e h =
 stops_opening R ph a n (Err t) m f inner e h = R.declines f.board ph a n t e
 
 stops_callee : {S : Type 0} (R : Rules S) (k : Callee) (m : MethodCall) (f : Front) (inner : Front → ℕ → Plan)
-    → IsCallee k → Inside R inner → Stopping R f (callee_plan k m f inner)
-stops_callee R (Live ih d) m f inner c h = (c, h (entered (beneath m.operands f.board.stack) d ih f) m.xt.0)
+    → IsCallee f.board k → Inside R inner → Stopping R f (callee_plan k m f inner)
+stops_callee R (Live ih d) m f inner c h = (c.0, h (entered (beneath m.operands f.board.stack) d ih f) m.xt.0)
 stops_callee R (New ph a n) m f inner c h = stops_opening R ph a n (new_instance f.board ph a n) m f inner refl h
 
 stops_call : {S : Type 0} (R : Rules S) (w : Word) (k : CallingWord) (r : Result (Option MethodCall) Throw) (f : Front)
@@ -555,7 +462,7 @@ stops_call R w k (Err t) f inner e h = R.calls k f.board t e
 stops_call R w k (Ok None) f inner e h = tt
 stops_call R w k (Ok (Some m)) f inner e h =
     stops_unless R f (counting (call_faults f m.xt)) (callee_plan m.callee m f inner) (call_fault f m.xt)
-    (stops_callee R m.callee m f inner (subst (λ r. IsCallOf r) e (calling_due k f.board)) h)
+    (stops_callee R m.callee m f inner (subst (λ r. HasCallee f.board r) e (callees k f.board)) h)
 
 stops_behind : {S : Type 0} (R : Rules S) (o : Option ℕ) (f : Front) (inner : Front → ℕ → Plan)
     → Inside R inner → Stopping R f (plan_behind o f inner)
