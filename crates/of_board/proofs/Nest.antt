@@ -1,6 +1,6 @@
 -- Which instances are released at the end of a load.
-use Rattle.std.proofs.Common.{◌≡◌, ◌⊎◌, inl, inr, ℕ, Bool, true, false, nat_lt, List, [], ◌∷◌, ◌++◌, Option, Some, None}
-use Rattle.std.proofs.Common.{Result, Ok, Err, refl, sym, ap, subst, ◌∙◌, if◌then◌else◌}
+use Rattle.std.proofs.Common.{◌≡◌, ◌⊎◌, inl, inr, ℕ, Bool, true, false, nat_lt, List, [], ◌∷◌, Option, Some, None}
+use Rattle.std.proofs.Common.{Result, Ok, Err, refl, ap, subst, ◌∙◌, if◌then◌else◌}
 use Rattle.std.proofs.lemmas.Bool.Decides.{eqb_tells}
 use Rattle.of_cells.specs.declared.cells.Cell.{Cell}
 use Rattle.of_memory.specs.DataSpace.{DataSpace}
@@ -12,7 +12,7 @@ use Rattle.of_ihandles.specs.Ihandles.{IhandlesAreNew, IsReleased}
 use Rattle.of_ihandles.specs.Instances.{found, opened, released}
 use Rattle.of_ihandles.specs.Table.{InstanceTable}
 use Rattle.of_ihandles.specs.declared.instance_fault.InstanceFault.{InstanceFault}
-use Rattle.of_board.specs.Active.{device_begun, device_finished, device_made, device_opened, finished, finished_from}
+use Rattle.of_board.specs.Active.{device_begun, device_made, finished, finished_from}
 use Rattle.of_board.specs.Active.{image_left, latest, since_released}
 use Rattle.of_board.specs.Nest.{InstancesNest, IsOfLoad, IsSince, OpensDevice}
 use Rattle.of_board.specs.declared.active.NewDevice.{NewDevice}

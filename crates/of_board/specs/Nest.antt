@@ -3,7 +3,7 @@
 use Rattle.std.specs.Prelude.{ℕ, ◌≡◌, ◌⊎◌, ◌+◌, nat_lt, false, List, [], ◌∷◌, ◌++◌, Option, Some, None, Ok}
 use Rattle.of_cells.specs.declared.cells.Cell.{Cell}
 use Rattle.of_nodes.specs.declared.phandles.Phandle.{Phandle}
-use Rattle.of_ihandles.specs.Instances.{found, package_of, parent_of}
+use Rattle.of_ihandles.specs.Instances.{found, parent_of}
 use Rattle.of_board.specs.Active.{all_finished, device_finished, device_opened, image_left}
 use Rattle.of_board.specs.declared.active.NewDevice.{NewDevice}
 use Rattle.of_board.specs.declared.board.Board.{Board}
@@ -41,8 +41,8 @@ pub record InstancesNest : Type 0 where
   pub opens :
       (b after : Board) (found_package : Phandle) → device_opened b found_package ≡ Ok after →
       OpensDevice b after found_package
-  -- At the end of a load its instance, and those of the `new-device`s that were opened in it, are live no more; any other
-  -- is as it was.
+  -- At the end of a load its instance, and those of the `new-device`s that were opened in it, are live no more; any
+  -- other is as it was.
   pub released :
       (b : Board) (count : ℕ) (before : Option Phandle) (instance ih : Cell) → IsOfLoad b count instance ih →
       found (image_left b count before instance).instances ih ≡ None

@@ -3,6 +3,7 @@
 -- ImagesOfWords: the law `images_stay`.
 -- ListedWords: the law `tree_words_throw_listed`.
 -- TreeSpace: what the words over packages and instances leave of the data space.
+-- Openings: the law `instances_open`.
 -- Numbers: the numbers of a physical address, one at a time.
 -- NoRoom: cells that have no room at `here`.
 -- Under: cells under others on the stack, one more at a time.
@@ -13,4 +14,5 @@ pub mod ImagesOfWords
 pub mod ListedWords
 pub mod NoRoom
 pub mod Numbers
+pub mod Openings
 pub mod Under

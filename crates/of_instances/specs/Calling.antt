@@ -3,7 +3,6 @@
 -- opens an instance makes it before its method `open` runs.
 use Rattle.std.specs.Prelude.{◌≡◌, ℕ, List, [], ◌∷◌, ◌++◌, length, drop, codes, Option, Some, None, Result, Ok, Err}
 use Rattle.of_cells.specs.declared.cells.Cell.{Cell}
-use Rattle.of_stacks.specs.declared.return_item.Due.{Due}
 use Rattle.of_stacks.specs.declared.return_item.Due.TheVariants as due
 use Rattle.of_stacks.specs.declared.stop.Stop.{Stop}
 use Rattle.of_stacks.specs.declared.stop.Stop.TheVariants.{Thrown, NoMemory}

@@ -10,3 +10,4 @@ pub mod PropertyWords
 pub mod TreeWords
 pub mod Listed
 pub mod Images
+pub mod Openings
