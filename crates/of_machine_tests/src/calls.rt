@@ -1,4 +1,4 @@
-use crate::shared::{loaded, machine_if_room, new_machine, ran, run_on};
+use crate::shared::{after_run, load, on_machine, run_on};
 use hex::decode;
 use of_cells::Cell;
 use of_fcodes::FCode;
@@ -9,9 +9,6 @@ use std::test::Fail;
 
 /// `2 3 + .` in an image.
 const FIVE: &str = "f108020a0000000da7a81e9d00";
-
-/// A definition with two arms, which is run with 0: it prints 2.
-const TWO_ARMS: &str = "f10806640000001cb50800b7140007a6130005b2a7b2c2a508009d00";
 
 const BAD_START: Refusal = Refusal::BadStart(StreamFault::BadStart(0xff));
 
@@ -88,10 +85,17 @@ fn push_answers(alloc: Global, text: &mut String, machine: &mut ScriptMachine) -
     Ok(())
 }
 
+/// What loads are answered, each on a line.
+fn answers(alloc: Global, machine: &mut ScriptMachine) -> Result<String, Fail> {
+    let mut text = String::new(alloc);
+    push_answers(alloc, &mut text, machine)?;
+    Ok(text)
+}
+
 #[test]
 fn loads_are_refused(rt: HostRuntime) -> Result<(), Fail> {
-    let mut text = String::new(rt.alloc());
-    push_answers(rt.alloc(), &mut text, &mut new_machine(rt.alloc())?)?;
+    let alloc = rt.alloc();
+    let text = on_machine(alloc, |machine| answers(alloc, machine))?;
     assert_eq!(rt; text.as_str(), ANSWERS);
     Ok(())
 }
@@ -106,42 +110,40 @@ fn load_often(machine: &mut ScriptMachine, image: &[u8], count: u32) -> Result<(
 }
 
 /// What a load behind 65,536 others is answered, and how many steps were made then.
-fn answer_behind_many(alloc: Global, image: &[u8]) -> Result<(Result<(), Refusal>, u64), Fail> {
-    let mut machine = new_machine(alloc)?;
-    load_often(&mut machine, image, 65_536)?;
-    let last = answer(&mut machine, image, "/slot");
+fn answer_behind_many(machine: &mut ScriptMachine) -> Result<(Result<(), Refusal>, u64), Fail> {
+    let image = [0xf1, 8, 0, 0, 0, 0, 0, 9, 0];
+    load_often(machine, &image, 65_536)?;
+    let last = answer(machine, &image, "/slot");
     Ok((last, machine.steps()))
 }
 
 /// An instance is opened by each load, and 65,536 are ever opened.
 #[test]
 fn instances_of_loads(rt: HostRuntime) -> Result<(), Fail> {
-    let image = decode(rt.alloc(), "f10800000000000900")?;
-    let (last, steps) = answer_behind_many(rt.alloc(), &image)?;
+    let (last, steps) = on_machine(rt.alloc(), answer_behind_many)?;
     assert_eq!(rt; last, Err(Refusal::NoNode));
     assert_eq!(rt; steps, 65_536);
     Ok(())
 }
 
-/// What a step of a machine on which nothing runs does, and whether something runs then.
-fn idle_step(alloc: Global) -> Result<(Progress, bool), Fail> {
-    let mut machine = new_machine(alloc)?;
+/// What a step of a machine does, and whether something runs then.
+fn one_step(machine: &mut ScriptMachine) -> Result<(Progress, bool), Fail> {
     let progress = machine.step()?;
     Ok((progress, machine.is_running()))
 }
 
 #[test]
 fn nothing_to_do(rt: HostRuntime) -> Result<(), Fail> {
-    let (progress, is_running) = idle_step(rt.alloc())?;
+    let (progress, is_running) = on_machine(rt.alloc(), one_step)?;
     assert_eq!(rt; progress, Progress::Ended);
     assert_eq!(rt; is_running, false);
     Ok(())
 }
 
-/// A machine that is to run `2 3 + .`.
-fn five(alloc: Global) -> Result<ScriptMachine, Fail> {
-    let image = decode(alloc, FIVE)?;
-    loaded(alloc, &image)
+/// Loads an image, given in digits, for `/slot`.
+fn load_digits(alloc: Global, machine: &mut ScriptMachine, digits: &str) -> Result<(), Fail> {
+    let image = decode(alloc, digits)?;
+    load(machine, &image, "/slot")
 }
 
 /// Appends the steps made, whether something runs, how many items the return stack has, and behind `:` the data stack.
@@ -178,10 +180,18 @@ fn push_states(text: &mut String, machine: &mut ScriptMachine) -> Result<(), Fai
     push_state(text, machine)
 }
 
+/// The states around steps of `2 3 + .`.
+fn states_of_five(alloc: Global, machine: &mut ScriptMachine) -> Result<String, Fail> {
+    load_digits(alloc, machine, FIVE)?;
+    let mut text = String::new(alloc);
+    push_states(&mut text, machine)?;
+    Ok(text)
+}
+
 #[test]
 fn steps(rt: HostRuntime) -> Result<(), Fail> {
-    let mut seen = String::new(rt.alloc());
-    push_states(&mut seen, &mut five(rt.alloc())?)?;
+    let alloc = rt.alloc();
+    let seen = on_machine(alloc, |machine| states_of_five(alloc, machine))?;
     assert_eq!(rt;
         seen.as_str(),
         "0 runs 2:; step; 1 runs 2: 2; two; 3 runs 2: 5"
@@ -207,13 +217,20 @@ fn push_tokens(text: &mut String, machine: &mut ScriptMachine) -> Result<(), Fai
     push_token(text, machine)
 }
 
+/// The tokens that come next in a definition and a call of it.
+fn tokens_of_two(alloc: Global, machine: &mut ScriptMachine) -> Result<String, Fail> {
+    load_digits(alloc, machine, "f108000000000014b50800b7a7c2080000")?;
+    let mut text = String::new(alloc);
+    push_tokens(&mut text, machine)?;
+    Ok(text)
+}
+
 /// The token that comes next before each step: none while the definition runs, whose number and end are two steps, and
 /// none at the end.
 #[test]
 fn tokens_come_next(rt: HostRuntime) -> Result<(), Fail> {
-    let image = decode(rt.alloc(), "f108000000000014b50800b7a7c2080000")?;
-    let mut seen = String::new(rt.alloc());
-    push_tokens(&mut seen, &mut loaded(rt.alloc(), &image)?)?;
+    let alloc = rt.alloc();
+    let seen = on_machine(alloc, |machine| tokens_of_two(alloc, machine))?;
     assert_eq!(rt; seen.as_str(), "8:b5 11:b7 12:a7 13:c2 14:800 - - 16:0 - ");
     Ok(())
 }
@@ -231,13 +248,21 @@ fn byte_at(machine: &ScriptMachine, addr: u32) -> Option<u8> {
     machine.byte(Cell(addr))
 }
 
+/// Whether the image region begins with `2 3 + .` and zeros once that is loaded, and the byte behind the region.
+fn region_of_five(alloc: Global, machine: &mut ScriptMachine) -> Result<(bool, Option<u8>), Fail> {
+    load_digits(alloc, machine, FIVE)?;
+    let image = decode(alloc, "f108020a0000000da7a81e9d000000")?;
+    let stands = stands_in_the_region(machine, &image);
+    Ok((stands, byte_at(machine, 0x64_0000)))
+}
+
 /// A running image stands in the image region, and behind it are zeros.
 #[test]
 fn images_stand_in_the_data_space(rt: HostRuntime) -> Result<(), Fail> {
-    let machine = five(rt.alloc())?;
-    let image = decode(rt.alloc(), "f108020a0000000da7a81e9d000000")?;
-    assert!(rt; stands_in_the_region(&machine, &image));
-    assert_eq!(rt; byte_at(&machine, 0x64_0000), None);
+    let alloc = rt.alloc();
+    let (stands, behind) = on_machine(alloc, |machine| region_of_five(alloc, machine))?;
+    assert!(rt; stands);
+    assert_eq!(rt; behind, None);
     Ok(())
 }
 
@@ -245,8 +270,10 @@ fn images_stand_in_the_data_space(rt: HostRuntime) -> Result<(), Fail> {
 #[test]
 fn images_are_given_back(rt: HostRuntime) -> Result<(), Fail> {
     let image = decode(rt.alloc(), FIVE)?;
-    let (machine, _) = ran(rt.alloc(), &image, 5)?;
-    assert!(rt; stands_in_the_region(&machine, &[0; 14]));
+    let cleared = after_run(rt.alloc(), &image, 5, |machine, _| {
+        Ok(stands_in_the_region(machine, &[0; 14]))
+    })?;
+    assert!(rt; cleared);
     Ok(())
 }
 
@@ -273,20 +300,34 @@ fn found(machine: &ScriptMachine, name: &str) -> Result<Option<u32>, Fail> {
     Ok(xt.map(|xt| xt.0))
 }
 
-/// What a name finds, or a number behind a `#`, on a machine on which an image has run for so many steps at most.
-fn found_after(alloc: Global, digits: &str, limit: u64, name: &str) -> Result<Option<u32>, Fail> {
+/// Whether a line's name finds what stands behind it.
+fn is_found(machine: &ScriptMachine, line: &str) -> Result<bool, Fail> {
+    let (name, wanted) = line.split_once(' ').unwrap_or(("", ""));
+    Ok(found(machine, name)? == u32::from_str_radix(wanted, 16).ok())
+}
+
+/// The lines whose names find something else.
+fn differing_names(alloc: Global, machine: &ScriptMachine, table: &str) -> Result<String, Fail> {
+    let mut text = String::new(alloc);
+    for line in table.lines() {
+        if !is_found(machine, line)? {
+            write!(text, "{line}\n")?;
+        }
+    }
+    Ok(text)
+}
+
+/// The same on a machine on which an image has run for so many steps at most.
+fn differing_after(alloc: Global, digits: &str, limit: u64, table: &str) -> Result<String, Fail> {
     let image = decode(alloc, digits)?;
-    let (machine, _) = ran(alloc, &image, limit)?;
-    found(&machine, name)
+    after_run(alloc, &image, limit, |machine, _| {
+        differing_names(alloc, machine, table)
+    })
 }
 
 #[test]
 fn names_and_numbers_find_words(rt: HostRuntime) -> Result<(), Fail> {
-    for line in NAMES.lines() {
-        let (name, wanted) = line.split_once(' ').unwrap_or(("", ""));
-        let wanted = u32::from_str_radix(wanted, 16).ok();
-        assert_eq!(rt; found_after(rt.alloc(), FOO, 9, name)?, wanted, "{name}");
-    }
+    assert_eq!(rt; differing_after(rt.alloc(), FOO, 9, NAMES)?.as_str(), "");
     Ok(())
 }
 
@@ -307,69 +348,16 @@ probes none
 /// How a run of so many steps at most ends.
 fn end_of(alloc: Global, digits: &str, limit: u64) -> Result<End, Fail> {
     let image = decode(alloc, digits)?;
-    let (_, end) = ran(alloc, &image, limit)?;
-    Ok(end)
+    after_run(alloc, &image, limit, |_, end| Ok(end))
 }
 
 #[test]
 fn names_find_words_while_an_image_runs(rt: HostRuntime) -> Result<(), Fail> {
     assert_eq!(rt; end_of(rt.alloc(), PROBE, 6)?, End::LimitReached);
-    for line in NAMES_INSIDE.lines() {
-        let (name, wanted) = line.split_once(' ').unwrap_or(("", ""));
-        let wanted = u32::from_str_radix(wanted, 16).ok();
-        assert_eq!(rt; found_after(rt.alloc(), PROBE, 6, name)?, wanted, "{name}");
-    }
-    Ok(())
-}
-
-/// What a step does, if it isn't refused, and the steps that were made before it and are after it.
-fn count_step(machine: &mut ScriptMachine) -> (Option<Progress>, u64, u64) {
-    let before = machine.steps();
-    let progress = machine.step().ok();
-    (progress, before, machine.steps())
-}
-
-/// Loads an image for `/slot`, again where no memory is found for it.
-fn load_in_turn(machine: &mut ScriptMachine, image: &[u8]) {
-    for _ in 0..9 {
-        if answer(machine, image, "/slot") != Err(Refusal::NoMemory) {
-            break;
-        }
-    }
-}
-
-/// Makes steps to the end. False where a step that is refused is counted all the same.
-fn keeps_count(machine: &mut ScriptMachine) -> bool {
-    for _ in 0..99 {
-        let (progress, before, after) = count_step(machine);
-        match progress {
-            Some(Progress::Ended) => return true,
-            Some(Progress::Done) => {}
-            None => {
-                if after != before {
-                    return false;
-                }
-            }
-        }
-    }
-    true
-}
-
-/// Whether an image whose machine is refused growths in turn prints 2 at last, and no refused step is counted. True
-/// where there is no memory for a machine.
-fn goes_on(alloc: Global, image: &[u8]) -> bool {
-    let Some(mut machine) = machine_if_room(alloc) else {
-        return true;
-    };
-    load_in_turn(&mut machine, image);
-    keeps_count(&mut machine) && machine.console() == b"2 ".as_slice()
-}
-
-/// A machine whose growths are refused in turn goes on where it stood.
-#[test]
-fn refused_memory(rt: HostRuntime) -> Result<(), Fail> {
-    let image = decode(rt.alloc(), TWO_ARMS)?;
-    assert!(rt; goes_on(rt.alloc(), &image));
+    assert_eq!(rt;
+        differing_after(rt.alloc(), PROBE, 6, NAMES_INSIDE)?.as_str(),
+        ""
+    );
     Ok(())
 }
 

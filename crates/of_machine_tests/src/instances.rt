@@ -1,6 +1,5 @@
 //! Images that run in instances: what they print of these, and what is left behind their ends.
-use crate::shared::image_of;
-use crate::tree::{differing, made, made_in_turn};
+use crate::tree::{differing, differing_in_turn, differing_trees};
 use std::test::Fail;
 
 /// Images loaded one after another, each behind the path of its node, and behind `|` what they print. A load opens an
@@ -68,31 +67,31 @@ const ARGUMENTS: &str = "\
 
 #[test]
 fn images_run_in_instances(rt: HostRuntime) -> Result<(), Fail> {
-    assert_eq!(rt; differing(rt.alloc(), INSTANCES)?.as_str(), "");
+    assert_eq!(rt; differing(rt.alloc(), &[INSTANCES])?.as_str(), "");
     Ok(())
 }
 
 #[test]
 fn loads_follow_loads(rt: HostRuntime) -> Result<(), Fail> {
-    assert_eq!(rt; differing(rt.alloc(), LOADS)?.as_str(), "");
+    assert_eq!(rt; differing(rt.alloc(), &[LOADS])?.as_str(), "");
     Ok(())
 }
 
 #[test]
 fn throws_release(rt: HostRuntime) -> Result<(), Fail> {
-    assert_eq!(rt; differing(rt.alloc(), THROWS)?.as_str(), "");
+    assert_eq!(rt; differing(rt.alloc(), &[THROWS])?.as_str(), "");
     Ok(())
 }
 
 #[test]
 fn catching_keeps_devices(rt: HostRuntime) -> Result<(), Fail> {
-    assert_eq!(rt; differing(rt.alloc(), CAUGHT)?.as_str(), "");
+    assert_eq!(rt; differing(rt.alloc(), &[CAUGHT])?.as_str(), "");
     Ok(())
 }
 
 #[test]
 fn arguments(rt: HostRuntime) -> Result<(), Fail> {
-    assert_eq!(rt; differing(rt.alloc(), ARGUMENTS)?.as_str(), "");
+    assert_eq!(rt; differing(rt.alloc(), &[ARGUMENTS])?.as_str(), "");
     Ok(())
 }
 
@@ -109,24 +108,19 @@ const TREES: &str = "\
 
 #[test]
 fn property_words_work_on_instances(rt: HostRuntime) -> Result<(), Fail> {
-    for line in TREES.lines() {
-        let (loads, wanted) = line.split_once('|').unwrap_or(("", ""));
-        assert_eq!(rt; made(rt.alloc(), loads)?.as_str(), wanted, "{loads}");
-    }
+    assert_eq!(rt; differing_trees(rt.alloc(), TREES)?.as_str(), "");
     Ok(())
 }
 
-/// An image whose instances take their blocks while each growth is refused in turn.
+/// An image whose instances take their blocks.
+const GROWING: &str = "\
+12026162 1203312c32 023f 0202 9b 9b 011f 0202 9b 9b 0203 9b 00|\
+2 300008 0 300000 e0000004 ;/slot name=736c6f7400;/slot/
+";
+
+/// Growths are refused in turn.
 #[test]
 fn refused_memory(rt: HostRuntime) -> Result<(), Fail> {
-    let image = image_of(
-        rt.alloc(),
-        "12026162 1203312c32 023f 0202 9b 9b 011f 0202 9b 9b 0203 9b 00",
-    )?;
-    let wanted = "2 300008 0 300000 e0000004 ;/slot name=736c6f7400;/slot/";
-    if let Some((keeps, tree)) = made_in_turn(rt.alloc(), &image)? {
-        assert!(rt; keeps);
-        assert_eq!(rt; tree.as_str(), wanted);
-    }
+    assert_eq!(rt; differing_in_turn(rt.alloc(), GROWING)?.as_str(), "");
     Ok(())
 }

@@ -1,6 +1,5 @@
 //! Images whose words call methods: for which instance these run, and what comes back at their end.
-use crate::shared::image_of;
-use crate::tree::{differing, made_in_turn};
+use crate::tree::{differing, differing_in_turn};
 use std::test::Fail;
 
 /// Images, and behind `|` what they print: a method's current instance is the one that it is called for, and the
@@ -108,42 +107,38 @@ const INHERITED: &str = "\
 
 #[test]
 fn methods_run_for_instances(rt: HostRuntime) -> Result<(), Fail> {
-    assert_eq!(rt; differing(rt.alloc(), CALLED)?.as_str(), "");
-    assert_eq!(rt; differing(rt.alloc(), NESTED)?.as_str(), "");
+    assert_eq!(rt; differing(rt.alloc(), &[CALLED, NESTED])?.as_str(), "");
     Ok(())
 }
 
 #[test]
 fn throws_leave_methods(rt: HostRuntime) -> Result<(), Fail> {
-    assert_eq!(rt; differing(rt.alloc(), THROWN)?.as_str(), "");
-    assert_eq!(rt; differing(rt.alloc(), REFUSED)?.as_str(), "");
+    assert_eq!(rt; differing(rt.alloc(), &[THROWN, REFUSED])?.as_str(), "");
     Ok(())
 }
 
 #[test]
 fn packages_are_closed(rt: HostRuntime) -> Result<(), Fail> {
-    assert_eq!(rt; differing(rt.alloc(), CLOSED)?.as_str(), "");
+    assert_eq!(rt; differing(rt.alloc(), &[CLOSED])?.as_str(), "");
     Ok(())
 }
 
 #[test]
 fn properties_are_inherited(rt: HostRuntime) -> Result<(), Fail> {
-    assert_eq!(rt; differing(rt.alloc(), INHERITED)?.as_str(), "");
+    assert_eq!(rt; differing(rt.alloc(), &[INHERITED])?.as_str(), "");
     Ok(())
 }
 
-/// A method that takes memory while each growth is refused in turn: what called it is undone, too.
+/// A method that takes memory, and a `close` that does.
+const GROWING: &str = "\
+ca016d0800 bc 11 011f c3 0800 12016d 0203 020e 0203 9b 11 0127 0203 0208 0203 9b \
+ca05636c6f73650801 bc 11 011f c3 0801 0203 0206 0203 9b 00|\
+e0000000 e0000000 e0000000 ;/slot name=736c6f7400;/slot/;/slot/
+";
+
+/// Growths are refused in turn: what called the method is undone, too.
 #[test]
 fn refused_memory(rt: HostRuntime) -> Result<(), Fail> {
-    let image = image_of(
-        rt.alloc(),
-        "ca016d0800 bc 11 011f c3 0800 12016d 0203 020e 0203 9b 11 0127 0203 0208 0203 9b \
-         ca05636c6f73650801 bc 11 011f c3 0801 0203 0206 0203 9b 00",
-    )?;
-    let wanted = "e0000000 e0000000 e0000000 ;/slot name=736c6f7400;/slot/;/slot/";
-    if let Some((keeps, tree)) = made_in_turn(rt.alloc(), &image)? {
-        assert!(rt; keeps);
-        assert_eq!(rt; tree.as_str(), wanted);
-    }
+    assert_eq!(rt; differing_in_turn(rt.alloc(), GROWING)?.as_str(), "");
     Ok(())
 }

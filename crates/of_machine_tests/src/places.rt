@@ -1,5 +1,5 @@
 //! Items that come next, and how many items words have: numbers counted by hand from what the tokens compile.
-use crate::shared::{image_of, loaded, run_on};
+use crate::shared::{load_tokens, on_machine, run_on};
 use of_cells::Cell;
 use of_machine::ScriptMachine;
 use std::alloc::Global;
@@ -44,18 +44,20 @@ fn push_places(text: &mut String, machine: &mut ScriptMachine) -> Result<(), Fai
 }
 
 /// The items that come next in a run of tokens.
-fn places(alloc: Global, tokens: &str) -> Result<String, Fail> {
-    let image = image_of(alloc, tokens)?;
+fn places(alloc: Global, machine: &mut ScriptMachine, tokens: &str) -> Result<String, Fail> {
+    load_tokens(alloc, machine, tokens, "/slot")?;
     let mut text = String::new(alloc);
-    push_places(&mut text, &mut loaded(alloc, &image)?)?;
+    push_places(&mut text, machine)?;
     Ok(text)
 }
 
 #[test]
 fn items_come_next(rt: HostRuntime) -> Result<(), Fail> {
+    let alloc = rt.alloc();
     for line in PLACES.lines() {
         let (tokens, wanted) = line.split_once('|').unwrap_or(("", ""));
-        assert_eq!(rt; places(rt.alloc(), tokens)?.as_str(), wanted, "{tokens}");
+        let seen = on_machine(alloc, |machine| places(alloc, machine, tokens))?;
+        assert_eq!(rt; seen.as_str(), wanted, "{tokens}");
     }
     Ok(())
 }
@@ -75,23 +77,32 @@ a6b50800ba00 4 c000052c none
 ";
 
 /// How many items the word of an execution token has after so many steps.
-fn count_after(alloc: Global, tokens: &str, steps: &str, xt: &str) -> Result<Option<usize>, Fail> {
-    let image = image_of(alloc, tokens)?;
-    let mut machine = loaded(alloc, &image)?;
-    run_on(&mut machine, steps.parse()?)?;
+fn count_after(machine: &mut ScriptMachine, steps: &str, xt: &str) -> Result<Option<usize>, Fail> {
+    run_on(machine, steps.parse()?)?;
     Ok(machine.items(Cell(u32::from_str_radix(xt, 16)?)))
+}
+
+/// The first word of a line, and what stands behind it.
+fn first_word<'a>(line: &'a str) -> (&'a str, &'a str) {
+    line.split_once(' ').unwrap_or(("", ""))
+}
+
+/// Whether a line of counts holds.
+fn is_counted(alloc: Global, machine: &mut ScriptMachine, line: &str) -> Result<bool, Fail> {
+    let (tokens, rest) = first_word(line);
+    let (steps, rest) = first_word(rest);
+    let (xt, wanted) = first_word(rest);
+    load_tokens(alloc, machine, tokens, "/slot")?;
+    let count = count_after(machine, steps, xt)?;
+    Ok(count == wanted.parse().ok())
 }
 
 #[test]
 fn words_have_items(rt: HostRuntime) -> Result<(), Fail> {
+    let alloc = rt.alloc();
     for line in COUNTS.lines() {
-        let mut words = line.split_whitespace();
-        let tokens = words.next().unwrap_or("");
-        let steps = words.next().unwrap_or("");
-        let xt = words.next().unwrap_or("");
-        let wanted: Option<usize> = words.next().unwrap_or("").parse().ok();
-        let count = count_after(rt.alloc(), tokens, steps, xt)?;
-        assert_eq!(rt; count, wanted, "{line}");
+        let counted = on_machine(alloc, |machine| is_counted(alloc, machine, line))?;
+        assert!(rt; counted, "{line}");
     }
     Ok(())
 }

@@ -1,4 +1,4 @@
-use crate::shared::{bytes_of, image_of, push_bytes, ran};
+use crate::shared::{after_run, bytes_of, image_of, push_bytes};
 use hex::decode;
 use of_machine::{End, ScriptMachine, calls_agree, run_script, runs_agree};
 use std::alloc::Global;
@@ -19,12 +19,21 @@ fn push_run(text: &mut String, machine: &ScriptMachine, end: End) -> Result<(), 
     push_bytes(text, machine.console())
 }
 
+/// The steps that were made, the end of the run, and the console.
+fn text_of(alloc: Global, machine: &ScriptMachine, end: End) -> Result<String, Fail> {
+    let mut text = String::new(alloc);
+    push_run(&mut text, machine, end)?;
+    Ok(text)
+}
+
 /// What an image prints in a run of so many steps at most, with the steps made and the end.
 fn shown(alloc: Global, image: &[u8], limit: u64) -> Result<String, Fail> {
-    let (machine, end) = ran(alloc, image, limit)?;
-    let mut text = String::new(alloc);
-    push_run(&mut text, &machine, end)?;
-    Ok(text)
+    after_run(
+        alloc,
+        image,
+        limit,
+        |machine, end| text_of(alloc, machine, end),
+    )
 }
 
 /// Whole images, and what their runs of 999 steps at most make: the steps, and the console.

@@ -20,14 +20,28 @@ pub(crate) fn image_of(alloc: Global, tokens: &str) -> Result<Vec<u8>, Fail> {
     )
 }
 
-/// A machine on which nothing ran yet.
-pub(crate) fn new_machine(alloc: Global) -> Result<ScriptMachine, Fail> {
-    Ok(Machine::new(alloc, ListCode::new(alloc))?)
+/// What is done with a machine on which nothing ran yet.
+pub(crate) fn on_machine<T, F: FnOnce(&mut ScriptMachine) -> Result<T, Fail>>(
+    alloc: Global,
+    act: F,
+) -> Result<T, Fail>
+    requires { F.IsAlwaysCallable act }
+{
+    let mut machine = Machine::new(alloc, ListCode::new(alloc))?;
+    act(&mut machine)
 }
 
-/// The same, if memory is found for it.
-pub(crate) fn machine_if_room(alloc: Global) -> Option<ScriptMachine> {
-    Machine::new(alloc, ListCode::new(alloc)).ok()
+/// The same, if memory is found for a machine.
+pub(crate) fn on_machine_if_room<T, F: FnOnce(&mut ScriptMachine) -> T>(
+    alloc: Global,
+    act: F,
+) -> Option<T>
+    requires { F.IsAlwaysCallable act }
+{
+    match Machine::new(alloc, ListCode::new(alloc)) {
+        Ok(mut machine) => Some(act(&mut machine)),
+        Err(_) => None,
+    }
 }
 
 /// Loads an image for the node at a path.
@@ -36,11 +50,15 @@ pub(crate) fn load(machine: &mut ScriptMachine, image: &[u8], path: &str) -> Res
     Ok(())
 }
 
-/// A machine that is to run an image for `/slot`.
-pub(crate) fn loaded(alloc: Global, image: &[u8]) -> Result<ScriptMachine, Fail> {
-    let mut machine = new_machine(alloc)?;
-    load(&mut machine, image, "/slot")?;
-    Ok(machine)
+/// Loads an image of tokens for the node at a path.
+pub(crate) fn load_tokens(
+    alloc: Global,
+    machine: &mut ScriptMachine,
+    tokens: &str,
+    path: &str,
+) -> Result<(), Fail> {
+    let image = image_of(alloc, tokens)?;
+    load(machine, &image, path)
 }
 
 /// Makes so many steps at most.
@@ -49,9 +67,17 @@ pub(crate) fn run_on(machine: &mut ScriptMachine, limit: u64) -> Result<(), Fail
     Ok(())
 }
 
-/// A machine on which an image has run for `/slot`, for so many steps at most, and the end.
-pub(crate) fn ran(alloc: Global, image: &[u8], limit: u64) -> Result<(ScriptMachine, End), Fail> {
-    Ok(run_script(alloc, image, &[], &[], &[], limit)?)
+/// What is seen of a machine on which an image has run for `/slot`, for so many steps at most, and of the end.
+pub(crate) fn after_run<T, F: FnOnce(&ScriptMachine, End) -> Result<T, Fail>>(
+    alloc: Global,
+    image: &[u8],
+    limit: u64,
+    see: F,
+) -> Result<T, Fail>
+    requires { F.IsAlwaysCallable see }
+{
+    let (machine, end) = run_script(alloc, image, &[], &[], &[], limit)?;
+    see(&machine, end)
 }
 
 /// A byte as a character, an end of line as `$`.
@@ -65,4 +91,11 @@ pub(crate) fn push_bytes(text: &mut String, bytes: &[u8]) -> Result<(), Fail> {
         text.push(shown_byte(*byte))?;
     }
     Ok(())
+}
+
+/// What is on the console, an end of line as `$`.
+pub(crate) fn printed(alloc: Global, machine: &ScriptMachine) -> Result<String, Fail> {
+    let mut text = String::new(alloc);
+    push_bytes(&mut text, machine.console())?;
+    Ok(text)
 }

@@ -1,5 +1,7 @@
 //! Images that build the device tree, and the tree that they leave.
-use crate::shared::{image_of, load, machine_if_room, new_machine, push_bytes, ran, run_on};
+use crate::shared::{
+    after_run, image_of, load_tokens, on_machine, on_machine_if_room, printed, push_bytes, run_on,
+};
 use of_machine::ScriptMachine;
 use of_nodes::{Phandle, Property, Span};
 use std::alloc::Global;
@@ -52,41 +54,64 @@ fn push_node(
     Ok(())
 }
 
-/// What is on the console, and the nodes from `/slot` on in the order of making, each behind `;`.
-fn shown(alloc: Global, machine: &ScriptMachine) -> Result<String, Fail> {
-    let mut text = String::new(alloc);
-    push_bytes(&mut text, machine.console())?;
+/// Appends the nodes from `/slot` on in the order of making, each behind `;`.
+fn push_nodes(alloc: Global, text: &mut String, machine: &ScriptMachine) -> Result<(), Fail> {
     for number in 2..9 {
         let node = Phandle::of(number);
         if machine.tree().parent(node).is_err() {
-            return Ok(text);
+            return Ok(());
         }
         text.push(';')?;
-        push_node(alloc, &mut text, machine, node)?;
+        push_node(alloc, text, machine, node)?;
     }
+    Ok(())
+}
+
+/// What is on the console, and these nodes.
+fn shown(alloc: Global, machine: &ScriptMachine) -> Result<String, Fail> {
+    let mut text = printed(alloc, machine)?;
+    push_nodes(alloc, &mut text, machine)?;
     Ok(text)
 }
 
 /// Loads an image, which stands behind the path of its node, and runs it.
 fn run_load(alloc: Global, machine: &mut ScriptMachine, words: &str) -> Result<(), Fail> {
     let (path, tokens) = words.trim().split_once(' ').unwrap_or(("", ""));
-    let image = image_of(alloc, tokens)?;
-    load(machine, &image, path)?;
-    run_on(machine, 999)
+    load_tokens(alloc, machine, tokens, path)?;
+    run_on(machine, 9_999)
 }
 
-/// A machine on which images have run, loaded one after another, with `+` between, each behind the path of its node.
-fn run_loads(alloc: Global, loads: &str) -> Result<ScriptMachine, Fail> {
-    let mut machine = new_machine(alloc)?;
+/// Runs images, loaded one after another, with `+` between, each behind the path of its node.
+fn run_loads(alloc: Global, machine: &mut ScriptMachine, loads: &str) -> Result<(), Fail> {
     for words in loads.split('+') {
-        run_load(alloc, &mut machine, words)?;
+        run_load(alloc, machine, words)?;
     }
-    Ok(machine)
+    Ok(())
 }
 
-/// What such images print, and the tree that they leave.
-pub(crate) fn made(alloc: Global, loads: &str) -> Result<String, Fail> {
-    shown(alloc, &run_loads(alloc, loads)?)
+/// What such images print on a machine, and the tree that they leave.
+fn made_on(alloc: Global, machine: &mut ScriptMachine, loads: &str) -> Result<String, Fail> {
+    run_loads(alloc, machine, loads)?;
+    shown(alloc, machine)
+}
+
+/// The lines of such images that print something else or leave another tree, each with what they do.
+pub(crate) fn differing_trees(alloc: Global, table: &str) -> Result<String, Fail> {
+    let mut text = String::new(alloc);
+    for line in table.lines() {
+        let (loads, wanted) = line.split_once('|').unwrap_or(("", ""));
+        let made = on_machine(alloc, |machine| made_on(alloc, machine, loads))?;
+        push_differing(&mut text, loads, made.as_str(), wanted)?;
+    }
+    Ok(text)
+}
+
+/// Appends a line that gives something else, with what it gives.
+fn push_differing(text: &mut String, line: &str, given: &str, wanted: &str) -> Result<(), Fail> {
+    if given != wanted {
+        write!(text, "{line}|{given}\n")?;
+    }
+    Ok(())
 }
 
 /// Images, each behind the path of the node that it is loaded for, and behind `|` what they print and the nodes that
@@ -132,23 +157,27 @@ fault -4: stack underflow$ffffffff c000052c
 fault -22: control structure mismatch$0
 ";
 
-/// What images print on one machine, loaded one after another.
-pub(crate) fn said(alloc: Global, loads: &str) -> Result<String, Fail> {
-    let machine = run_loads(alloc, loads)?;
-    let mut text = String::new(alloc);
-    push_bytes(&mut text, machine.console())?;
-    Ok(text)
+/// What images print on a machine, loaded one after another.
+fn said_on(alloc: Global, machine: &mut ScriptMachine, loads: &str) -> Result<String, Fail> {
+    run_loads(alloc, machine, loads)?;
+    printed(alloc, machine)
 }
 
-/// The lines that print something else, each with what it prints.
-pub(crate) fn differing(alloc: Global, table: &str) -> Result<String, Fail> {
-    let mut text = String::new(alloc);
+/// Appends the lines of a table that print something else, each with what it prints.
+fn push_differing_lines(alloc: Global, text: &mut String, table: &str) -> Result<(), Fail> {
     for line in table.lines() {
         let (loads, wanted) = line.split_once('|').unwrap_or(("", ""));
-        let printed = said(alloc, loads)?;
-        if printed.trim_end() != wanted {
-            text.push_str(&format!(in alloc; "{loads}|{}\n", printed.trim_end())?)?;
-        }
+        let said = on_machine(alloc, |machine| said_on(alloc, machine, loads))?;
+        push_differing(text, loads, said.trim_end(), wanted)?;
+    }
+    Ok(())
+}
+
+/// The lines of tables that print something else, each with what it prints.
+pub(crate) fn differing(alloc: Global, tables: &[&str]) -> Result<String, Fail> {
+    let mut text = String::new(alloc);
+    for table in tables {
+        push_differing_lines(alloc, &mut text, table)?;
     }
     Ok(text)
 }
@@ -162,17 +191,14 @@ const STAYING: &str = "\
 
 #[test]
 fn loads_begin_on_what_is_there(rt: HostRuntime) -> Result<(), Fail> {
-    for line in STAYING.lines() {
-        let (loads, wanted) = line.split_once('|').unwrap_or(("", ""));
-        assert_eq!(rt; said(rt.alloc(), loads)?.trim_end(), wanted, "{loads}");
-    }
+    assert_eq!(rt; differing(rt.alloc(), &[STAYING])?.as_str(), "");
     Ok(())
 }
 
 /// What `run_script` makes of an image's tokens: what is printed, and the tree.
 fn made_by_script(alloc: Global, tokens: &str) -> Result<String, Fail> {
-    let (machine, _) = ran(alloc, &image_of(alloc, tokens)?, 999)?;
-    shown(alloc, &machine)
+    let image = image_of(alloc, tokens)?;
+    after_run(alloc, &image, 999, |machine, _| shown(alloc, machine))
 }
 
 /// A script's image runs for `/slot`.
@@ -185,19 +211,13 @@ fn scripts_run_for_the_slot(rt: HostRuntime) -> Result<(), Fail> {
 
 #[test]
 fn named_words_become_methods(rt: HostRuntime) -> Result<(), Fail> {
-    for line in METHODS.lines() {
-        let (loads, wanted) = line.split_once('|').unwrap_or(("", ""));
-        assert_eq!(rt; said(rt.alloc(), loads)?.trim_end(), wanted, "{loads}");
-    }
+    assert_eq!(rt; differing(rt.alloc(), &[METHODS])?.as_str(), "");
     Ok(())
 }
 
 #[test]
 fn images_build_trees(rt: HostRuntime) -> Result<(), Fail> {
-    for line in TREES.lines() {
-        let (loads, wanted) = line.split_once('|').unwrap_or(("", ""));
-        assert_eq!(rt; made(rt.alloc(), loads)?.as_str(), wanted, "{loads}");
-    }
+    assert_eq!(rt; differing_trees(rt.alloc(), TREES)?.as_str(), "");
     Ok(())
 }
 
@@ -231,25 +251,45 @@ fn keeps_counts(machine: &mut ScriptMachine) -> bool {
     true
 }
 
-/// Whether no refused step of an image is counted, and the tree that it leaves, where each growth is refused in turn.
-/// None where there is no memory for a machine.
-pub(crate) fn made_in_turn(alloc: Global, image: &[u8]) -> Result<Option<(bool, String)>, Fail> {
-    let Some(mut machine) = machine_if_room(alloc) else {
-        return Ok(None);
-    };
-    load_in_turn(&mut machine, image);
-    let keeps = keeps_counts(&mut machine);
-    Ok(Some((keeps, shown(alloc, &machine)?)))
+/// The tree that an image leaves, if no refused step of it is counted.
+fn in_turn(alloc: Global, machine: &mut ScriptMachine, image: &[u8]) -> Result<String, Fail> {
+    load_in_turn(machine, image);
+    if keeps_counts(machine) {
+        shown(alloc, machine)
+    } else {
+        Ok(format!(in alloc; "a refused step is counted")?)
+    }
 }
 
-/// A device of the tree whose node is made while each growth is refused in turn.
+/// Appends a line of such an image, if it leaves another tree; nothing where there is no memory for a machine.
+fn push_in_turn(alloc: Global, text: &mut String, line: &str) -> Result<(), Fail> {
+    let (tokens, wanted) = line.split_once('|').unwrap_or(("", ""));
+    let image = image_of(alloc, tokens)?;
+    match on_machine_if_room(alloc, |machine| in_turn(alloc, machine, &image)) {
+        Some(made) => push_differing(text, tokens, made?.as_str(), wanted),
+        None => Ok(()),
+    }
+}
+
+/// The lines of a table whose images print something else or leave another tree where each growth is refused in turn,
+/// or where a refused step is counted.
+pub(crate) fn differing_in_turn(alloc: Global, table: &str) -> Result<String, Fail> {
+    let mut text = String::new(alloc);
+    for line in table.lines() {
+        push_in_turn(alloc, &mut text, line)?;
+    }
+    Ok(text)
+}
+
+/// A device of the tree whose node is made, and a definition with two arms, which is run with 0 and prints 2.
+const GROWING: &str = "\
+b50800b7140007a6130005b2a7b2c2a508009d00|2 ;/slot name=736c6f7400
+a6 0111 120161 0110 011f 120170 0201 0127 00|;/slot name=736c6f7400 a=00000001;/slot/p name=7000
+";
+
+/// A machine whose growths are refused in turn goes on where it stood.
 #[test]
 fn refused_memory(rt: HostRuntime) -> Result<(), Fail> {
-    let image = image_of(rt.alloc(), "a6 0111 120161 0110 011f 120170 0201 0127 00")?;
-    let wanted = ";/slot name=736c6f7400 a=00000001;/slot/p name=7000";
-    if let Some((keeps, tree)) = made_in_turn(rt.alloc(), &image)? {
-        assert!(rt; keeps);
-        assert_eq!(rt; tree.as_str(), wanted);
-    }
+    assert_eq!(rt; differing_in_turn(rt.alloc(), GROWING)?.as_str(), "");
     Ok(())
 }
