@@ -8,6 +8,8 @@ mod instances;
 #[cfg(test)]
 mod methods;
 #[cfg(test)]
+mod opening;
+#[cfg(test)]
 mod places;
 #[cfg(test)]
 mod runs;
