@@ -1,5 +1,7 @@
 //! Words that call a method of an instance's package.
 ghost use Rattle.std.specs.Prelude.{◌≡◌, ◌<◌, ◌≤◌, ◌+◌, ◌++◌, length, true, Some, None, Ok, IfOk, IfErr, OnOk, OnErr};
+ghost use Rattle.std.specs.Box.{box_value};
+ghost use Rattle.std.specs.Option.{option_map};
 ghost use Rattle.of_stacks.specs.Order.{counting};
 ghost use Rattle.of_instances.specs.Calling.{beneath, operand_cells};
 ghost use Rattle.of_eval.specs.Executing.{call_faults};
@@ -67,15 +69,22 @@ impl<C: CodeStore> Eval<C> {
 
     /// A copy of the data space, if the word of an execution token may ask for memory that is run for a new instance.
     /// Nothing is copied where that is a definition.
-    pub(crate) fn keep_memory(&self, callee: Callee, xt: Cell) -> Result<Option<Memory>, AllocError>
-        ensures kept { IfOk result (λ kept. IsKeptFor callee xt self.now kept) }
+    pub(crate) fn keep_memory(
+        &self,
+        callee: Callee,
+        xt: Cell,
+    ) -> Result<Option<Box<Memory>>, AllocError>
+        ensures kept { IfOk result (λ kept. IsKeptFor callee xt self.now (option_map box_value kept)) }
         ensures new { OnErr result (is_new callee ≡ true) }
     {
         match callee {
             Callee::Live { .. } => Ok(None),
             Callee::New { .. } => match self.words.kind_at(xt) {
                 Some(Kind::Colon { .. }) => Ok(None),
-                _ => Ok(Some(self.board.memory.duplicate()?)),
+                _ => {
+                    let memory = self.board.memory.duplicate()?;
+                    Ok(Some(Box::new(self.board.active.new_devices.alloc(), memory)?))
+                }
             },
         }
     }
@@ -122,12 +131,12 @@ impl<C: CodeStore> Eval<C> {
     }
 
     /// The state before a method was called, whose word found no memory.
-    pub(crate) fn undo_call(&mut self, call: MethodCall, my_self: Cell, kept: Option<Memory>)
+    pub(crate) fn undo_call(&mut self, call: MethodCall, my_self: Cell, kept: Option<Box<Memory>>)
         requires { length (operand_cells call.operands) + length self.old.board.stack ≤ 256 }
-        ensures { self.new ≡ uncalled call my_self kept self.old }
+        ensures { self.new ≡ uncalled call my_self (option_map box_value kept) self.old }
     {
         if let Some(memory) = kept {
-            self.board.memory = memory;
+            self.board.memory = Box::into_inner(memory);
             self.board.instances.take_back();
         }
         let _ = self.flow.items.pop();

@@ -1,4 +1,6 @@
 use Rattle.std.proofs.Common.{rules, ◌≡◌, ◌++◌, true, Some, None, Ok, Err, sym, subst}
+use Rattle.std.specs.Box.{box_value}
+use Rattle.std.specs.Option.{option_map}
 use Rattle.of_stacks.specs.Order.{counting}
 use Rattle.of_stacks.specs.declared.stop.Stop.TheVariants.{NoMemory}
 use Rattle.of_fcodes.specs.Finding.{word_with_xt}
@@ -17,7 +19,7 @@ returns-in-Err-NoMemory-ended-2 g t c =
     let s = c.args.self.now in
     let m = c.in-Some-2.call in
     let b = c.begin_call.new.self in
-    let kept = c.in_ok-kept-in-Call.kept in
+    let kept = option_map box_value c.in_ok-kept-in-Call.kept in
     let w = c.in-Some-word_with_xt.word in
     let k = c.in-Call.calling in
     let leads : executable s.words c.args.xt.0 ≡ Some c.in-Some.xt.0 = search rules in
