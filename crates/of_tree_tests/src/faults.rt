@@ -118,12 +118,14 @@ peer|throws -4|
 %c0000000 %1 %d0000000 find-method|c0000000 1 d0000000 throws -9|
 close-package|throws -4|
 %0 close-package|0 throws -260|
+open-package|throws -4|
+%1 %2 open-package|1 2 throws -4|
+$open-package|throws -4|
+%1 %2 %3 $open-package|1 2 3 throws -4|
 ";
 
 /// The words that always run a method, where there is one, are as unassigned on the board alone.
 const METHODS: &str = "\
-open-package|throws -256|
-$open-package|throws -256|
 call-package|throws -256|
 $call-parent|throws -256|
 $call-method|throws -256|
