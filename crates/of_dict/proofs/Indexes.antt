@@ -1,10 +1,10 @@
 -- What keeps the index: words that change but for their names, a word more, the newest word taken away.
 use Rattle.std.proofs.Common.{◌≡◌, ℕ, zero, suc, ◌+◌, ◌<◌, ◌≤◌, Bool, true, false, cond, List, [], ◌∷◌, ◌++◌, length}
-use Rattle.std.proofs.Common.{set, Option, Some, None}
+use Rattle.std.proofs.Common.{set, take, Option, Some, None}
 use Rattle.std.proofs.Common.{get_or, refl, sym, ◌∙◌, ap, subst, arith, nat_eq, is_some, length-append}
 use Rattle.std.proofs.Common.{get_or-set_other, get_or-set_same, ◌≢◌, ◌-◌, inl, inr, IsSome}
 use Rattle.std.specs.Cmp.Lexicographic.{pointwise}
-use Rattle.std.proofs.lemmas.List.{get_or_append_left, get_or_at, length-set}
+use Rattle.std.proofs.lemmas.List.{get_or_append_left, get_or_at, get_or-take, length-set, length-take-le}
 use Rattle.std.proofs.lemmas.Bool.{cases_lt, false≢true}
 use Rattle.arrayvec.specs.ArrayVec.{ArrayVec}
 use Rattle.of_dict.specs.declared.word.Change.{Change}
@@ -314,3 +314,55 @@ pub head_is_some : (words : List (Option Word)) (older : List (Option ℕ))
 head_is_some words older newest n name key indexed l its keyed =
     let at : has_key words key.items n ≡ true = rw keyed (has_own_key words n name its) in
     rw (indexed.heads key) (newest_below-some (has_key words key.items) n (length words) l at)
+
+-- ---- the latest word is no more
+
+shorter-below : (words : List (Option Word)) (n k : ℕ) → k < n → word_at (take n words) k ≡ word_at words k
+shorter-below words n k l = get_or-take n words k None l
+
+shorter-search : (words : List (Option Word)) (n m : ℕ) (key : List ℕ) → m ≤ n
+    → newest_below (has_key (take n words) key) m ≡ newest_below (has_key words key) m
+shorter-search words n m key h =
+    newest_below-same (has_key (take n words) key) (has_key words key) m
+    (λ k l. ap (λ v. is_named key (name_in v)) (shorter-below words n k (omega (arith, l, h))))
+
+-- a search doesn't find the last word of all, which has no name
+last-skipped : (words : List (Option Word)) (n m : ℕ) (key : List ℕ) → n < m → m ≤ suc n
+    → name_in (word_at words n) ≡ None
+    → newest_below (has_key words key) m ≡ newest_below (has_key words key) n
+last-skipped words n m key l h none =
+    above-taken (has_key words key) n m l (ap (is_named key) none) (λ k a b. absurd (omega (arith, a, b, h)))
+
+shorter-head : (words : List (Option Word)) (n : ℕ) (key : List ℕ) → length words ≡ suc n
+    → name_in (word_at words n) ≡ None
+    → newest_below (has_key words key) (length words)
+    ≡ newest_below (has_key (take n words) key) (length (take n words))
+shorter-head words n key e none =
+    let len : length (take n words) ≡ n = length-take-le n words (omega (arith, e)) in
+    last-skipped words n (length words) key (omega (arith, e)) (omega (arith, e)) none
+    ∙ sym (shorter-search words n n key (omega arith))
+    ∙ ap (newest_below (has_key (take n words) key)) (sym len)
+
+-- the index without the last word, if that has no name
+pub IsIndexed-shorter : (words : List (Option Word)) (older : List (Option ℕ)) (newest : ArrayVec ℕ → Option ℕ) (n : ℕ)
+    → length words ≡ suc n → name_in (word_at words n) ≡ None → IsIndexed words older newest
+    → IsIndexed (take n words) (take n older) newest
+IsIndexed-shorter words older newest n e none indexed =
+    let len : length (take n words) ≡ n = length-take-le n words (omega (arith, e)) in
+    let links : length (take n older) ≡ n = length-take-le n older (omega (arith, e, indexed.links)) in
+    let before : (k : ℕ) (name : List ℕ) → name_in (word_at (take n words) k) ≡ Some name
+    → (k < n) × (name_in (word_at words k) ≡ Some name) =
+    λ k name its.
+    let within = name_is_within (take n words) k name its in
+    let below : k < n = omega (arith, within, len) in
+    (below, sym (ap name_in (shorter-below words n k below)) ∙ its) in
+    record {
+      room = omega (arith, indexed.room, e, len);
+      links = omega (arith, len, links);
+      heads = λ key. indexed.heads key ∙ shorter-head words n key.items e none;
+      chain = λ k name its.
+          let was = before k name its in
+          get_or-take n older k None was.0 ∙ indexed.chain k name was.1
+          ∙ sym (shorter-search words n k (lower name) (omega (arith, was.0)));
+      names = λ k name its. indexed.names k name (before k name its).1;
+    }

@@ -1,4 +1,4 @@
-ghost use Rattle.std.specs.Prelude.{◌≡◌, ◌<◌, ◌≤◌, [], length, option_copied, IfSome, IfOk};
+ghost use Rattle.std.specs.Prelude.{◌≡◌, ◌<◌, ◌≤◌, ◌-◌, [], length, take, option_copied, IfSome, IfOk};
 ghost use Rattle.std.specs.Prelude.{Option, Some, None, true, false};
 ghost use Rattle.std.specs.Prelude.{nat_eq, if◌then◌else◌, slice_set, IsSome, is_some, ℕ};
 ghost use Rattle.std.specs.Option.{option_map};
@@ -318,6 +318,31 @@ impl Dict {
         if let Some(word) = self.newest() {
             self.take_away(word);
         }
+    }
+
+    /// Forgets the latest word, as if it had never been made: its number is given again. It is for a caller who made a
+    /// word and can't finish what that is for.
+    pub fn take_back(&mut self)
+        ensures { self.new ≡ take (length self.old - 1) self.old }
+    {
+        let Some(number) = self.words.len().checked_sub(1) else {
+            return;
+        };
+        let latest = OwnWord(number as u32);
+        if self.newest() == Some(latest) {
+            self.take_away(latest);
+        }
+        self.drop_latest();
+    }
+
+    /// Drops the latest word, whose name is in no search.
+    fn drop_latest(&mut self)
+        requires some { 0 < length self.old }
+        requires nameless { name_in (word_at self.old (length self.old - 1)) ≡ None }
+        ensures { self.new ≡ take (length self.old - 1) self.old }
+    {
+        let _ = self.words.pop();
+        let _ = self.older.pop();
     }
 
     fn take_away(&mut self, word: OwnWord)

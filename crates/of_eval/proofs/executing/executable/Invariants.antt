@@ -1,9 +1,0 @@
-use Rattle.std.proofs.Common.{◌≡◌}
-use Rattle.of_eval.specs.Executing.{behind_defers, executable}
-use Rattle.of_eval.proofs.executing.executable.Given as goal
-
-abbrev pub invariant-loop-left : goal.invariant-loop-left
-invariant-loop-left l = behind_defers l.words.dictionary l.left l.xt.0 ≡ executable l.words l.initial.xt.0
-
-abbrev pub decreases-loop-left : goal.decreases-loop-left
-decreases-loop-left l = l.left
