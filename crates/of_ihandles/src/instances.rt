@@ -164,6 +164,13 @@ impl Instances {
         }
     }
 
+    /// How many slots there are of all packages: the number of the next one.
+    pub fn slot_count(&self) -> usize
+        ensures { result ≡ length self.now.slots }
+    {
+        self.slots.len()
+    }
+
     /// The live instance of an ihandle.
     ///
     /// NoInstance, if it is that of none.
