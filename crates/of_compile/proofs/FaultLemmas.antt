@@ -35,15 +35,15 @@ late_if t u true h = h
 late_if t u false h = tt
 
 -- -29 counts before all others here
-nesting_underflow : nat_le (rank compiler_nesting.0) (rank stack_underflow.0) ≡ true
+pub nesting_underflow : nat_le (rank compiler_nesting.0) (rank stack_underflow.0) ≡ true
 unfolding rank later_rank
 nesting_underflow = refl
 
-nesting_overflow : nat_le (rank compiler_nesting.0) (rank dictionary_overflow.0) ≡ true
+pub nesting_overflow : nat_le (rank compiler_nesting.0) (rank dictionary_overflow.0) ≡ true
 unfolding rank later_rank
 nesting_overflow = refl
 
-nesting_nesting : nat_le (rank compiler_nesting.0) (rank compiler_nesting.0) ≡ true
+pub nesting_nesting : nat_le (rank compiler_nesting.0) (rank compiler_nesting.0) ≡ true
 unfolding rank later_rank
 nesting_nesting = refl
 
@@ -67,7 +67,7 @@ long_argument : nat_le (rank long_name.0) (rank invalid_argument.0) ≡ true
 unfolding rank later_rank
 long_argument = refl
 
-underflow_overflow : nat_le (rank stack_underflow.0) (rank dictionary_overflow.0) ≡ true
+pub underflow_overflow : nat_le (rank stack_underflow.0) (rank dictionary_overflow.0) ≡ true
 unfolding rank later_rank
 underflow_overflow = refl
 

@@ -14,6 +14,7 @@ mod PlaceLemmas
 mod RunLemmas
 mod Pins
 mod FaultLemmas
+mod SlotFaults
 mod WordsLemmas
 mod LifeLemmas
 mod Endings

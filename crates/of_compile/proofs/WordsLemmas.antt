@@ -1,8 +1,8 @@
 -- Own words: one more, and one changed.
 use Rattle.std.proofs.Common.{◌≡◌, ℕ, zero, suc, Bool, List, [], ◌∷◌, ◌++◌, length, Option, Some, None, is_some}
-use Rattle.std.proofs.Common.{if◌then◌else◌}
-use Rattle.std.proofs.Common.{refl, ◌∙◌, ap, arith, length-append, ◌<◌, ◌≤◌, ◌%◌, ◌/◌, ◌-◌, ◌&&◌, true, nat_eq, nat_le}
-use Rattle.std.proofs.Common.{nat_lt}
+use Rattle.std.proofs.Common.{if◌then◌else◌, refl, ◌∙◌, ap, arith, length-append, ◌<◌, ◌≤◌, ◌%◌, ◌/◌, ◌-◌, ◌&&◌, true}
+use Rattle.std.proofs.Common.{nat_eq, nat_le, nat_lt, take}
+use Rattle.std.proofs.lemmas.List.{take_at}
 use Rattle.std.proofs.lemmas.Bool.{and_from, and_parts, eq-eqb, eqb-true, false_from_ne_true, le-leb, leb-true, lt-ltb}
 use Rattle.std.proofs.lemmas.Bool.{ltb-true}
 use Rattle.std.specs.Prelude.{slice_set, slice_index_or}
@@ -59,6 +59,13 @@ pub newest_pushed : (words : List (Option Word)) (w : Word) → newest (words ++
 newest_pushed words w =
     let len : length (words ++ Some w ∷ []) ≡ suc (length words) = omega (arith, length-append words (Some w ∷ [])) in
     rw (len, at-push words (Some w) None) refl
+
+-- the word that was added is taken back
+pub taken_back : (words : List (Option Word)) (w : Option Word)
+    → take (length (words ++ w ∷ []) - 1) (words ++ w ∷ []) ≡ words
+taken_back words w =
+    let len : length (words ++ w ∷ []) - 1 ≡ length words = omega (arith, length-append words (w ∷ [])) in
+    ap (λ n. take n (words ++ w ∷ [])) len ∙ take_at words (w ∷ []) (length words) refl
 
 -- the tests of `own_number`
 abbrev is_own : ℕ → Bool

@@ -2,8 +2,7 @@
 -- (IEEE 1275-1994, 5.3.3.1 and annex A, `b(:)` to `b(field)`; Forth 2012, 6.1.0450, 6.1.0950, 6.1.1000, 6.1.2410,
 -- 6.2.0825, 6.2.1173, 6.2.2405).
 use Rattle.std.specs.Prelude.{ℕ, ◌+◌, Bool, true, false, nat_le, nat_lt, List, [], ◌∷◌, ◌++◌, length, Option, Some}
-use Rattle.std.specs.Prelude.{None}
-use Rattle.std.specs.Prelude.{Result, is_none, is_some, ◌&&◌}
+use Rattle.std.specs.Prelude.{None, Result, is_none, is_some, ◌&&◌}
 use Rattle.of_cells.specs.declared.cells.Cell.{Cell}
 use Rattle.of_cells.specs.Arithmetic.{plus}
 use Rattle.of_stacks.specs.declared.throws.Throw.{Throw}
@@ -85,14 +84,17 @@ abbrev pub opened_in : Bool → ℕ → Option ℕ
 opened_in true n = Some n
 opened_in false n = None
 
--- the words with one more, of the pending number and name
-abbrev pub with_word : DefiningWord → Kind → Pending → WordsState → WordsState
-with_word d k p w = record {
-  dictionary = w.dictionary ++ Some (record (made p.name k) { hidden = opens d }) ∷ [];
+-- the words with one more, of the pending number and name, which is open or not
+abbrev pub made_word : Bool → Kind → Pending → WordsState → WordsState
+made_word open_now k p w = record w {
+  dictionary = w.dictionary ++ Some (record (made p.name k) { hidden = open_now }) ∷ [];
   table = assigned w.table p.code.0 (record { xt = xt_of (length w.dictionary); immediate = false });
   pending = None;
-  defining = opened_in (opens d) (length w.dictionary);
+  defining = opened_in open_now (length w.dictionary);
 }
+
+abbrev pub with_word : DefiningWord → Kind → Pending → WordsState → WordsState
+with_word d k p w = made_word (opens d) k p w
 
 -- what a word that is made leaves; without a number or the cells that it takes none is made
 abbrev pub word_made : DefiningWord → Making → Option Pending → Option Made → Making

@@ -9,6 +9,7 @@ pub mod RunsLaw
 pub mod Tokens
 pub mod Words
 pub mod Defining
+pub mod SlotWords
 pub mod Products
 pub mod DictionaryWords
 pub mod Definitions

@@ -1,8 +1,7 @@
 -- The words that images define: dictionary and token table, and what a token maker left for the next word that is
 -- defined (IEEE 1275-1994, 5.2.2.2, 5.3.3.1 and annex A, `new-token`, `named-token`, `external-token`).
-use Rattle.std.specs.Prelude.{ℕ, ◌≡◌, ◌≤◌, ◌<◌, ◌+◌, ◌-◌, ◌/◌, ◌%◌, Bool, true, nat_eq, nat_le, nat_lt, ◌&&◌}
-use Rattle.std.specs.Prelude.{◌||◌, not}
-use Rattle.std.specs.Prelude.{List, [], ◌∷◌, length, Option, Some, None, Result, option_and_then, is_some}
+use Rattle.std.specs.Prelude.{ℕ, ◌≡◌, ◌≤◌, ◌<◌, ◌+◌, ◌-◌, ◌/◌, ◌%◌, Bool, true, false, nat_eq, nat_le, nat_lt, ◌&&◌}
+use Rattle.std.specs.Prelude.{◌||◌, not, List, [], ◌∷◌, length, Option, Some, None, Result, option_and_then, is_some}
 use Rattle.std.specs.Prelude.{if◌then◌else◌}
 use Rattle.std.specs.Option.{option_map}
 use Rattle.of_stacks.specs.declared.throws.Throw.{Throw}
@@ -10,7 +9,7 @@ use Rattle.of_stacks.specs.Throws.{compiler_nesting, empty_name, invalid_argumen
 use Rattle.of_stacks.specs.Order.{counting, fault_if, unless}
 use Rattle.of_fcodes.specs.declared.codes.FCode.{FCode}
 use Rattle.of_fcodes.specs.Finding.{word_with_xt}
-use Rattle.of_fcodes.specs.Tokens.{Table}
+use Rattle.of_fcodes.specs.Tokens.{Table, first_table}
 use Rattle.of_memory.specs.Access.{number_at}
 use Rattle.of_memory.specs.DataSpace.{DataSpace}
 use Rattle.of_memory.specs.Regions.{scratch_start}
@@ -27,8 +26,14 @@ pub record WordsState : Type 0 where
   pub table : Table
   -- the number for the next word, and its name, if it gets one
   pub pending : Option Pending
+  -- `instance` waits for the next word that can be one of each instance
+  pub waiting : Bool
   -- the number of the word whose definition is open
   pub defining : Option ℕ
+
+-- no own words; each listed FCode names its written word
+abbrev pub first_words : WordsState
+first_words = record { dictionary = []; table = first_table; pending = None; waiting = false; defining = None }
 
 -- ---- own words and their execution tokens
 

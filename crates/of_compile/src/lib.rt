@@ -9,6 +9,7 @@ mod definitions;
 mod dictionary_words;
 mod element;
 mod laws;
+mod slot_words;
 mod tokens;
 mod waiting;
 mod words;

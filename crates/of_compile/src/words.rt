@@ -2,10 +2,9 @@
 ghost use Rattle.std.specs.Prelude.{◌≡◌, ◌<◌, [], IfOk, IfSome, None};
 ghost use Rattle.std.specs.Option.{option_copied, option_map};
 ghost use Rattle.of_stacks.specs.Stacks.{Becomes};
-ghost use Rattle.of_fcodes.specs.Tokens.{first_table};
 ghost use Rattle.of_dict.specs.Words.{capacity, xt_of};
-ghost use Rattle.of_compile.specs.Words.{is_debugging, is_own_code, name_fault, name_given, name_pending, named_next};
-ghost use Rattle.of_compile.specs.Words.{named_open, numbered};
+ghost use Rattle.of_compile.specs.Words.{first_words, is_debugging, is_own_code, name_fault, name_given, name_pending};
+ghost use Rattle.of_compile.specs.Words.{named_next, named_open, numbered};
 
 use of_cells::Cell;
 use of_dict::{CAPACITY, Dict, LONGEST_NAME, Name, OwnWord};
@@ -42,6 +41,7 @@ pub struct Words {
     pub(crate) dictionary: Dict,
     pub(crate) table: TokenTable,
     pub(crate) pending: Option<Pending>,
+    pub(crate) waiting: bool,
     pub(crate) defining: Option<OwnWord>,
 }
 
@@ -58,6 +58,7 @@ impl Model for Words {
       dictionary = w.dictionary;
       table = w.table;
       pending = w.pending;
+      waiting = w.waiting;
       defining = option_map (λ (o : OwnWord). o.0) w.defining;
     } };
 
@@ -113,12 +114,13 @@ impl Words {
     /// No words of its own yet; each listed FCode names its written word.
     pub fn new(alloc: Global) -> Result<Words, AllocError>
         ensures { IfOk result (λ w. w ≡
-            record { dictionary = []; table = first_table; pending = None; defining = None }) }
+            first_words) }
     {
         Ok(Words {
             dictionary: Dict::new(alloc),
             table: TokenTable::new(alloc)?,
             pending: None,
+            waiting: false,
             defining: None,
         })
     }
