@@ -1,0 +1,4 @@
+pub mod Slots
+pub mod Defers
+pub mod Stores
+pub mod SlotLaw

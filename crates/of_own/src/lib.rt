@@ -1,0 +1,12 @@
+//! Own words over the board: words that are one of each instance, what is stored into a word, and what defers lead to.
+#![tactic(auto)]
+
+mod defers;
+mod laws;
+mod slots;
+mod stores;
+
+pub use defers::{behavior, follow, is_deferred};
+pub use laws::slots_hold;
+pub use slots::{slot_address, slot_cell};
+pub use stores::store;
