@@ -1,5 +1,6 @@
 -- Registers: what the functions on single registers make of them is what acts do.
--- Executed: executing a word, one word at a time, and following its defers.
+-- Executed: executing a word, one word at a time.
+-- Keeping: what `to` does.
 -- Called: why a word doesn't call a method.
 -- AtOnce: words of one group that are run at once.
 -- Rests: behind which words nothing is due where nothing was.
@@ -11,6 +12,7 @@
 -- Strings: strings that are compiled.
 pub mod Registers
 pub mod Executed
+pub mod Keeping
 pub mod Called
 pub mod AtOnce
 pub mod Rests

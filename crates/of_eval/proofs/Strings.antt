@@ -14,7 +14,8 @@ use Rattle.of_prims.specs.Data.{throw_of}
 use Rattle.of_compile.specs.Coding.{Coding, Outcome as CodingOutcome, compiled, compiling}
 use Rattle.of_eval.specs.State.{State, answer_of, done, failed, flat_calls}
 use Rattle.of_eval.specs.Acts.{Copies}
-use Rattle.of_eval.specs.Defining.{rounded, rounded_to, string_element, string_kept}
+use Rattle.of_compile.specs.SlotWords.{rounded, rounded_to}
+use Rattle.of_eval.specs.Defining.{string_element, string_kept}
 use Rattle.of_eval.specs.Doing.{acted}
 
 abbrev coded : Bool → Coding → Coding → CodingOutcome

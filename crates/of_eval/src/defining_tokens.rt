@@ -1,5 +1,5 @@
 //! What tokens of the stream do: they define, compile, and go on elsewhere in the image.
-ghost use Rattle.std.specs.Prelude.{◌≡◌, true, false, length, List, is_some, Err, IfSome, OnErr, OnOk};
+ghost use Rattle.std.specs.Prelude.{◌≡◌, true, false, length, List, is_some, None, Err, IfSome, OnErr, OnOk};
 ghost use Rattle.of_stacks.specs.declared.stop.Stop.TheVariants.{Thrown};
 ghost use Rattle.of_stacks.specs.Throws.{compiler_nesting};
 ghost use Rattle.of_stacks.specs.Loops.{loop_on_top};
@@ -11,7 +11,8 @@ ghost use Rattle.of_nodes.specs.declared.tree.Node.{Node};
 ghost use Rattle.of_eval.specs.Methods.{hidden_if, with_tree};
 ghost use Rattle.of_eval.specs.State.{Ends, Leaves, flat_calls};
 ghost use Rattle.of_eval.specs.Acts.{Appends};
-ghost use Rattle.of_eval.specs.Defining.{define_entry, definition_ended, semicolon_entry, word_defined};
+ghost use Rattle.of_eval.specs.Defining.{define_entry, definition_ended, semicolon_entry, slot_word_defined};
+ghost use Rattle.of_eval.specs.Defining.{word_defined, word_made_as};
 ghost use Rattle.of_eval.specs.Doing.{IsWorked, acted, read_at};
 ghost use Rattle.of_eval.specs.Items.{control_act};
 ghost use Rattle.of_eval.specs.Tokens.{at_position, leave_act};
@@ -20,7 +21,7 @@ use crate::eval::Eval;
 use crate::methods::{Former, make_method, take_back};
 use of_code::CodeStore;
 use of_compile::{DefiningWord, Element, end_definition};
-use of_dict::OwnWord;
+use of_dict::{OwnWord, Slot};
 use of_flow::{ControlWord, run_control};
 use of_stacks::{Continuation, Input, LoopExit, Stop, Throw};
 use of_stream::HEADER_LENGTH;
@@ -28,10 +29,30 @@ use of_stream::HEADER_LENGTH;
 impl<C: CodeStore> Eval<C> {
     // ---- defining and compiling
 
-    /// Makes a word, which is no method yet.
-    fn make_word(&mut self, word: DefiningWord) -> Result<(), Stop>
+    /// Makes a word that is one of each instance of the active package, and no method yet.
+    fn make_slot_word(&mut self, slot: Slot) -> Result<(), Stop>
         ensures outcome { (t : List Node) → Ends (may_define self.old.words)
-            (word_defined flat_calls word (with_tree t self.old)) (with_tree t self.old) (with_tree t self.new) result }
+            (slot_word_defined slot (with_tree t self.old)) (with_tree t self.old) (with_tree t self.new) result }
+        ensures named { OnOk result (named_next self.old.words.dictionary (name_pending self.old.words.pending)
+            ≡ named_at self.new.words.dictionary (length self.old.words.dictionary)) }
+        ensures stopped { OnErr result (self.new.words ≡ self.old.words) }
+        ensures nested { may_define self.old.words ≡ false → result ≡ Err (Thrown compiler_nesting) }
+        ensures tree { self.new.board.tree ≡ self.old.board.tree }
+    {
+        self.words.define_slot(
+            slot,
+            self.board.active.package,
+            &mut self.board.stack,
+            &mut self.board.memory,
+            &mut self.board.instances,
+        )
+    }
+
+    /// Makes a word of all instances, which is no method yet.
+    fn make_plain_word(&mut self, word: DefiningWord) -> Result<(), Stop>
+        ensures outcome { (t : List Node) → Ends (may_define self.old.words)
+            (word_made_as flat_calls word None (with_tree t self.old)) (with_tree t self.old) (with_tree t self.new)
+            result }
         ensures named { OnOk result (named_next self.old.words.dictionary (name_pending self.old.words.pending)
             ≡ named_at self.new.words.dictionary (length self.old.words.dictionary)) }
         ensures stopped { OnErr result (self.new.words ≡ self.old.words) }
@@ -49,6 +70,22 @@ impl<C: CodeStore> Eval<C> {
             self.set_compiling(true);
         }
         Ok(())
+    }
+
+    /// Makes a word, which is no method yet: one of each instance, if `instance` waits for it.
+    fn make_word(&mut self, word: DefiningWord) -> Result<(), Stop>
+        ensures outcome { (t : List Node) → Ends (may_define self.old.words)
+            (word_defined flat_calls word (with_tree t self.old)) (with_tree t self.old) (with_tree t self.new) result }
+        ensures named { OnOk result (named_next self.old.words.dictionary (name_pending self.old.words.pending)
+            ≡ named_at self.new.words.dictionary (length self.old.words.dictionary)) }
+        ensures stopped { OnErr result (self.new.words ≡ self.old.words) }
+        ensures nested { may_define self.old.words ≡ false → result ≡ Err (Thrown compiler_nesting) }
+        ensures tree { self.new.board.tree ≡ self.old.board.tree }
+    {
+        match self.words.awaited(word) {
+            Some(slot) => self.make_slot_word(slot),
+            None => self.make_plain_word(word),
+        }
     }
 
     /// A defining word: `b(:)` to `b(field)`. Its word becomes a method, unless it opens a definition.

@@ -113,11 +113,11 @@ impl<C: CodeStore> Eval<C> {
     /// `b(to)` ( x -- ) looks for its cell before it asks what its FCode names.
     #[tactic(auto, unfolding(crate::specs::Doing::worked))]
     fn store(&mut self, code: FCode) -> Result<(), Throw>
-        ensures { Leaves (worked flat_calls (storing (entry_in self.old.words.table code.0) self.old.words
-            self.old.board.stack) self.old) self.new result }
+        ensures { Leaves (worked flat_calls (storing (entry_in self.old.words.table code.0) self.old.board.stack
+            (front_of self.old)) self.old) self.new result }
     {
         match self.words.table().get(code) {
-            Some(entry) => self.words.store(Cell(entry.xt), &mut self.board.stack),
+            Some(entry) => self.keep(Cell(entry.xt)),
             None => {
                 let _ = self.board.stack.peek()?;
                 Err(Throw::NOT_ASSIGNED)

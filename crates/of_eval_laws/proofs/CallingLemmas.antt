@@ -31,7 +31,7 @@ use Rattle.of_eval_laws.proofs.GoingLemmas.{behind, has_item, has_none, performe
 
 -- the plan of such a word, by what it finds
 call_is : {S : Type 0} → PlansUnroll → (c : Calls S) (xt : ℕ) (k : CallingWord) (s : State S)
-    → Is s.words xt (word_of k) → (r : Result (Option MethodCall) Throw) → calling_entry k s.board ≡ r
+    → Is s xt (word_of k) → (r : Result (Option MethodCall) Throw) → calling_entry k s.board ≡ r
     → executed c xt s ≡ performed c (call_plan (word_of k) r (front_of s) plan_of) s
 unfolding execution
 call_is law c xt calling.Package s h r e =
@@ -69,7 +69,7 @@ called_plan : {S : Type 0} → MethodCall → State S → Plan
 called_plan m s = callee_plan m.callee m (front_of s) plan_of
 
 found : {S : Type 0} → PlansUnroll → (c : Calls S) (xt : ℕ) (k : CallingWord) (m : MethodCall) (s : State S)
-    → Is s.words xt (word_of k) → calling_entry k s.board ≡ Ok (Some m) → (one full : Bool)
+    → Is s xt (word_of k) → calling_entry k s.board ≡ Ok (Some m) → (one full : Bool)
     → is_word s.words.dictionary m.xt.0 ≡ one → nat_le 256 (length s.flow.items) ≡ full
     → executed c xt s ≡ performed c (unless_stopped (faults_by one full) (called_plan m s)) s
 unfolding called_plan
@@ -118,7 +118,7 @@ calls_come_back {S} law = record {
     thrown_on c (due.Open me instance) r t s h = refl
     thrown_on c (due.Load active me instance count) r t s h = absurd h
 
-    not_one : (c : Calls S) (xt : ℕ) (k : CallingWord) (m : MethodCall) (s : State S) → Is s.words xt (word_of k)
+    not_one : (c : Calls S) (xt : ℕ) (k : CallingWord) (m : MethodCall) (s : State S) → Is s xt (word_of k)
         → calling_entry k s.board ≡ Ok (Some m) → is_word s.words.dictionary m.xt.0 ≡ false → (full : Bool)
         → nat_le 256 (length s.flow.items) ≡ full → executed c xt s ≡ failed bad_handle s
     not_one c xt k m s h e w true f = found law c xt k m s h e false true w f

@@ -80,7 +80,7 @@ signed_stands s m (Err fault) sound = tt
 pub low_small : (x : Cell) → (low_byte x).0 < 256
 low_small x = omega arith
 
-write_stands : (g : Given) (w : Width) (m : DataSpace) (a x : ℕ) → IsSound m
+pub write_stands : (g : Given) (w : Width) (m : DataSpace) (a x : ℕ) → IsSound m
     → MemStands m (write w m a x)
 write_stands g w m a x sound =
     unless_stands m (write_fault m a (bytes_in w) w) (written m a (bytes_high_first (bytes_in w) x))

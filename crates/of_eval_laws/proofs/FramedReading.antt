@@ -47,6 +47,9 @@ use Rattle.of_eval_laws.proofs.Walk.{IsAct, Turns, item_acts, typed_acts}
 use Rattle.of_eval_laws.proofs.WalkFree.{anywhere, free, free_turns}
 use Rattle.of_eval_laws.proofs.WalkTyped.{typed_may}
 use Rattle.of_eval_laws.proofs.WalkWords.{all_executed}
+use Rattle.of_compile.specs.SlotWords.{SlotMaking, awaited}
+use Rattle.of_dict.specs.declared.word.Slot.{Slot}
+use Rattle.of_eval.specs.Defining.{by_slot_making, word_made_as}
 
 -- what is read stays, or is set aside for an image that begins
 abbrev Reads : {S : Type 0} → Reading → Outcome S → Type 0
@@ -74,11 +77,22 @@ making_reads : {S : Type 0} (r : Reading) (d : DefiningWord) (g : Result Making 
 making_reads r d (Ok g) s h = opened_reads r (opens d) _ h
 making_reads r d (Err t) s h = inl h
 
+slot_reads : {S : Type 0} (r : Reading) (g : Result SlotMaking Throw) (s : State S) → s.flow.reading ≡ r
+    → Reads r (by_slot_making g s)
+slot_reads r (Ok g) s h = inl h
+slot_reads r (Err t) s h = inl h
+
+word_reads : {S : Type 0} (r : Reading) (c : Calls S) (d : DefiningWord) (o : Option Slot) (s : State S)
+    → s.flow.reading ≡ r → Reads r (word_made_as c d o s)
+word_reads r c d None s h =
+    making_reads r d (defining_entry d (c.ends_at s.code) (making s.words s.board.stack s.board.memory)) s h
+word_reads r c d (Some k) s h = slot_reads r _ s h
+
 define_reads : {S : Type 0} (r : Reading) (c : Calls S) (d : DefiningWord) (s : State S) → s.flow.reading ≡ r
     → Reads r (define_entry c d s)
 define_reads r c d s h =
     known_reads r s.board.active.«package» (known_at_once d s.words.dictionary) (word_defined c d s)
-    (making_reads r d (defining_entry d (c.ends_at s.code) (making s.words s.board.stack s.board.memory)) s h)
+    (word_reads r c d (awaited d s.words) s h)
 
 closed_reads : {S : Type 0} (r : Reading) (code : S) (ended : Result (Unit {0}) Throw) (s : State S)
     → s.flow.reading ≡ r
@@ -136,6 +150,7 @@ worked_reads c (act.Works w) s = board_reads (word_entry w s.board) s
 worked_reads c (act.Moves cells move to) s =
     gone_reads to (with_stack cells (with_items (doing.moved move s.flow.items) s))
 worked_reads c (act.Knows w cells) s = inl refl
+worked_reads c (act.Stores m cells) s = inl refl
 worked_reads c (act.Appends e cells) s =
     appended_reads (c.element e s.code).code (c.element e s.code).ended cells s
 worked_reads c (act.Loads size m cells) s = inr refl

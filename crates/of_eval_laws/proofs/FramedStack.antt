@@ -1,6 +1,5 @@
 -- The law `frames_hold`: what executing a word leaves of control.
-use Rattle.std.proofs.Common.{◌≡◌, ◌⊎◌, inl, inr, ℕ, Bool, true, List, [], ◌∷◌, Result, Ok, Err, refl}
-use Rattle.std.proofs.Common.{ap}
+use Rattle.std.proofs.Common.{◌≡◌, ◌⊎◌, inl, inr, ℕ, Bool, true, List, [], ◌∷◌, Result, Ok, Err, refl, ap}
 use Rattle.of_cells.specs.declared.cells.Cell.{Cell}
 use Rattle.of_stacks.specs.declared.return_item.Continuation.{Continuation}
 use Rattle.of_stacks.specs.declared.return_item.Continuation.TheVariants as continuation
@@ -140,6 +139,7 @@ worked_leaves d c (act.Works w) s h =
     stays d s (by_board (word_entry w s.board) s).state (board_flow (word_entry w s.board) s)
 worked_leaves d c (act.Moves cells move to) s h = moved_leaves d cells move to c s h
 worked_leaves d c (act.Knows w cells) s h = stays d s (worked c (act.Knows w cells) s).state refl
+worked_leaves d c (act.Stores m cells) s h = stays d s (worked c (act.Stores m cells) s).state refl
 worked_leaves d c (act.Appends e cells) s h =
     stays d s (appended (c.element e s.code) cells s).state
     (appended_flow (c.element e s.code).code (c.element e s.code).ended cells s)

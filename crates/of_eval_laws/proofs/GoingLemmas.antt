@@ -1,5 +1,5 @@
 -- The laws `items_go`, `definitions_run`, `catch_keeps`, `ends_go_back` and `loads_begin`.
-use Rattle.std.proofs.Common.{◌≡◌, ℕ, ◌<◌, ◌≤◌, ◌==◌, nat_lt, nat_le, Bool, true, false, not, List, [], ◌∷◌, ◌++◌}
+use Rattle.std.proofs.Common.{Ok, ◌≡◌, ℕ, ◌<◌, ◌≤◌, ◌==◌, nat_lt, nat_le, Bool, true, false, not, List, [], ◌∷◌, ◌++◌}
 use Rattle.std.proofs.Common.{length, Option, Some, None, Err, refl, ap, ◌∙◌, arith, if◌then◌else◌}
 use Rattle.std.proofs.lemmas.Bool.{eq-eqb}
 use Rattle.std.specs.Prelude.{is_some, option_map, ◌&&◌}
@@ -28,18 +28,17 @@ use Rattle.of_compile.specs.RunsLaw.{RunsByStructure}
 use Rattle.of_compile.specs.Words.{is_word}
 use Rattle.of_eval.specs.Acts.{Act, Behind, Does, Drops, Fails, Keeps, Moves, Pushes, To, Turns, front_of}
 use Rattle.of_eval.specs.Doing.{acted, executed, worked}
-use Rattle.of_eval.specs.Executing.{Catch, Execute, Plan, PlansUnroll, Stops, act_of_plan, executable, execution}
-use Rattle.of_eval.specs.Executing.{frame_of, guarded, plan_at, plan_behind, plan_in, plan_of, planned, pushing}
-use Rattle.of_eval.specs.Executing.{returning, runner_of}
-use Rattle.of_eval.specs.Items.{beginning, control_act, going, item_act, leave_item, staying, there}
+use Rattle.of_eval.specs.Executing.{Catch, Execute, Plan, PlansUnroll, Stops, act_of_plan, execution, frame_of, guarded}
+use Rattle.of_eval.specs.Executing.{plan_at, plan_behind, plan_in, plan_of, planned, pushing, returning, runner_of}
+use Rattle.of_eval.specs.Items.{beginning, control_act, going, item_act, leave_item, staying, there, turning}
 use Rattle.of_flow.specs.Turns.{loop_item, one}
-use Rattle.of_eval.specs.Items.{turning}
 use Rattle.of_eval.specs.Settling.{ended, going_back, is_same, or_nothing, reading_on, source_ended}
 use Rattle.of_eval.specs.State.{Calls, Outcome, State, done, failed, with_items, with_next, with_stack}
 use Rattle.of_eval.specs.Steps.{item_done, item_due}
 use Rattle.of_eval_laws.specs.Structured.{structured_calls}
 use Rattle.of_eval_laws.specs.Going.{CatchKeeps, DefinitionsRun, EndsGoBack, Is, ItemsGo, ItemsThrow, LoadsBegin}
 use Rattle.of_eval_laws.specs.Going.{Makes, Throws, gone, has_opened, on}
+use Rattle.of_own.specs.Defers.{executable}
 
 pub if_is : {A : Type 0} (b : Bool) (x y : A) → b ≡ true → (if b then x else y) ≡ x
 if_is true x y e = refl
@@ -281,14 +280,15 @@ abbrev pub performed : {S : Type 0} → Calls S → Plan → State S → Outcome
 performed c p s = worked c (act_of_plan p (front_of s)) s
 
 -- the plan of a written word
-pub behind : {S : Type 0} → PlansUnroll → (xt : ℕ) (s : State S) (k : ℕ) (w : Word) → executable s.words xt ≡ Some k
+pub behind : {S : Type 0} → PlansUnroll → (xt : ℕ) (s : State S) (k : ℕ) (w : Word)
+    → executable s.words s.board xt ≡ Ok k
     → word_with_xt k ≡ Some w → plan_in s xt ≡ planned w (runner_of w) (front_of s) plan_of
 behind law xt s k w e f =
     law.unrolled (front_of s) xt
     ∙ ap (λ x. plan_behind x (front_of s) plan_of) e ∙ ap (λ x. plan_at x k (front_of s) plan_of) f
 
 run_is : {S : Type 0} → PlansUnroll → (c : Calls S) (xt : ℕ) (x : Cell) (cells : List Cell) (s : State S)
-    → Is s.words xt (word.Returns returns.Execute) → (b : Bool) → is_word s.words.dictionary x.0 ≡ b
+    → Is (with_stack (x ∷ cells) s) xt (word.Returns returns.Execute) → (b : Bool) → is_word s.words.dictionary x.0 ≡ b
     → executed c xt (with_stack (x ∷ cells) s)
     ≡ performed c (if b then Execute cells (plan_in (with_stack cells s) x.0) else Stops bad_handle)
     (with_stack (x ∷ cells) s)
@@ -299,7 +299,7 @@ run_is law c xt x cells s h b e =
     ∙ ap (λ y. if y then Execute cells (plan_in (with_stack cells s) x.0) else Stops bad_handle) e)
 
 catch_is : {S : Type 0} → PlansUnroll → (c : Calls S) (xt : ℕ) (x : Cell) (cells : List Cell) (s : State S)
-    → Is s.words xt (word.Throws throws.Catch) → (b : Bool) → nat_le 256 (length s.flow.items) ≡ b
+    → Is (with_stack (x ∷ cells) s) xt (word.Throws throws.Catch) → (b : Bool) → nat_le 256 (length s.flow.items) ≡ b
     → executed c xt (with_stack (x ∷ cells) s)
     ≡ performed c
     (if b then Stops return_stack_overflow else Catch cells (plan_in (guarded cells (with_stack (x ∷ cells) s)) x.0))
@@ -312,14 +312,15 @@ catch_is law c xt x cells s h b e =
     ∙ ap (λ y. if y then Stops return_stack_overflow else p) e)
 
 no_cell : {S : Type 0} → PlansUnroll → (c : Calls S) (xt : ℕ) (s : State S)
-    → Is s.words xt (word.Returns returns.Execute)
+    → Is (with_stack [] s) xt (word.Returns returns.Execute)
     → executed c xt (with_stack [] s) ≡ failed stack_underflow (with_stack [] s)
 unfolding execution act_of_plan worked
 no_cell law c xt s h =
     ap (λ p. performed c p (with_stack [] s))
     (behind law xt (with_stack [] s) h.0 (word.Returns returns.Execute) h.1 h.2)
 
-no_caught : {S : Type 0} → PlansUnroll → (c : Calls S) (xt : ℕ) (s : State S) → Is s.words xt (word.Throws throws.Catch)
+no_caught : {S : Type 0} → PlansUnroll → (c : Calls S) (xt : ℕ) (s : State S)
+    → Is (with_stack [] s) xt (word.Throws throws.Catch)
     → executed c xt (with_stack [] s) ≡ failed stack_underflow (with_stack [] s)
 unfolding execution act_of_plan worked
 no_caught law c xt s h =

@@ -1,12 +1,13 @@
 -- The law `names_stay_home`.
-use Rattle.std.proofs.Common.{◌≡◌, ℕ, Option, Some, None, List, Result, Ok, Err, refl, ap}
+use Rattle.std.proofs.Common.{◌≡◌, ℕ, Bool, true, false, Option, Some, None, List, Result, Ok, Err, refl, ap}
+use Rattle.std.proofs.Common.{if◌then◌else◌}
 use Rattle.of_stacks.specs.declared.throws.Throw.{Throw}
 use Rattle.of_nodes.specs.declared.phandles.Phandle.{Phandle}
 use Rattle.of_nodes.specs.declared.tree.Node.{Node}
 use Rattle.of_dict.specs.Words.{name_in, word_at, xt_of}
 use Rattle.of_compile.specs.declared.defining.DefiningWord.TheVariants as defining
 use Rattle.of_compile.specs.Defining.{Making, defining_entry, making}
-use Rattle.of_eval.specs.Defining.{by_making, closed_if, semicolon_entry}
+use Rattle.of_eval.specs.Defining.{by_making, closed_if, semicolon_entry, word_made_as}
 use Rattle.of_eval.specs.Methods.{as_method, known, known_if, method_made, xt_cell}
 use Rattle.of_eval.specs.State.{Calls, State}
 use Rattle.of_eval_laws.specs.Homes.{NamesStayHome, with_package}
@@ -15,6 +16,14 @@ made_home : {S : Type 0} (r : Result Making Throw) (s : State S) → (by_making 
     → (by_making defining.Colon r s).state.flow.home ≡ s.board.active.«package»
 made_home (Ok g) s e = refl
 made_home (Err t) s e = absurd cc
+
+word_home : {S : Type 0} (b : Bool) (c : Calls S) (s : State S)
+    → (word_made_as c defining.Colon (if b then None else None) s).ended ≡ Ok tt
+    → (word_made_as c defining.Colon (if b then None else None) s).state.flow.home ≡ s.board.active.«package»
+word_home true c s e =
+    made_home (defining_entry defining.Colon (c.ends_at s.code) (making s.words s.board.stack s.board.memory)) s e
+word_home false c s e =
+    made_home (defining_entry defining.Colon (c.ends_at s.code) (making s.words s.board.stack s.board.memory)) s e
 
 -- two states with the same words and nodes have the same when a word becomes a method
 method_same : {S : Type 0} (o : Option (List Node)) (n : ℕ) (other : Option Phandle) (s : State S)
@@ -48,8 +57,7 @@ ends_same c (Some n) other s = refl
 
 pub names_stay_home : {S : Type 0} → NamesStayHome S
 names_stay_home = record {
-  kept = λ c s e.
-      made_home (defining_entry defining.Colon (c.ends_at s.code) (making s.words s.board.stack s.board.memory)) s e;
+  kept = λ c s e. word_home s.words.waiting c s e;
   anywhere = λ c o other s.
       let same = semicolon_same c o other s in (
         ends_same c o other s,

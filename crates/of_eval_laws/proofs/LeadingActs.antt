@@ -186,6 +186,7 @@ module _ (image : List ℕ) (outer : Reading) where
         Loads = λ s m. s.words.defining ≡ None;
         aims = λ n s a. tt;
         stores = λ xt x s p e. store_open xt s.words s.board.stack x e;
+        waits = λ s p. refl;
         sets = λ x s p e. set_open s.words s.board.stack x e;
         announces = λ k name w s p e. number_open k name s.words w e;
         loads = λ a n spread x s p shut e. shut_by s.words.defining shut;
@@ -319,6 +320,7 @@ module _ (image : List ℕ) (outer : Reading) where
   worked_leads code c (act.Works w) s h p = board_lead (word_entry w s.board) s p.0
   worked_leads code c (act.Moves cells move to) s h p = move_leads code cells move to c s h p
   worked_leads code c (act.Knows w cells) s h p = (p.0.0, (λ o. h ∙ p.0.1 o))
+  worked_leads code c (act.Stores m cells) s h p = p.0
   worked_leads code c (act.Appends e cells) s h p =
       appended_leads (c.element e s.code).code (c.element e s.code).ended cells s p.0
   worked_leads code c (act.Loads size m cells) s h p =

@@ -30,8 +30,8 @@ use Rattle.of_flow.specs.declared.control_state.Flow.{Flow}
 use Rattle.of_eval.specs.Acts.{Act, Move, front_of}
 use Rattle.of_eval.specs.Acts as act
 use Rattle.of_eval.specs.Defining.{by_making, closed_if, define_entry, definition_ended, known_at_once, opened}
-use Rattle.of_eval.specs.Defining.{semicolon_entry, string_kept, string_put, string_refused}
-use Rattle.of_eval.specs.Defining.{word_defined}
+use Rattle.of_eval.specs.Defining.{semicolon_entry, string_kept, string_put, string_refused, word_defined}
+use Rattle.of_eval.specs.Defining.{by_slot_making, word_made_as}
 use Rattle.of_eval.specs.Doing.{acted, executed, input_at, moved}
 use Rattle.of_eval.specs.Executing.{execution, plan_in}
 use Rattle.of_eval.specs.Items.{item_act}
@@ -48,8 +48,7 @@ use Rattle.of_eval_laws.specs.Listed.{plan_of_item}
 use Rattle.of_eval_laws.specs.Returning.{IsImage, IsRead, Leads, LeadsOn, StackLeadsBack, is_back}
 use Rattle.of_eval_laws.specs.Returning.{is_code, is_outer, is_read_on, reads_nothing}
 use Rattle.of_eval_laws.proofs.LeadingActs.{Back, BackAs, IsInner, Rests, Runs, leading, leading_turns, looped, no}
-use Rattle.of_eval_laws.proofs.LeadingActs.{turned}
-use Rattle.of_eval_laws.proofs.LeadingActs.{none_open, worked_leads}
+use Rattle.of_eval_laws.proofs.LeadingActs.{turned, none_open, worked_leads}
 use Rattle.of_eval_laws.proofs.LeadingBack.{InImage, ended_due}
 use Rattle.of_eval_laws.proofs.LeadingEnds.{IsSettled, due_too, settles}
 use Rattle.of_eval_laws.proofs.MethodLemmas.{known_flow}
@@ -57,6 +56,8 @@ use Rattle.of_eval_laws.proofs.ThrowsSettle.{throws_settle}
 use Rattle.of_eval_laws.proofs.Walk.{IsAct, IsPlace, item_acts, typed_acts}
 use Rattle.of_eval_laws.proofs.WalkTyped.{typed_may}
 use Rattle.of_eval_laws.proofs.WalkWords.{IsMove, IsTurn, all_executed, execution_works}
+use Rattle.of_compile.specs.SlotWords.{SlotMaking, awaited}
+use Rattle.of_dict.specs.declared.word.Slot.{Slot}
 
 -- ---- what defining leaves of control
 
@@ -82,6 +83,16 @@ making_goes d (Ok g) s =
     (record s { words = g.words; board = record s.board { stack = g.stack; memory = g.memory } })
 making_goes d (Err t) s = (refl, refl, refl)
 
+slot_goes : {S : Type 0} (g : Result SlotMaking Throw) (s : State S) → GoesOn s (by_slot_making g s).state
+slot_goes (Ok g) s = (refl, refl, refl)
+slot_goes (Err t) s = (refl, refl, refl)
+
+word_goes : {S : Type 0} (c : Calls S) (d : DefiningWord) (o : Option Slot) (s : State S)
+    → GoesOn s (word_made_as c d o s).state
+word_goes c d None s =
+    making_goes d (defining_entry d (c.ends_at s.code) (making s.words s.board.stack s.board.memory)) s
+word_goes c d (Some k) s = slot_goes _ s
+
 known_goes : {S : Type 0} (home : Option Phandle) (o : Option ℕ) (s : State S) (a : Outcome S) → GoesOn s a.state
     → GoesOn s (then_known home o a).state
 known_goes home None s a h = h
@@ -91,7 +102,7 @@ known_goes home (Some n) s a h =
 define_goes : {S : Type 0} (c : Calls S) (d : DefiningWord) (s : State S) → GoesOn s (define_entry c d s).state
 define_goes c d s =
     known_goes s.board.active.«package» (known_at_once d s.words.dictionary) s (word_defined c d s)
-    (making_goes d (defining_entry d (c.ends_at s.code) (making s.words s.board.stack s.board.memory)) s)
+    (word_goes c d (awaited d s.words) s)
 
 closed_goes : {S : Type 0} (code : S) (e : Result (Unit {0}) Throw) (s : State S)
     → GoesOn s (by_code (record { code = code; ended = e }) (closed_if e s)).state

@@ -9,6 +9,7 @@
 -- Frames, FramedTurns, FramedReading, FramedStack: the law `frames_hold`.
 -- SoundSpace, SoundTree: what writes leaves a data space sound, from bytes up to words over the device tree.
 -- FramedSpace, FramedMemory, FramedWriting: the law `images_stand`, and that the data space stays sound.
+-- DefinedSpace: what words that define, and stores into slots, leave of the data space.
 -- ThrowsSettle: the law `throws_settle`.
 -- Released, Begun: what releasing instances and an image that begins leave of the data space.
 -- LeadingEnds, LeadingBack, LeadingActs, LeadingSteps: the law `stack_leads_back`, from what is worked off or caught
@@ -53,6 +54,7 @@ pub mod SoundSpace
 pub mod SoundTree
 pub mod FramedSpace
 pub mod FramedMemory
+pub mod DefinedSpace
 pub mod FramedWriting
 pub mod Frames
 pub mod ThrowsSettle

@@ -1,4 +1,5 @@
 -- What tests, words on words and defining words throw has a listed number.
+use Rattle.std.specs.Result.{is_err}
 use Rattle.std.proofs.Common.{◌≡◌, ℕ, Bool, true, false, nat_le, nat_eq, nat_lt, not, List, [], ◌∷◌, length, Option}
 use Rattle.std.proofs.Common.{Some, None, Result, Ok, Err, is_some, is_none, refl, if◌then◌else◌}
 use Rattle.of_cells.specs.declared.cells.Cell.{Cell}
@@ -13,7 +14,7 @@ use Rattle.of_stacks.specs.Returns.{return_on_top, user_on_top}
 use Rattle.of_stacks.specs.Stacks.{within}
 use Rattle.of_stacks.specs.Throws.{ThrowsListed, bad_handle, compiler_nesting, dictionary_overflow, empty_name}
 use Rattle.of_stacks.specs.Throws.{invalid_argument, is_listed, listed_numbers, long_name, stack_overflow}
-use Rattle.of_stacks.specs.Throws.{stack_underflow}
+use Rattle.of_stacks.specs.Throws.{stack_underflow, no_node}
 use Rattle.of_fcodes.specs.declared.codes.FCode.{FCode}
 use Rattle.of_fcodes.specs.declared.token_table.TokenEntry.{TokenEntry}
 use Rattle.of_fcodes.specs.Tokens.{entry_in}
@@ -29,6 +30,9 @@ use Rattle.of_compile.specs.DictionaryWords.{from_body_entry, get_token_entry, k
 use Rattle.of_compile.specs.DictionaryWords.{store_entry, stored_kind, to_body_entry, token_given, with_stored}
 use Rattle.of_compile.specs.DictionaryWords.{xt_found}
 use Rattle.of_compile.specs.Words.{WordsState, is_own_code, is_word, name_fault, numbered}
+use Rattle.of_compile.specs.SlotWords.{SlotMaking, slot_entry, slot_given, slot_made}
+use Rattle.of_dict.specs.declared.word.Slot.{Slot}
+use Rattle.of_nodes.specs.declared.phandles.Phandle.{Phandle}
 
 -- ---- one fault of several
 
@@ -243,3 +247,15 @@ defines g x after =
 
 pub defining_listed : (d : DefiningWord) (start : ℕ) (g : Making) → ThrowsListed (defining_entry d start g)
 defining_listed d start g = defines g (made_by d start (aligned g.memory.here) g.stack) _
+
+pub slot_word_listed : (k : Slot) (home : Option Phandle) (g : SlotMaking) → ThrowsListed (slot_entry k home g)
+unfolding is_listed listed_numbers
+slot_word_listed k home g =
+    let x = slot_made k g.stack in
+    unless_listed _ _ (counted_listed _ _ (fault_listed (is_some g.words.defining) compiler_nesting refl)
+    (counted_listed _ _ (fault_listed (is_none g.words.pending) compiler_nesting refl)
+    (counted_listed _ _ (fault_listed (is_none x) stack_underflow refl)
+    (counted_listed _ _ (fault_listed (is_none home) no_node refl)
+    (counted_listed _ _ (fault_listed (nat_le capacity (length g.words.dictionary)) dictionary_overflow refl)
+    (counted_listed _ _ (fault_listed (nat_le capacity (length g.instances.slots)) dictionary_overflow refl)
+    (counted_listed _ None (fault_listed (is_err (slot_given home x g)) dictionary_overflow refl) tt)))))))

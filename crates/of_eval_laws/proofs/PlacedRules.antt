@@ -132,6 +132,7 @@ placed =
       returns = λ to s p e. return_placed (finished_end s.code) s.flow.items to p.goes_back e;
       begins = λ start xt s p e z. own_begins (own_number xt) xt start s refl (ap (λ k. code_start k) e) z p;
       stores = λ xt x s p e. store_placed xt s.board.stack x s e p;
+      waits = λ s p. p;
       sets = λ x s p e. set_placed s.board.stack x s e p;
       announces = λ k name w s p e.
           announced_when (counting (number_faults s.words k name))

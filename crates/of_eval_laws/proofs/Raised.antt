@@ -59,11 +59,14 @@ use Rattle.of_eval_laws.specs.Structured.{structured_calls}
 use Rattle.of_eval_laws.specs.Listed.{Raises, StepsThrowListed, WordsThrowListed, cell_next, cell_of, closes}
 use Rattle.of_eval_laws.specs.Listed.{closes_next, plan_fetched, plan_of_item, plan_read, plan_token, plan_with}
 use Rattle.of_eval_laws.specs.Listed.{token_of, token_read}
-use Rattle.of_eval_laws.proofs.ListedFaults.{defining_listed}
+use Rattle.of_eval_laws.proofs.ListedFaults.{defining_listed, slot_word_listed}
 use Rattle.of_eval_laws.proofs.Walk.{IsAct, Turns, item_acts, typed_acts}
 use Rattle.of_eval_laws.proofs.WalkFree.{anywhere, free, free_turns}
 use Rattle.of_eval_laws.proofs.WalkTyped.{typed_may}
 use Rattle.of_eval_laws.proofs.WalkWords.{IsWork, Rules, all_executed}
+use Rattle.of_compile.specs.SlotWords.{SlotMaking, awaited, slot_making}
+use Rattle.of_dict.specs.declared.word.Slot.{Slot}
+use Rattle.of_eval.specs.Defining.{by_slot_making, word_made_as}
 
 -- ---- what a program throws
 
@@ -137,6 +140,7 @@ worked_raises c l taken ends (act.Works w) s h =
     weaker taken ends _ (board_left (word_entry w s.board) s (l.words.words w s.board))
 worked_raises c l taken ends (act.Moves cells move to) s h = tt
 worked_raises c l taken ends (act.Knows w cells) s h = tt
+worked_raises c l taken ends (act.Stores m cells) s h = tt
 worked_raises c l taken ends (act.Appends e cells) s h = weaker taken ends _ (l.calls.element e s.code)
 worked_raises c l taken ends (act.Loads size m cells) s h = tt
 worked_raises c l taken ends (act.Takes cells a) s h = worked_raises c l taken ends a (with_stack cells s) h
@@ -153,6 +157,20 @@ makings : {S : Type 0} (d : DefiningWord) (r : Result Making Throw) (s : State S
 makings d (Ok g) s h = tt
 makings d (Err t) s h = h
 
+slot_makings : {S : Type 0} (r : Result SlotMaking Throw) (s : State S) → ThrowsListed r
+    → Lists (by_slot_making r s)
+slot_makings (Ok g) s h = tt
+slot_makings (Err t) s h = h
+
+words_made : {S : Type 0} (c : Calls S) (d : DefiningWord) (o : Option Slot) (s : State S)
+    → Lists (word_made_as c d o s)
+words_made c d None s =
+    makings d _ s (defining_listed d (c.ends_at s.code) (making s.words s.board.stack s.board.memory))
+words_made c d (Some k) s =
+    slot_makings _ s
+    (slot_word_listed k s.board.active.«package»
+    (slot_making s.words s.board.stack s.board.memory s.board.instances))
+
 knows : {S : Type 0} (home : Option Phandle) (o : Option ℕ) (a : Outcome S) → Lists a → Lists (then_known home o a)
 knows home None a h = h
 knows home (Some n) a h = h
@@ -160,7 +178,7 @@ knows home (Some n) a h = h
 defines : {S : Type 0} (c : Calls S) (d : DefiningWord) (s : State S) → Lists (define_entry c d s)
 defines c d s =
     knows s.board.active.«package» (known_at_once d s.words.dictionary) (word_defined c d s)
-    (makings d _ s (defining_listed d (c.ends_at s.code) (making s.words s.board.stack s.board.memory)))
+    (words_made c d (awaited d s.words) s)
 
 semicolons : {S : Type 0} (c : Calls S) → CallsThrowListed S c → (n : Option ℕ) (s : State S)
     → EndsListed (semicolon_entry c n s).ended

@@ -38,17 +38,16 @@ use Rattle.of_compile.specs.Words.{WordsState}
 use Rattle.of_board.specs.declared.board.Board.{Board}
 use Rattle.of_eval.specs.Acts.{Act, Move, To, WordAct, front_of}
 use Rattle.of_eval.specs.Acts as act
-use Rattle.of_eval.specs.Defining.{by_making, closed_if, define_entry, definition_ended, known_at_once, opened, rounded}
-use Rattle.of_eval.specs.Defining.{rounded_to, semicolon_entry, string_compiled, string_kept, string_put}
-use Rattle.of_eval.specs.Defining.{string_refused, word_defined}
+use Rattle.of_eval.specs.Defining.{by_making, closed_if, define_entry, definition_ended, known_at_once, opened}
+use Rattle.of_eval.specs.Defining.{semicolon_entry, string_compiled, string_kept, string_put, string_refused}
+use Rattle.of_eval.specs.Defining.{word_defined, by_slot_making, word_made_as}
 use Rattle.of_eval.specs.Doing.{acted, appended, gone, input_at, read_at, worked}
 use Rattle.of_eval.specs.Doing as doing
 use Rattle.of_eval.specs.Executing.{entered, furnished, guarded, plan_in}
 use Rattle.of_eval.specs.Items.{item_act}
 use Rattle.of_eval.specs.Methods.{as_method, known_if, method_made, then_known, xt_cell}
 use Rattle.of_eval.specs.Settling.{ended, is_same}
-use Rattle.of_eval.specs.State.{Answered, Calls, Outcome, State, by_board, open_xt, with_items}
-use Rattle.of_eval.specs.State.{with_next, with_stack}
+use Rattle.of_eval.specs.State.{Answered, Calls, Outcome, State, by_board, open_xt, with_items, with_next, with_stack}
 use Rattle.of_eval.specs.Steps.{due, found_token, item_due, read_on, token_due}
 use Rattle.of_eval.specs.Tokens.{act_of, spot_in}
 use Rattle.of_flow.specs.Tokens.{typed_of}
@@ -63,6 +62,12 @@ use Rattle.of_eval_laws.proofs.Walk.{IsAct, Turns, item_acts, typed_acts}
 use Rattle.of_eval_laws.proofs.WalkFree.{anywhere, free, free_turns}
 use Rattle.of_eval_laws.proofs.WalkTyped.{typed_may}
 use Rattle.of_eval_laws.proofs.WalkWords.{Fits, IsCellOnTop, IsLoopOnTop, IsMove, IsTurn, IsWork, Rules, all_executed}
+use Rattle.of_compile.specs.SlotWords.{SlotMade, awaited, rounded, rounded_to, slot_faults, slot_given, slot_made}
+use Rattle.of_compile.specs.SlotWords.{slot_making, slot_word_made}
+use Rattle.of_dict.specs.declared.word.Slot.{Slot}
+use Rattle.of_ihandles.specs.declared.instance_fault.InstanceFault.{InstanceFault}
+use Rattle.of_ihandles.specs.Table.{InstanceTable}
+use Rattle.of_eval_laws.proofs.DefinedSpace.{slot_stands, slot_word_stands}
 
 -- ---- one image more
 
@@ -246,12 +251,38 @@ making_reads d None x s h =
     opened_reads (opens d) _
     (same_images _ s (made_images d s.words.pending x s.words s.board.stack s.board.memory) h)
 
-define_reads : {S : Type 0} (c : Calls S) (d : DefiningWord) (s : State S) → Goes s
-    → Goes (define_entry c d s).state
-define_reads c d s h =
+slot_reads : {S : Type 0} (l : Laws) (k : Slot) (f : Option Throw) (home : Option Phandle) (x : Option SlotMade)
+    (r : Result (ℕ × (InstanceTable × DataSpace)) InstanceFault) (s : State S)
+    → slot_given home x (slot_making s.words s.board.stack s.board.memory s.board.instances) ≡ r
+    → IsSound s.board.memory → Goes s
+    → Goes
+    (by_slot_making
+    (unless f
+    (slot_word_made k s.words.pending x r (slot_making s.words s.board.stack s.board.memory s.board.instances)))
+    s).state
+slot_reads l k (Some t) home x r s e sound h = h
+slot_reads l k None home x r s e sound h =
+    same_images _ s
+    (slot_word_stands l.instances k s.words.pending home x r
+    (slot_making s.words s.board.stack s.board.memory s.board.instances) sound e).0
+    h
+
+word_reads : {S : Type 0} (l : Laws) (c : Calls S) (d : DefiningWord) (o : Option Slot) (s : State S)
+    → IsSound s.board.memory → Goes s → Goes (word_made_as c d o s).state
+word_reads l c d None s sound h =
     let x = made_by d (c.ends_at s.code) (aligned s.board.memory.here) s.board.stack in
+    making_reads d (counting (defining_faults (making s.words s.board.stack s.board.memory) x)) x s h
+word_reads l c d (Some k) s sound h =
+    let g = slot_making s.words s.board.stack s.board.memory s.board.instances in
+    let home = s.board.active.«package» in
+    let x = slot_made k s.board.stack in
+    slot_reads l k (counting (slot_faults home x (slot_given home x g) g)) home x (slot_given home x g) s refl sound h
+
+define_reads : {S : Type 0} (l : Laws) (c : Calls S) (d : DefiningWord) (s : State S) → IsSound s.board.memory
+    → Goes s → Goes (define_entry c d s).state
+define_reads l c d s sound h =
     then_reads s.board.active.«package» (known_at_once d s.words.dictionary) (word_defined c d s)
-    (making_reads d (counting (defining_faults (making s.words s.board.stack s.board.memory) x)) x s h)
+    (word_reads l c d (awaited d s.words) s sound h)
 
 closed_reads : {S : Type 0} (e : Result (Unit {0}) Throw) (s : State S) → Goes s → Goes (closed_if e s)
 closed_reads (Ok x) s h = h
@@ -331,6 +362,8 @@ worked_reads l c (act.Moves cells move to) s w sound h =
     gone_reads to (with_stack cells (with_items (doing.moved move s.flow.items) s))
     (moved_kept s.board.memory.images s.flow.reading.input move to s w.0 w.2 h.0, h.1)
 worked_reads l c (act.Knows x cells) s w sound h = h
+worked_reads l c (act.Stores m cells) s w sound h =
+    same_images m.images s (slot_stands l.given s.board w.0 w.1 m sound w.2).0 h
 worked_reads l c (act.Appends e cells) s w sound h =
     appended_reads (c.element e s.code).code (c.element e s.code).ended cells s h
 worked_reads l c (act.Loads size m cells) s w sound h = ((ap length w.1 ∙ ap suc h.0.0, (inl refl, h.0.1)), h.1)
@@ -370,7 +403,7 @@ acted_reads l c (act.Copies a n) s w sound h =
     rests (string_compiled c a n s).state
     (string_reads _ (append_copied s.board.memory a n []) s
     (read_aside s.board.memory (read_bytes s.board.memory a n)) h)
-acted_reads l c (act.Makes d) s w sound h = rests (define_entry c d s).state (define_reads c d s h)
+acted_reads l c (act.Makes d) s w sound h = rests (define_entry c d s).state (define_reads l c d s sound h)
 acted_reads l c act.Closes s w sound h =
     rests (semicolon_entry c s.words.defining s).state
     (then_reads s.flow.home s.words.defining (definition_ended c s.words.defining s)

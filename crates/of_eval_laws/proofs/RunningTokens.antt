@@ -1,9 +1,7 @@
 -- The law `images_run`: what an item and a token leave of the images that run.
-use Rattle.std.proofs.Common.{◌≡◌, inl, inr, ℕ, ◌+◌, ◌≤◌, Bool, true, false, ◌&&◌, not, List, [], ◌∷◌, ◌++◌, length}
-use Rattle.std.proofs.Common.{replicate, Option, Some, None, Result, Ok, Err, is_none, is_some, refl, sym, subst}
-use Rattle.std.proofs.Common.{ap, arith, nat_le, ◌∙◌, if◌then◌else◌}
-use Rattle.std.proofs.lemmas.Bool.{leb-true, ltb-false}
-use Rattle.std.proofs.lemmas.List.{length-replicate}
+use Rattle.std.proofs.Common.{◌≡◌, inl, inr, ℕ, ◌+◌, Bool, true, false, ◌&&◌, not, List, [], ◌∷◌, ◌++◌, length, Option}
+use Rattle.std.proofs.Common.{Some, None, Result, Ok, Err, is_none, is_some, refl, sym, subst, ap, nat_le, ◌∙◌}
+use Rattle.std.proofs.lemmas.Bool.{ltb-false}
 use Rattle.of_cells.specs.declared.cells.Cell.{Cell}
 use Rattle.of_code.specs.declared.item.Item.{Item}
 use Rattle.of_code.specs.declared.item.Place.{Place}
@@ -20,11 +18,10 @@ use Rattle.of_stream.specs.declared.stream.OffsetSize.{OffsetSize}
 use Rattle.of_stream.specs.Decoding.{Token, token_from}
 use Rattle.of_stream.specs.Sizes.{size_behind}
 use Rattle.of_memory.specs.declared.fault.MemFault.{MemFault}
-use Rattle.of_memory.specs.declared.fault.MemFault.TheVariants.{Full}
 use Rattle.of_memory.specs.declared.width.Width.TheVariants.{One}
 use Rattle.of_memory.specs.Access.{read_fault, unless as unless_fault, with_read}
 use Rattle.of_memory.specs.DataSpace.{DataSpace, IsSound, bytes_from}
-use Rattle.of_memory.specs.Growth.{aligned, append_copied, appended as with_bytes, with_zeros}
+use Rattle.of_memory.specs.Growth.{aligned, append_copied, appended as with_bytes}
 use Rattle.of_memory.specs.Images.{latest_image}
 use Rattle.of_memory.specs.Regions.{data_limit, place_of}
 use Rattle.of_nodes.specs.declared.phandles.Phandle.{Phandle}
@@ -37,8 +34,8 @@ use Rattle.of_compile.specs.Words.{WordsState}
 use Rattle.of_eval.specs.Acts.{Act, Ends, Loads, To, WordAct, front_of}
 use Rattle.of_eval.specs.Acts as act
 use Rattle.of_eval.specs.Defining.{by_making, closed_if, define_entry, definition_ended, known_at_once, opened}
-use Rattle.of_eval.specs.Defining.{rounded, rounded_to, semicolon_entry, string_compiled, string_kept, string_put}
-use Rattle.of_eval.specs.Defining.{string_refused, word_defined}
+use Rattle.of_eval.specs.Defining.{semicolon_entry, string_compiled, string_kept, string_put, string_refused}
+use Rattle.of_eval.specs.Defining.{word_defined, by_slot_making, word_made_as}
 use Rattle.of_eval.specs.Doing.{acted, appended, gone, worked}
 use Rattle.of_eval.specs.Doing as doing
 use Rattle.of_eval.specs.Executing.{entered, furnished, guarded, plan_in}
@@ -52,19 +49,23 @@ use Rattle.of_flow.specs.Tokens.{typed_of}
 use Rattle.of_eval_laws.specs.Listed.{plan_of_item}
 use Rattle.of_eval_laws.specs.Running.{OneBegins, is_at_end, reading_ends, token_ends}
 use Rattle.of_eval_laws.proofs.FramedMemory.{append_stands}
-use Rattle.of_eval_laws.proofs.FramedSpace.{AddressStands, Stands, below_stands, kept_stands, same, then_stands}
-use Rattle.of_eval_laws.proofs.RunningBytes.{all_run}
+use Rattle.of_eval_laws.proofs.FramedSpace.{AddressStands, Stands, kept_stands, same, then_stands}
+use Rattle.of_eval_laws.proofs.RunningBytes.{all_run, popped, state_stands}
 use Rattle.of_ihandles.specs.Table.{InstanceTable}
 use Rattle.of_eval_laws.proofs.PlacedActs.{found_none}
 use Rattle.of_eval_laws.specs.Sound.{AreBytes}
-use Rattle.of_eval_laws.proofs.RunningBytes.{popped, state_stands}
-use Rattle.of_eval_laws.proofs.SoundSpace.{bytes_joined, bytes_part, bytes_same, no_bytes, zeros_sound}
+use Rattle.of_eval_laws.proofs.SoundSpace.{bytes_joined, bytes_part, no_bytes}
 use Rattle.of_eval_laws.proofs.RunningEnds.{given_up_stands}
 use Rattle.of_eval_laws.proofs.RunningWords.{Kept, KeptBy, Laws, Leaves, either, image_begins, left, ordinary}
 use Rattle.of_eval_laws.proofs.Walk.{IsAct, Turns, item_acts, typed_acts}
 use Rattle.of_eval_laws.proofs.WalkFree.{anywhere, free_turns, keeping}
 use Rattle.of_eval_laws.proofs.WalkTyped.{typed_may}
 use Rattle.of_eval_laws.proofs.WalkWords.{IsOpening, IsWork, Rules, all_executed}
+use Rattle.of_compile.specs.SlotWords.{SlotMade, awaited, rounded, slot_faults, slot_given, slot_made, slot_making}
+use Rattle.of_compile.specs.SlotWords.{slot_word_made}
+use Rattle.of_dict.specs.declared.word.Slot.{Slot}
+use Rattle.of_ihandles.specs.declared.instance_fault.InstanceFault.{InstanceFault}
+use Rattle.of_eval_laws.proofs.DefinedSpace.{rounded_stands, slot_stands, slot_word_stands, zeros_stand}
 
 -- a data space with one image more, by the laws of the layers below
 abbrev Begins : DataSpace → DataSpace → Type 0
@@ -94,17 +95,6 @@ running_turns S at_end =
     record (free_turns (running_rules S) (λ s p. tt) (λ l s. tt) (λ n s. tt)) { Ends = at_end ≡ true }
 
 -- ---- defining
-
-data_place : (a n : ℕ) → a + n ≤ data_limit → place_of a + n ≤ 0x14_0000
-data_place a n l = omega (arith, l)
-
-zeros_stand : (m : DataSpace) (n : ℕ) → IsSound m → aligned m.here + n ≤ data_limit → Stands m (with_zeros m n)
-zeros_stand m n sound fits =
-    let below = data_place (aligned m.here) n fits in
-    let kept =
-    below_stands m (aligned m.here) (replicate n 0) sound (bytes_same n 0 (omega arith))
-    (omega (arith, below, length-replicate {A = ℕ} n 0)) in
-    (kept.0, kept.1, zeros_sound m n sound fits)
 
 opened_stands : {S : Type 0} (m : DataSpace) (b : Bool) (s : State S) → Stands m s.board.memory
     → Stands m (opened b s).board.memory
@@ -160,13 +150,36 @@ then_leaves : {S : Type 0} (m : DataSpace) (home : Option Phandle) (o : Option �
 then_leaves m home None a h = h
 then_leaves m home (Some n) a h = subst (λ x. KeptBy false m x a.ended) (sym (known_memory a.ended home n a.state)) h
 
-define_leaves : {S : Type 0} (c : Calls S) (d : DefiningWord) (s : State S) → IsSound s.board.memory
-    → Leaves false s.board.memory (define_entry c d s)
-define_leaves c d s r =
+slot_leaves : {S : Type 0} (l : Laws) (k : Slot) (f : Option Throw) (home : Option Phandle) (x : Option SlotMade)
+    (r : Result (ℕ × (InstanceTable × DataSpace)) InstanceFault) (s : State S)
+    → slot_given home x (slot_making s.words s.board.stack s.board.memory s.board.instances) ≡ r
+    → IsSound s.board.memory
+    → Leaves false s.board.memory
+    (by_slot_making
+    (unless f
+    (slot_word_made k s.words.pending x r (slot_making s.words s.board.stack s.board.memory s.board.instances))) s)
+slot_leaves l k (Some t) home x r s e sound = same s.board.memory sound
+slot_leaves l k None home x r s e sound =
+    inl
+    (slot_word_stands l.instances k s.words.pending home x r
+    (slot_making s.words s.board.stack s.board.memory s.board.instances) sound e)
+
+word_leaves : {S : Type 0} (l : Laws) (c : Calls S) (d : DefiningWord) (o : Option Slot) (s : State S)
+    → IsSound s.board.memory → Leaves false s.board.memory (word_made_as c d o s)
+word_leaves l c d None s r =
     let x = made_by d (c.ends_at s.code) (aligned s.board.memory.here) s.board.stack in
+    making_leaves d (counting (defining_faults (making s.words s.board.stack s.board.memory) x)) x s r (has_bytes s x)
+word_leaves l c d (Some k) s r =
+    let g = slot_making s.words s.board.stack s.board.memory s.board.instances in
+    let home = s.board.active.«package» in
+    let x = slot_made k s.board.stack in
+    slot_leaves l k (counting (slot_faults home x (slot_given home x g) g)) home x (slot_given home x g) s refl r
+
+define_leaves : {S : Type 0} (l : Laws) (c : Calls S) (d : DefiningWord) (s : State S) → IsSound s.board.memory
+    → Leaves false s.board.memory (define_entry c d s)
+define_leaves l c d s r =
     then_leaves s.board.memory s.board.active.«package» (known_at_once d s.words.dictionary) (word_defined c d s)
-    (making_leaves d (counting (defining_faults (making s.words s.board.stack s.board.memory) x)) x s r
-    (has_bytes s x))
+    (word_leaves l c d (awaited d s.words) s r)
 
 closed_leaves : {S : Type 0} (e : Result (Unit {0}) Throw) (code : S) (s : State S) → IsSound s.board.memory
     → Leaves false s.board.memory (by_code (record { code = code; ended = e }) (closed_if e s))
@@ -185,14 +198,6 @@ copied_stands : (m : DataSpace) (fault : Option MemFault) (xs : List ℕ) → Is
     → AddressStands m (with_read (unless_fault fault xs) (λ xs. with_bytes m (xs ++ [])))
 copied_stands m None xs sound small = append_stands m (xs ++ []) sound (bytes_joined xs [] small no_bytes)
 copied_stands m (Some fault) xs sound small = tt
-
-rounded_if : (b : Bool) (m : DataSpace) → nat_le (aligned m.here + 0) data_limit ≡ b → IsSound m
-    → Stands m (rounded_to m (if b then Ok (aligned m.here, with_zeros m 0) else Err Full))
-rounded_if true m e sound = zeros_stand m 0 sound (leb-true (aligned m.here + 0) data_limit e)
-rounded_if false m e sound = same m sound
-
-rounded_stands : (m : DataSpace) → IsSound m → Stands m (rounded m)
-rounded_stands m sound = rounded_if (nat_le (aligned m.here + 0) data_limit) m refl sound
 
 put_leaves : {S : Type 0} (e : Result (Unit {0}) Throw) (code : S) (m : DataSpace) (s : State S)
     → IsSound s.board.memory → Stands s.board.memory m → Leaves false s.board.memory (string_put e code m s)
@@ -271,6 +276,8 @@ worked_leaves l c (act.Works w) s h sound = ordinary l w s sound
 worked_leaves l c (act.Moves cells move to) s h sound =
     gone_leaves to (with_stack cells (with_items (doing.moved move s.flow.items) s)) sound
 worked_leaves l c (act.Knows w cells) s h sound = left s.board.memory sound
+worked_leaves l c (act.Stores m cells) s h sound =
+    inl (slot_stands l.given s.board h.0 h.1 m sound h.2)
 worked_leaves l c (act.Appends e cells) s h sound =
     appended_leaves (c.element e s.code).code (c.element e s.code).ended cells s sound
 worked_leaves l c (act.Loads size m cells) s h sound = inr (h l)
@@ -302,7 +309,7 @@ acted_leaves l c at_end (act.Copies a n) s h sound =
     (copied_stands s.board.memory (read_fault s.board.memory a n One) (bytes_from s.board.memory a n) sound
     (bytes_part s.board.memory.bytes (place_of a) n sound.small)))
 acted_leaves l c at_end (act.Makes d) s h sound =
-    weaken at_end s.board.memory (define_entry c d s) (define_leaves c d s sound)
+    weaken at_end s.board.memory (define_entry c d s) (define_leaves l c d s sound)
 acted_leaves l c at_end act.Closes s h sound =
     weaken at_end s.board.memory (semicolon_entry c s.words.defining s)
     (then_leaves s.board.memory s.flow.home s.words.defining _

@@ -23,14 +23,13 @@ use Rattle.of_fcodes.specs.declared.codes.FCode.{FCode}
 use Rattle.of_fcodes.specs.declared.token_table.TokenEntry.{TokenEntry}
 use Rattle.of_fcodes.specs.Tokens.{entry_in}
 use Rattle.of_stream.specs.Targets.{landing, within_tokens}
-use Rattle.of_compile.specs.DictionaryWords.{store_entry}
 use Rattle.of_compile.specs.Words.{WordsState, is_debugging, is_word, numbered}
 use Rattle.of_flow.specs.declared.control.ControlWord.{ControlWord}
 use Rattle.of_flow.specs.declared.control.ControlWord.TheVariants as control
 use Rattle.of_flow.specs.declared.token.Token.{Token}
 use Rattle.of_flow.specs.declared.token.Token.TheVariants as token
 use Rattle.of_eval.specs.declared.tokens.Spot.{Spot}
-use Rattle.of_eval.specs.Acts.{Act, Move, WordAct, front_of, knowing, leaving}
+use Rattle.of_eval.specs.Acts.{Act, Move, WordAct, front_of, leaving}
 use Rattle.of_eval.specs.Acts as act
 use Rattle.of_eval.specs.Executing.{Plan, plan_in}
 use Rattle.of_eval.specs.Items.{Position, Target, There, beginning, control_act, control_item, going, item_act}
@@ -44,8 +43,7 @@ use Rattle.of_flow.specs.Tokens as typed
 use Rattle.of_eval_laws.specs.Listed.{plan_named, plan_of_item}
 use Rattle.of_eval_laws.proofs.ListedFaults.{loop_listed, numbered_listed, return_listed, within_listed}
 use Rattle.of_eval_laws.proofs.WalkWords.{AimsAt, Executes, Fits, IsMove, IsTurn, IsWork, Rules, if_works}
-use Rattle.of_eval_laws.proofs.WalkWords.{leaving_works, pushed_works}
-use Rattle.of_eval_laws.proofs.WalkWords.{pushing_works, returning_works, store_works}
+use Rattle.of_eval_laws.proofs.WalkWords.{leaving_works, pushed_works, pushing_works, returning_works, store_works}
 
 -- What a law asks of acts of control and of tokens, beside what it asks of those of words.
 pub record Turns {S : Type 0} (R : Rules S) : Type 1 where
@@ -241,12 +239,11 @@ named_works R None a s h = R.fails _ refl
 named_works R (Some e) a s h = h e refl
 
 storing_works : {S : Type 0} (R : Rules S) (e : Option TokenEntry) (cells : List Cell) (s : State S) → R.Held s
-    → s.board.stack ≡ cells → IsWork R s (storing e s.words cells)
+    → IsWork R s (storing e cells (front_of s))
 unfolding is_listed listed_numbers
-storing_works R None [] s p c = R.fails _ refl
-storing_works R None (x ∷ cells) s p c = R.fails _ refl
-storing_works R (Some e) cells s p c =
-    subst (λ x. IsWork R s (knowing (store_entry e.xt s.words x))) c (store_works R e.xt s p)
+storing_works R None [] s p = R.fails _ refl
+storing_works R None (x ∷ cells) s p = R.fails _ refl
+storing_works R (Some e) cells s p = store_works R e.xt s p
 
 -- the plan of an FCode that names a word, if that is executed
 abbrev pub plan_plain : Token → List (Option TokenEntry) → Bool → (ℕ → Plan) → Option Plan
@@ -281,7 +278,7 @@ token_acts R T (token.Literal x) here s p m = pushed_works R x s.board.stack s
 token_acts R T (token.Tick k) here s p m =
     named_works R (entry_in s.words.table k.0) _ s (λ e i. pushed_works R (record { 0 = e.xt }) s.board.stack s)
 token_acts R T (token.To k) here s p m =
-    storing_works R (entry_in s.words.table k.0) s.board.stack s (T.held s p) refl
+    storing_works R (entry_in s.words.table k.0) s.board.stack s (T.held s p)
 token_acts R T (token.String n) here s p m =
     leaving_works R _ s
     (within_listed (record { 0 = n } ∷ record { 0 = string_address here n } ∷ s.board.stack))

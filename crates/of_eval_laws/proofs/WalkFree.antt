@@ -48,6 +48,7 @@ keeping S Held stays = record {
   aims = λ n s a. tt;
   stores = λ xt x s p e. tt;
   sets = λ x s p e. tt;
+  waits = λ s p. tt;
   announces = λ k name w s p e. tt;
   opens = λ r s p e. tt;
   loads = λ a n spread x s p shut e. tt;

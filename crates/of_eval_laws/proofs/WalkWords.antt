@@ -1,8 +1,7 @@
 -- One walk of the tables of words: what a word comes to is what a law asks of it, by the rules of the law.
-use Rattle.std.proofs.Common.{◌⊎◌, inl, inr, ◌≡◌, ◌==◌, ℕ, zero, suc, nat_le, nat_lt, Bool, true, false, List, []}
-use Rattle.std.proofs.Common.{◌∷◌, length, Option}
-use Rattle.std.proofs.Common.{Some, None}
-use Rattle.std.proofs.Common.{Result, Ok, Err, is_none, is_some, refl, ap, subst, ◌∙◌, if◌then◌else◌}
+use Rattle.std.proofs.Common.{◌⊎◌, inl, inr, ◌≡◌, ◌==◌, ℕ, zero, suc, nat_le, nat_lt, Bool, true, false, List, [], ◌∷◌}
+use Rattle.std.proofs.Common.{length, Option, Some, None, Result, Ok, Err, is_none, is_some, refl, ap, subst, ◌∙◌}
+use Rattle.std.proofs.Common.{if◌then◌else◌}
 use Rattle.std.specs.Prelude.{not, slice_get}
 use Rattle.of_cells.specs.declared.cells.Cell.{Cell}
 use Rattle.of_cells.specs.Numbers.{signed}
@@ -31,27 +30,26 @@ use Rattle.of_stream.specs.Image.{first_size}
 use Rattle.of_memory.specs.declared.fault.MemFault.{MemFault}
 use Rattle.of_memory.specs.DataSpace.{DataSpace}
 use Rattle.of_memory.specs.Growth.{image_pushed_from}
-use Rattle.of_prims.specs.Data.{throw_of}
+use Rattle.of_prims.specs.Data.{throw_of, thrown}
 use Rattle.of_dict.specs.declared.word.Kind.{Kind}
 use Rattle.of_dict.specs.declared.word.Kind.TheVariants as kind
 use Rattle.of_dict.specs.Words.{kind_in}
-use Rattle.of_compile.specs.DictionaryWords.{set_token_entry, store_entry}
+use Rattle.of_compile.specs.DictionaryWords.{set_token_entry, store_entry as plain_store, kind_at}
 use Rattle.of_compile.specs.Words.{WordsState, is_word, numbered, own_word}
-use Rattle.of_eval.specs.Acts.{Front, Move, To, WordAct, front_of, knowing, leaving}
+use Rattle.of_eval.specs.Acts.{Front, Move, To, WordAct, front_of, knowing, leaving, keeping}
 use Rattle.of_eval.specs.Acts as act
 use Rattle.of_eval.specs.ByteLoading.{copying, length_at, load_act, loading, loading_faults, spread_of, start_at}
 use Rattle.of_eval.specs.Executing.{Call, Catch, Declines, Execute, Open, Own, Plan, Stops, Written, act_of_plan}
 use Rattle.of_eval.specs.Executing.{call_faults, call_plan, callee_plan, catch_plan, comma_act, comma_faults}
-use Rattle.of_eval.specs.Executing.{dictionary_act, dropping, entered, executable, execute_plan, execution, furnished}
-use Rattle.of_eval.specs.Executing.{guarded, is_opened, opening_plan, own_act, plan, plan_at, plan_behind, plan_in}
-use Rattle.of_eval.specs.Executing.{planned, runner_of, unless_stopped}
+use Rattle.of_eval.specs.Executing.{dictionary_act, dropping, entered, execute_plan, execution, furnished, guarded}
+use Rattle.of_eval.specs.Executing.{is_opened, opening_plan, own_act, plan, plan_at, plan_behind, plan_in, planned}
+use Rattle.of_eval.specs.Executing.{runner_of, unless_stopped, product_entry, pushing, returning, returns_act}
+use Rattle.of_eval.specs.Executing.{throw_act, throws_act, unlooping, written_act}
 use Rattle.of_eval.specs.declared.executing.Runner.{Runner}
 use Rattle.of_eval.specs.declared.executing.Runner.TheVariants as runner
 use Rattle.of_instances.specs.declared.calling.CallingWord.{CallingWord}
 use Rattle.of_instances.specs.declared.calling.MethodCall.{MethodCall}
-use Rattle.of_instances.specs.Calling.{beneath}
-use Rattle.of_instances.specs.Calling.{calling_entry}
-use Rattle.of_instances.specs.Calling.{new_instance}
+use Rattle.of_instances.specs.Calling.{beneath, calling_entry, new_instance}
 use Rattle.of_instances.specs.declared.calling.Callee.{Callee}
 use Rattle.of_instances.specs.declared.calling.Callee.TheVariants.{Live, New}
 use Rattle.of_nodes.specs.declared.phandles.Phandle.{Phandle}
@@ -61,23 +59,34 @@ use Rattle.of_stacks.specs.declared.return_item.Due.{Due}
 use Rattle.of_eval_laws.specs.Returning.{IsCall}
 use Rattle.of_board.specs.declared.board.Board.{Board}
 use Rattle.of_fcodes.specs.Finding.{word_with_xt}
-use Rattle.of_flow.specs.Returns.{found}
-use Rattle.of_eval.specs.Executing.{product_entry, pushing, returning, returns_act, throw_act, throws_act}
-use Rattle.of_flow.specs.Returns.{pushed}
-use Rattle.of_eval.specs.Executing.{unlooping, written_act}
+use Rattle.of_flow.specs.Returns.{found, pushed}
 use Rattle.of_eval.specs.State.{State, open_xt, with_stack}
 use Rattle.of_eval_laws.specs.Frames.{drops_item, last_word}
 use Rattle.of_eval_laws.specs.Listed.{cell_of}
 use Rattle.of_eval_laws.proofs.Callees.{HasCallee, IsCallee, callees}
-use Rattle.of_eval_laws.proofs.ListedFaults.{IsListedFault, behavior_listed, counted_listed, fault_listed}
-use Rattle.of_eval_laws.proofs.ListedFaults.{from_body_listed, get_token_listed}
-use Rattle.of_eval_laws.proofs.ListedFaults.{index_listed, loop_listed, return_listed, set_token_listed, store_listed}
-use Rattle.of_eval_laws.proofs.ListedFaults.{to_body_listed, user_listed, within_listed}
+use Rattle.of_eval_laws.proofs.ListedFaults.{IsListedFault, counted_listed, fault_listed, from_body_listed}
+use Rattle.of_eval_laws.proofs.ListedFaults.{get_token_listed, index_listed, loop_listed, return_listed}
+use Rattle.of_eval_laws.proofs.ListedFaults.{set_token_listed, store_listed, to_body_listed, user_listed, within_listed}
 use Rattle.of_eval_laws.proofs.ListedWords.{comma_fault, finds, loading_fault, products}
+use Rattle.of_compile.specs.SlotWords.{instance_said}
+use Rattle.of_own.specs.Stores.{in_slot, in_word, into_slot, slot_written, span_written, store_entry, stored_by}
+use Rattle.of_own.specs.Stores.{stored_slot}
+use Rattle.of_own.specs.Slots.{in_instance}
+use Rattle.of_own.specs.Defers.{executable}
+use Rattle.of_nodes.specs.declared.properties.Span.{Span}
+use Rattle.of_ihandles.specs.declared.instance_fault.InstanceFault.{InstanceFault}
+use Rattle.of_ihandles.specs.Instances.{slot_block}
+use Rattle.of_memory.specs.Access.{write}
+use Rattle.of_memory.specs.declared.width.Width.TheVariants.{Four}
+use Rattle.of_eval_laws.proofs.ListedWords.{behavior_of_listed, executable_listed}
 
 -- an opening leaves these instances and this data space
 abbrev pub IsOpening : {S : Type 0} → InstanceTable × DataSpace → State S → Type 0
 IsOpening x s = (ph : Phandle) × (a : Cell) × (n : Cell) × (ih : Cell) × (new_instance s.board ph a n ≡ Ok (ih, x))
+
+-- a store leaves this data space
+abbrev pub IsStoring : {S : Type 0} → DataSpace → State S → Type 0
+IsStoring m s = (n : ℕ) × (x : Cell) × (slot_written s.board n x ≡ Ok m)
 
 -- What a law asks of the acts of words, and why what the tables look at has it.
 pub record Rules (S : Type 0) : Type 1 where
@@ -114,12 +123,13 @@ pub record Rules (S : Type 0) : Type 1 where
       (start xt : ℕ) (s : State S) → Held s → kind_in (own_word s.words.dictionary xt) ≡ Some (kind.Colon start) →
       is_opened (open_xt s) xt ≡ false → Target s (continuation.Code start)
   pub aims : (n : ℕ) (s : State S) → Aims s n → Target s (continuation.Code n)
-  -- words are known that come of a store, of `set-token` or of a number for the next word
+  -- words are known that come of a store, of `set-token`, of `instance` or of a number for the next word
   pub stores :
-      (xt : ℕ) (x : WordsState × List Cell) (s : State S) → Held s → store_entry xt s.words s.board.stack ≡ Ok x →
+      (xt : ℕ) (x : WordsState × List Cell) (s : State S) → Held s → plain_store xt s.words s.board.stack ≡ Ok x →
       Known s x.0
   pub sets :
       (x : WordsState × List Cell) (s : State S) → Held s → set_token_entry s.words s.board.stack ≡ Ok x → Known s x.0
+  pub waits : (s : State S) → Held s → Known s (instance_said s.words)
   pub announces :
       (k : FCode) (name : Option (List ℕ)) (w : WordsState) (s : State S) → Held s → numbered k name s.words ≡ Ok w →
       Known s w
@@ -192,6 +202,7 @@ IsWork R s (act.Leaves cells) = Unit {0}
 IsWork R s (act.Works w) = R.Works w
 IsWork R s (act.Moves cells move to) = IsMove R s move × IsTo R s to × Fits R s move to
 IsWork R s (act.Knows w cells) = R.Known s w
+IsWork R s (act.Stores m cells) = IsStoring m s
 IsWork R s (act.Appends e cells) = R.Appends s
 IsWork R s (act.Loads size m cells) = R.Loads s m
 IsWork R s (act.Takes cells a) = IsWork R (with_stack cells s) a
@@ -230,11 +241,44 @@ knowing_works : {S : Type 0} (R : Rules S) (r : Result (WordsState × List Cell)
 knowing_works R (Ok x) s l h = h x refl
 knowing_works R (Err t) s l h = R.fails t l
 
+-- a store into a word
+word_stored : {S : Type 0} (R : Rules S) (r : Result (WordsState × List Cell) Throw) (s : State S) → ThrowsListed r
+    → ((x : WordsState × List Cell) → r ≡ Ok x → R.Known s x.0) → IsWork R s (keeping (in_word r))
+word_stored R (Ok x) s l h = h x refl
+word_stored R (Err t) s l h = R.fails t l
+
+-- and into a slot of the current instance
+cell_stored : {S : Type 0} (R : Rules S) (n : ℕ) (x : Cell) (cells : List Cell) (s : State S)
+    (w : Result DataSpace MemFault) → slot_written s.board n x ≡ thrown w
+    → IsWork R s (keeping (in_slot cells (thrown w)))
+cell_stored R n x cells s (Ok m) e = (n, x, e)
+cell_stored R n x cells s (Err fault) e = R.faults fault
+
+span_stored : {S : Type 0} (R : Rules S) (n : ℕ) (x : Cell) (cells : List Cell) (s : State S)
+    (r : Result Span InstanceFault) → slot_block s.board.instances s.board.active.my_self n ≡ r
+    → IsWork R s (keeping (in_slot cells (span_written s.board.memory x (in_instance r))))
+unfolding is_listed listed_numbers
+span_stored R n x cells s (Ok b) e =
+    cell_stored R n x cells s (write Four s.board.memory b.address.0 x.0)
+    (ap (λ o. span_written s.board.memory x (in_instance o)) e)
+span_stored R n x cells s (Err fault) e = R.fails _ refl
+
+slot_stored : {S : Type 0} (R : Rules S) (n : ℕ) (cells : List Cell) (s : State S)
+    → IsWork R s (keeping (into_slot n s.board cells))
+unfolding is_listed listed_numbers
+slot_stored R n [] s = R.fails _ refl
+slot_stored R n (x ∷ cells) s =
+    span_stored R n x cells s (slot_block s.board.instances s.board.active.my_self n) refl
+
 pub store_works : {S : Type 0} (R : Rules S) (xt : ℕ) (s : State S) → R.Held s
-    → IsWork R s (knowing (store_entry xt s.words s.board.stack))
-store_works R xt s p =
-    knowing_works R (store_entry xt s.words s.board.stack) s (store_listed xt s.words s.board.stack)
-    (λ x e. R.stores xt x s p e)
+    → IsWork R s (keeping (store_entry xt s.words s.board))
+store_works {S} R xt s p = by_slot (stored_slot (kind_at s.words xt))
+  where
+    by_slot : (o : Option ℕ) → IsWork R s (keeping (stored_by o xt s.words s.board))
+    by_slot None =
+        word_stored R (plain_store xt s.words s.board.stack) s (store_listed xt s.words s.board.stack)
+        (λ x e. R.stores xt x s p e)
+    by_slot (Some n) = slot_stored R n s.board.stack s
 
 pub pushing_works : {S : Type 0} (R : Rules S) (item : ReturnItem) (r : List ReturnItem) (cells : List Cell) (to : To)
     (s : State S) → R.Item s item → IsTo R s to → Fits R s (act.Pushes item) to
@@ -258,7 +302,7 @@ own_works R (Some (kind.Colon start)) xt s e p =
     if_works R (is_opened (open_xt s) xt) _ _ s (λ z. R.fails _ refl)
     (λ z. pushing_works R (Return s.flow.next) s.flow.items s.board.stack (act.Next (continuation.Code start)) s
     (R.return s p) (R.begins start xt s p e z) refl)
-own_works R (Some k) xt s e p = leaving_works R (product_entry k s.board.stack) s (products k s.board.stack)
+own_works R (Some k) xt s e p = leaving_works R (product_entry k s.board) s (products k s.board)
 
 -- ---- the return stack
 
@@ -377,7 +421,9 @@ dictionary_works R r dictionary.SetToken s p =
     (λ x e. R.sets x s p e)
 dictionary_works R r dictionary.State s p = pushed_works R _ s.board.stack s
 dictionary_works R r dictionary.CompileComma s p = comma_works R r s.board.stack s p
-dictionary_works R r dictionary.Behavior s p = leaving_works R _ s (behavior_listed s.words s.board.stack)
+dictionary_works R r dictionary.Behavior s p =
+    leaving_works R _ s (behavior_of_listed s.words s.board s.board.stack)
+dictionary_works R r dictionary.Instance s p = R.waits s p
 dictionary_works R r dictionary.ByteLoad s p =
     if_works R (is_some s.words.defining) _ _ s (λ e. R.fails _ refl) (λ e. load_works R s.board.stack s p e)
 dictionary_works R r w s p = R.fails _ refl
@@ -464,11 +510,10 @@ stops_call R w k (Ok (Some m)) f inner e h =
     stops_unless R f (counting (call_faults f m.xt)) (callee_plan m.callee m f inner) (call_fault f m.xt)
     (stops_callee R m.callee m f inner (subst (λ r. HasCallee f.board r) e (callees k f.board)) h)
 
-stops_behind : {S : Type 0} (R : Rules S) (o : Option ℕ) (f : Front) (inner : Front → ℕ → Plan)
-    → Inside R inner → Stopping R f (plan_behind o f inner)
-unfolding is_listed listed_numbers
-stops_behind R None f inner h = R.fails _ refl
-stops_behind R (Some xt) f inner h = at_word (word_with_xt xt)
+stops_behind : {S : Type 0} (R : Rules S) (o : Result ℕ Throw) (f : Front) (inner : Front → ℕ → Plan)
+    → ThrowsListed o → Inside R inner → Stopping R f (plan_behind o f inner)
+stops_behind R (Err t) f inner l h = R.fails t l
+stops_behind R (Ok xt) f inner l h = at_word (word_with_xt xt)
   where
     by_runner : (w : Word) (r : Runner) → Stopping R f (planned w r f inner)
     by_runner w runner.Plain = tt
@@ -482,8 +527,11 @@ stops_behind R (Some xt) f inner h = at_word (word_with_xt xt)
 
 plan_stops : {S : Type 0} (R : Rules S) (n : ℕ) (f : Front) (xt : ℕ) → Stopping R f (plan n f xt)
 unfolding plan is_listed listed_numbers
-plan_stops R zero f xt = stops_behind R (executable f.words xt) f _ (λ g to. R.fails _ refl)
-plan_stops R (suc n) f xt = stops_behind R (executable f.words xt) f _ (λ g to. plan_stops R n g to)
+plan_stops R zero f xt =
+    stops_behind R (executable f.words f.board xt) f _ (executable_listed f.words f.board xt) (λ g to. R.fails _ refl)
+plan_stops R (suc n) f xt =
+    stops_behind R (executable f.words f.board xt) f _ (executable_listed f.words f.board xt)
+    (λ g to. plan_stops R n g to)
 
 plan_works : {S : Type 0} (R : Rules S) → R.Runs → (q : Plan) (s : State S) → Stopping R (front_of s) q → R.Held s
     → (drops_item (last_word q) ≡ true → R.Drops s) → MayRaise R (Some q) s.board.stack

@@ -64,7 +64,7 @@ without m s = drop (length (operand_cells m.operands)) s.board.stack
 -- An execution token is that of a word that calls a method, which it finds, and that is a word, and there is room.
 abbrev pub IsCalled : {S : Type 0} → CallingWord → MethodCall → ℕ → State S → Type 0
 IsCalled k m xt s =
-    Is s.words xt (word_of k) × (calling_entry k s.board ≡ Ok (Some m)) × (is_word s.words.dictionary m.xt.0 ≡ true)
+    Is s xt (word_of k) × (calling_entry k s.board ≡ Ok (Some m)) × (is_word s.words.dictionary m.xt.0 ≡ true)
     × (length s.flow.items < 256)
 
 pub record CallsComeBack (S : Type 0) : Type 0 where
@@ -95,14 +95,14 @@ pub record CallsComeBack (S : Type 0) : Type 0 where
       executed c xt s ≡ failed t s
   -- Nothing changes where no method is found, where its number is no word, or where the return stack is full.
   pub refused :
-      (c : Calls S) (xt : ℕ) (k : CallingWord) (t : Throw) (s : State S) → Is s.words xt (word_of k) →
+      (c : Calls S) (xt : ℕ) (k : CallingWord) (t : Throw) (s : State S) → Is s xt (word_of k) →
       calling_entry k s.board ≡ Err t → executed c xt s ≡ failed t s
   pub no_word :
-      (c : Calls S) (xt : ℕ) (k : CallingWord) (m : MethodCall) (s : State S) → Is s.words xt (word_of k) →
+      (c : Calls S) (xt : ℕ) (k : CallingWord) (m : MethodCall) (s : State S) → Is s xt (word_of k) →
       calling_entry k s.board ≡ Ok (Some m) → is_word s.words.dictionary m.xt.0 ≡ false →
       executed c xt s ≡ failed bad_handle s
   pub full :
-      (c : Calls S) (xt : ℕ) (k : CallingWord) (m : MethodCall) (s : State S) → Is s.words xt (word_of k) →
+      (c : Calls S) (xt : ℕ) (k : CallingWord) (m : MethodCall) (s : State S) → Is s xt (word_of k) →
       calling_entry k s.board ≡ Ok (Some m) → is_word s.words.dictionary m.xt.0 ≡ true → 256 ≤ length s.flow.items →
       executed c xt s ≡ failed return_stack_overflow s
   -- When the method has ended, the caller's instance is the current one, and what is due beneath goes on; the instance

@@ -36,15 +36,15 @@ use Rattle.of_compile.specs.declared.element.PlainItem.{PlainItem}
 use Rattle.of_compile.specs.Structured.{Definitions, Spot, is_return, point_place, taken_item}
 use Rattle.of_compile.specs.Coding.{past}
 use Rattle.of_compile.specs.RunsLaw.{IsReached}
-use Rattle.of_compile.specs.Words.{WordsState, is_word}
+use Rattle.of_compile.specs.Words.{is_word}
 use Rattle.of_eval.specs.Doing.{executed}
-use Rattle.of_eval.specs.Executing.{executable}
 use Rattle.of_flow.specs.Turns.{loop_item, one}
 use Rattle.of_eval.specs.Loading.{begun_by, image_copied, load_caller}
 use Rattle.of_eval.specs.Settling.{ended, is_same}
 use Rattle.of_eval.specs.State.{Calls, State, done, failed, given_up, open_xt, with_items, with_next, with_stack}
 use Rattle.of_eval.specs.Steps.{due, item_done}
 use Rattle.of_eval_laws.specs.Structured.{structured_calls}
+use Rattle.of_own.specs.Defers.{executable}
 
 -- a state with these cells on the data stack and these items on the return stack
 abbrev pub on : {S : Type 0} → List Cell → List ReturnItem → State S → State S
@@ -173,25 +173,25 @@ pub record DefinitionsRun : Type 0 where
 -- ---- `execute` and `catch`
 
 -- the word of an execution token is this written one, behind the defers
-abbrev pub Is : WordsState → ℕ → Word → Type 0
-Is w xt x = (k : ℕ) × (executable w xt ≡ Some k) × (word_with_xt k ≡ Some x)
+abbrev pub Is : {S : Type 0} → State S → ℕ → Word → Type 0
+Is s xt x = (k : ℕ) × (executable s.words s.board xt ≡ Ok k) × (word_with_xt k ≡ Some x)
 
 -- What `execute` and `catch` do before the word of the cell that they take.
 pub record CatchKeeps (S : Type 0) : Type 0 where
   -- `execute` takes the cell of a word, and runs that; a number that is no word is refused, and stays
   pub runs :
       (c : Calls S) (xt : ℕ) (x : Cell) (cells : List Cell) (s : State S) →
-      Is s.words xt (word.Returns returns.Execute) → is_word s.words.dictionary x.0 ≡ true →
+      Is (with_stack (x ∷ cells) s) xt (word.Returns returns.Execute) → is_word s.words.dictionary x.0 ≡ true →
       executed c xt (with_stack (x ∷ cells) s) ≡ executed c x.0 (with_stack cells s)
   pub refuses :
       (c : Calls S) (xt : ℕ) (x : Cell) (cells : List Cell) (s : State S) →
-      Is s.words xt (word.Returns returns.Execute) → is_word s.words.dictionary x.0 ≡ false →
+      Is (with_stack (x ∷ cells) s) xt (word.Returns returns.Execute) → is_word s.words.dictionary x.0 ≡ false →
       executed c xt (with_stack (x ∷ cells) s) ≡ failed bad_handle (with_stack (x ∷ cells) s)
   -- `catch` takes any cell and keeps, beneath what its word pushes, the depth of the data stack without it, the current
   -- instance, the open definition, and where control goes on; all else is as it was
   pub keeps :
       (c : Calls S) (xt : ℕ) (x : Cell) (cells : List Cell) (s : State S) →
-      Is s.words xt (word.Throws throws.Catch) → length s.flow.items < 256 →
+      Is (with_stack (x ∷ cells) s) xt (word.Throws throws.Catch) → length s.flow.items < 256 →
       (h : ExceptionFrame)
       × (executed c xt (with_stack (x ∷ cells) s) ≡ executed c x.0 (on cells (Handler h ∷ s.flow.items) s))
       × (h.depth ≡ length cells) × (h.my_self ≡ s.board.active.my_self) × (h.opened ≡ open_xt s)
@@ -199,14 +199,14 @@ pub record CatchKeeps (S : Type 0) : Type 0 where
   -- where the return stack is full it throws -5
   pub full :
       (c : Calls S) (xt : ℕ) (x : Cell) (cells : List Cell) (s : State S) →
-      Is s.words xt (word.Throws throws.Catch) → 256 ≤ length s.flow.items →
+      Is (with_stack (x ∷ cells) s) xt (word.Throws throws.Catch) → 256 ≤ length s.flow.items →
       executed c xt (with_stack (x ∷ cells) s) ≡ failed return_stack_overflow (with_stack (x ∷ cells) s)
   -- without a cell both throw -4
   pub no_execute :
-      (c : Calls S) (xt : ℕ) (s : State S) → Is s.words xt (word.Returns returns.Execute) →
+      (c : Calls S) (xt : ℕ) (s : State S) → Is (with_stack [] s) xt (word.Returns returns.Execute) →
       executed c xt (with_stack [] s) ≡ failed stack_underflow (with_stack [] s)
   pub no_catch :
-      (c : Calls S) (xt : ℕ) (s : State S) → Is s.words xt (word.Throws throws.Catch) →
+      (c : Calls S) (xt : ℕ) (s : State S) → Is (with_stack [] s) xt (word.Throws throws.Catch) →
       executed c xt (with_stack [] s) ≡ failed stack_underflow (with_stack [] s)
 
 -- ---- the end of an image

@@ -7,7 +7,8 @@ use Rattle.of_fcodes.specs.Finding.{word_with_xt}
 use Rattle.of_instances.specs.Calling.{beneath, calling_entry, operand_cells}
 use Rattle.of_eval.specs.declared.executing.Runner.TheVariants as runner
 use Rattle.of_eval.specs.Doing.{executed, executed_grows}
-use Rattle.of_eval.specs.Executing.{call_faults, executable, runner_of}
+use Rattle.of_own.specs.Defers.{executable}
+use Rattle.of_eval.specs.Executing.{call_faults, runner_of}
 use Rattle.of_eval.specs.State.{Ends, flat_calls}
 use Rattle.of_eval.specs.Unrolled.{IsKeptFor, begun, uncalled}
 use Rattle.of_eval.proofs.Called.{call_grows, undoes}
@@ -20,10 +21,10 @@ returns-in-Err-NoMemory-ended-2 g t c =
     let m = c.in-Some-2.call in
     let b = c.begin_call.new.self in
     let kept = option_map box_value c.in_ok-kept-in-Call.kept in
-    let w = c.in-Some-word_with_xt.word in
+    let w = c.in-Some.word in
     let k = c.in-Call.calling in
-    let leads : executable s.words c.args.xt.0 ≡ Some c.in-Some.xt.0 = search rules in
-    let written : word_with_xt c.in-Some.xt.0 ≡ Some w = search rules in
+    let leads : executable s.words s.board c.args.xt.0 ≡ Ok c.in_ok-xt.xt.0 = search rules in
+    let written : word_with_xt c.in_ok-xt.xt.0 ≡ Some w = search rules in
     let runs : runner_of w ≡ runner.Call k = search rules in
     let found : calling_entry k s.board ≡ Ok (Some m) = search rules in
     let good : counting (call_faults s m.xt) ≡ None = search rules in
@@ -35,7 +36,7 @@ returns-in-Err-NoMemory-ended-2 g t c =
     let keeps : IsKeptFor m.callee m.xt s kept = search rules in
     let back : c.undo_call.new.self ≡ s = undoes m kept s b c.undo_call.new.self begins undone operands keeps grows in
     let whole : executed_grows s c.args.xt.0 ≡ true
-    = call_grows c.args.xt.0 c.in-Some.xt.0 w k m s b leads written runs found good begins grows in
+    = call_grows c.args.xt.0 c.in_ok-xt.xt.0 w k m s b leads written runs found good begins grows in
     subst
     (λ r. Ends (executed_grows s c.args.xt.0) (executed flat_calls c.args.xt.0 s) s c.undo_call.new.self r)
     (sym stops) (whole, back)
