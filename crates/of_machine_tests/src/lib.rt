@@ -16,4 +16,6 @@ mod runs;
 #[cfg(test)]
 mod shared;
 #[cfg(test)]
+mod slots;
+#[cfg(test)]
 mod tree;
