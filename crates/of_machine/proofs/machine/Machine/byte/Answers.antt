@@ -1,0 +1,9 @@
+-- The goals at which wrong bodies are refused.
+use Rattle.std.proofs.Common.{rules}
+use Rattle.of_machine.proofs.machine.Machine.byte.Goals as goal
+
+pub returns-in-Ok : goal.returns-in-Ok
+returns-in-Ok g c = search rules
+
+pub returns-in-Err : goal.returns-in-Err
+returns-in-Err g c = search rules
