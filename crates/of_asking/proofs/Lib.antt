@@ -1,0 +1,4 @@
+mod SettlingLemmas
+mod SaidLemmas
+mod ListedLemmas
+mod ImagesLemmas
