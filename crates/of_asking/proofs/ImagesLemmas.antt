@@ -23,7 +23,8 @@ use Rattle.of_asking.specs.declared.query.Query.{Query}
 use Rattle.of_asking.specs.declared.query.Query.TheVariants as query
 use Rattle.of_asking.specs.declared.query.Answer.{Answer}
 use Rattle.of_asking.specs.Devices.{at_device, cut, devices_entry, failed, fetch_of, in_memory, is_aligned, is_device}
-use Rattle.of_asking.specs.Devices.{peek_entry, peeked, poke_entry, poked, read_entry, space_left, store_of, write_entry}
+use Rattle.of_asking.specs.Devices.{peek_entry, peeked, poke_entry, poked, read_entry, space_left, store_of}
+use Rattle.of_asking.specs.Devices.{write_entry}
 use Rattle.of_asking.specs.Images.{ImagesStayAsked, Keeps}
 use Rattle.of_asking.specs.Keys.{keys_entry, one_more, wait_entry}
 use Rattle.of_asking.specs.Questions.{Asking, Asks, Gives, answered, asked, stack_left}
@@ -92,7 +93,8 @@ fetched_kept Four a s m sound = fetches s m (read Four m a.0) sound
 
 stores : (g : Given) (w : Width) (m : DataSpace) (a x : ℕ) (s : List Cell) (r : Result DataSpace MemFault) → IsSound m
     → write w m a x ≡ r → SpaceKept m (stored s r)
-stores g w m a x s (Ok after) sound e = (g.images.by_write w m after a x sound e, g.sound.by_write w m after a x sound e)
+stores g w m a x s (Ok after) sound e =
+    (g.images.by_write w m after a x sound e, g.sound.by_write w m after a x sound e)
 stores g w m a x s (Err fault) sound e = tt
 
 stored_kept : (g : Given) (w : Width) (a x : Cell) (s : List Cell) (m : DataSpace) → IsSound m

@@ -29,7 +29,8 @@ use Rattle.of_asking.specs.declared.query.Query.TheVariants as query
 use Rattle.of_asking.specs.declared.query.Answer.{Answer}
 use Rattle.of_asking.specs.declared.query.Answer.TheVariants.{Value, Done, BusFault}
 use Rattle.of_asking.specs.Devices.{at_device, cut, devices_entry, failed, fetch_of, in_memory, is_aligned, is_device}
-use Rattle.of_asking.specs.Devices.{peek_entry, peeked, poke_entry, poked, read_entry, space_left, store_of, write_entry}
+use Rattle.of_asking.specs.Devices.{peek_entry, peeked, poke_entry, poked, read_entry, space_left, store_of}
+use Rattle.of_asking.specs.Devices.{write_entry}
 use Rattle.of_asking.specs.Keys.{keys_entry, one_more, wait_entry}
 use Rattle.of_asking.specs.Listed.{AsksOrThrowsListed, ThrowListedNumbers}
 use Rattle.of_asking.specs.Questions.{Asking, Gives, answered, asked, done_left, peek_left, poke_left, ready_left}

@@ -3,4 +3,6 @@ use Rattle.of_asking.proofs.laws.images_stay_asked.Goals as goal
 
 pub returns : goal.returns
 returns c =
-    images_stay_asked (record { sound = c.changes_stay_sound.ensures; images = c.images_change_by_images_alone.ensures })
+    let sound = c.changes_stay_sound.ensures in
+    let images = c.images_change_by_images_alone.ensures in
+    images_stay_asked (record { sound = sound; images = images })
