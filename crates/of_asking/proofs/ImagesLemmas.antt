@@ -27,7 +27,8 @@ use Rattle.of_asking.specs.Devices.{peek_entry, peeked, poke_entry, poked, read_
 use Rattle.of_asking.specs.Devices.{write_entry}
 use Rattle.of_asking.specs.Images.{ImagesStayAsked, Keeps}
 use Rattle.of_asking.specs.Keys.{keys_entry, one_more, wait_entry}
-use Rattle.of_asking.specs.Questions.{Asking, Asks, Gives, answered, asked, stack_left}
+use Rattle.of_board.specs.Left.{stack_left}
+use Rattle.of_asking.specs.Questions.{Asking, Asks, Gives, answered, asked}
 
 -- what the data space promises of its writes
 pub record Given : Type 0 where

@@ -34,7 +34,8 @@ use Rattle.of_asking.specs.Devices.{write_entry}
 use Rattle.of_asking.specs.Keys.{keys_entry, one_more, wait_entry}
 use Rattle.of_asking.specs.Listed.{AsksOrThrowsListed, ThrowListedNumbers}
 use Rattle.of_asking.specs.Questions.{Asking, Gives, answered, asked, done_left, peek_left, poke_left, ready_left}
-use Rattle.of_asking.specs.Questions.{stack_left, value_left}
+use Rattle.of_board.specs.Left.{stack_left}
+use Rattle.of_asking.specs.Questions.{value_left}
 
 -- ---- answers
 

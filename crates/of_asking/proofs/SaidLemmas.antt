@@ -3,7 +3,7 @@ use Rattle.std.proofs.Common.{◌≡◌, ◌↔◌, ℕ, ◌+◌, ◌/◌, ◌^�
 use Rattle.std.proofs.Common.{nat_le, None, Result, Err, refl, arith, ap, sym}
 use Rattle.std.proofs.Common.{if◌then◌else◌}
 use Rattle.std.specs.Prelude.{◌==◌, ◌&&◌}
-use Rattle.std.proofs.lemmas.Bool.{leb-true, leb-false}
+use Rattle.std.proofs.lemmas.Bool.{and_parts, leb-false, leb-true}
 use Rattle.std.proofs.lemmas.Bool.Decides.{nat_tests}
 use Rattle.of_cells.specs.declared.cells.Cell.{Cell}
 use Rattle.of_stacks.specs.declared.throws.Throw.{Throw}
@@ -27,14 +27,9 @@ use Rattle.of_asking.specs.Said.{reading, writing}
 
 -- ---- registers
 
-both_true : (c d : Bool) → (c && d) ≡ true → (c ≡ true) × (d ≡ true)
-both_true true true e = (refl, refl)
-both_true true false e = absurd cc
-both_true false d e = absurd cc
-
 from_tests : (w : Width) (a : ℕ) → is_device a w ≡ true → is_aligned a w ≡ true → IsRegister w a
 from_tests w a e f =
-    let both = both_true (nat_le 0x8000_0000 a) (nat_le (a + bytes_in w) 0xC000_0000) e in
+    let both = and_parts (nat_le 0x8000_0000 a) (nat_le (a + bytes_in w) 0xC000_0000) e in
     record {
       from = leb-true 0x8000_0000 a both.0;
       to = leb-true (a + bytes_in w) 0xC000_0000 both.1;

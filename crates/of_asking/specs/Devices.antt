@@ -24,7 +24,8 @@ use Rattle.of_prims.specs.Memory.{memory_entry}
 use Rattle.of_board.specs.declared.board.Board.{Board}
 use Rattle.of_asking.specs.declared.query.Query.TheVariants as query
 use Rattle.of_asking.specs.declared.query.Answer.{Answer}
-use Rattle.of_asking.specs.Questions.{Asking, Gives, asked, stack_left}
+use Rattle.of_board.specs.Left.{stack_left}
+use Rattle.of_asking.specs.Questions.{Asking, Gives, asked}
 use Rattle.of_asking.specs.Keys.{milliseconds_entry, wait_entry}
 
 -- each byte of an access is a device's

@@ -10,6 +10,7 @@ use Rattle.of_memory.specs.declared.width.Width.{Width}
 use Rattle.of_memory.specs.declared.width.Width.TheVariants.{One, Two, Four}
 use Rattle.of_prims.specs.Data.{number}
 use Rattle.of_board.specs.declared.board.Board.{Board}
+use Rattle.of_board.specs.Left.{stack_left}
 use Rattle.of_asking.specs.declared.query.Query.{Query}
 use Rattle.of_asking.specs.declared.query.Query.TheVariants as query
 use Rattle.of_asking.specs.declared.query.Answer.{Answer}
@@ -107,11 +108,6 @@ answered query.Key answer s = value_left s answer
 answered query.KeyReady answer s = ready_left s answer
 answered query.Milliseconds answer s = value_left s answer
 answered (query.Wait n) answer s = done_left (drop 1 s) answer
-
--- the board with the stack that was left
-abbrev pub stack_left : Board → Result (List Cell) Throw → Result Board Throw
-stack_left b (Ok s) = Ok (record b { stack = s })
-stack_left b (Err t) = Err t
 
 -- the question, or what the answer at hand makes of the board
 abbrev pub asked : Query → Option Answer → Board → Asking Board

@@ -14,7 +14,8 @@ use Rattle.of_asking.specs.declared.query.Answer.{Answer}
 use Rattle.of_asking.specs.declared.query.Answer.TheVariants.{Value, Done, BusFault}
 use Rattle.of_asking.specs.Devices.{devices_entry}
 use Rattle.of_asking.specs.Keys.{keys_entry}
-use Rattle.of_asking.specs.Questions.{Asking, Asks, Gives, answered, fits, stack_left}
+use Rattle.of_board.specs.Left.{stack_left}
+use Rattle.of_asking.specs.Questions.{Asking, Asks, Gives, answered, fits}
 
 -- What a word comes to with an answer at hand, by what it comes to without one. Where it asks, the answer makes
 -- another data stack, or a throw, of the one that is there. Where it doesn't ask, the answer isn't looked at.

@@ -1,7 +1,7 @@
 // What an answer makes of the data stack.
 
 ghost use Rattle.std.specs.Prelude.{◌≡◌, ◌<◌, ◌≤◌, IfErr, IfOk, None, Some, drop, length};
-ghost use Rattle.of_stacks.specs.Stacks.{Becomes};
+ghost use Rattle.of_cells.specs.Outcomes.{Becomes};
 ghost use Rattle.of_asking.specs.Questions.{done_left, peek_left, poke_left, ready_left, value_left};
 
 use crate::halt::Halt;

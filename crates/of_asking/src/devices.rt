@@ -1,10 +1,11 @@
 ghost use Rattle.std.specs.Prelude.{◌≡◌, ◌∷◌, ◌≤◌, drop, length, false, IfErr, OnOk, Err, Ok};
 ghost use Rattle.of_cells.specs.Numbers.{flag};
 ghost use Rattle.of_memory.specs.Access.{read, write};
-ghost use Rattle.of_stacks.specs.Stacks.{Becomes};
+ghost use Rattle.of_cells.specs.Outcomes.{Becomes};
 ghost use Rattle.of_asking.specs.Devices.{cut, devices_entry, failed, fetch_of, in_memory, is_aligned, is_device};
 ghost use Rattle.of_asking.specs.Devices.{peek_entry, peeked, poke_entry, poked, read_entry, store_of, write_entry};
-ghost use Rattle.of_asking.specs.Questions.{Gives, Tells, stack_left};
+ghost use Rattle.of_board.specs.Left.{stack_left};
+ghost use Rattle.of_asking.specs.Questions.{Gives, Tells};
 
 use crate::answers::{
     ask, drop_done, replace_by_found, replace_by_peek, replace_by_poke, replace_by_value,

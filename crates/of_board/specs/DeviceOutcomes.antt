@@ -10,11 +10,6 @@ use Rattle.of_board.specs.declared.device_fault.DeviceFault.TheVariants.{Instanc
 abbrev pub IsForMemory : DeviceFault → Type 0
 IsForMemory e = (e ≡ Node node.NoMemory) ⊎ (e ≡ Instance instance.NoMemory)
 
--- the call left what `after` says, or gave its fault, or found no memory, and changed nothing
-abbrev pub Opens : Result (Unit {0}) DeviceFault → Board → Board → Result Board DeviceFault → Type 0
-Opens (Ok x) old new after = after ≡ Ok new
-Opens (Err e) old new after = (new ≡ old) × (IsForMemory e ⊎ (after ≡ Err e))
-
 -- the call left what `after` says, or answered that there is nothing, and changed nothing
 abbrev pub Finishes : Bool → Board → Board → Option Board → Type 0
 Finishes true old new after = after ≡ Some new

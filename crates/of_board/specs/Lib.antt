@@ -3,3 +3,4 @@ pub mod OpenDevices
 pub mod Active
 pub mod DeviceOutcomes
 pub mod Nest
+pub mod Left

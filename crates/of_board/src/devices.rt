@@ -1,7 +1,8 @@
 //! The `new-device`s of the board, each with an instance of the package that it made.
 ghost use Rattle.std.specs.Prelude.{◌≡◌};
 ghost use Rattle.of_board.specs.Active.{all_finished, device_finished, device_opened, image_left, since_released};
-ghost use Rattle.of_board.specs.DeviceOutcomes.{Finishes, Opens};
+ghost use Rattle.of_cells.specs.Outcomes.{MayBecome};
+ghost use Rattle.of_board.specs.DeviceOutcomes.{Finishes, IsForMemory};
 
 use crate::active::{NewDevice, keep_before};
 use crate::board::Board;
@@ -32,7 +33,7 @@ impl Board {
     /// no room (Full); either for memory, also where one more can't be counted. Then nothing changes, and no number
     /// is given.
     pub fn open_device(&mut self, found: Phandle) -> Result<(), DeviceFault>
-        ensures outcome { Opens result self.old self.new (device_opened self.old found) }
+        ensures outcome { MayBecome IsForMemory (device_opened self.old found) self.old self.new result }
         ensures console { self.new.console ≡ self.old.console }
     {
         let number = self.active.new_devices.ever;

@@ -1,5 +1,5 @@
 ghost use Rattle.std.specs.Prelude.{◌≡◌, ◌≢◌};
-ghost use Rattle.of_stacks.specs.Stacks.{Becomes};
+ghost use Rattle.of_cells.specs.Outcomes.{Becomes};
 ghost use Rattle.of_calc.specs.Arithmetic.{arithmetic_entry, calculation};
 ghost use Rattle.of_calc.specs.Shapes.{made, shape_of, of_one, of_two, quotient_of, rest_of, wide_of, wide_quotient_of};
 ghost use Rattle.of_calc.specs.Shapes.{wide_rest_of, of_doubles};

@@ -1,3 +1,4 @@
+pub mod Outcomes
 pub mod Numbers
 pub mod Arithmetic
 pub mod Division

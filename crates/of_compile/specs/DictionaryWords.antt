@@ -84,7 +84,7 @@ store_entry xt w (x ∷ s) = with_stored xt (stored_kind (kind_at w xt) x) w s
 
 -- ---- `behavior` ( xt -- xt ), `>body` ( xt -- a ), `body>` ( a -- xt )
 
--- what a defer executes
+-- what a defer executes; that of one of each instance is in its slot, and no instance stands here
 abbrev pub behavior_of : Option Kind → Result Cell Throw
 behavior_of (Some (kind.Defer xt)) = Ok xt
 behavior_of (Some (kind.PerInstance slot.Defer n)) = Err no_instance

@@ -1,6 +1,6 @@
 //! The open definition, as a word and as code: its end, giving it up, and calls that a word appends to it.
 ghost use Rattle.std.specs.Prelude.{◌≡◌, ◌≤◌, ◌+◌, IfSome};
-ghost use Rattle.of_stacks.specs.Stacks.{Becomes};
+ghost use Rattle.of_cells.specs.Outcomes.{Becomes};
 ghost use Rattle.of_dict.specs.Words.{name_in, word_at};
 ghost use Rattle.of_compile.specs.Definitions.{closing_entry, compile_entry, given_up};
 

@@ -4,7 +4,7 @@ ghost use Rattle.of_control.specs.Element.{Plain};
 ghost use Rattle.of_compile.specs.Elements.{CanBeStored, own_item};
 ghost use Rattle.of_compile.specs.Tokens.{called};
 ghost use Rattle.std.specs.Option.{option_map};
-ghost use Rattle.of_stacks.specs.Stacks.{Becomes};
+ghost use Rattle.of_cells.specs.Outcomes.{Becomes};
 ghost use Rattle.of_fcodes.specs.Tokens.{entry_in};
 ghost use Rattle.of_dict.specs.Words.{capacity, kind_in, newest_below, word_at};
 ghost use Rattle.of_compile.specs.Words.{is_word, own_number, own_word};

@@ -1,7 +1,7 @@
 //! The words that images define: the dictionary, what each FCode names, and what a token maker left.
 ghost use Rattle.std.specs.Prelude.{◌≡◌, ◌<◌, [], IfOk, IfSome, None};
 ghost use Rattle.std.specs.Option.{option_copied, option_map};
-ghost use Rattle.of_stacks.specs.Stacks.{Becomes};
+ghost use Rattle.of_cells.specs.Outcomes.{Becomes};
 ghost use Rattle.of_dict.specs.Words.{capacity, xt_of};
 ghost use Rattle.of_compile.specs.Words.{first_words, is_debugging, is_own_code, name_fault, name_given, name_pending};
 ghost use Rattle.of_compile.specs.Words.{named_next, named_open, numbered};

@@ -1,5 +1,6 @@
 -- No label has a newline.
 use Rattle.std.proofs.Common.{◌≡◌, ℕ, zero, suc, ◌/◌, ◌%◌, List, [], ◌∷◌, ◌++◌, map, codes, Option, Some, None, Bool}
+use Rattle.std.proofs.lemmas.Bool.{and_parts}
 use Rattle.std.proofs.Common.{true, false, cond, ◌&&◌, ◌*◌, nat_eq, length, replicate, slice_index, refl, arith}
 use Rattle.std.proofs.lemmas.Bool.Decides.{nat_tests}
 use Rattle.std.specs.Option.{option_map}
@@ -81,10 +82,6 @@ names_plain : plain_names rows ≡ true
 unfolding rows first_rows second_rows third_rows fourth_rows fifth_rows sixth_rows seventh_rows
 names_plain = refl
 
-both : (a b : Bool) → (a && b) ≡ true → (a ≡ true) × (b ≡ true)
-both true b h = (refl, h)
-both false b h = absurd cc
-
 abbrev name_in : List Row → ℕ → Option (List ℕ)
 name_in rs n = option_map (λ (r : Row). r.name) (row_in rs n)
 
@@ -105,7 +102,7 @@ named_plain : (rs : List Row) (n : ℕ) (text : List ℕ) → plain_names rs ≡
     → plain text ≡ true
 named_plain [] n text h found = absurd cc
 named_plain (r ∷ rs) n text h found =
-    let parts = both (plain r.name) (plain_names rs) h in
+    let parts = and_parts (plain r.name) (plain_names rs) h in
     named_by (nat_eq r.number n) r rs n text refl parts.0 (named_plain rs n text parts.1) found
 
 plain_name : (n : ℕ) → plain (name n) ≡ true

@@ -1,5 +1,6 @@
 -- What keeps the index: words that change but for their names, a word more, the newest word taken away.
 use Rattle.std.proofs.Common.{◌≡◌, ℕ, zero, suc, ◌+◌, ◌<◌, ◌≤◌, Bool, true, false, cond, List, [], ◌∷◌, ◌++◌, length}
+use Rattle.std.proofs.lemmas.Option.{same_Some}
 use Rattle.std.proofs.Common.{set, take, Option, Some, None}
 use Rattle.std.proofs.Common.{get_or, refl, sym, ◌∙◌, ap, subst, arith, nat_eq, is_some, length-append}
 use Rattle.std.proofs.Common.{get_or-set_other, get_or-set_same, ◌≢◌, ◌-◌, inl, inr, IsSome}
@@ -70,9 +71,6 @@ no_name name e = cc
 no_word : (w : Option Word) (name : List ℕ) → is_some w ≡ false → name_in w ≡ Some name → ⊥
 no_word None name none its = no_name name its
 no_word (Some w) name none its = absurd (false≢true (sym none))
-
-some_same : (a b : List ℕ) → Some a ≡ Some b → a ≡ b
-some_same a b e = cc
 
 -- whatever has a name is one of the words
 pub name_is_within : (words : List (Option Word)) (n : ℕ) (name : List ℕ)
@@ -212,7 +210,7 @@ pub name_is_linked : (words : List (Option Word)) (older : List (Option ℕ))
     → ((q : ArrayVec ℕ) → other q ≡ cond (pointwise nat_eq key.items q.items) (Some (length words)) (newest q))
     → IsLinked words older newest w link other
 name_is_linked words older newest w name key link other indexed room e its short linked updated =
-    let same : (text : List ℕ) → name_in w ≡ Some text → name ≡ text = λ text t. some_same name text (sym e ∙ t) in
+    let same : (text : List ℕ) → name_in w ≡ Some text → name ≡ text = λ text t. same_Some name text (sym e ∙ t) in
     record {
       fits = room;
       short = λ text t. subst (λ n. length n ≤ 31) (same text t) short;

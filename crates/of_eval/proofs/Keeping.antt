@@ -1,7 +1,7 @@
 -- What `to` left of words and board is what its act does.
 use Rattle.std.proofs.Common.{◌≡◌, Result, Ok, Err, ap, sym, ◌∙◌}
 use Rattle.of_stacks.specs.declared.throws.Throw.{Throw}
-use Rattle.of_stacks.specs.Stacks.{Becomes}
+use Rattle.of_cells.specs.Outcomes.{Becomes}
 use Rattle.of_compile.specs.Words.{WordsState}
 use Rattle.of_board.specs.declared.board.Board.{Board}
 use Rattle.of_own.specs.Stores.{InSlot, InWord, Stored, both, store_left}

@@ -8,7 +8,8 @@ use Rattle.of_stacks.specs.Throws.{dictionary_overflow}
 use Rattle.of_memory.specs.DataSpace.{DataSpace}
 use Rattle.of_cells.specs.declared.cells.Cell.{Cell}
 use Rattle.of_memory.specs.Growth.{append_copied, zeros_allotted}
-use Rattle.of_memory.specs.Outcomes.{Answers}
+use Rattle.of_cells.specs.Outcomes.{Answers}
+use Rattle.of_memory.specs.Outcomes.{address_of}
 use Rattle.of_memory.specs.declared.fault.MemFault.{MemFault}
 use Rattle.of_prims.specs.Data.{throw_of}
 use Rattle.of_compile.specs.Coding.{Coding, Outcome as CodingOutcome, compiled, compiling}
@@ -67,7 +68,8 @@ string_done s a n x d r h e cd =
     let same : c ≡ d = ap (λ (o : CodingOutcome). o.coding) left in
     rw (string_coded s.board.memory.here n s.code, room, e, same) refl
 
-rounded_is : (m n : DataSpace) (r : Result Cell MemFault) → Answers r m n (zeros_allotted m 0) → n ≡ rounded m
+rounded_is : (m n : DataSpace) (r : Result Cell MemFault) → Answers (zeros_allotted m 0) m n (address_of r)
+    → n ≡ rounded m
 rounded_is m n (Ok a) h = sym (ap (rounded_to m) h)
 rounded_is m n (Err fault) h = h.1 ∙ sym (ap (rounded_to m) h.0)
 
@@ -76,7 +78,7 @@ pub string_ends :
     (z : Result Cell MemFault)
     → length s.code.code.cells + 3 ≤ 65536 → append_copied s.board.memory a n [] ≡ Ok x → c ≡ s.code
     → compiling (string_element s.board.memory.here n) c ≡ record { coding = d; ended = r }
-    → Answers z x.1 m (zeros_allotted x.1 0)
+    → Answers (zeros_allotted x.1 0) x.1 m (address_of z)
     → new ≡ record s { code = d; board = record s.board { memory = m } }
     → acted flat_calls (Copies a n) s ≡ done new
 unfolding acted

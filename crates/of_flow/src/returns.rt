@@ -1,6 +1,6 @@
 //! The words over the return stack, and what begins and ends a word.
 ghost use Rattle.std.specs.Prelude.{◌≡◌, ◌∷◌, false, OnOk};
-ghost use Rattle.of_stacks.specs.Stacks.{Becomes};
+ghost use Rattle.of_cells.specs.Outcomes.{Becomes};
 ghost use Rattle.of_stacks.specs.Returns.{fitting, has_due_top};
 ghost use Rattle.of_flow.specs.Returns.{entered, exited, stacks_entry};
 

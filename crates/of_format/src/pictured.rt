@@ -1,5 +1,5 @@
 ghost use Rattle.std.specs.Prelude.{◌≡◌, ◌+◌, ◌-◌, ◌<◌, ◌≤◌, [], ◌∷◌, length, true, IfErr};
-ghost use Rattle.of_stacks.specs.Stacks.{Becomes};
+ghost use Rattle.of_cells.specs.Outcomes.{Becomes};
 ghost use Rattle.of_stacks.specs.Throws.{is_listed};
 ghost use Rattle.of_memory.specs.Regions.{scratch_start, scratch_limit};
 ghost use Rattle.of_memory.specs.DataSpace.{written};

@@ -1,19 +1,22 @@
 -- Blocks of the instance region can be read and written.
 use Rattle.std.proofs.Common.{◌≡◌, ℕ, zero, suc, ◌+◌, ◌/◌, ◌%◌, ◌<◌, ◌≤◌, eqb, nat_lt, true, false, List, []}
-use Rattle.std.proofs.Common.{length, None, add-zero, take-append-drop, refl, ap, arith}
+use Rattle.std.proofs.Common.{length, None, Result, Ok, Err, add-zero, take-append-drop, refl, ap, sym, ◌∙◌, arith}
 use Rattle.std.proofs.lemmas.Bool.{and_from}
 use Rattle.std.proofs.lemmas.Grind.{common_steps}
 use Rattle.of_cells.specs.declared.cells.Cell.{Cell}
+use Rattle.of_cells.specs.Outcomes.{Becomes}
+use Rattle.of_memory.specs.BlockCalls.{instance_given}
 use Rattle.of_memory.specs.Access.{all_from, are_readable, read_fault, write_fault}
 use Rattle.of_memory.specs.Blocks.{IsLeastFree, rounded}
 use Rattle.of_memory.specs.DataSpace.{DataSpace, is_readable, written}
 use Rattle.of_memory.specs.Regions.{instance_limit, instance_start, may_write, place_of, region_of}
 use Rattle.of_memory.specs.Regions.{span as apart}
+use Rattle.of_memory.specs.declared.fault.MemFault.{MemFault}
 use Rattle.of_memory.specs.declared.width.Width.{Width}
 use Rattle.of_memory.specs.declared.width.Width.TheVariants.{Four, One}
 use Rattle.of_memory.specs.Width.{bytes_in}
 use Rattle.of_nodes.specs.declared.properties.Span.{Span}
-use Rattle.of_ihandles.specs.Blocks.{IsInRegion, span}
+use Rattle.of_ihandles.specs.Blocks.{IsInRegion, given, left, span}
 
 -- each byte of the instance region can be read
 byte_reads : (m : DataSpace) (a : ℕ) → instance_start ≤ a → a < instance_limit → is_readable m a ≡ true
@@ -82,3 +85,9 @@ pub least_in_region :
     (bs : _) (a n : Cell) → IsLeastFree instance_start instance_limit bs (rounded n.0) a.0
     → IsInRegion (span a n)
 least_in_region bs a n h = record { from = h.free.from; to = h.free.to; eighth = h.free.aligned }
+
+-- what is left where the fault of giving a block back counts for nothing
+pub given_by : (old new : DataSpace) (b : Span) (r : Result (Unit {0}) MemFault)
+    → Becomes (instance_given old b.address.0 b.length.0) old new r → new ≡ given old b
+given_by old new b (Ok x) e = sym (ap (left old) e)
+given_by old new b (Err fault) e = e.1 ∙ sym (ap (left old) e.0)

@@ -2,7 +2,7 @@
 use Rattle.std.proofs.Common.{◌≡◌, ℕ, zero, suc, ◌+◌, ◌-◌, ◌/◌, ◌%◌, ◌&&◌, ◌<◌, ◌≤◌, nat_le, Bool, true, false, List}
 use Rattle.std.proofs.Common.{[], ◌∷◌, ◌++◌, length, get_or, take, Option, Some, None, Result, Ok, Err, refl, sym, ap}
 use Rattle.std.proofs.Common.{◌∙◌, subst, arith}
-use Rattle.std.proofs.lemmas.Bool.{and_parts}
+use Rattle.std.proofs.lemmas.Bool.{and_parts, leb-true}
 use Rattle.std.proofs.lemmas.Grind.{common_steps}
 use Rattle.of_cells.specs.declared.cells.Cell.{Cell}
 use Rattle.of_memory.specs.Blocks.{first_of_eighths, least_free, meets_none, rounded}
@@ -32,9 +32,6 @@ found p a (suc n) x e = go (p a) refl (found p (a + 8) n x)
         let r : Found p (a + 8) x = rest e' in
         record { passes = r.passes; above = omega (arith, r.above); eighth = omega (arith, r.eighth) }
 
-le_from : (x y : ℕ) → nat_le x y ≡ true → x ≤ y
-le_from x y e = grind (arith, common_steps)
-
 -- the block that is taken
 pub taken_at : (m : DataSpace) (n : Cell) (a : ℕ) → least_free instance_start instance_limit m.instances (rounded n.0)
     ≡ Some a → IsInRegion (span (record { 0 = a }) n)
@@ -44,7 +41,7 @@ taken_at m n a e =
     λ x. nat_le (x + rounded n.0) instance_limit && meets_none m.instances (rounded n.0) x in
     let f : Found p instance_start a = found p instance_start ((instance_limit - instance_start) / 8) a e in
     let test = (and_parts _ _ f.passes).0 in
-    let fits : a + rounded n.0 ≤ instance_limit = le_from (a + rounded n.0) instance_limit test in
+    let fits : a + rounded n.0 ≤ instance_limit = leb-true (a + rounded n.0) instance_limit test in
     record { from = f.above; to = fits; eighth = f.eighth }
 
 pub taken_in_region : (m after : DataSpace) (n : Cell) (a : ℕ) → instance_taken m n.0 ≡ Ok (a, after)

@@ -65,20 +65,9 @@ then m between after f g = record {
 
 -- ---- bytes that are written to a block
 
-rest_small : (n : ℕ) → n % 256 < 256
-rest_small n = omega arith
-
-byte_small : (i n : ℕ) → byte_at i n < 256
-byte_small zero n = rest_small n
-byte_small (suc i) n = rest_small (n / 256 ^ suc i)
-
-high_bytes : (k n : ℕ) → AreBytes (bytes_high_first k n)
-high_bytes zero n = All-nil (λ b. b < 256)
-high_bytes (suc k) n = All-cons (λ b. b < 256) (byte_at k n) (bytes_high_first k n) (byte_small k n) (high_bytes k n)
-
-template_small : (t : Template) → AreBytes (template_bytes t)
-template_small (Value x) = high_bytes 4 x.0
-template_small (Zeros n) = All-nil (λ b. b < 256)
+template_small : Given → (t : Template) → AreBytes (template_bytes t)
+template_small g (Value x) = g.sound.number 4 x.0
+template_small g (Zeros n) = All-nil (λ b. b < 256)
 
 wrote : (g : Given) (m : DataSpace) (b : Span) (ys : List ℕ) → IsSound m → IsHere b → AreBytes ys
     → length ys ≤ rounded b.length.0 → Keeps m (written m b.address.0 ys)
@@ -105,7 +94,7 @@ begin g m bs [] sound here = same m sound
 begin g m [] (s ∷ ss) sound here = same m sound
 begin g m (b ∷ bs) (s ∷ ss) sound here =
     let between = written m b.address.0 (template_bytes s.template) in
-    let one = wrote g m b (template_bytes s.template) sound here.0 (template_small s.template)
+    let one = wrote g m b (template_bytes s.template) sound here.0 (template_small g s.template)
     (template_short s.template b) in
     then m between (begun between bs ss) one (begin g between bs ss one.sound here.1)
 
@@ -114,7 +103,7 @@ begin_all : (g : Given) (m : DataSpace) (bs : List Span) (t : Template) → IsSo
 begin_all g m [] t sound here = same m sound
 begin_all g m (b ∷ bs) t sound here =
     let between = written m b.address.0 (template_bytes t) in
-    let one = wrote g m b (template_bytes t) sound here.0 (template_small t) (template_short t b) in
+    let one = wrote g m b (template_bytes t) sound here.0 (template_small g t) (template_short t b) in
     then m between (all_begun between bs t) one (begin_all g between bs t one.sound here.1)
 
 -- ---- blocks that are taken
@@ -318,7 +307,7 @@ by_store g t m left ih n x sound own e = go (slot_block t ih n) refl e
         let there = in_blocks t.made s.number (suc s.slot.place) k s.instance b s.at s.block refl in
         let up = rounded_up b.length.0 in
         let few : length (big_bytes 4 x.0) ≤ rounded b.length.0 = omega (arith, up) in
-        rw (← space) (wrote g m b (big_bytes 4 x.0) sound (is_here t m k b sound own there) (high_bytes 4 x.0) few)
+        rw (← space) (wrote g m b (big_bytes 4 x.0) sound (is_here t m k b sound own there) (g.sound.number 4 x.0) few)
 
 pub instances_keep_the_space : Given → InstancesKeepTheSpace
 instances_keep_the_space g = record {

@@ -8,7 +8,8 @@ ghost use Rattle.of_ihandles.specs.Blocks.{given_all};
 ghost use Rattle.of_ihandles.specs.Slots.{template_bytes};
 ghost use Rattle.of_ihandles.specs.Blocks.{one_taken, span};
 ghost use Rattle.of_ihandles.specs.Rooms.{nowhere};
-ghost use Rattle.of_ihandles.specs.InstanceOutcomes.{Adds, Answers};
+ghost use Rattle.of_cells.specs.Outcomes.{Answers, MayAnswer};
+ghost use Rattle.of_ihandles.specs.InstanceOutcomes.{IsForMemory};
 
 use crate::instance_fault::InstanceFault;
 use crate::slots::{Slot, Template};
@@ -138,7 +139,7 @@ impl Block {
     /// Full, if it finds no room; then nothing is taken.
     #[tactic(auto, using(crate::proofs::BlockAccess::least_in_region))]
     pub(crate) fn take(memory: &mut Memory, length: Cell) -> Result<Block, InstanceFault>
-        ensures { Answers result memory.old memory.new (one_taken memory.old length) }
+        ensures { Answers (one_taken memory.old length) memory.old memory.new result }
     {
         match memory.instance_take(length) {
             Ok(address) => Ok(Block::new(address, length)),
@@ -150,7 +151,7 @@ impl Block {
     /// Full, if it finds no room; then nothing changes.
     #[tactic(auto, using(crate::proofs::Opening::long_taken))]
     pub(crate) fn copy_of(memory: &mut Memory, bytes: &[u8]) -> Result<Block, InstanceFault>
-        ensures { Answers result memory.old memory.new (copy_taken memory.old bytes.now) }
+        ensures { Answers (copy_taken memory.old bytes.now) memory.old memory.new result }
     {
         if bytes.len() > u32::MAX as usize {
             return Err(InstanceFault::Full);
@@ -280,7 +281,7 @@ impl Blocks {
         memory: &mut Memory,
         lengths: &[Cell],
     ) -> Result<Blocks, InstanceFault>
-        ensures { Adds result memory.old memory.new (blocks_taken memory.old lengths.now) }
+        ensures { MayAnswer IsForMemory (blocks_taken memory.old lengths.now) memory.old memory.new result }
     {
         let mut addresses = vec![in alloc; Cell::ZERO; lengths.len()]?;
         let mut list = Vec::with_capacity(alloc, lengths.len())?;

@@ -1,7 +1,8 @@
 ghost use Rattle.std.specs.Prelude.{◌≡◌, ◌<◌, ◌-◌, ◌++◌, ◌∷◌, [], length, replicate, set, take, IfOk, IfErr, IfSome};
 ghost use Rattle.std.specs.Prelude.{Some, None, Ok, Err, MatchResult, OnOk, OnErr, nat_le, true};
 ghost use Rattle.of_ihandles.specs.Blocks.{span};
-ghost use Rattle.of_ihandles.specs.InstanceOutcomes.{Adds, Answers};
+ghost use Rattle.of_cells.specs.Outcomes.{Answers, MayAnswer};
+ghost use Rattle.of_ihandles.specs.InstanceOutcomes.{IsForMemory};
 ghost use Rattle.of_ihandles.specs.Instances.{argument_span, arguments_set, closed, found, ihandle_of, lengths_of};
 ghost use Rattle.of_ihandles.specs.Instances.{most_instances, no_instances, number_of, opened, package_of};
 ghost use Rattle.of_ihandles.specs.Instances.{parent_of, released};
@@ -278,7 +279,7 @@ impl Instances {
         slot: usize,
         value: Cell,
     ) -> Result<(), InstanceFault>
-        ensures { Answers result memory.old memory.new (slot_stored memory.old self.now ihandle slot value) }
+        ensures { Answers (slot_stored memory.old self.now ihandle slot value) memory.old memory.new result }
     {
         let block = self.block(ihandle, slot)?;
         block.set_cell(memory, value);
@@ -300,7 +301,7 @@ impl Instances {
         arguments: &[u8],
     ) -> Result<Cell, InstanceFault>
         ensures outcome { let after = opened self.old memory.old «package» parent arguments.now in
-            Adds result (self.old, memory.old) (self.new, memory.new) after }
+            MayAnswer IsForMemory after (self.old, memory.old) (self.new, memory.new) result }
         ensures most { nat_le most_instances (length self.old.made) ≡ true → result ≡ Err InstanceFault.Full }
     {
         let count = self.made.len();
@@ -331,7 +332,7 @@ impl Instances {
     ///
     /// NoInstance, if the ihandle is that of no live instance; then nothing changes, in memory either.
     pub fn close(&mut self, memory: &mut Memory, ihandle: Cell) -> Result<(), InstanceFault>
-        ensures { Answers result (self.old, memory.old) (self.new, memory.new) (closed self.old memory.old ihandle) }
+        ensures { Answers (closed self.old memory.old ihandle) (self.old, memory.old) (self.new, memory.new) result }
     {
         let Some(number) = number_of(ihandle, self.made.len()) else {
             return Err(InstanceFault::NoInstance);
@@ -375,7 +376,7 @@ impl Instances {
         unit: &[Cell],
     ) -> Result<(), InstanceFault>
         ensures { let after = arguments_set self.old memory.old ihandle arguments.now unit.now in
-            Answers result (self.old, memory.old) (self.new, memory.new) after }
+            Answers after (self.old, memory.old) (self.new, memory.new) result }
     {
         let Some(number) = number_of(ihandle, self.made.len()) else {
             return Err(InstanceFault::NoInstance);
@@ -403,7 +404,7 @@ impl Instances {
         template: Template,
     ) -> Result<usize, InstanceFault>
         ensures { let after = slotted self.old memory.old «package» template in
-            Adds result (self.old, memory.old) (self.new, memory.new) after }
+            MayAnswer IsForMemory after (self.old, memory.old) (self.new, memory.new) result }
     {
         let number = self.slots.len();
         let place = own_count(&self.slots, package);

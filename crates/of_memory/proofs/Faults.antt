@@ -1,5 +1,6 @@
 -- The fault of a read or a write, case by case.
 use Rattle.std.proofs.Common.{◌≡◌, ◌≢◌, ℕ, ◌%◌, ◌<◌, Bool, true, false, ◌⊎◌, inl, inr, eqb, Option, Some, None, Ok, Err}
+use Rattle.std.proofs.lemmas.Bool.{ne_eqb}
 use Rattle.std.proofs.Common.{refl, arith}
 use Rattle.std.proofs.lemmas.Grind.{common_steps}
 use Rattle.of_memory.specs.declared.fault.MemFault.{MemFault}
@@ -14,9 +15,6 @@ use Rattle.of_memory.proofs.Readable.{range_placed}
 some_not_none : (n : ℕ) → 0 < n → eqb n 0 ≡ false
 some_not_none n l = grind (arith, common_steps)
 
-differs : (n : ℕ) → n ≢ 0 → eqb n 0 ≡ false
-differs n l = grind (arith, common_steps)
-
 pub address_fault :
     (m : DataSpace) (a n : ℕ) (w : Width) → 0 < n → are_readable m a n ≡ false → read_fault m a n w ≡ Some Address
 unfolding read_fault
@@ -26,7 +24,7 @@ pub alignment_fault :
     (m : DataSpace) (a n : ℕ) (w : Width) → 0 < n → are_readable m a n ≡ true → a % bytes_in w ≢ 0
     → read_fault m a n w ≡ Some Alignment
 unfolding read_fault
-alignment_fault m a n w some test odd = rw (some_not_none n some, test, differs (a % bytes_in w) odd) refl
+alignment_fault m a n w some test odd = rw (some_not_none n some, test, ne_eqb (a % bytes_in w) 0 odd) refl
 
 pub no_fault :
     (m : DataSpace) (a n : ℕ) (w : Width) → 0 < n → are_readable m a n ≡ true → a % bytes_in w ≡ 0

@@ -1,5 +1,6 @@
 -- What stands behind the first blocks, among which there is no gap.
 use Rattle.std.proofs.Common.{◌≡◌, ℕ, ◌+◌, ◌*◌, ◌-◌, ◌/◌, ◌%◌, ◌<◌, ◌≤◌, zero, suc, length, take, drop, get_or, Bool}
+use Rattle.std.proofs.lemmas.Bool.{le-leb}
 use Rattle.std.proofs.Common.{true, false, ◌&&◌, nat_le, List, [], ◌∷◌, inl, inr, None, add-zero, add-one, refl}
 use Rattle.std.proofs.Common.{arith}
 use Rattle.std.specs.List.{insert, remove}
@@ -7,7 +8,7 @@ use Rattle.std.proofs.lemmas.List.{length-drop, take_all}
 use Rattle.of_memory.specs.declared.blocks.Block.{Block}
 use Rattle.of_memory.specs.Blocks.{AreLaid, IsFree, meets_none, least_free, first_of_eighths}
 use Rattle.of_memory.specs.BlockSearch.{IsFilled, IsGap, first_end}
-use Rattle.of_memory.proofs.Free.{sides, meets_rest, le_true, least_free_none, true_or_false}
+use Rattle.of_memory.proofs.Free.{sides, meets_rest, least_free_none, true_or_false}
 use Rattle.of_memory.proofs.Gap.{IsGapFrom, later, from_start, low_eighth}
 
 -- ---- where the first blocks end
@@ -130,7 +131,7 @@ no_free low high size x bs eighth some eighths e f =
     let k = (x - low) / 8 in
     let at : low + 8 * k ≡ x = omega (arith, f.aligned, f.from, eighth) in
     let fits : ℕ → Bool = λ y. nat_le (y + size) high && meets_none bs size y in
-    let holds : fits x ≡ true = rw (le_true (x + size) high f.to) f.apart in
+    let holds : fits x ≡ true = rw (le-leb (x + size) high f.to) f.apart in
     fails fits low ((high - low) / 8) k e (omega (arith, f.aligned, f.from, f.to, eighth, some, eighths)) (rw at holds)
 
 free_behind : (low high size x : ℕ) (bs : List Block) (n : ℕ) → IsFilled low bs n → 0 < size

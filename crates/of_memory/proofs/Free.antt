@@ -2,18 +2,9 @@
 use Rattle.std.proofs.Common.{◌≡◌, ℕ, ◌+◌, ◌-◌, ◌*◌, ◌/◌, ◌%◌, ◌<◌, ◌≤◌, zero, suc, nat_le, Bool, true, false, ◌&&◌}
 use Rattle.std.proofs.Common.{◌||◌, List, ◌∷◌, ◌⊎◌, inl, inr, Some, None, add-zero, refl, sym, ap, ◌∙◌, arith}
 use Rattle.std.proofs.lemmas.Grind.{common_steps}
-use Rattle.std.proofs.lemmas.Bool.{false≢true}
+use Rattle.std.proofs.lemmas.Bool.{false≢true, le-leb, leb-true, lt-leb}
 use Rattle.of_memory.specs.declared.blocks.Block.{Block}
 use Rattle.of_memory.specs.Blocks.{IsFree, IsLeastFree, meets_none, least_free, first_of_eighths}
-
-pub le_true : (x y : ℕ) → x ≤ y → nat_le x y ≡ true
-le_true x y h = grind (arith, common_steps)
-
-pub le_false : (x y : ℕ) → y < x → nat_le x y ≡ false
-le_false x y h = grind (arith, common_steps)
-
-pub le_from : (x y : ℕ) → nat_le x y ≡ true → x ≤ y
-le_from x y h = grind (arith, common_steps)
 
 pub true_or_false : (p : Bool) → (p ≡ true) ⊎ (p ≡ false)
 true_or_false true = inl refl
@@ -42,8 +33,8 @@ pub sides :
 sides b bs size x e =
     elim (either (nat_le (x + size) b.at) (nat_le (b.at + b.size) x)
     (and_first (nat_le (x + size) b.at || nat_le (b.at + b.size) x) (meets_none bs size x) e)) [
-      | inl h ↦ inl (le_from (x + size) b.at h)
-      | inr h ↦ inr (le_from (b.at + b.size) x h)
+      | inl h ↦ inl (leb-true (x + size) b.at h)
+      | inr h ↦ inr (leb-true (b.at + b.size) x h)
     ]
 
 pub meets_rest :
@@ -54,7 +45,7 @@ pub above :
     (b : Block) (bs : List Block) (size x : ℕ) → b.at + b.size ≤ x → meets_none bs size x ≡ true
     → meets_none (b ∷ bs) size x ≡ true
 above b bs size x l e =
-    rw (or_second (nat_le (x + size) b.at) (nat_le (b.at + b.size) x) (le_true (b.at + b.size) x l)) e
+    rw (or_second (nat_le (x + size) b.at) (nat_le (b.at + b.size) x) (le-leb (b.at + b.size) x l)) e
 
 first_some :
     (p : ℕ → Bool) (a n k : ℕ) → k < n → p (a + 8 * k) ≡ true → ((j : ℕ) → j < k → p (a + 8 * j) ≡ false)
@@ -80,7 +71,7 @@ fits high bs size a = nat_le (a + size) high && meets_none bs size a
 
 fits_true :
     (high size a : ℕ) (bs : List Block) → a + size ≤ high → meets_none bs size a ≡ true → fits high bs size a ≡ true
-fits_true high size a bs l e = rw (le_true (a + size) high l) e
+fits_true high size a bs l e = rw (le-leb (a + size) high l) e
 
 fits_false :
     (low high size a : ℕ) (bs : List Block) → a % 8 ≡ 0 → low ≤ a → (IsFree low high bs size a → ⊥)
@@ -90,7 +81,7 @@ fits_false low high size a bs eighth from taken' =
       | inl t ↦ absurd (taken' (record {
         aligned = eighth;
         from = from;
-        to = le_from (a + size) high (and_first (nat_le (a + size) high) (meets_none bs size a) t);
+        to = leb-true (a + size) high (and_first (nat_le (a + size) high) (meets_none bs size a) t);
         apart = and_second (nat_le (a + size) high) (meets_none bs size a) t;
       }))
       | inr f ↦ f

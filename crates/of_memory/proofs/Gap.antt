@@ -4,12 +4,12 @@ use Rattle.std.proofs.Common.{◌∷◌, inl, inr, Option, Some, None, if◌then
 use Rattle.std.specs.List.{insert}
 use Rattle.std.proofs.lemmas.Grind.{common_steps}
 use Rattle.std.proofs.lemmas.List.Edits.{length-insert}
-use Rattle.std.proofs.lemmas.Bool.{cases_lt}
+use Rattle.std.proofs.lemmas.Bool.{cases_lt, le-leb, lt-leb}
 use Rattle.of_memory.specs.declared.blocks.Block.{Block}
 use Rattle.of_memory.specs.Blocks.{AreLaid, IsLaid, IsFree, meets_none, with_block, least_free}
 use Rattle.of_memory.specs.BlockSearch.{IsGap, block_at}
 use Rattle.of_memory.proofs.Laid.{laid_ordered, laid_count}
-use Rattle.of_memory.proofs.Free.{le_true, le_false, sides, meets_rest, above, least_free_some, least_free_none}
+use Rattle.of_memory.proofs.Free.{sides, meets_rest, above, least_free_some, least_free_none}
 
 -- The first gap of so many bytes: the number of blocks before it, counted from i, and its address.
 abbrev pub gap : ℕ → ℕ → ℕ → ℕ → List Block → Option (ℕ × ℕ)
@@ -32,7 +32,7 @@ beyond :
 beyond low high [] x size h l = refl
 beyond low high (b ∷ bs) x size h l =
     let rest : meets_none bs size x ≡ true = beyond (b.at + b.size) high bs x size h.1 (omega (arith, h.0.above)) in
-    rw (le_true (x + size) b.at (omega (arith, h.0.above))) rest
+    rw (le-leb (x + size) b.at (omega (arith, h.0.above))) rest
 
 no_pair : (x : ℕ × ℕ) → None ≡ Some x → ⊥
 no_pair x e = cc
@@ -125,20 +125,20 @@ pub gap_some :
     → gap high size i low bs ≡ Some (j, a) → IsGapFrom low high size i j a bs
 gap_some low high size i j a [] laid some eighths e =
     elim (cases_lt high (low + size)) [
-      | inl l ↦ absurd (no_pair (j, a) (rw (le_false (low + size) high l) at e))
+      | inl l ↦ absurd (no_pair (j, a) (rw (lt-leb (low + size) high l) at e))
       | inr l ↦
-          let yes : ◌≡◌ {A = Option (ℕ × ℕ)} (Some (i, low)) (Some (j, a)) = rw (le_true (low + size) high l) at e in
+          let yes : ◌≡◌ {A = Option (ℕ × ℕ)} (Some (i, low)) (Some (j, a)) = rw (le-leb (low + size) high l) at e in
           moved low high size i j a [] (same_index i low j a yes) (same_address i low j a yes)
           (here low high size i [] laid.1 l refl (at_low low size laid.1 some eighths, (l, omega (arith, laid.1))) refl)
     ]
 gap_some low high size i j a (b ∷ bs) laid some eighths e =
     elim (cases_lt b.at (low + size)) [
       | inl l ↦
-          let on : gap high size (i + 1) (b.at + b.size) bs ≡ Some (j, a) = rw (le_false (low + size) b.at l) at e in
+          let on : gap high size (i + 1) (b.at + b.size) bs ≡ Some (j, a) = rw (lt-leb (low + size) b.at l) at e in
           later low high size i j a b bs laid l
           (gap_some (b.at + b.size) high size (i + 1) j a bs laid.1 some eighths on)
       | inr l ↦
-          let yes : ◌≡◌ {A = Option (ℕ × ℕ)} (Some (i, low)) (Some (j, a)) = rw (le_true (low + size) b.at l) at e in
+          let yes : ◌≡◌ {A = Option (ℕ × ℕ)} (Some (i, low)) (Some (j, a)) = rw (le-leb (low + size) b.at l) at e in
           let end : b.at + b.size ≤ high = laid_ordered (b.at + b.size) high bs laid.1 in
           moved low high size i j a (b ∷ bs) (same_index i low j a yes) (same_address i low j a yes)
           (here low high size i (b ∷ bs) laid.0.low_eighth (omega arith)
@@ -156,39 +156,39 @@ pub gap_none :
 gap_none low high size i [] laid some e x f =
     elim (cases_lt high (low + size)) [
       | inl l ↦ omega (arith, f.from, f.to)
-      | inr l ↦ no_pair (i, low) (sym (rw (le_true (low + size) high l) at e))
+      | inr l ↦ no_pair (i, low) (sym (rw (le-leb (low + size) high l) at e))
     ]
 gap_none low high size i (b ∷ bs) laid some e x f =
     elim (cases_lt b.at (low + size)) [
       | inl l ↦
-          let on : gap high size (i + 1) (b.at + b.size) bs ≡ None = rw (le_false (low + size) b.at l) at e in
+          let on : gap high size (i + 1) (b.at + b.size) bs ≡ None = rw (lt-leb (low + size) b.at l) at e in
           elim (sides b bs size x f.apart) [
             | inl k ↦ omega (arith, f.from)
             | inr k ↦ gap_none (b.at + b.size) high size (i + 1) bs laid.1 some on x
                 (record { aligned = f.aligned; from = k; to = f.to; apart = meets_rest b bs size x f.apart })
           ]
-      | inr l ↦ no_pair (i, low) (sym (rw (le_true (low + size) b.at l) at e))
+      | inr l ↦ no_pair (i, low) (sym (rw (le-leb (low + size) b.at l) at e))
     ]
 
 -- before the next block
 pub gap_here :
     (high size i low : ℕ) (b : Block) (bs rest : List Block) → bs ≡ b ∷ rest → low + size ≤ b.at
     → gap high size i low bs ≡ Some (i, low)
-gap_here high size i low b bs rest e l = rw (e, le_true (low + size) b.at l) refl
+gap_here high size i low b bs rest e l = rw (e, le-leb (low + size) b.at l) refl
 
 -- beyond all blocks
 pub gap_last :
     (high size i low : ℕ) (bs : List Block) → bs ≡ [] → low + size ≤ high → gap high size i low bs ≡ Some (i, low)
-gap_last high size i low bs e l = rw (e, le_true (low + size) high l) refl
+gap_last high size i low bs e l = rw (e, le-leb (low + size) high l) refl
 
 pub gap_full : (high size i low : ℕ) (bs : List Block) → bs ≡ [] → high < low + size → gap high size i low bs ≡ None
-gap_full high size i low bs e l = rw (e, le_false (low + size) high l) refl
+gap_full high size i low bs e l = rw (e, lt-leb (low + size) high l) refl
 
 -- one block on
 pub gap_step :
     (high size i low : ℕ) (b : Block) (bs rest : List Block) → bs ≡ b ∷ rest → b.at < low + size
     → gap high size (i + 1) (b.at + b.size) rest ≡ gap high size i low bs
-gap_step high size i low b bs rest e l = rw (e, le_false (low + size) b.at l) refl
+gap_step high size i low b bs rest e l = rw (e, lt-leb (low + size) b.at l) refl
 
 pub low_eighth : (low high : ℕ) (bs : List Block) → AreLaid low high bs → low % 8 ≡ 0
 low_eighth low high [] h = h.1

@@ -1,5 +1,6 @@
 -- What fits in the property and image regions.
 use Rattle.std.proofs.Common.{◌≡◌, ℕ, ◌+◌, ◌<◌, ◌≤◌, nat_le, nat_lt, true, false, ◌&&◌, ◌⊎◌, List, [], ◌∷◌}
+use Rattle.std.proofs.lemmas.Bool.{le-leb, lt-leb}
 use Rattle.std.proofs.Common.{length, Result, Ok, Err, lit≤, refl, arith}
 use Rattle.std.proofs.lemmas.Bool.Decides.{nat_tests}
 use Rattle.of_memory.specs.Regions.{image_limit, image_count}
@@ -8,12 +9,6 @@ use Rattle.of_memory.specs.declared.fault.MemFault.TheVariants.{Full}
 use Rattle.of_memory.specs.DataSpace.{DataSpace, AreStacked, written, free_after}
 use Rattle.of_memory.specs.Access.{with_read}
 use Rattle.of_memory.specs.Growth.{image_pushed}
-
-at_most : (x y : ℕ) → x ≤ y → nat_le x y ≡ true
-at_most x y l = grind (arith, nat_tests)
-
-above : (x y : ℕ) → y < x → nat_le x y ≡ false
-above x y l = grind (arith, nat_tests)
 
 below : (x y : ℕ) → x < y → nat_lt x y ≡ true
 below x y l = grind (arith, nat_tests)
@@ -39,7 +34,7 @@ pub image_fits :
     → free_after m.images + n ≤ image_limit → length m.images < image_count
     → with_read r (image_pushed m) ≡ Ok (free_after m.images, imaged m xs n)
 image_fits m r xs n e len fits few =
-    rw (e, len, at_most (free_after m.images + n) image_limit fits, below (length m.images) image_count few) refl
+    rw (e, len, le-leb (free_after m.images + n) image_limit fits, below (length m.images) image_count few) refl
 
 -- and one that doesn't
 pub image_full :

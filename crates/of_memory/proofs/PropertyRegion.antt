@@ -1,5 +1,6 @@
 -- The property region from its first property on changes by puts of properties alone.
 use Rattle.std.proofs.Common.{◌≡◌, ℕ, ◌+◌, ◌-◌, ◌/◌, ◌%◌, ◌<◌, ◌≤◌, nat_lt, Bool, true, false}
+use Rattle.std.proofs.Math.Nat.{mod-one}
 use Rattle.std.proofs.Common.{◌⊎◌, inl, inr, List, [], ◌∷◌, ◌++◌, length, take, drop, replicate, None}
 use Rattle.std.proofs.Common.{Result, Ok, Err, refl, ap, sym, ◌∙◌, arith}
 use Rattle.std.proofs.lemmas.Bool.{cases_eq, cases_lt, lt-ltb}
@@ -41,14 +42,11 @@ byte_open m a from to =
     let small : nat_lt (a % span) 131072 ≡ true = lt-ltb (a % span) 131072 (omega arith) in
     rw (region, small) refl
 
-one_divides : (a : ℕ) → a % 1 ≡ 0
-one_divides a = omega arith
-
 open_range : (m : DataSpace) (a n : ℕ) → first_property ≤ a → a + n ≤ property_limit → read_fault m a n One ≡ None
 open_range m a n from to =
     good_read m a n One
     (all_true (is_readable m) a n (λ k l. byte_open m (a + k) (omega (arith, from)) (omega (arith, l, to))))
-    (one_divides a)
+    (mod-one a)
 
 keeps : (m after : DataSpace)
     → ((a n : ℕ) → first_property ≤ a → a + n ≤ property_limit → bytes_from after a n ≡ bytes_from m a n)

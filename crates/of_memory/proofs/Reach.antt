@@ -2,7 +2,7 @@
 use Rattle.std.proofs.Common.{◌≡◌, ℕ, zero, suc, length, get_or, drop, find, None, add-one, ◌+◌, ◌-◌, ◌<◌, ◌≤◌, nat_le}
 use Rattle.std.proofs.Common.{Bool, true, false, ◌||◌, List, [], ◌∷◌, ◌⊎◌, inl, inr, refl, sym, subst, ◌∙◌, arith}
 use Rattle.std.proofs.lemmas.Grind.{common_steps}
-use Rattle.std.proofs.lemmas.Bool.{cases_lt}
+use Rattle.std.proofs.lemmas.Bool.{cases_lt, le-leb, lt-leb}
 use Rattle.of_memory.specs.Regions.{heap_limit, heap_start}
 use Rattle.of_memory.specs.declared.blocks.Block.{Block}
 use Rattle.of_memory.specs.Access.{all_from}
@@ -108,12 +108,6 @@ reach_end low high (b ∷ bs) x h =
       ]
     ]
 
-pub over : (x y : ℕ) → y < x → nat_le x y ≡ false
-over x y l = grind (arith, common_steps)
-
-pub within : (x y : ℕ) → x ≤ y → nat_le x y ≡ true
-within x y l = grind (arith, common_steps)
-
 -- blocks that end by the address are no matter
 pub reach_drop :
     (low high : ℕ) (bs : List Block) (i x : ℕ) (d : Block) → AreLaid low high bs → i < length bs
@@ -170,8 +164,8 @@ all_live bs a n laid =
           let k = reach bs a - a in
           let at : a + k ≡ reach bs a = omega arith in
           let dead : is_live bs (a + k) ≡ false = rw at (reach_end heap_start heap_limit bs a laid) in
-          all_false (is_live bs) a n k (omega arith) dead ∙ sym (over (a + n) (reach bs a) l)
+          all_false (is_live bs) a n k (omega arith) dead ∙ sym (lt-leb (a + n) (reach bs a) l)
       | inr l ↦
           all_true (is_live bs) a n (λ k h. reach_live bs a (a + k) (omega arith) (omega arith))
-          ∙ sym (within (a + n) (reach bs a) l)
+          ∙ sym (le-leb (a + n) (reach bs a) l)
     ]

@@ -439,6 +439,7 @@ at_first = record {
 pub changes_stay_sound : ChangesStaySound
 changes_stay_sound = record {
   at_first = at_first;
+  number = high_bytes;
   by_write = by_write;
   by_bytes = by_bytes;
   by_fill = by_fill;

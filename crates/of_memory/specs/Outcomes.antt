@@ -1,28 +1,27 @@
--- What a call answered, and what it left: the data space, or all that it may change.
-use Rattle.std.specs.Prelude.{ℕ, ◌≡◌, ◌⊎◌, Result, Ok, Err}
+-- What calls on the data space answered, as numbers, and which of their faults are for memory.
+use Rattle.std.specs.Prelude.{ℕ, ◌≡◌, Result, Ok, Err}
 use Rattle.of_cells.specs.declared.cells.Cell.{Cell}
 use Rattle.of_memory.specs.declared.fault.MemFault.{MemFault}
 use Rattle.of_memory.specs.declared.fault.MemFault.TheVariants.{NoMemory}
 
--- the call ended and left what `after` says, or gave its fault and changed nothing
-abbrev pub Becomes : {A S : Type 0} → Result A MemFault → S → S → Result S MemFault → Type 0
-Becomes (Ok x) old new after = after ≡ Ok new
-Becomes (Err e) old new after = (after ≡ Err e) × (new ≡ old)
+-- the address that was answered, as a number
+abbrev pub address_of : Result Cell MemFault → Result ℕ MemFault
+address_of (Ok a) = Ok a.0
+address_of (Err e) = Err e
 
--- the call answered the address and left what `after` says, or gave its fault and changed nothing
-abbrev pub Answers : {S : Type 0} → Result Cell MemFault → S → S → Result (ℕ × S) MemFault → Type 0
-Answers (Ok a) old new after = after ≡ Ok (a.0, new)
-Answers (Err e) old new after = (after ≡ Err e) × (new ≡ old)
+-- both addresses
+abbrev pub addresses_of : Result (Cell × Cell) MemFault → Result (ℕ × ℕ) MemFault
+addresses_of (Ok a) = Ok (a.0.0, a.1.0)
+addresses_of (Err e) = Err e
 
--- the same for a call that answers two addresses
-abbrev pub AnswersTwo : {S : Type 0} → Result (Cell × Cell) MemFault → S → S → Result (ℕ × ℕ × S) MemFault → Type 0
-AnswersTwo (Ok a) old new after = after ≡ Ok (a.0.0, a.1.0, new)
-AnswersTwo (Err e) old new after = (after ≡ Err e) × (new ≡ old)
+-- an answer of two numbers beside what is left
+abbrev pub paired : {S : Type 0} → Result (ℕ × ℕ × S) MemFault → Result ((ℕ × ℕ) × S) MemFault
+paired (Ok x) = Ok ((x.0, x.1), x.2)
+paired (Err e) = Err e
 
--- the same for a call that may also find no memory for its list of blocks, and then changes nothing
-abbrev pub Takes : {S : Type 0} → Result Cell MemFault → S → S → Result (ℕ × S) MemFault → Type 0
-Takes (Ok a) old new after = after ≡ Ok (a.0, new)
-Takes (Err e) old new after = (new ≡ old) × ((e ≡ NoMemory) ⊎ (after ≡ Err e))
+-- a growth was refused
+abbrev pub IsForMemory : MemFault → Type 0
+IsForMemory e = e ≡ NoMemory
 
 -- the call takes no memory: it is never refused for that
 abbrev pub TakesNoMemory : {A : Type 0} → Result A MemFault → Type 0

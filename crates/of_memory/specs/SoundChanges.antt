@@ -1,4 +1,5 @@
 -- A data space is sound at first, and each change leaves a sound one sound.
+use Rattle.std.specs.Int.{bytes_high_first}
 use Rattle.std.specs.List.{All}
 use Rattle.std.specs.Prelude.{ℕ, ◌+◌, ◌<◌, ◌≤◌, ◌≡◌, Bool, List, length, Ok}
 use Rattle.of_cells.specs.declared.cells.Cell.{Cell}
@@ -14,9 +15,11 @@ use Rattle.of_memory.specs.declared.width.Width.{Width}
 abbrev pub AreBytes : List ℕ → Type 0
 AreBytes xs = All (λ b. b < 256) xs
 
--- The data space at first, what each call leaves, and bytes that are written among the bytes of all regions.
+-- The data space at first, what each call leaves, and bytes that are written among the bytes of all regions; and a
+-- number's bytes are bytes.
 pub record ChangesStaySound : Type 0 where
   pub at_first : IsSound fresh
+  pub number : (count n : ℕ) → AreBytes (bytes_high_first count n)
   -- reads and writes
   pub by_write : (w : Width) (m after : DataSpace) (a x : ℕ) → IsSound m → write w m a x ≡ Ok after → IsSound after
   pub by_bytes : (m after : DataSpace) (a : ℕ) (xs : List ℕ) → IsSound m → AreBytes xs

@@ -6,7 +6,8 @@ ghost use Rattle.of_memory.specs.Regions.{longest, heap_start, heap_limit};
 ghost use Rattle.of_memory.specs.Blocks.{AreLaid, IsLeastFree, holds, is_block, is_live, least_free, rounded};
 ghost use Rattle.of_memory.specs.BlockSearch.{IsFilled, IsGap, begun, block_at, find_room, first_end, reach};
 ghost use Rattle.of_memory.specs.BlockCalls.{block_taken, block_given};
-ghost use Rattle.of_memory.specs.Outcomes.{Becomes, Takes, TakesNoMemory};
+ghost use Rattle.of_cells.specs.Outcomes.{Becomes, MayAnswer};
+ghost use Rattle.of_memory.specs.Outcomes.{IsForMemory, TakesNoMemory, address_of};
 
 use crate::fault::MemFault;
 use crate::regions::LONGEST;
@@ -202,7 +203,7 @@ pub(crate) fn take_block(
     requires short { high ≤ low + longest }
     requires fits { high + longest < 2 ^ 31 }
     ensures taken { let old = list.old.blocks.items in
-        Takes result old list.new.blocks.items (block_taken low high old len) }
+        MayAnswer IsForMemory (block_taken low high old len) old list.new.blocks.items (address_of result) }
     ensures laid { AreLaid low high list.new.blocks.items }
     ensures filled { IsFilled low list.new.blocks.items list.new.filled }
     ensures least { IfOk result (λ a. IsLeastFree low high list.old.blocks.items (rounded len) a.0) }
@@ -267,7 +268,7 @@ pub(crate) fn give_block(
     requires filled { IsFilled low list.old.blocks.items list.old.filled }
     requires short { high ≤ low + longest }
     ensures given { let old = list.old.blocks.items in
-        Becomes result old list.new.blocks.items (block_given old addr len) }
+        Becomes (block_given old addr len) old list.new.blocks.items result }
     ensures laid { AreLaid low high list.new.blocks.items }
     ensures filled { IsFilled low list.new.blocks.items list.new.filled }
     ensures memory { TakesNoMemory result }

@@ -3,7 +3,7 @@ use Rattle.std.proofs.Common.{◌≡◌, ◌≢◌, ◌↔◌, ℕ, zero, suc, �
 use Rattle.std.proofs.Common.{Bool, true, false, ◌⊎◌, inl, inr, List, [], ◌∷◌, ◌++◌, length, Option, Some, None}
 use Rattle.std.proofs.Common.{append_assoc, if◌then◌else◌, refl, ap, sym, ◌∙◌, arith}
 use Rattle.std.specs.List.{AllByRecursion, list_all}
-use Rattle.std.proofs.lemmas.Bool.{and_parts}
+use Rattle.std.proofs.lemmas.Bool.{and_parts, le-leb, leb-true}
 use Rattle.std.proofs.lemmas.Bool.Decides.{nat_tests}
 use Rattle.std.proofs.lemmas.List.{append-nil}
 use Rattle.byteorder.specs.Endian.{big_bytes, big_number}
@@ -24,12 +24,6 @@ use Rattle.of_nodes.proofs.MethodsAreFound.{same_is}
 
 -- ---- names
 
-le_is : (a b : ℕ) → nat_le a b ≡ true → a ≤ b
-le_is a b e = grind (arith, nat_tests)
-
-le_true : (a b : ℕ) → a ≤ b → nat_le a b ≡ true
-le_true a b e = grind (arith, nat_tests)
-
 not_equal : (a b : ℕ) → not (a == b) ≡ true → a ≢ b
 not_equal a b e = grind (arith, nat_tests)
 
@@ -44,8 +38,8 @@ byte_is b e =
     let r = and_parts low (not (b == 47)) q.0 in
     let s = and_parts (nat_le 0x21 b) (nat_le b 0x7e) r.0 in
     record {
-      from = le_is 0x21 b s.0;
-      to = le_is b 0x7e s.1;
+      from = leb-true 0x21 b s.0;
+      to = leb-true b 0x7e s.1;
       slash = not_equal b 47 r.1;
       colon = not_equal b 58 q.1;
       at = not_equal b 64 p.1;
@@ -53,7 +47,7 @@ byte_is b e =
 
 byte_good : (b : ℕ) → IsNameByte b → is_name_byte b ≡ true
 byte_good b h =
-    rw (le_true 0x21 b h.from, le_true b 0x7e h.to, differs b 47 h.slash, differs b 58 h.colon, differs b 64 h.at) refl
+    rw (le-leb 0x21 b h.from, le-leb b 0x7e h.to, differs b 47 h.slash, differs b 58 h.colon, differs b 64 h.at) refl
 
 bytes_are : (xs : List ℕ) → list_all is_name_byte xs ≡ true → AllByRecursion IsNameByte xs
 bytes_are [] e = tt
@@ -72,24 +66,24 @@ name_is : (xs : List ℕ) → is_name xs ≡ true → IsName xs
 name_is xs e =
     let p = and_parts (nat_le 1 (length xs) && nat_le (length xs) 31) (list_all is_name_byte xs) e in
     let q = and_parts (nat_le 1 (length xs)) (nat_le (length xs) 31) p.0 in
-    record { some = le_is 1 (length xs) q.0; short = le_is (length xs) 31 q.1; bytes = bytes_are xs p.1 }
+    record { some = leb-true 1 (length xs) q.0; short = leb-true (length xs) 31 q.1; bytes = bytes_are xs p.1 }
 
 name_good : (xs : List ℕ) → IsName xs → is_name xs ≡ true
 name_good xs h =
     all_true (nat_le 1 (length xs)) (nat_le (length xs) 31) (list_all is_name_byte xs)
-    (le_true 1 (length xs) h.some) (le_true (length xs) 31 h.short) (bytes_good xs h.bytes)
+    (le-leb 1 (length xs) h.some) (le-leb (length xs) 31 h.short) (bytes_good xs h.bytes)
 
 method_is : (xs : List ℕ) → is_method_name xs ≡ true → (1 ≤ length xs) × (length xs ≤ 31)
 method_is xs e =
     let q = and_parts (nat_le 1 (length xs)) (nat_le (length xs) 31) e in
-    (le_is 1 (length xs) q.0, le_is (length xs) 31 q.1)
+    (leb-true 1 (length xs) q.0, leb-true (length xs) 31 q.1)
 
 both_true : (a b : Bool) → a ≡ true → b ≡ true → (a && b) ≡ true
 both_true a b p q = rw (p, q) refl
 
 method_good : (xs : List ℕ) → (1 ≤ length xs) × (length xs ≤ 31) → is_method_name xs ≡ true
 method_good xs h =
-    both_true (nat_le 1 (length xs)) (nat_le (length xs) 31) (le_true 1 (length xs) h.0) (le_true (length xs) 31 h.1)
+    both_true (nat_le 1 (length xs)) (nat_le (length xs) 31) (le-leb 1 (length xs) h.0) (le-leb (length xs) 31 h.1)
 
 -- ---- counts
 

@@ -1,5 +1,6 @@
 -- Components of paths: what they are made of, and that each fits its own node.
 use Rattle.std.proofs.Common.{◌≡◌, ℕ, zero, suc, ◌*◌, ◌/◌, ◌%◌, ◌<◌, ◌==◌, nat_lt, nat_le, Bool, true}
+use Rattle.std.proofs.lemmas.Bool.{and_parts}
 use Rattle.std.proofs.Common.{false, ◌&&◌, not, List, [], ◌∷◌, ◌++◌, length, drop, Option, Some, None, refl, ap}
 use Rattle.std.proofs.Common.{◌∙◌, arith, if◌then◌else◌, codes}
 use Rattle.std.specs.List.{list_all}
@@ -17,12 +18,6 @@ use Rattle.of_nodes.specs.Names.{is_name_byte}
 use Rattle.of_nodes.specs.Properties.{same_name}
 use Rattle.of_nodes.specs.Texts.{before, behind}
 
--- bytes of names, and so no slash, colon or at
-pub both : (a b : Bool) → (a && b) ≡ true → (a ≡ true) × (b ≡ true)
-both true true h = (refl, refl)
-both true false h = cc
-both false b h = cc
-
 opposite : (a : Bool) → not a ≡ true → a ≡ false
 opposite true h = cc
 opposite false h = refl
@@ -35,9 +30,9 @@ record IsPlain (x : ℕ) : Type 0 where
 plain : (x : ℕ) → is_name_byte x ≡ true → IsPlain x
 plain x h =
     let low = nat_le 0x21 x && nat_le x 0x7e in
-    let a = both (low && not (x == 47) && not (x == 58)) (not (x == 64)) h in
-    let b = both (low && not (x == 47)) (not (x == 58)) a.0 in
-    let c = both low (not (x == 47)) b.0 in
+    let a = and_parts (low && not (x == 47) && not (x == 58)) (not (x == 64)) h in
+    let b = and_parts (low && not (x == 47)) (not (x == 58)) a.0 in
+    let c = and_parts low (not (x == 47)) b.0 in
     record {
       slash = opposite (x == 47) c.1;
       colon = opposite (x == 58) b.1;
@@ -52,7 +47,7 @@ last_good : (xs : List ℕ) (x : ℕ) → list_all is_name_byte xs ≡ true → 
     → list_all is_name_byte (xs ++ x ∷ []) ≡ true
 last_good [] x h e = rw e refl
 last_good (y ∷ ys) x h e =
-    let b = both (is_name_byte y) (list_all is_name_byte ys) h in
+    let b = and_parts (is_name_byte y) (list_all is_name_byte ys) h in
     rw (b.0, last_good ys x b.1 e) refl
 
 joined_good : (xs ys : List ℕ) → list_all is_name_byte xs ≡ true → list_all is_name_byte ys ≡ true
@@ -104,7 +99,7 @@ whole b [] h = record {
   rest = λ ys. rw (itself b) refl;
 }
 whole b (x ∷ xs) h =
-    let g = both (not (x == b)) (lacks b xs) h in
+    let g = and_parts (not (x == b)) (lacks b xs) h in
     let d = opposite (x == b) g.0 in
     let w : IsWhole b xs = whole b xs g.1 in
     record {
@@ -123,7 +118,7 @@ pub record IsClear (xs : List ℕ) : Type 0 where
 pub clear : (xs : List ℕ) → list_all is_name_byte xs ≡ true → IsClear xs
 clear [] h = record { slash = refl; colon = refl; at = refl }
 clear (x ∷ xs) h =
-    let g = both (is_name_byte x) (list_all is_name_byte xs) h in
+    let g = and_parts (is_name_byte x) (list_all is_name_byte xs) h in
     let one : IsPlain x = plain x g.0 in
     let more : IsClear xs = clear xs g.1 in
     record {

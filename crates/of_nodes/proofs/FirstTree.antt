@@ -1,5 +1,6 @@
 -- The tree at first, node by node.
 use Rattle.std.proofs.Common.{◌≡◌, ℕ, ◌+◌, ◌<◌, ◌≤◌, nat_le, Bool, true, false, List, [], ◌∷◌, ◌++◌, codes, length}
+use Rattle.std.proofs.lemmas.Bool.{le-leb, leb-true, lt-leb}
 use Rattle.std.proofs.Common.{Result, Ok, Err, refl, ap, ◌∙◌, arith}
 use Rattle.std.proofs.lemmas.Bool.Decides.{nat_tests}
 use Rattle.of_memory.specs.DataSpace.{DataSpace}
@@ -64,25 +65,16 @@ all_made m m1 m2 m3 ns ns2 ns3 f g h = third_is m m1 m2 ns ns2 (Ok (ns3, m3)) f 
 
 -- ---- room for a name
 
-le_true : (a b : ℕ) → a ≤ b → nat_le a b ≡ true
-le_true a b l = grind (arith, nat_tests)
-
-le_false : (a b : ℕ) → b < a → nat_le a b ≡ false
-le_false a b l = grind (arith, nat_tests)
-
-is_le : (a b : ℕ) → nat_le a b ≡ true → a ≤ b
-is_le a b e = grind (arith, nat_tests)
-
 is_more : (a b : ℕ) → nat_le a b ≡ false → b < a
 is_more a b e = grind (arith, nat_tests)
 
 put_ok : (m : DataSpace) (xs : List ℕ) → aligned m.properties_end + length xs ≤ property_limit
     → property_put m xs ≡ Ok (aligned m.properties_end, put_at m (aligned m.properties_end) xs)
-put_ok m xs l = rw (le_true (aligned m.properties_end + length xs) property_limit l) refl
+put_ok m xs l = rw (le-leb (aligned m.properties_end + length xs) property_limit l) refl
 
 put_full : (m : DataSpace) (xs : List ℕ) → property_limit < aligned m.properties_end + length xs
     → property_put m xs ≡ Err Full
-put_full m xs l = rw (le_false (aligned m.properties_end + length xs) property_limit l) refl
+put_full m xs l = rw (lt-leb (aligned m.properties_end + length xs) property_limit l) refl
 
 -- where the value of a name ends that is put next
 abbrev end_with : DataSpace → List ℕ → ℕ
@@ -126,7 +118,7 @@ full_if : (t : Bool) (ns : List Node) (m : DataSpace) (value : List ℕ)
     → named_child ns m 0 value ≡ Err PropertyFull
 full_if true ns m value e l =
     let a = aligned m.properties_end in
-    ap (node_of_name ns value) (put_ok m (codes "name") (is_le (a + 4) property_limit e))
+    ap (node_of_name ns value) (put_ok m (codes "name") (leb-true (a + 4) property_limit e))
     ∙ ap (node_of_value ns value a) (put_full (put_at m a (codes "name")) value l)
 full_if false ns m value e l =
     ap (node_of_name ns value) (put_full m (codes "name") (is_more (aligned m.properties_end + 4) property_limit e))
@@ -158,7 +150,7 @@ third_full m b p l =
 second_full : (t : Bool) (m : DataSpace) (b : IsMade [] m board) → property_room m < 37
     → nat_le (end_with b.after packages) property_limit ≡ t → first_tree m ≡ Err PropertyFull
 second_full true m b l e =
-    third_full m b (fitting b.nodes b.after packages (is_le (end_with b.after packages) property_limit e)) l
+    third_full m b (fitting b.nodes b.after packages (leb-true (end_with b.after packages) property_limit e)) l
 second_full false m b l e =
     second_refused m b.after b.nodes PropertyFull b.made
     (full b.nodes b.after packages (is_more (end_with b.after packages) property_limit e))
@@ -166,7 +158,7 @@ second_full false m b l e =
 first_full : (t : Bool) (m : DataSpace) → property_room m < 37 → nat_le (end_with m board) property_limit ≡ t
     → first_tree m ≡ Err PropertyFull
 first_full true m l e =
-    let b = fitting [] m board (is_le (end_with m board) property_limit e) in
+    let b = fitting [] m board (leb-true (end_with m board) property_limit e) in
     second_full (nat_le (end_with b.after packages) property_limit) m b l refl
 first_full false m l e = first_refused m PropertyFull (full [] m board (is_more (end_with m board) property_limit e))
 

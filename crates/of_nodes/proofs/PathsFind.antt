@@ -1,5 +1,6 @@
 -- The law `paths_find`: a node is found by its path.
 use Rattle.std.proofs.Common.{◌≡◌, ℕ, zero, suc, ◌+◌, ◌-◌, ◌<◌, ◌≤◌, ◌==◌, nat_le, Bool, true, false, ◌&&◌, List, []}
+use Rattle.std.proofs.lemmas.Bool.{and_parts, leb-true}
 use Rattle.std.proofs.Common.{◌∷◌, ◌++◌, length, drop, Option, Some, None, refl, ap, sym, ◌∙◌, arith, append_assoc}
 use Rattle.std.proofs.Common.{if◌then◌else◌, codes, drop-cons}
 use Rattle.std.specs.List.{list_all}
@@ -16,7 +17,7 @@ use Rattle.of_nodes.specs.Nodes.{AreNodes, new_node, node_at, parent_in}
 use Rattle.of_nodes.specs.Paths.{component_in, components_to, path_in}
 use Rattle.of_nodes.specs.Texts.{components, split, with_byte}
 use Rattle.of_nodes.specs.Ways.{IsFirst, PathsFind}
-use Rattle.of_nodes.proofs.ComponentsFit.{IsClear, IsWhole, both, clear, clear_component, clear_unit, fits_own, lacks}
+use Rattle.of_nodes.proofs.ComponentsFit.{IsClear, IsWhole, clear, clear_component, clear_unit, fits_own, lacks}
 use Rattle.of_nodes.proofs.ComponentsFit.{whole}
 use Rattle.of_nodes.proofs.PathPieces.{nonzero, path_here, path_on}
 use Rattle.of_nodes.proofs.NodeLists.{parent_older}
@@ -171,14 +172,11 @@ components_full : (xs : List ℕ) → 1 ≤ length xs → components xs ≡ spli
 components_full [] h = absurd (omega (arith, h))
 components_full (x ∷ xs) h = refl
 
-le_true : (a b : ℕ) → nat_le a b ≡ true → a ≤ b
-le_true a b h = grind (arith, nat_tests)
-
 some_byte : (xs : List ℕ) → is_name xs ≡ true → 1 ≤ length xs
 some_byte xs h =
-    let b = both (nat_le 1 (length xs) && nat_le (length xs) 31) (list_all is_name_byte xs) h in
-    let c = both (nat_le 1 (length xs)) (nat_le (length xs) 31) b.0 in
-    le_true 1 (length xs) c.0
+    let b = and_parts (nat_le 1 (length xs) && nat_le (length xs) 31) (list_all is_name_byte xs) h in
+    let c = and_parts (nat_le 1 (length xs)) (nat_le (length xs) 31) b.0 in
+    leb-true 1 (length xs) c.0
 
 longer : (name : List ℕ) (unit : Option (List ℕ)) → 1 ≤ length name → 1 ≤ length (name_at name unit)
 longer name None h = h
@@ -209,7 +207,7 @@ child_found m ns i h f up =
     let c = component_in m ns i in
     let unit = unit_of m (address_cells m above) n in
     let good : list_all is_name_byte (node_name m n) ≡ true =
-    (both (nat_le 1 (length (node_name m n)) && nat_le (length (node_name m n)) 31)
+    (and_parts (nat_le 1 (length (node_name m n)) && nat_le (length (node_name m n)) 31)
     (list_all is_name_byte (node_name m n)) f.name).1 in
     let name : IsClear (node_name m n) = clear (node_name m n) good in
     let slash : lacks 47 c ≡ true =

@@ -1,8 +1,9 @@
 -- Values that were put into the property region, and those that stand before them.
 use Rattle.std.proofs.Common.{◌≡◌, ℕ, zero, suc, ◌+◌, ◌/◌, ◌%◌, ◌<◌, ◌≤◌, ◌≢◌, nat_le, nat_lt, eqb, not, Bool}
+use Rattle.std.proofs.Math.Nat.{mod-one}
 use Rattle.std.proofs.Common.{true, false, List, length, take, drop, Option, Some, None, Result, Ok, Err}
 use Rattle.std.proofs.Common.{refl, ap, sym, ◌∙◌, inl, inr, arith, if◌then◌else◌}
-use Rattle.std.proofs.lemmas.Bool.{cases_eq, lt-ltb}
+use Rattle.std.proofs.lemmas.Bool.{cases_eq, leb-true, lt-ltb, ne_eqb}
 use Rattle.std.proofs.lemmas.Bool.Decides.{nat_tests}
 use Rattle.std.proofs.lemmas.List.{places, same_lists}
 use Rattle.of_memory.specs.Access.{all_from, are_readable, read_bytes, read_fault}
@@ -28,12 +29,6 @@ region_open m a zero from to = refl
 region_open m a (suc n) from to =
     rw (byte_open m a from (omega arith), region_open m (suc a) n (omega arith) (omega arith)) refl
 
-one_divides : (a : ℕ) → a % 1 ≡ 0
-one_divides a = omega arith
-
-some_test : (n : ℕ) → n ≢ 0 → eqb n 0 ≡ false
-some_test n l = grind (arith, nat_tests)
-
 tested :
     (r : Bool) → r ≡ true
     → ◌≡◌ {A = Option MemFault} (if not r then Some Address else if not true then Some Alignment else None) None
@@ -46,7 +41,7 @@ no_fault m a n from to =
     elim (cases_eq n 0) [
       | inl z ↦ rw z refl
       | inr some ↦
-          rw (some_test n some, one_divides a) (tested (are_readable m a n) (region_open m a n from to))
+          rw (ne_eqb n 0 some, mod-one a) (tested (are_readable m a n) (region_open m a n from to))
     ]
 
 -- a value that stands in the property region
@@ -81,9 +76,6 @@ put_if true a new x e =
     (refl, ap (λ (y : ℕ × DataSpace). y.0) pair, ap (λ (y : ℕ × DataSpace). y.1) pair)
 put_if false a new x e = cc
 
-le_true : (a b : ℕ) → nat_le a b ≡ true → a ≤ b
-le_true a b e = grind (arith, nat_tests)
-
 above_end : (a : ℕ) → a ≤ aligned a
 above_end a = omega arith
 
@@ -91,7 +83,7 @@ pub is_put : (m : DataSpace) (xs : List ℕ) (x : ℕ × DataSpace) → property
 is_put m xs x e =
     let a = aligned m.properties_end in
     let all = put_if (nat_le (a + length xs) property_limit) a (put_at m a xs) x e in
-    let fits : a + length xs ≤ property_limit = le_true (a + length xs) property_limit all.0 in
+    let fits : a + length xs ≤ property_limit = leb-true (a + length xs) property_limit all.0 in
     record {
       above = rw (← all.1) (above_end m.properties_end);
       after_is = sym all.2 ∙ ap (λ (k : ℕ). put_at m k xs) all.1;

@@ -1,5 +1,6 @@
 -- What was put into the property region.
 use Rattle.std.proofs.Common.{◌≡◌, ℕ, ◌+◌, ◌<◌, ◌≤◌, ◌^◌, nat_le, Bool, true, false, List, length, Result, Ok, Err}
+use Rattle.std.proofs.lemmas.Bool.{leb-true}
 use Rattle.std.proofs.Common.{if◌then◌else◌, refl, arith}
 use Rattle.std.proofs.lemmas.Bool.Decides.{nat_tests}
 use Rattle.of_memory.specs.Regions.{property_limit}
@@ -7,9 +8,6 @@ use Rattle.of_memory.specs.DataSpace.{DataSpace}
 use Rattle.of_memory.specs.Growth.{aligned, named_put, property_put, value_put, with_name}
 use Rattle.of_memory.specs.declared.fault.MemFault.{MemFault}
 use Rattle.of_memory.specs.declared.fault.MemFault.TheVariants.{Full}
-
-le_true : (a b : ℕ) → nat_le a b ≡ true → a ≤ b
-le_true a b e = grind (arith, nat_tests)
 
 if_put : (t : Bool) (x y : ℕ × DataSpace)
     → ◌≡◌ {A = Result (ℕ × DataSpace) MemFault} (if t then Ok x else Err Full) (Ok y) → t ≡ true
@@ -19,7 +17,7 @@ if_put false x y e = cc
 put_fits : (m : DataSpace) (xs : List ℕ) (y : ℕ × DataSpace) → property_put m xs ≡ Ok y → length xs < 2 ^ 32
 put_fits m xs y e =
     let t = if_put (nat_le (aligned m.properties_end + length xs) property_limit) _ y e in
-    let l = le_true (aligned m.properties_end + length xs) property_limit t in
+    let l = leb-true (aligned m.properties_end + length xs) property_limit t in
     omega (arith, l)
 
 named_ok : (a : ℕ) (r : Result (ℕ × DataSpace) MemFault) (y : ℕ × ℕ × DataSpace) → with_name a r ≡ Ok y

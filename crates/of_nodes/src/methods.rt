@@ -1,7 +1,8 @@
 ghost use Rattle.std.specs.Prelude.{◌≡◌, ◌≤◌, [], length, map, option_map, slice_get, Ok};
 ghost use Rattle.std.specs.Char.{to_ascii_lowercase};
 ghost use Rattle.of_nodes.specs.Methods.{is_method_name, lower, method_in, with_former, with_method};
-ghost use Rattle.of_nodes.specs.Outcomes.{Sets};
+ghost use Rattle.of_cells.specs.Outcomes.{MayBecome};
+ghost use Rattle.of_nodes.specs.Outcomes.{IsForMemory};
 ghost use Rattle.of_nodes.specs.Properties.{replaced, value_in, without};
 
 use crate::fault::NodeFault;
@@ -91,7 +92,7 @@ impl Methods {
     ///
     /// NoMemory; then nothing changes.
     pub(crate) fn set(&mut self, alloc: Global, name: &[u8], xt: Cell) -> Result<(), NodeFault>
-        ensures { Sets result self.old self.new (Ok (with_method self.old name.now xt)) }
+        ensures { MayBecome IsForMemory (Ok (with_method self.old name.now xt)) self.old self.new result }
     {
         let key = name.to_ascii_lowercase(alloc)?;
         self.entries.insert(key, xt)?;

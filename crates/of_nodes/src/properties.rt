@@ -4,7 +4,8 @@ ghost use Rattle.indexmap.specs.IndexMap.{spare};
 ghost use Rattle.of_memory.specs.Growth.{property_put};
 ghost use Rattle.of_nodes.specs.Properties.{named, property_set, stored, value_at, value_behind, value_in};
 ghost use Rattle.of_nodes.specs.Properties.{value_next, with_entry, with_value, without};
-ghost use Rattle.of_nodes.specs.Outcomes.{Answers, Sets};
+ghost use Rattle.of_cells.specs.Outcomes.{Answers, MayBecome};
+ghost use Rattle.of_nodes.specs.Outcomes.{IsForMemory};
 
 use crate::fault::NodeFault;
 use indexmap::IndexMap;
@@ -50,7 +51,7 @@ impl Model for Properties {
 /// Puts the name and the value of a new property into the property region.
 #[tactic(auto, using(crate::proofs::PropertySpans::stores))]
 fn store_named(memory: &mut Memory, name: &[u8], value: &[u8]) -> Result<Property, NodeFault>
-    ensures { Answers result memory.old memory.new (stored memory.old None name.now value.now) }
+    ensures { Answers (stored memory.old None name.now value.now) memory.old memory.new result }
 {
     match memory.put_named(name, value) {
         Ok(addresses) => Ok(Property {
@@ -70,8 +71,7 @@ fn store_named(memory: &mut Memory, name: &[u8], value: &[u8]) -> Result<Propert
 /// Puts another value of a property into the property region.
 #[tactic(auto, using(crate::proofs::PropertySpans::stores))]
 fn store_value(memory: &mut Memory, old: Property, value: &[u8]) -> Result<Property, NodeFault>
-    ensures { Answers result memory.old memory.new
-        (with_value old (length value.now) (property_put memory.old value.now)) }
+    ensures { Answers (with_value old (length value.now) (property_put memory.old value.now)) memory.old memory.new result }
 {
     match memory.put_property(value) {
         Ok(address) => Ok(Property {
@@ -92,7 +92,7 @@ fn store(
     name: &[u8],
     value: &[u8],
 ) -> Result<Property, NodeFault>
-    ensures { Answers result memory.old memory.new (stored memory.old found name.now value.now) }
+    ensures { Answers (stored memory.old found name.now value.now) memory.old memory.new result }
 {
     match found {
         Some(old) => store_value(memory, old, value),
@@ -144,7 +144,7 @@ impl Place {
     /// The properties of a node that has this one with a value, which is copied into the property region
     /// after its name; PropertyFull.
     pub(crate) fn filled(self, memory: &mut Memory, value: &[u8]) -> Result<Properties, NodeFault>
-        ensures { Answers result memory.old memory.new (property_set memory.old [] self value.now) }
+        ensures { Answers (property_set memory.old [] self value.now) memory.old memory.new result }
     {
         let property = store_named(memory, self.name.as_slice(), value)?;
         let mut entries = self.entries;
@@ -213,7 +213,7 @@ impl Properties {
         value: &[u8],
     ) -> Result<(), NodeFault>
         ensures { let after = property_set memory.old self.old name.now value.now in
-            Sets result (self.old, memory.old) (self.new, memory.new) after }
+            MayBecome IsForMemory after (self.old, memory.old) (self.new, memory.new) result }
     {
         let found = self.get(name);
         let key = Vec::from_slice(alloc, name)?;

@@ -8,7 +8,8 @@ ghost use Rattle.of_nodes.specs.Nodes.{first_tree, method_added, method_found};
 ghost use Rattle.of_nodes.specs.Nodes.{method_placed, method_taken_back, most_nodes, named_child, next_found};
 ghost use Rattle.of_nodes.specs.Nodes.{node_added, node_at, number_of, parent_found, peer_found, property_deleted};
 ghost use Rattle.of_nodes.specs.Nodes.{property_found, property_placed, tree_property_set};
-ghost use Rattle.of_nodes.specs.Outcomes.{Adds, Answers, Sets};
+ghost use Rattle.of_cells.specs.Outcomes.{Answers, MayAnswer, MayBecome};
+ghost use Rattle.of_nodes.specs.Outcomes.{IsForMemory};
 ghost use Rattle.of_nodes.specs.Paths.{cells_found, component_found, path_found};
 
 use crate::components::address_cells;
@@ -260,7 +261,7 @@ impl Tree {
     /// NoNode, if the parent is none; TooManyNodes, if there are 1,024; or NoMemory. Then nothing changes.
     #[tactic(auto, using(crate::proofs::NodeLists::added))]
     pub fn add_node(&mut self, parent: Phandle) -> Result<Phandle, NodeFault>
-        ensures outcome { Adds result self.old self.new (node_added self.old parent) }
+        ensures outcome { MayAnswer IsForMemory (node_added self.old parent) self.old self.new result }
         ensures more { OnOk result (3 < length self.new) }
     {
         let count = self.nodes.len();
@@ -333,7 +334,7 @@ impl Tree {
         value: &[u8],
     ) -> Result<(), NodeFault>
         ensures { let after = tree_property_set memory.old self.old node name.now value.now in
-            Sets result (self.old, memory.old) (self.new, memory.new) after }
+            MayBecome IsForMemory after (self.old, memory.old) (self.new, memory.new) result }
     {
         let number = self.number_of(node)?;
         if !may_hold(name, value) {
@@ -348,7 +349,7 @@ impl Tree {
     ///
     /// NoNode, if there is no such node; then nothing changes.
     pub fn delete_property(&mut self, node: Phandle, name: &[u8]) -> Result<(), NodeFault>
-        ensures { Answers result self.old self.new (property_deleted self.old node name.now) }
+        ensures { Answers (property_deleted self.old node name.now) self.old self.new result }
     {
         let number = self.number_of(node)?;
         let node = &mut self.nodes[number];
@@ -385,7 +386,7 @@ impl Tree {
     /// NoNode, if there is no such node; BadName, if the name doesn't have 1 to 31 bytes; or NoMemory.
     /// Then nothing changes.
     pub fn add_method(&mut self, node: Phandle, name: &[u8], xt: Cell) -> Result<(), NodeFault>
-        ensures { Sets result self.old self.new (method_added self.old node name.now xt) }
+        ensures { MayBecome IsForMemory (method_added self.old node name.now xt) self.old self.new result }
     {
         let number = self.number_of(node)?;
         if !is_method_name(name) {

@@ -11,6 +11,7 @@ use Rattle.of_dict.specs.Words.{kind_in}
 use Rattle.of_compile.specs.DictionaryWords.{behavior_entry as plain_behavior, kind_at, replaced}
 use Rattle.of_compile.specs.Words.{WordsState, own_word}
 use Rattle.of_board.specs.declared.board.Board.{Board}
+use Rattle.of_board.specs.Left.{stack_left}
 use Rattle.of_own.specs.Slots.{slot_cell}
 
 -- ---- behind the defers
@@ -78,9 +79,5 @@ abbrev pub behavior_of : WordsState → Board → List Cell → Result (List Cel
 behavior_of w b [] = Err stack_underflow
 behavior_of w b (xt ∷ s) = behaves (deferring_slot (kind_at w xt.0)) w b xt s
 
-abbrev pub stack_left : Result (List Cell) Throw → Board → Result Board Throw
-stack_left (Ok s) b = Ok (record b { stack = s })
-stack_left (Err t) b = Err t
-
 abbrev pub behavior_entry : WordsState → Board → Result Board Throw
-behavior_entry w b = stack_left (behavior_of w b b.stack) b
+behavior_entry w b = stack_left b (behavior_of w b b.stack)

@@ -1,7 +1,7 @@
 //! What defers lead to.
-ghost use Rattle.std.specs.Prelude.{◌≡◌, None, Ok, false, MatchResult};
+ghost use Rattle.std.specs.Prelude.{◌≡◌, None, Ok, false, true, MatchResult};
 ghost use Rattle.std.specs.Option.{option_map};
-ghost use Rattle.of_stacks.specs.Stacks.{Becomes};
+ghost use Rattle.of_cells.specs.Outcomes.{Becomes};
 ghost use Rattle.of_own.specs.Defers.{behavior_entry, deferred_to, deferring_slot, executable};
 
 use crate::slots::slot_cell;
@@ -14,7 +14,8 @@ use of_stacks::Throw;
 /// Whether a word is a defer.
 #[inline(always)]
 pub fn is_deferred(kind: Option<Kind>) -> bool
-    ensures { result ≡ false → (b : Board) → deferred_to kind b ≡ Ok None }
+    ensures no { result ≡ false → (b : Board) → deferred_to kind b ≡ Ok None }
+    ensures yes { result ≡ true → (b : Board) → deferred_to kind b ≡ Ok None → ⊥ }
 {
     matches!(
         kind,

@@ -1,6 +1,6 @@
 //! What `to` stores into a word.
 ghost use Rattle.std.specs.Prelude.{◌≡◌};
-ghost use Rattle.of_stacks.specs.Stacks.{Becomes};
+ghost use Rattle.of_cells.specs.Outcomes.{Becomes};
 ghost use Rattle.of_own.specs.Stores.{both, into_slot, store_entry, store_left, stored_slot};
 
 use crate::slots::slot_span;

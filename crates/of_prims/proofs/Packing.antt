@@ -5,7 +5,7 @@ use Rattle.std.proofs.lemmas.List.{length-take}
 use Rattle.of_memory.specs.Regions.{place_of}
 use Rattle.of_memory.specs.DataSpace.{DataSpace, IsSound, bytes_from, written}
 use Rattle.of_memory.specs.Access.{read_fault, write_fault, bytes_written, copied}
-use Rattle.of_memory.specs.Outcomes.{Becomes}
+use Rattle.of_cells.specs.Outcomes.{Becomes}
 use Rattle.of_memory.specs.RangeLaws.{PartsAreGood, RangesArePlaced, FaultsStay, WritesJoin}
 use Rattle.of_memory.specs.declared.fault.MemFault.{MemFault}
 use Rattle.of_memory.specs.declared.width.Width.TheVariants.{One}
@@ -15,7 +15,7 @@ not_both m f e = cc
 
 -- a store that can be made is made
 made : (m new old : DataSpace) (r : Result (Unit {0}) MemFault) (after : Result DataSpace MemFault) →
-    after ≡ Ok m → Becomes r old new after → new ≡ m
+    after ≡ Ok m → Becomes after old new r → new ≡ m
 made m new old (Ok x) after e h = let same : ◌≡◌ {A = Result DataSpace MemFault} (Ok new) (Ok m) = sym h ∙ e in cc
 made m new old (Err f) after e h =
     let same : ◌≡◌ {A = Result DataSpace MemFault} (Err f) (Ok m) = sym h.0 ∙ e in
@@ -25,7 +25,7 @@ made m new old (Err f) after e h =
 pub packed : (parts : PartsAreGood) (places : RangesArePlaced) (stay : FaultsStay) (joins : WritesJoin)
     (m m1 m2 : DataSpace) (from n a to : ℕ) (r1 r2 : Result (Unit {0}) MemFault) → IsSound m →
     read_fault m from n One ≡ None → write_fault m a (n + 1) One ≡ None → n ≤ 255 → to ≡ (a + 1) % 2 ^ 32 →
-    Becomes r1 m m1 (copied m from to n) → Becomes r2 m1 m2 (bytes_written m1 a (n ∷ [])) →
+    Becomes (copied m from to n) m m1 r1 → Becomes (bytes_written m1 a (n ∷ [])) m1 m2 r2 →
     m2 ≡ written m a (n ∷ bytes_from m from n)
 packed parts places stay joins m m1 m2 from n a to r1 r2 sound can may short to_is first second =
     let ys = bytes_from m from n in

@@ -1,5 +1,5 @@
 ghost use Rattle.std.specs.Prelude.{◌≡◌};
-ghost use Rattle.of_stacks.specs.Stacks.{Becomes};
+ghost use Rattle.of_cells.specs.Outcomes.{Becomes};
 ghost use Rattle.of_prims.specs.Addresses.{addressed, addresses_entry, addressing_of, rounded_up};
 
 use crate::address_shapes::Addressing;

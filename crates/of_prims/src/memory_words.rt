@@ -1,5 +1,5 @@
 ghost use Rattle.std.specs.Prelude.{◌≡◌, ◌∷◌};
-ghost use Rattle.of_stacks.specs.Stacks.{Becomes};
+ghost use Rattle.of_cells.specs.Outcomes.{Becomes};
 ghost use Rattle.of_fcodes.specs.declared.words.MemoryWord.{MemoryWord};
 ghost use Rattle.of_prims.specs.Memory.{memory_entry, value_stored, with_sign, order_of};
 

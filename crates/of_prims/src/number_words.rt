@@ -1,5 +1,6 @@
 ghost use Rattle.std.specs.Prelude.{◌≡◌, ◌≤◌, [], ◌∷◌, length, drop};
-ghost use Rattle.of_stacks.specs.Stacks.{Becomes, within};
+ghost use Rattle.of_cells.specs.Outcomes.{Becomes};
+ghost use Rattle.of_stacks.specs.Stacks.{within};
 ghost use Rattle.of_fcodes.specs.declared.words.NumbersWord.{NumbersWord};
 ghost use Rattle.of_cells.specs.Doubles.{number_of};
 ghost use Rattle.of_calc.specs.Arithmetic.{double_of};

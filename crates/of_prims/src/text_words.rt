@@ -1,5 +1,5 @@
 ghost use Rattle.std.specs.Prelude.{◌≡◌, ◌<◌, ◌≤◌, ◌+◌, ◌^◌, ◌∷◌, length, None};
-ghost use Rattle.of_stacks.specs.Stacks.{Becomes};
+ghost use Rattle.of_cells.specs.Outcomes.{Becomes};
 ghost use Rattle.of_memory.specs.Access.{read_fault, write_fault};
 ghost use Rattle.of_memory.specs.DataSpace.{IsSound, bytes_from, written};
 ghost use Rattle.of_memory.specs.declared.width.Width.{Width};

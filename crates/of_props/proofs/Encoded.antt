@@ -2,7 +2,7 @@
 use Rattle.std.proofs.Common.{◌≡◌, ℕ, zero, suc, ◌+◌, ◌/◌, ◌%◌, ◌^◌, ◌<◌, ◌≤◌, nat_le, nat_lt, eqb, Bool, true, false}
 use Rattle.std.proofs.Common.{List, ◌++◌, length, None, Result, Ok, Err, if◌then◌else◌}
 use Rattle.std.proofs.Common.{refl, ap, sym, arith, length-append}
-use Rattle.std.proofs.lemmas.Bool.{lt-ltb}
+use Rattle.std.proofs.lemmas.Bool.{leb-true, lt-ltb}
 use Rattle.std.proofs.lemmas.Bool.Decides.{nat_tests}
 use Rattle.std.proofs.Math.Nat.{mod-eq_of_lt}
 use Rattle.of_memory.specs.Regions.{data_start, data_limit, region_of, span}
@@ -54,13 +54,10 @@ encoded_if true m after new a n p e =
     (refl, sym (ap (λ (x : Array × DataSpace). x.0) pair), sym (ap (λ (x : Array × DataSpace). x.1) pair))
 encoded_if false m after new a n p e = cc
 
-le_true : (a b : ℕ) → nat_le a b ≡ true → a ≤ b
-le_true a b e = grind (arith, nat_tests)
-
 pub is_encoded : (m after : DataSpace) (xs : List ℕ) (p : Array) → encoded m xs ≡ Ok (p, after) → IsEncoded m after xs p
 is_encoded m after xs p e =
     let all = encoded_if (nat_le (m.here + length xs) data_limit) m after (put m xs) m.here (length xs) p e in
-    record { array_is = all.1; after_is = all.2; fits = le_true (m.here + length xs) data_limit all.0 }
+    record { array_is = all.1; after_is = all.2; fits = leb-true (m.here + length xs) data_limit all.0 }
 
 pub bytes_if :
     (t : Bool) (x y : List ℕ) (e : PropFault) → t ≡ true → x ≡ y

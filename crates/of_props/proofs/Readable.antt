@@ -1,7 +1,8 @@
 -- What a read of bytes shows.
 use Rattle.std.proofs.Common.{◌≡◌, ◌≤◌, ◌≢◌, ℕ, ◌%◌, Bool, true, false, eqb, not, List, length, drop, Some, None}
+use Rattle.std.proofs.Math.Nat.{mod-one}
 use Rattle.std.proofs.Common.{Result, Ok, Err, if◌then◌else◌, inl, inr, refl, sym, ◌∙◌, arith}
-use Rattle.std.proofs.lemmas.Bool.{cases_eq}
+use Rattle.std.proofs.lemmas.Bool.{cases_eq, ne_eqb}
 use Rattle.std.proofs.lemmas.Bool.Decides.{nat_tests}
 use Rattle.std.proofs.lemmas.List.{length-take}
 use Rattle.of_memory.specs.DataSpace.{DataSpace, bytes_from}
@@ -14,12 +15,6 @@ use Rattle.of_props.specs.Arrays.{bytes_of}
 use Rattle.of_props.specs.declared.arrays.Array.{Array}
 use Rattle.of_props.specs.declared.fault.PropFault.{PropFault}
 use Rattle.of_props.specs.declared.fault.PropFault.TheVariants.{Address as Unreadable}
-
-one_divides : (a : ℕ) → a % 1 ≡ 0
-one_divides a = omega arith
-
-some_test : (n : ℕ) → n ≢ 0 → eqb n 0 ≡ false
-some_test n l = grind (arith, nat_tests)
 
 -- the fault of some bytes by its tests
 tested :
@@ -35,7 +30,7 @@ unfolding read_fault all_from
 byte_fault m a n =
     elim (cases_eq n 0) [
       | inl z ↦ rw z refl
-      | inr some ↦ rw (some_test n some, one_divides a) (tested (are_readable m a n))
+      | inr some ↦ rw (ne_eqb n 0 some, mod-one a) (tested (are_readable m a n))
     ]
 
 unless_if : {A : Type 0} (r : Bool) (x : A)

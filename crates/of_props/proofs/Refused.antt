@@ -5,7 +5,7 @@ use Rattle.std.proofs.Common.{Ok, Err}
 use Rattle.std.proofs.Common.{refl, arith, length-append, inl, inr}
 use Rattle.std.specs.List.{All, position_or_len}
 use Rattle.std.specs.Result.{is_ok}
-use Rattle.std.proofs.lemmas.Bool.{cases_eq}
+use Rattle.std.proofs.lemmas.Bool.{cases_eq, lt-leb}
 use Rattle.std.proofs.lemmas.Bool.Decides.{nat_tests}
 use Rattle.std.proofs.lemmas.List.{length-take}
 use Rattle.of_cells.specs.declared.cells.Cell.{Cell}
@@ -26,9 +26,6 @@ lt_true a b l = grind (arith, nat_tests)
 
 lt_false : (a b : ℕ) → b ≤ a → nat_lt a b ≡ false
 lt_false a b l = grind (arith, nat_tests)
-
-le_false : (a b : ℕ) → b < a → nat_le a b ≡ false
-le_false a b l = grind (arith, nat_tests)
 
 -- the bytes of an array by whether it can be read
 open_bytes : (m : DataSpace) (p : Array) → IsReadable m p → bytes_of m p ≡ Ok (bytes_from m p.address.0 p.length.0)
@@ -132,6 +129,6 @@ encodings_are_refused placed = record {
     copy_full m a n tail sound e l =
         let xs = bytes_from m a.0 n.0 in
         let many = many_bytes placed m a.0 n.0 sound e in
-        let t = le_false (m.here + length (xs ++ tail)) data_limit
+        let t = lt-leb (m.here + length (xs ++ tail)) data_limit
         (omega (arith, length-append xs tail, many)) in
         rw (e, t) refl

@@ -12,12 +12,6 @@ use Rattle.of_props.specs.declared.arrays.Array.{Array}
 use Rattle.of_props.specs.declared.fault.PropFault.{PropFault}
 use Rattle.of_props.specs.declared.fault.PropFault.TheVariants.{Address, Full}
 
--- the call answered x and left what `after` says, or gave its fault and changed nothing
-abbrev pub Answers : {A : Type 0} → Result A PropFault → DataSpace → DataSpace → Result (A × DataSpace) PropFault
-    → Type 0
-Answers (Ok x) old new after = after ≡ Ok (x, new)
-Answers (Err fault) old new after = (after ≡ Err fault) × (new ≡ old)
-
 -- the bytes from an address to `here`, as an array
 abbrev pub up_to_here : DataSpace → Cell → Array
 up_to_here m a = record { address = a; length = record { 0 = m.here - a.0 } }

@@ -1,8 +1,11 @@
 ghost use Rattle.std.specs.Prelude.{◌≡◌, ◌+◌, ◌*◌, ◌≤◌, ◌++◌, length};
 ghost use Rattle.byteorder.specs.Endian.{big_bytes};
 ghost use Rattle.arrayvec.specs.ArrayVec.{array_vec_len};
-ghost use Rattle.of_props.specs.Encoding.{Answers, encoded, copy_encoded, up_to_here, bytes_encoded, int_encoded};
+ghost use Rattle.of_cells.specs.Outcomes.{Answers};
+ghost use Rattle.of_props.specs.Encoding.{bytes_encoded, copy_encoded, encoded, int_encoded, up_to_here};
+ghost use Rattle.of_cells.specs.Outcomes.{Answers};
 ghost use Rattle.of_props.specs.Encoding.{phys_bytes, phys_encoded};
+ghost use Rattle.of_cells.specs.Outcomes.{Answers};
 ghost use Rattle.of_props.specs.Encoding.{string_encoded};
 
 use crate::arrays::Array;
@@ -26,7 +29,7 @@ fn up_to_here(memory: &Memory, address: Cell) -> Array
 /// Puts bytes at `here`, at any alignment, and allots as many.
 #[tactic(auto, using(crate::proofs::Put::puts))]
 fn encode(memory: &mut Memory, bytes: &[u8]) -> Result<Array, PropFault>
-    ensures { Answers result memory.old memory.new (encoded memory.old bytes.now) }
+    ensures { Answers (encoded memory.old bytes.now) memory.old memory.new result }
 {
     let address = memory.append(bytes)?;
     Ok(up_to_here(memory, address))
@@ -40,7 +43,7 @@ fn encode_copy(
     count: Cell,
     tail: &[u8],
 ) -> Result<Array, PropFault>
-    ensures { Answers result memory.old memory.new (copy_encoded memory.old from count tail.now) }
+    ensures { Answers (copy_encoded memory.old from count tail.now) memory.old memory.new result }
 {
     let address = memory.append_copy(from, count, tail)?;
     Ok(up_to_here(memory, address))
@@ -51,7 +54,7 @@ fn encode_copy(
 ///
 /// Full, if they would leave the data region; then nothing changes.
 pub fn encode_int(memory: &mut Memory, number: Cell) -> Result<Array, PropFault>
-    ensures { Answers result memory.old memory.new (int_encoded memory.old number) }
+    ensures { Answers (int_encoded memory.old number) memory.old memory.new result }
 {
     let mut bytes = [0; 4];
     BigEndian::write_u32(&mut bytes, number.0);
@@ -64,7 +67,7 @@ pub fn encode_int(memory: &mut Memory, number: Cell) -> Result<Array, PropFault>
 /// Address, if one of the bytes can't be read; else Full, if they and the zero byte would leave the
 /// data region. Then nothing changes.
 pub fn encode_string(memory: &mut Memory, address: Cell, length: Cell) -> Result<Array, PropFault>
-    ensures { Answers result memory.old memory.new (string_encoded memory.old address length) }
+    ensures { Answers (string_encoded memory.old address length) memory.old memory.new result }
 {
     encode_copy(memory, address, length, &[0])
 }
@@ -75,7 +78,7 @@ pub fn encode_string(memory: &mut Memory, address: Cell, length: Cell) -> Result
 /// Address, if one of the bytes can't be read; else Full, if they would leave the data region. Then
 /// nothing changes.
 pub fn encode_bytes(memory: &mut Memory, address: Cell, length: Cell) -> Result<Array, PropFault>
-    ensures { Answers result memory.old memory.new (bytes_encoded memory.old address length) }
+    ensures { Answers (bytes_encoded memory.old address length) memory.old memory.new result }
 {
     encode_copy(memory, address, length, &[])
 }
@@ -104,7 +107,7 @@ fn push_cells(bytes: &mut ArrayVec<u8, 16>, cells: &[Cell])
 /// Full, if they would leave the data region; then nothing changes.
 pub fn encode_phys(memory: &mut Memory, cells: &[Cell]) -> Result<Array, PropFault>
     requires { length cells.now ≤ 4 }
-    ensures { Answers result memory.old memory.new (phys_encoded memory.old cells.now) }
+    ensures { Answers (phys_encoded memory.old cells.now) memory.old memory.new result }
 {
     let mut bytes = ArrayVec::new();
     push_cells(&mut bytes, cells);

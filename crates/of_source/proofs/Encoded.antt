@@ -4,7 +4,7 @@ use Rattle.std.proofs.Common.{◌≡◌, ℕ, ◌+◌, ◌<◌, ◌≤◌, Bool,
 use Rattle.std.proofs.Common.{Some, None, Ok, if◌then◌else◌, refl, sym, ap, subst, ◌∙◌, arith}
 use Rattle.std.specs.Prelude.{option_and_then, is_some}
 use Rattle.std.specs.List.{All}
-use Rattle.std.proofs.lemmas.Bool.{false≢true}
+use Rattle.std.proofs.lemmas.Bool.{and_parts, false≢true}
 use Rattle.std.proofs.lemmas.List.Elements.{All-append, All-cons}
 use Rattle.std.specs.Str.{str_eq_ignore_ascii_case}
 use Rattle.of_fcodes.specs.declared.codes.FCode.{FCode}
@@ -36,7 +36,7 @@ use Rattle.of_source.specs.Strings.{pieces_bytes}
 use Rattle.of_source.specs.Written.{AreSaid, IsKeyword, IsPlaced, own_of}
 use Rattle.of_source.proofs.AcceptedLemmas.{accepted_written}
 use Rattle.of_source.proofs.RunLemmas.{nested_runs, earlier_runs, later_run}
-use Rattle.of_source.proofs.ShapeLemmas.{both_true, not_true, same_kind, when_some}
+use Rattle.of_source.proofs.ShapeLemmas.{not_true, same_kind, when_some}
 use Rattle.of_source.proofs.Tables.{IsBare, bare_bytes, bare_good, keyword_good, making_bytes, naming_bytes}
 use Rattle.of_source.proofs.Tables.{number_bytes}
 use Rattle.of_source.proofs.Tables.{naming_low, number_among, one_low, ordinary_low, two_low}
@@ -118,7 +118,7 @@ closing_same k n (q ∷ ps) p e h =
     let o : Shape = record { count = n; parts = ps } in
     let w = when_some (is_same q.0 k && is_even k q.1 n) o (run []) p
     (some_run (is_same q.0 k && is_even k q.1 n) o p h) in
-    let s : q.0 ≡ k = same_kind q.0 k (both_true (is_same q.0 k) (is_even k q.1 n) w.0).0 in
+    let s : q.0 ≡ k = same_kind q.0 k (and_parts (is_same q.0 k) (is_even k q.1 n) w.0).0 in
     same_part o p w.1
     ∙ sym (part_around k ps e)
     ∙ ap (λ (j : Part). (around_part j (around_of ps)).defines) (sym s)

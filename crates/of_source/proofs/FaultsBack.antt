@@ -1,5 +1,6 @@
 -- A text with a fault of these is refused for it.
 use Rattle.std.proofs.Common.{◌≡◌, ◌≢◌, ℕ, zero, suc, ◌+◌, ◌<◌, ◌≤◌, Bool, true, false, not, ◌||◌}
+use Rattle.std.proofs.lemmas.Option.{same_Some}
 use Rattle.std.proofs.Common.{List, [], ◌∷◌, ◌++◌, length, codes, Option, Some, None, Result, Err, nat_lt}
 use Rattle.std.proofs.Common.{if◌then◌else◌, refl, sym, ap, subst, ◌∙◌, arith}
 use Rattle.std.specs.Prelude.{option_and_then, is_some}
@@ -79,11 +80,8 @@ opened_word : (p : Phrase) (word : List ℕ) (o : Option ℕ) (at : ℕ) (n : Ne
 opened_word (phrase.OwnWord j) word o at n e m = ap (λ c. opened_as c (keyword_named word) at n) (sym e)
 opened_word _ word o at n e m = listed_opens word o _ at n e m
 
-same_open : (n m : Nesting) → Some n ≡ Some m → n ≡ m
-same_open n m h = cc
-
 open_when : (b : Bool) (x m : Nesting) → opened_if b x ≡ Some m → (b ≡ true) × (x ≡ m)
-open_when true x m h = (refl, same_open x m h)
+open_when true x m h = (refl, same_Some x m h)
 open_when false x m h = absurd cc
 
 not_so : (b : Bool) → not b ≡ true → b ≡ false
@@ -118,7 +116,7 @@ same_nesting last u t word p m i g o e h =
     let s : Says u word t = subst (Said last u word) g (said_word last u word i) in
     let a = opened_word p word (own_in u.setting.names word) u.at u.nesting o e in
     let b = opened_word s.phrase word (own_in u.setting.names word) u.at u.nesting s.own s.means in
-    same_open t.nesting m (sym s.opens ∙ b ∙ sym a ∙ h)
+    same_Some t.nesting m (sym s.opens ∙ b ∙ sym a ∙ h)
 
 fits : (last at : ℕ) (p : Spelled) (k : Known) (n m : Nesting) (more : List ℕ)
     → IsSaid (moved p.blanks k) p more → run k.items nothing ≡ Some (shape_of n)
@@ -412,7 +410,7 @@ all_failing : (text : List ℕ) (z : OffsetSize) (ps : List Spelled) (more : Lis
     → IsDecided text z (state_at at (rest_at k.at (each_written ps more)) k n) (Err f)
 all_failing text z [] more at k n m f t h r o x =
     failing_now text z at k n more t
-    (subst (λ (y : Nesting). IsFailure (last_place text) k y more f) (sym (same_open n m o)) x)
+    (subst (λ (y : Nesting). IsFailure (last_place text) k y more f) (sym (same_Some n m o)) x)
 all_failing text z (p ∷ ps) more at k n m f t h r o x =
     let last = last_place text in
     let l = behind p.word p.phrase (moved p.blanks k) in

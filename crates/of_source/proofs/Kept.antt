@@ -1,5 +1,6 @@
 -- What a parser holds open is what its items leave open.
 use Rattle.std.proofs.Common.{◌≡◌, ℕ, zero, suc, ◌-◌, Bool, true, false, ◌&&◌, ◌||◌, List, [], ◌∷◌, ◌++◌, length, drop}
+use Rattle.std.proofs.lemmas.Option.{same_Some}
 use Rattle.std.proofs.Common.{Option, Some, None, Result, Ok, Err, nat_eq, nat_lt, if◌then◌else◌, refl, sym, ap, subst}
 use Rattle.std.proofs.Common.{◌∙◌, arith, add-one}
 use Rattle.std.specs.Prelude.{option_and_then, map}
@@ -253,15 +254,12 @@ of_at l m n h =
     rw (a, b) w.0 in
     rw t (ap (λ (y : Nesting). Some (shape_of y)) w.1)
 
-some_is : (x n : Nesting) → Some x ≡ Some n → x ≡ n
-some_is x n h = cc
-
 pub pushes : (i : Item) (m x n : Nesting) → run (i ∷ []) (shape_of m) ≡ Some (shape_of x) → Some x ≡ Some n
     → run (i ∷ []) (shape_of m) ≡ Some (shape_of n)
-pushes i m x n e h = e ∙ ap (λ (y : Nesting). Some (shape_of y)) (some_is x n h)
+pushes i m x n e h = e ∙ ap (λ (y : Nesting). Some (shape_of y)) (same_Some x n h)
 
 pub shape_same : (m n : Nesting) → Some m ≡ Some n → Some (shape_of m) ≡ Some (shape_of n)
-shape_same m n h = ap (λ (x : Nesting). Some (shape_of x)) (some_is m n h)
+shape_same m n h = ap (λ (x : Nesting). Some (shape_of x)) (same_Some m n h)
 
 recursion_runs : (o : Option Own) (s : Shape) → run (recursion o) s ≡ Some s
 recursion_runs None s = refl

@@ -1,5 +1,6 @@
 -- Where an item may stand, its word goes on.
 use Rattle.std.proofs.Common.{◌≡◌, ℕ, suc, Bool, true, false, not, ◌&&◌, List, [], ◌∷◌, length, Option}
+use Rattle.std.proofs.lemmas.Bool.{and_parts}
 use Rattle.std.proofs.Common.{Some, None, nat_eq, nat_lt, if◌then◌else◌, refl, sym, ap, ◌∙◌, arith}
 use Rattle.std.specs.Prelude.{option_and_then, is_some}
 use Rattle.std.specs.List.{list_all}
@@ -17,7 +18,7 @@ use Rattle.of_source.specs.Nesting.{all_definitions, is_straight, is_closed, wit
 use Rattle.of_source.specs.Shapes.{Shape, nothing, floor_of, around_of, is_even, closing, run, shape_of}
 use Rattle.of_source.specs.Written.{IsStraight}
 use Rattle.of_source.proofs.Kept.{shapes, defines-shapes, loops-shapes, cases-shapes, floor-shapes}
-use Rattle.of_source.proofs.ShapeLemmas.{when_some, both_true, not_true}
+use Rattle.of_source.proofs.ShapeLemmas.{when_some, not_true}
 
 -- an item may stand where these are open
 abbrev pub MayStand : List Item → Nesting → Type 0
@@ -55,7 +56,7 @@ begin_at bs [] k o h = absurd cc
 begin_at bs (f ∷ fs) k o h =
     let m : Nesting = record { branches = bs; parts = fs } in
     let w = when_some (is_same f.part part.Begin && true) (shape_of m) k o h in
-    let e : is_same f.part part.Begin ≡ true = (both_true (is_same f.part part.Begin) true w.0).0 in
+    let e : is_same f.part part.Begin ≡ true = (and_parts (is_same f.part part.Begin) true w.0).0 in
     (m, rw e refl, w.1)
 
 pub back_goes : (z : Bool) (l : ℕ) (n : Nesting) → MayStand (item.Back z l ∷ []) n → is_some (without_begin n) ≡ true
@@ -101,7 +102,7 @@ of_goes l n h =
     let b : floor_of (shapes n.parts) ≡ floor n.parts = floor-shapes n.parts in
     let w = when_some ((around_of (shapes n.parts)).cases && nat_eq (floor_of (shapes n.parts)) (length n.branches)) _
     (run []) h.0 h.1 in
-    let t = both_true (around_of (shapes n.parts)).cases (nat_eq (floor_of (shapes n.parts)) (length n.branches)) w.0 in
+    let t = and_parts (around_of (shapes n.parts)).cases (nat_eq (floor_of (shapes n.parts)) (length n.branches)) w.0 in
     let c : is_in part.Case n.parts ≡ true = sym a ∙ t.0 in
     let d : nat_eq (floor n.parts) (length n.branches) ≡ true =
     ap (λ f. nat_eq f (length n.branches)) (sym b) ∙ t.1 in
@@ -122,7 +123,7 @@ straight_parts : (fs : List Frame) → list_all (λ (p : Part × ℕ). is_same p
     → all_definitions fs ≡ true
 straight_parts [] h = refl
 straight_parts (f ∷ fs) h =
-    let w = both_true (is_same f.part part.Definition) _ h in
+    let w = and_parts (is_same f.part part.Definition) _ h in
     rw w.0 (straight_parts fs w.1)
 
 pub straight_goes : (n : Nesting) → IsStraight (shape_of n) → is_straight n ≡ true

@@ -3,7 +3,7 @@ use Rattle.std.proofs.Common.{◌≡◌, ℕ, zero, suc, ◌+◌, ◌≤◌, Boo
 use Rattle.std.proofs.Common.{List, [], ◌∷◌, ◌++◌}
 use Rattle.std.proofs.Common.{Option, Some, None, nat_eq, nat_le, if◌then◌else◌, refl, sym, ap, subst, ◌∙◌, arith}
 use Rattle.std.proofs.Common.{append_assoc, inl, inr}
-use Rattle.std.proofs.lemmas.Bool.{false≢true}
+use Rattle.std.proofs.lemmas.Bool.{and_parts, false≢true}
 use Rattle.std.proofs.lemmas.Bool.Decides.{nat_tests}
 use Rattle.std.proofs.lemmas.List.{append-nil}
 use Rattle.of_cells.specs.declared.cells.Cell.{Cell}
@@ -32,7 +32,7 @@ use Rattle.of_source.specs.Steps.{number_token}
 use Rattle.of_source.specs.Strings.{pieces_bytes}
 use Rattle.of_source.specs.Written.{AreSaid, IsKeyword, IsPlaced, IsStraight, LeaveOpen}
 use Rattle.of_source.proofs.AcceptedLemmas.{accepted_written}
-use Rattle.of_source.proofs.Tables.{all_pass, both, each_keyword, named_ordinary}
+use Rattle.of_source.proofs.Tables.{all_pass, each_keyword, named_ordinary}
 
 -- ---- lists of items
 
@@ -104,7 +104,7 @@ ordinary_plain n h =
 
 word_is : (c : FCode) → is_word c ≡ true → IsWord (call c)
 word_is c h =
-    let w = both (is_ordinary (word_numbered c.0)) (not (nat_eq c.0 0x0cc)) h in
+    let w = and_parts (is_ordinary (word_numbered c.0)) (not (nat_eq c.0 0x0cc)) h in
     (ordinary_plain c.0 w.0, not_false (nat_eq c.0 0x0cc) w.1)
 
 own_is : (k : ℕ) → IsWord (call (own_code k))
@@ -215,7 +215,7 @@ phrase_plain (phrase.Defining (definer.Other t) blanks name) k word m h =
 phrase_plain (phrase.Alone (lone.One t)) k word m h =
     one k.items (call t) (word_is t (fine word (keyword.Lone (lone.One t)) m))
 phrase_plain (phrase.Alone (lone.Two t u)) k word m h =
-    let w = both (is_word t) (is_word u) (fine word (keyword.Lone (lone.Two t u)) m) in
+    let w = and_parts (is_word t) (is_word u) (fine word (keyword.Lone (lone.Two t u)) m) in
     two k.items (call t) (call u) (word_is t w.0) (word_is u w.1)
 phrase_plain (phrase.Alone lone.Recurse) k word m h = recursions k.setting.open_one k.items
 phrase_plain (phrase.Alone lone.Offset16) k word m h = (refl, λ e. h, tt)

@@ -1,5 +1,6 @@
 -- Each word with which a source goes on is the word of a phrase that can stand there.
 use Rattle.std.proofs.Common.{◌≡◌, ℕ, ◌+◌, ◌<◌, ◌≤◌, Bool, true, false, List, [], ◌∷◌, ◌++◌, length}
+use Rattle.std.proofs.lemmas.Bool.{and_parts}
 use Rattle.std.proofs.Common.{Option, Some, None, Ok, Err, nat_eq, nat_lt, if◌then◌else◌, refl, sym, ap, subst}
 use Rattle.std.proofs.Common.{◌∙◌, arith, append_assoc}
 use Rattle.std.specs.Prelude.{slice_index, is_some}
@@ -53,7 +54,6 @@ use Rattle.of_source.specs.Faults.{no_name}
 use Rattle.of_source.specs.Faults.{no_digits, bad_digits, long_name, long_string, no_end, no_code, not_outside}
 use Rattle.of_source.specs.Faults.{not_inside, not_straight, out_of_range, no_meaning, IsFailure, cut, wrong}
 use Rattle.of_source.proofs.Kept.{Inv, shapes}
-use Rattle.of_source.proofs.ShapeLemmas.{both_true}
 use Rattle.of_source.proofs.FoundText.{FoundPlain, FoundQuoted, FoundWord, plain_found, quoted_found, line_found}
 use Rattle.of_source.proofs.FoundText.{next_found, left_place}
 use Rattle.of_source.proofs.ReadingBack.{plain_there}
@@ -349,7 +349,7 @@ straight_shapes : (fs : List Frame) → all_definitions fs ≡ true
     → list_all (λ (p : Part × ℕ). is_same p.0 part.Definition) (shapes fs) ≡ true
 straight_shapes [] h = refl
 straight_shapes (f ∷ fs) h =
-    let w = both_true (is_same f.part part.Definition) _ h in
+    let w = and_parts (is_same f.part part.Definition) _ h in
     rw w.0 (straight_shapes fs w.1)
 
 is_zero : (n : ℕ) → nat_eq n 0 ≡ true → n ≡ 0
@@ -357,7 +357,7 @@ is_zero n h = grind (arith, nat_tests)
 
 straight_shape : (n : Nesting) → is_straight n ≡ true → IsStraight (shape_of n)
 straight_shape n h =
-    let w = both_true (nat_eq (length n.branches) 0) (all_definitions n.parts) h in
+    let w = and_parts (nat_eq (length n.branches) 0) (all_definitions n.parts) h in
     (is_zero (length n.branches) w.0, straight_shapes n.parts w.1)
 
 -- ---- words that take nothing

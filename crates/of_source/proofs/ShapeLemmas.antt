@@ -1,5 +1,6 @@
 -- The nest of items that leave nothing open.
 use Rattle.std.proofs.Common.{◌≡◌, ℕ, ◌+◌, ◌-◌, ◌<◌, Bool, true, false, not, ◌&&◌, List, [], ◌∷◌, Option, Some, nat_eq}
+use Rattle.std.proofs.lemmas.Bool.{and_parts}
 use Rattle.std.proofs.Common.{nat_lt, refl, sym, ap, subst, arith}
 use Rattle.std.specs.Prelude.{option_and_then}
 use Rattle.std.proofs.lemmas.Bool.Decides.{nat_tests}
@@ -137,10 +138,6 @@ pub when_some : (b : Bool) (o : Shape) (k : Shape → Option Shape) (n : Shape) 
 when_some true o k n h = (refl, h)
 when_some false o k n h = absurd cc
 
-pub both_true : (a b : Bool) → (a && b) ≡ true → (a ≡ true) × (b ≡ true)
-both_true true b h = (refl, h)
-both_true false b h = absurd cc
-
 pub not_true : (b : Bool) → not b ≡ true → b ≡ false
 not_true true h = absurd cc
 not_true false h = refl
@@ -173,7 +170,7 @@ closer_read k c is n [] q closes ih h = absurd cc
 closer_read k c is n (p ∷ ps) q closes ih h =
     let o : Shape = record { count = n; parts = ps } in
     let w = when_some (is_same p.0 k && is_even k p.1 n) o (run is) nothing h in
-    let t = both_true (is_same p.0 k) (is_even k p.1 n) w.0 in
+    let t = and_parts (is_same p.0 k) (is_even k p.1 n) w.0 in
     let e = same_kind p.0 k t.0 in
     let r = ih o w.1 in
     let P : Part → Type 0 = λ (a : Part). Closes a c × IsEven a p.1 n in
@@ -235,7 +232,7 @@ read (item.Colon m ∷ is) o h =
 read (item.Of l ∷ is) o h =
     let w = when_some ((around_of o.parts).cases && nat_eq (floor_of o.parts) o.count) (pushed part.Of o)
     (run is) nothing h in
-    let t = both_true (around_of o.parts).cases (nat_eq (floor_of o.parts) o.count) w.0 in
+    let t = and_parts (around_of o.parts).cases (nat_eq (floor_of o.parts) o.count) w.0 in
     of_any l (read_back is).nest (read_back is).around is o.count o.parts t.0
     (same_number (floor_of o.parts) o.count t.1) (read is (pushed part.Of o) w.1)
 read (item.Semicolon ∷ is) o h =

@@ -5,7 +5,7 @@ use Rattle.std.proofs.Common.{arith}
 use Rattle.std.specs.Option.{option_map, option_map_or}
 use Rattle.std.specs.List.{list_all}
 use Rattle.std.specs.Str.{str_eq_ignore_ascii_case}
-use Rattle.std.proofs.lemmas.Bool.{false≢true}
+use Rattle.std.proofs.lemmas.Bool.{and_parts, false≢true}
 use Rattle.std.proofs.lemmas.Bool.Decides.{nat_tests}
 use Rattle.of_cells.specs.declared.cells.Cell.{Cell}
 use Rattle.of_fcodes.specs.declared.codes.FCode.{FCode}
@@ -28,10 +28,6 @@ use Rattle.of_source.specs.Keywords.{control_rows, fcode, if_ordinary, is_ordina
 use Rattle.of_source.specs.Keywords.{ordinary_named, text_rows}
 use Rattle.of_source.specs.Keywords as keywords
 use Rattle.of_source.specs.Steps.{number_token}
-
-pub both : (a b : Bool) → (a && b) ≡ true → (a ≡ true) × (b ≡ true)
-both true b h = (refl, h)
-both false b h = absurd cc
 
 abbrev pub is_nothing : Operand → Bool
 is_nothing operand.Nothing = true
@@ -74,7 +70,7 @@ above : (rs : List Row) (n : ℕ) → list_all (λ (r : Row). nat_lt r.number 0x
     → row_in rs n ≡ None
 above [] n h l = refl
 above (r ∷ rs) n h l =
-    let e = both (nat_lt r.number 0x800) (list_all (λ (x : Row). nat_lt x.number 0x800) rs) h in
+    let e = and_parts (nat_lt r.number 0x800) (list_all (λ (x : Row). nat_lt x.number 0x800) rs) h in
     let t : nat_eq r.number n ≡ false = grind (arith, nat_tests, e.0, l) in
     rw t (above rs n e.1 l)
 
@@ -123,7 +119,7 @@ found : (rs : List Row) (n : ℕ) (x : Row) → list_all plain_row rs ≡ true �
     → (plain_row x ≡ true) × (x.number ≡ n)
 found [] n x h e = absurd cc
 found (r ∷ rs) n x h e =
-    let w = both (plain_row r) (list_all plain_row rs) h in
+    let w = and_parts (plain_row r) (list_all plain_row rs) h in
     pick w.0 (found rs n x w.1) (nat_eq r.number n) refl e
   where
     pick : plain_row r ≡ true → (row_in rs n ≡ Some x → (plain_row x ≡ true) × (x.number ≡ n)) → (b : Bool)
@@ -143,7 +139,7 @@ ordinary_at n h = at (row_in rows n) refl h
     at None e h = absurd cc
     at (Some x) e h =
         let f = found rows n x rows_plain e in
-        let w = both (is_code x.number) (if is_ordinary (Some x.word) then is_nothing x.operand else true) f.0 in
+        let w = and_parts (is_code x.number) (if is_ordinary (Some x.word) then is_nothing x.operand else true) f.0 in
         let g : is_nothing x.operand ≡ true =
         ap (λ (b : Bool). if b then is_nothing x.operand else true) (sym h) ∙ w.1 in
         (subst (λ m. is_code m ≡ true) f.1 w.0, nothing_is x.operand g)
@@ -189,7 +185,7 @@ found_passes : (test : Keyword → Bool) (rs : List keywords.Row) → all_pass t
     (k : Keyword) → keyword_in rs name ≡ Some k → test k ≡ true
 found_passes test [] h name k e = absurd cc
 found_passes test (r ∷ rs) h name k e =
-    let w = both (test r.1) (all_pass test rs) h in
+    let w = and_parts (test r.1) (all_pass test rs) h in
     pick w.0 (found_passes test rs w.1 name k) (str_eq_ignore_ascii_case r.0 name) e
   where
     pick : test r.1 ≡ true → (keyword_in rs name ≡ Some k → test k ≡ true) → (b : Bool)
@@ -235,11 +231,11 @@ keyword_good = each_keyword is_good text_good control_good
 
 pub bare_good : (c : FCode) → is_bare c ≡ true → IsBare c
 bare_good c h =
-    let w = both (is_code c.0) (is_nothing (operand_numbered c.0)) h in
+    let w = and_parts (is_code c.0) (is_nothing (operand_numbered c.0)) h in
     (w.0, nothing_is (operand_numbered c.0) w.1)
 
 pub two_good : (c d : FCode) → (is_bare c && is_bare d) ≡ true → IsBare c × IsBare d
-two_good c d h = let w = both (is_bare c) (is_bare d) h in (bare_good c w.0, bare_good d w.1)
+two_good c d h = let w = and_parts (is_bare c) (is_bare d) h in (bare_good c w.0, bare_good d w.1)
 
 -- the tokens of keywords are the board's
 abbrev is_low : Keyword → Bool
@@ -268,13 +264,13 @@ one_low name t h = let e = keyword_low name (keyword.Lone (lone.One t)) h in gri
 pub two_low : (name : List ℕ) (t u : FCode) → keyword_named name ≡ Some (keyword.Lone (lone.Two t u))
     → (t.0 < 0x800) × (u.0 < 0x800)
 two_low name t u h =
-    let e = both (nat_lt t.0 0x800) (nat_lt u.0 0x800) (keyword_low name (keyword.Lone (lone.Two t u)) h) in
+    let e = and_parts (nat_lt t.0 0x800) (nat_lt u.0 0x800) (keyword_low name (keyword.Lone (lone.Two t u)) h) in
     (grind (arith, nat_tests, e.0), grind (arith, nat_tests, e.1))
 
 -- `b(')` or `b(to)` and an FCode
 pub naming_bytes : (t c : FCode) → is_naming t ≡ true → IsBare c → HasBytes (item.Plain (naming t c))
 naming_bytes t c h k =
-    let w = both (is_code t.0) (takes_code (operand_numbered t.0)) h in
+    let w = and_parts (is_code t.0) (takes_code (operand_numbered t.0)) h in
     let e = sym (code_is (operand_numbered t.0) w.1) in
     ((w.0, e, k.0), (w.0, e, k.0))
 

@@ -1,5 +1,6 @@
 -- Phrases that are those of a nest are accepted.
 use Rattle.std.proofs.Common.{◌≡◌, ℕ, zero, suc, ◌+◌, ◌<◌, ◌≤◌, true, false, List, [], ◌∷◌, ◌++◌, length, codes}
+use Rattle.std.proofs.lemmas.Option.{same_Some}
 use Rattle.std.proofs.Common.{Some, Ok, refl, sym, ap, subst, ◌∙◌, arith}
 use Rattle.std.specs.Str.{bytes_eq, str_to_ascii_lowercase}
 use Rattle.std.proofs.lemmas.Slice.Eq.{bytes_eq-Decides}
@@ -153,9 +154,6 @@ nothing_beyond zero at more h = refl
 nothing_beyond (suc n) at more h =
     ap (λ o. beyond_word (start_of (rest_at at more)) o (beyond n)) (no_word_after more at h)
 
-some_is : (x y : Shape) → Some x ≡ Some y → x ≡ y
-some_is x y h = cc
-
 -- the place behind the word that ends a source
 abbrev ended_at : Ending → Known → ℕ
 ended_at e k = (moved e.blanks k).at + length e.word
@@ -170,7 +168,7 @@ end_goes : (last at : ℕ) (e : Ending) (k : Known) (n : Nesting) → IsEnded k 
     ≡ Ends (state_at (moved e.blanks k).at (rest_at (ended_at e k) (trailing e)) (moved e.blanks k) n)
 end_goes last at e k n h r c =
     let s = state_at (moved e.blanks k).at (rest_at (ended_at e k) (trailing e)) (moved e.blanks k) n in
-    let closed = closed_goes n.branches n.parts (some_is (shape_of n) nothing (sym r ∙ c)) in
+    let closed = closed_goes n.branches n.parts (same_Some (shape_of n) nothing (sym r ∙ c)) in
     read_word last at e.blanks e.word (trailing e) k n h.blanks h.spelled (ends_part (trailing e) h.ends)
     ∙ keyed last e.word s (Some keyword.Finish) h.own h.means
     ∙ when_so (is_closed n) (Ends s) _ closed

@@ -2,7 +2,8 @@ ghost use Rattle.std.specs.Prelude.{◌+◌, ◌++◌, replicate, IfOk, IfErr, O
 ghost use Rattle.std.specs.Prelude.{length, drop, Ok, Err, Some, None};
 ghost use Rattle.std.specs.List.{slice_get, remove};
 ghost use Rattle.of_stacks.specs.Throws.{stack_underflow, stack_overflow};
-ghost use Rattle.of_stacks.specs.Stacks.{within, Becomes};
+ghost use Rattle.of_cells.specs.Outcomes.{Becomes};
+ghost use Rattle.of_stacks.specs.Stacks.{within};
 ghost use Rattle.of_stacks.specs.Unwinding.{nought, to_depth};
 
 use crate::throws::Throw;

@@ -2,7 +2,7 @@ ghost use Rattle.std.specs.Prelude.{◌+◌, IfErr, OnOk, OnErr, reverse, ◌≡
 ghost use Rattle.std.specs.Prelude.{slice_get, Ok, Err, Some, None, IfOk, if◌then◌else◌};
 ghost use Rattle.of_stacks.specs.declared.return_item.ReturnItem.{ReturnItem};
 ghost use Rattle.of_stacks.specs.Throws.{return_stack_overflow};
-ghost use Rattle.of_stacks.specs.Stacks.{Becomes};
+ghost use Rattle.of_cells.specs.Outcomes.{Becomes};
 ghost use Rattle.of_stacks.specs.Returns.{fitting, top_item, user_on_top, return_on_top, user_pushed};
 ghost use Rattle.of_stacks.specs.Loops.{open_loops, loop_on_top, index_of, goes_on, turned};
 ghost use Rattle.of_stacks.specs.Unwinding.{latest_handler, beneath_handler, latest_source, beneath_source, unwound};

@@ -1,7 +1,8 @@
 ghost use Rattle.std.specs.Prelude.{◌≡◌};
 ghost use Rattle.of_memory.specs.Access.{read, read_cell, write};
 ghost use Rattle.of_memory.specs.DataSpace.{IsSound};
-ghost use Rattle.of_memory.specs.Outcomes.{Becomes, TakesNoMemory};
+ghost use Rattle.of_cells.specs.Outcomes.{Becomes};
+ghost use Rattle.of_memory.specs.Outcomes.{TakesNoMemory};
 
 use super::Memory;
 use crate::fault::MemFault;
@@ -60,7 +61,7 @@ impl Memory {
     /// Address, if it can't be read; ReadOnly, if programs may only read the region.
     #[inline]
     pub fn write8(&mut self, addr: Cell, value: u8) -> Result<(), MemFault>
-        ensures value { Becomes result self.old self.new (write Width.One self.old addr.0 value) }
+        ensures value { Becomes (write Width.One self.old addr.0 value) self.old self.new result }
         ensures memory { TakesNoMemory result }
     {
         let at = self.to_write(addr.0, 1, Width::One)?;
@@ -74,7 +75,7 @@ impl Memory {
     /// may only read the region.
     #[inline]
     pub fn write16(&mut self, addr: Cell, value: u16) -> Result<(), MemFault>
-        ensures value { Becomes result self.old self.new (write Width.Two self.old addr.0 value) }
+        ensures value { Becomes (write Width.Two self.old addr.0 value) self.old self.new result }
         ensures memory { TakesNoMemory result }
     {
         let at = self.to_write(addr.0, 2, Width::Two)?;
@@ -90,7 +91,7 @@ impl Memory {
     /// if programs may only read the region.
     #[inline]
     pub fn write32(&mut self, addr: Cell, value: Cell) -> Result<(), MemFault>
-        ensures value { Becomes result self.old self.new (write Width.Four self.old addr.0 value.0) }
+        ensures value { Becomes (write Width.Four self.old addr.0 value.0) self.old self.new result }
         ensures memory { TakesNoMemory result }
     {
         let at = self.to_write(addr.0, 4, Width::Four)?;

@@ -1,5 +1,6 @@
 ghost use Rattle.std.specs.Prelude.{◌≡◌, ◌≤◌};
-ghost use Rattle.of_memory.specs.Outcomes.{Answers, Becomes, TakesNoMemory};
+ghost use Rattle.of_cells.specs.Outcomes.{Answers, Becomes};
+ghost use Rattle.of_memory.specs.Outcomes.{TakesNoMemory, address_of};
 ghost use Rattle.of_memory.specs.DataSpace.{IsSound};
 ghost use Rattle.of_memory.specs.Regions.{data_limit};
 ghost use Rattle.of_memory.specs.Growth.{allotted, append_copied, appended, moved, zeros_address, zeros_allotted};
@@ -35,7 +36,7 @@ impl Memory {
     ///
     /// Full, if it would leave the data region.
     pub fn allot(&mut self, n: Cell) -> Result<(), MemFault>
-        ensures value { Becomes result self.old self.new (allotted self.old n.0) }
+        ensures value { Becomes (allotted self.old n.0) self.old self.new result }
         ensures memory { TakesNoMemory result }
     {
         let here = moved_by(self.here, n);
@@ -64,7 +65,7 @@ impl Memory {
     ///
     /// Full, if they would leave the data region; no bytes never do.
     pub fn allot_zeros(&mut self, len: Cell) -> Result<Cell, MemFault>
-        ensures value { Answers result self.old self.new (zeros_allotted self.old len.0) }
+        ensures value { Answers (zeros_allotted self.old len.0) self.old self.new (address_of result) }
         ensures memory { TakesNoMemory result }
     {
         let at = self.check_zeros(len)?;
@@ -77,7 +78,7 @@ impl Memory {
     ///
     /// Full, if they would leave the data region.
     pub fn append(&mut self, new: &[u8]) -> Result<Cell, MemFault>
-        ensures value { Answers result self.old self.new (appended self.old new.now) }
+        ensures value { Answers (appended self.old new.now) self.old self.new (address_of result) }
         ensures memory { TakesNoMemory result }
     {
         let at = self.here;
@@ -95,7 +96,7 @@ impl Memory {
     /// Address, if one of them can't be read; else Full, if they would leave the data region.
     #[tactic(auto, using(crate::proofs::Splices::part_length))]
     pub fn append_copy(&mut self, from: Cell, len: Cell, tail: &[u8]) -> Result<Cell, MemFault>
-        ensures value { Answers result self.old self.new (append_copied self.old from.0 len.0 tail.now) }
+        ensures value { Answers (append_copied self.old from.0 len.0 tail.now) self.old self.new (address_of result) }
         ensures memory { TakesNoMemory result }
     {
         let source = self.source(from.0, len.0)?;

@@ -2,7 +2,8 @@ ghost use Rattle.std.specs.Prelude.{◌≡◌, IfOk};
 ghost use Rattle.of_memory.specs.Regions.{heap_start, heap_limit};
 ghost use Rattle.of_memory.specs.Blocks.{IsLeastFree, rounded};
 ghost use Rattle.of_memory.specs.BlockCalls.{heap_taken, heap_given};
-ghost use Rattle.of_memory.specs.Outcomes.{Takes, Becomes, TakesNoMemory};
+ghost use Rattle.of_cells.specs.Outcomes.{Becomes, MayAnswer};
+ghost use Rattle.of_memory.specs.Outcomes.{IsForMemory, TakesNoMemory, address_of};
 
 use super::Memory;
 use crate::blocks::{block_size, give_block, take_block};
@@ -17,7 +18,7 @@ impl Memory {
     ///
     /// Full, if there is no such address; NoMemory, if the list of blocks can't grow.
     pub fn heap_take(&mut self, len: Cell) -> Result<Cell, MemFault>
-        ensures taken { Takes result self.old self.new (heap_taken self.old len.0) }
+        ensures taken { MayAnswer IsForMemory (heap_taken self.old len.0) self.old self.new (address_of result) }
         ensures least { let size = rounded len.0 in
             IfOk result (λ a. IsLeastFree heap_start heap_limit self.old.heap size a.0) }
     {
@@ -30,7 +31,7 @@ impl Memory {
     ///
     /// BadBlock, if no live block stands there, or `len` doesn't round to its size.
     pub fn heap_give(&mut self, addr: Cell, len: Cell) -> Result<(), MemFault>
-        ensures given { Becomes result self.old self.new (heap_given self.old addr.0 len.0) }
+        ensures given { Becomes (heap_given self.old addr.0 len.0) self.old self.new result }
         ensures memory { TakesNoMemory result }
     {
         give_block(&mut self.heap, HEAP_START, HEAP_LIMIT, addr.0, len.0)

@@ -1,6 +1,7 @@
 ghost use Rattle.std.specs.Prelude.{◌≡◌, ◌≤◌, length};
 ghost use Rattle.of_memory.specs.Regions.{image_limit};
-ghost use Rattle.of_memory.specs.Outcomes.{Answers, TakesNoMemory};
+ghost use Rattle.of_cells.specs.Outcomes.{Answers};
+ghost use Rattle.of_memory.specs.Outcomes.{TakesNoMemory, address_of};
 ghost use Rattle.of_memory.specs.Growth.{image_room, image_fits, image_pushed, image_pushed_from, image_popped};
 ghost use Rattle.of_memory.specs.Images.{latest_start, latest_image};
 
@@ -51,7 +52,7 @@ impl Memory {
     ///
     /// Full, if it doesn't fit, or 256 images run.
     pub fn image_push(&mut self, image: &[u8]) -> Result<Cell, MemFault>
-        ensures value { Answers result self.old self.new (image_pushed self.old image.now) }
+        ensures value { Answers (image_pushed self.old image.now) self.old self.new (address_of result) }
         ensures memory { TakesNoMemory result }
     {
         if !self.image_fits(image.len()) {
@@ -72,7 +73,7 @@ impl Memory {
     #[tactic(auto, using(crate::proofs::Spread::every_length))]
     pub fn image_push_from(&mut self, from: Cell, len: Cell, spread: Cell) -> Result<Cell, MemFault>
         requires { 1 ≤ spread.0 }
-        ensures value { Answers result self.old self.new (image_pushed_from self.old from.0 len.0 spread.0) }
+        ensures value { Answers (image_pushed_from self.old from.0 len.0 spread.0) self.old self.new (address_of result) }
         ensures memory { TakesNoMemory result }
     {
         let source = self.spread_source(from.0, len.0, spread.0)?;

@@ -2,7 +2,8 @@ ghost use Rattle.std.specs.Prelude.{◌≡◌, length, IfOk};
 ghost use Rattle.of_memory.specs.Regions.{instance_start, instance_limit};
 ghost use Rattle.of_memory.specs.Blocks.{IsLeastFree, rounded};
 ghost use Rattle.of_memory.specs.BlockCalls.{instance_taken, instances_taken, instance_given};
-ghost use Rattle.of_memory.specs.Outcomes.{Answers, Becomes, TakesNoMemory};
+ghost use Rattle.of_cells.specs.Outcomes.{Answers, Becomes};
+ghost use Rattle.of_memory.specs.Outcomes.{TakesNoMemory, address_of};
 
 use super::Memory;
 use crate::blocks::{block_size, give_block, has_room, take_block};
@@ -17,7 +18,7 @@ impl Memory {
     ///
     /// Full, if there is no such address.
     pub fn instance_take(&mut self, len: Cell) -> Result<Cell, MemFault>
-        ensures taken { Answers result self.old self.new (instance_taken self.old len.0) }
+        ensures taken { Answers (instance_taken self.old len.0) self.old self.new (address_of result) }
         ensures least { let size = rounded len.0 in
             IfOk result (λ a. IsLeastFree instance_start instance_limit self.old.instances size a.0) }
         ensures memory { TakesNoMemory result }
@@ -38,7 +39,7 @@ impl Memory {
     ) -> Result<(), MemFault>
         requires { length lengths.now ≡ length addresses.old }
         ensures taken { let after = instances_taken self.old lengths.now in
-            Becomes result (addresses.old, self.old) (addresses.new, self.new) after }
+            Becomes after (addresses.old, self.old) (addresses.new, self.new) result }
         ensures memory { TakesNoMemory result }
     {
         if !has_room(&mut self.instances, INSTANCE_START, INSTANCE_LIMIT, lengths) {
@@ -59,7 +60,7 @@ impl Memory {
     ///
     /// BadBlock, if no live block stands there, or `len` doesn't round to its size.
     pub fn instance_give(&mut self, addr: Cell, len: Cell) -> Result<(), MemFault>
-        ensures given { Becomes result self.old self.new (instance_given self.old addr.0 len.0) }
+        ensures given { Becomes (instance_given self.old addr.0 len.0) self.old self.new result }
         ensures memory { TakesNoMemory result }
     {
         give_block(

@@ -1,5 +1,6 @@
 ghost use Rattle.std.specs.Prelude.{◌≡◌, ◌≤◌};
-ghost use Rattle.of_memory.specs.Outcomes.{Answers, AnswersTwo, TakesNoMemory};
+ghost use Rattle.of_cells.specs.Outcomes.{Answers};
+ghost use Rattle.of_memory.specs.Outcomes.{TakesNoMemory, address_of, addresses_of, paired};
 ghost use Rattle.of_memory.specs.Growth.{property_put, property_room, named_put, with_state};
 
 use super::Memory;
@@ -20,7 +21,7 @@ impl Memory {
     ///
     /// Full, if it doesn't fit.
     pub fn put_property(&mut self, new: &[u8]) -> Result<Cell, MemFault>
-        ensures value { Answers result self.old self.new (property_put self.old new.now) }
+        ensures value { Answers (property_put self.old new.now) self.old self.new (address_of result) }
         ensures memory { TakesNoMemory result }
     {
         let at = aligned(self.properties_end);
@@ -37,7 +38,7 @@ impl Memory {
     ///
     /// Full, if they don't both fit; then neither is put.
     pub fn put_named(&mut self, name: &[u8], value: &[u8]) -> Result<(Cell, Cell), MemFault>
-        ensures value { AnswersTwo result self.old self.new (named_put self.old name.now value.now) }
+        ensures value { Answers (paired (named_put self.old name.now value.now)) self.old self.new (addresses_of result) }
         ensures memory { TakesNoMemory result }
     {
         let at = aligned(self.properties_end);

@@ -1,7 +1,8 @@
 ghost use Rattle.std.specs.Prelude.{◌≡◌, Ok, Err, MatchResult};
 ghost use Rattle.of_memory.specs.Access.{read_bytes, bytes_written, filled, copied};
 ghost use Rattle.of_memory.specs.DataSpace.{IsSound};
-ghost use Rattle.of_memory.specs.Outcomes.{Becomes, TakesNoMemory};
+ghost use Rattle.of_cells.specs.Outcomes.{Becomes};
+ghost use Rattle.of_memory.specs.Outcomes.{TakesNoMemory};
 
 use super::Memory;
 use crate::fault::MemFault;
@@ -36,7 +37,7 @@ impl Memory {
     /// region. No bytes can always be written.
     #[tactic(auto, using(crate::proofs::Nothing::write_none, crate::proofs::Faults::long_write_fault))]
     pub fn write_bytes(&mut self, addr: Cell, new: &[u8]) -> Result<(), MemFault>
-        ensures value { Becomes result self.old self.new (bytes_written self.old addr.0 new.now) }
+        ensures value { Becomes (bytes_written self.old addr.0 new.now) self.old self.new result }
         ensures memory { TakesNoMemory result }
     {
         if new.is_empty() {
@@ -56,7 +57,7 @@ impl Memory {
     /// bytes are always good.
     #[tactic(auto, using(crate::proofs::Nothing::fill_none))]
     pub fn fill(&mut self, addr: Cell, len: Cell, value: u8) -> Result<(), MemFault>
-        ensures value { Becomes result self.old self.new (filled self.old addr.0 len.0 value) }
+        ensures value { Becomes (filled self.old addr.0 len.0 value) self.old self.new result }
         ensures memory { TakesNoMemory result }
     {
         if len.0 == 0 {
@@ -74,7 +75,7 @@ impl Memory {
     /// may only read the destination's region. No bytes are always good.
     #[tactic(auto, using(crate::proofs::Nothing::copy_none))]
     pub fn copy(&mut self, from: Cell, to: Cell, len: Cell) -> Result<(), MemFault>
-        ensures value { Becomes result self.old self.new (copied self.old from.0 to.0 len.0) }
+        ensures value { Becomes (copied self.old from.0 to.0 len.0) self.old self.new result }
         ensures memory { TakesNoMemory result }
     {
         if len.0 == 0 {

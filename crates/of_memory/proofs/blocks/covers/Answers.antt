@@ -1,10 +1,11 @@
 use Rattle.std.proofs.Common.{◌≡◌, ℕ, ◌+◌, ◌-◌, ◌≤◌, ◌<◌, nat_le, drop, [], sym, ap, ◌∙◌, arith}
+use Rattle.std.proofs.lemmas.Bool.{le-leb, lt-leb}
 use Rattle.std.proofs.lemmas.Grind.{common_steps}
 use Rattle.std.proofs.lemmas.List.{drop_all}
 use Rattle.of_memory.specs.Regions.{heap_start, heap_limit}
 use Rattle.of_memory.specs.BlockSearch.{reach}
 use Rattle.of_memory.specs.declared.blocks.Block.{Block}
-use Rattle.of_memory.proofs.Reach.{all_live, laid_drop, reach_below, reach_ge, over, within}
+use Rattle.of_memory.proofs.Reach.{all_live, laid_drop, reach_below, reach_ge}
 use Rattle.of_memory.proofs.blocks.covers.Goals as goal
 use Rattle.of_memory.proofs.blocks.covers.Goals.{then-loop-i-test+else-next-addr, else-loop-i-test}
 
@@ -22,7 +23,7 @@ returns-then-next-b c =
     let end : reach bs c.args.addr ≡ c.loop-i.next = sym c.loop-i.invariant.rest ∙ stop in
     let beyond : c.loop-i.next < c.args.addr + c.args.len = omega (arith, c.loop-i.invariant.on) in
     sym (all_live bs c.args.addr c.args.len c.requires.laid
-    ∙ (ap (λ x. nat_le (c.args.addr + c.args.len) x) end ∙ over (c.args.addr + c.args.len) c.loop-i.next beyond))
+    ∙ (ap (λ x. nat_le (c.args.addr + c.args.len) x) end ∙ lt-leb (c.args.addr + c.args.len) c.loop-i.next beyond))
 
 pub returns : goal.returns
 returns c =
@@ -37,7 +38,7 @@ returns c =
           let far : next ≤ reach (drop c.loop-i.i bs) next = reach_ge (drop c.loop-i.i bs) next in
           let all : a + n ≤ next = omega (arith, w.if-next-addr.false, c.loop-i.invariant.on) in
           let reached : a + n ≤ reach bs a = omega (arith, far, c.loop-i.invariant.rest) in
-          test ∙ (within (a + n) next all ∙ sym (live ∙ within (a + n) (reach bs a) reached))
+          test ∙ (le-leb (a + n) next all ∙ sym (live ∙ le-leb (a + n) (reach bs a) reached))
       | else-loop-i-test w ↦
           let none : drop c.loop-i.i bs ≡ [] = drop_all c.loop-i.i bs w.loop-i-test.false in
           let end : next ≡ reach bs a = rw none at c.loop-i.invariant.rest in

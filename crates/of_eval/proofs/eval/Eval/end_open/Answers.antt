@@ -1,5 +1,5 @@
 use Rattle.std.proofs.Common.{◌≡◌, Ok, false, sym, ap, subst, ◌∙◌}
-use Rattle.of_stacks.specs.Stacks.{Becomes}
+use Rattle.of_cells.specs.Outcomes.{Becomes}
 use Rattle.of_compile.specs.Definitions.{closing_entry}
 use Rattle.of_eval.specs.Methods.{with_tree}
 use Rattle.of_eval.specs.State.{done, with_compiling, with_words}
@@ -13,7 +13,7 @@ returns-in-Ok-clause-outcome g c = λ t.
     let before = c.reserve.new.self.coding in
     let after = c.end_definition.new.coding.coding in
     let code = c.in_ok-reserve.ensures.coding ∙ ap (λ s. s.code) c.self.view_is in
-    let becomes = subst (λ w. Becomes (closing_entry w before) (w, before) (words, after) (Ok tt))
+    let becomes = subst (λ w. Becomes {A = Unit {0}} (closing_entry w before) (w, before) (words, after) (Ok tt))
     (ap (λ s. s.words) c.self.view_is) c.in-Ok.ensures.outcome in
     let left = subst (λ s. with_compiling false (record (with_words words (with_tree t s)) { code = after })
     ≡ with_tree t c.set_compiling.new.self) c.self.view_is (sym (ap (with_tree t) c.set_compiling.ensures)) in
