@@ -5,19 +5,20 @@ use Rattle.std.specs.Prelude.{◌&&◌, is_ok}
 use Rattle.of_cells.specs.declared.cells.Cell.{Cell}
 use Rattle.of_memory.specs.DataSpace.{DataSpace, IsSound, free_after}
 use Rattle.of_memory.specs.Growth.{image_fits, image_pushed}
-use Rattle.of_memory.specs.Images.{LatestIsPushed}
+use Rattle.of_memory.specs.PropertyRegion.{KeepsProperties}
 use Rattle.of_memory.specs.Regions.{image_count, image_limit}
+use Rattle.of_memory.specs.SoundChanges.{AreBytes}
 use Rattle.of_nodes.specs.declared.phandles.Phandle.{Phandle}
-use Rattle.of_ihandles.specs.SpaceKept.{InstancesKeepTheSpace}
+use Rattle.of_ihandles.specs.SpaceKept.{Keeps}
 use Rattle.of_ihandles.specs.Table.{InstanceTable}
 use Rattle.of_ihandles.specs.declared.instance_fault.InstanceFault.{InstanceFault}
 use Rattle.of_board.specs.declared.board.Board.{Board}
 use Rattle.of_eval.specs.Loading.{begun, begun_by, begun_unless, image_begun, image_copied, instance_on}
 use Rattle.of_eval.specs.State.{State}
 use Rattle.of_eval.specs.declared.load_fault.LoadFault.TheVariants.{ImageTooLong, NoInstance}
-use Rattle.of_eval_laws.proofs.FramedSpace.{Stands, kept_stands}
-use Rattle.of_eval_laws.proofs.RunningBytes.{Pushed, pushed}
-use Rattle.of_eval_laws.proofs.SoundSpace.{no_bytes, with_image}
+use Rattle.of_eval_laws.proofs.Bytes.{no_bytes}
+use Rattle.of_eval_laws.proofs.FramedSpace.{Laws}
+use Rattle.of_eval_laws.proofs.RunningBytes.{Pushed, pushed, with_image}
 
 -- an instance that was opened, with what that left
 abbrev pub Opened : Type 0
@@ -40,12 +41,11 @@ pub begun_is : {S : Type 0} (P : State S → Type 0) (image : List ℕ) (node : 
 begun_is P image node s stays begins =
     begun_at P image node s (image_fits s.board.memory (length image)) (instance_on node s.board) refl stays begins
 
--- the instance leaves the images as they were
-pub opened_stands : (l : InstancesKeepTheSpace) (b : Board) (node : Phandle) (x : Opened) → IsSound b.memory
-    → instance_on node b ≡ Ok x → Stands b.memory x.1.1
-opened_stands l b node x sound e =
-    let kept = l.by_open b.instances x.1.0 b.memory x.1.1 node b.active.my_self x.0 [] sound no_bytes e in
-    kept_stands b.memory x.1.1 kept.images kept.sound
+-- what opening its instance leaves of the data space
+pub opened_kept : (l : Laws) (b : Board) (node : Phandle) (x : Opened) → IsSound b.memory → instance_on node b ≡ Ok x
+    → Keeps b.memory x.1.1
+opened_kept l b node x sound e =
+    l.instances.by_open b.instances x.1.0 b.memory x.1.1 node b.active.my_self x.0 [] sound no_bytes e
 
 -- so an image still has its room
 still_fits : (m after : DataSpace) (n : ℕ) → after.images ≡ m.images → image_fits m n ≡ true → image_fits after n ≡ true
@@ -57,16 +57,24 @@ pushed_fits : (m : DataSpace) (xs : List ℕ) → image_fits m (length xs) ≡ t
     → image_pushed m xs ≡ Ok (free_after m.images, with_image m xs)
 pushed_fits m xs h = rw h refl
 
--- and is pushed behind the others
-pub image_stands : (l : LatestIsPushed) (m after : DataSpace) (xs : List ℕ) → Stands m after
-    → image_fits m (length xs) ≡ true
-    → Pushed after (free_after after.images) xs (image_copied (image_pushed after xs) after)
-    × ((image_copied (image_pushed after xs) after).images ≡ (free_after after.images + length xs) ∷ after.images)
-image_stands l m after xs stands h =
-    let e = pushed_fits after xs (still_fits m after (length xs) stands.0 h) in
-    let copied : with_image after xs ≡ image_copied (image_pushed after xs) after =
-    sym (ap (λ r. image_copied r after) e) in (
-      subst (λ n. Pushed after (free_after after.images) xs n) copied
-          (pushed l after (with_image after xs) xs (free_after after.images) stands.2 e),
-      sym (ap (λ (n : DataSpace). n.images) copied),
-    )
+-- an image of these bytes was pushed behind the others
+pub record IsPushed (m after : DataSpace) (xs : List ℕ) : Type 0 where
+  pub runs : Pushed m (free_after m.images) xs after
+  pub images : after.images ≡ (free_after m.images + length xs) ∷ m.images
+  pub sound : AreBytes xs → IsSound after
+  pub properties : KeepsProperties m after
+
+pub image_pushes : (l : Laws) (m after : DataSpace) (xs : List ℕ) → Keeps m after → image_fits m (length xs) ≡ true
+    → IsPushed after (image_copied (image_pushed after xs) after) xs
+image_pushes l m after xs kept h =
+    let a = free_after after.images in
+    let new = with_image after xs in
+    let e = pushed_fits after xs (still_fits m after (length xs) kept.images.0 h) in
+    let copied : new ≡ image_copied (image_pushed after xs) after = sym (ap (λ r. image_copied r after) e) in
+    let done : IsPushed after new xs = record {
+      runs = pushed l.pushes after new xs a kept.sound e;
+      images = refl;
+      sound = λ small. l.sound.by_push after new xs a kept.sound small e;
+      properties = l.properties.by_push after new xs a kept.sound e;
+    } in
+    subst (λ (n : DataSpace). IsPushed after n xs) copied done

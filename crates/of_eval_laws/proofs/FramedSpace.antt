@@ -1,158 +1,197 @@
--- The law `images_stand`: writes below the image region leave the images as they were.
-use Rattle.std.proofs.Common.{◌≡◌, ℕ, zero, suc, ◌+◌, ◌-◌, ◌/◌, ◌%◌, ◌<◌, ◌≤◌, ◌==◌, ◌&&◌, Bool, true, false}
-use Rattle.std.proofs.Common.{List, [], ◌∷◌, length, drop, Option, Some, None, Result, Ok, Err}
-use Rattle.std.proofs.Common.{inl, inr, refl, sym, ap, ◌∙◌, subst, arith, nat_le, if◌then◌else◌}
-use Rattle.std.proofs.lemmas.Bool.{and_parts, cases_lt, eqb-true, leb-true, false≢true}
-use Rattle.std.proofs.lemmas.List.{drop-drop, places, same_lists}
-use Rattle.std.specs.Prelude.{◌||◌}
-use Rattle.of_memory.specs.declared.blocks.Block.{Block}
+-- What a call of the data space leaves, by the laws of the layers below: a sound one, with the same images and
+-- properties; and what is left of the board then.
+use Rattle.std.proofs.Common.{◌≡◌, ℕ, ◌+◌, ◌%◌, ◌<◌, ◌≤◌, Bool, List, length, Option, None}
+use Rattle.std.proofs.Common.{Result, Ok, Err, refl, ap, ◌∙◌, subst, arith}
+use Rattle.of_stacks.specs.declared.throws.Throw.{Throw}
+use Rattle.of_memory.specs.Access.{bytes_written, copied, filled, unless, write, write_fault}
+use Rattle.of_memory.specs.BlockCalls.{heap_given, heap_taken}
+use Rattle.of_memory.specs.DataSpace.{DataSpace, IsSound, written}
+use Rattle.of_memory.specs.Growth.{append_copied, appended, with_state, zeros_allotted}
+use Rattle.of_memory.specs.ImageRegion.{ImagesChangeByImagesAlone, KeepsImages}
+use Rattle.of_memory.specs.Images.{LatestIsPushed}
+use Rattle.of_memory.specs.PropertyRegion.{PropertiesChangeByPutsAlone}
+use Rattle.of_memory.specs.RangeLaws.{PartsAreGood, ScratchIsOpen}
+use Rattle.of_memory.specs.SoundChanges.{AreBytes, ChangesStaySound}
+use Rattle.of_memory.specs.Width.{bytes_in}
 use Rattle.of_memory.specs.declared.fault.MemFault.{MemFault}
-use Rattle.of_memory.specs.declared.fault.MemFault.TheVariants.{ReadOnly}
 use Rattle.of_memory.specs.declared.width.Width.{Width}
-use Rattle.of_memory.specs.Access.{or_fault, read_fault, unless, write_fault}
-use Rattle.of_memory.specs.Blocks.{IsFree, first_of_eighths, least_free, meets_none}
-use Rattle.of_memory.specs.DataSpace.{DataSpace, IsSound, splice, written}
-use Rattle.of_memory.specs.RangeLaws.{PartsAreGood, RangesArePlaced, WritesJoin}
-use Rattle.of_memory.specs.Regions.{heap_limit, heap_start, image_start, may_write, place_of}
-use Rattle.of_memory.specs.Regions.{region_numbered, region_of, span}
-use Rattle.of_memory.specs.ImageRegion.{KeepsImages}
-use Rattle.of_eval_laws.specs.Sound.{AreBytes}
-use Rattle.of_eval_laws.proofs.SoundSpace.{written_sound}
+use Rattle.of_memory.specs.declared.width.Width.TheVariants.{One}
+use Rattle.std.specs.Int.{bytes_high_first}
+use Rattle.of_nodes.specs.SpaceKept.{PropertiesKeepTheSpace}
+use Rattle.of_nodes.specs.Stored.{AreStored, StoredStays}
+use Rattle.of_ihandles.specs.SpaceKept.{InstancesKeepTheSpace, Keeps}
+use Rattle.of_board.specs.declared.board.Board.{Board}
+use Rattle.of_instances.specs.SpaceKept.{Keeps as KeepsBoard, WordsKeepTheSpace}
 
--- what of_memory's laws say
-pub record Given : Type 0 where
+-- what the laws of the layers below say
+pub record Laws : Type 0 where
+  pub sound : ChangesStaySound
+  pub images : ImagesChangeByImagesAlone
+  pub properties : PropertiesChangeByPutsAlone
   pub parts : PartsAreGood
-  pub ranges : RangesArePlaced
-  pub joins : WritesJoin
+  pub scratch : ScratchIsOpen
+  pub pushes : LatestIsPushed
+  pub nodes : PropertiesKeepTheSpace
+  pub stored : StoredStays
+  pub instances : InstancesKeepTheSpace
+  pub words : WordsKeepTheSpace
 
--- the images are the same, so are all bytes from where they begin on, and the data space is sound
-abbrev pub Stands : DataSpace → DataSpace → Type 0
-Stands m after =
-    (after.images ≡ m.images) × ((p : ℕ) → 0x14_0000 ≤ p → drop p after.bytes ≡ drop p m.bytes) × IsSound after
+-- ---- the data space
 
-pub same : (m : DataSpace) → IsSound m → Stands m m
-same m sound = (refl, (λ p l. refl), sound)
-
--- ---- below the image region
-
-spliced :
-    (xs ys : List ℕ) (i p : ℕ) → i + length ys ≤ length xs → i + length ys ≤ p
-    → drop p (splice xs i ys) ≡ drop p xs
-spliced xs ys i p fits below = same_lists _ _ (grind (arith, places)) (λ k d h. grind (arith, places))
-
--- bytes written below the image region
-pub below_stands : (m : DataSpace) (a : ℕ) (ys : List ℕ) → IsSound m → AreBytes ys
-    → place_of a + length ys ≤ 0x14_0000 → Stands m (written m a ys)
-below_stands m a ys sound small below = (
-  refl,
-  (λ p l. spliced m.bytes ys (place_of a) p (omega (arith, sound.bytes, below)) (omega (arith, below, l))),
-  written_sound m a ys sound (omega (arith, below)) small,
-)
-
--- ---- where programs may write
-
-left_fault : (f : Option MemFault) (b : Bool) → or_fault f (if b then None else Some ReadOnly) ≡ None → b ≡ true
-left_fault None true e = refl
-left_fault None false e = absurd cc
-left_fault (Some f) b e = absurd cc
-
-some_written : (n : ℕ) (z b : Bool) → (n == 0) ≡ z → 0 < n → (z || b) ≡ true → b ≡ true
-some_written n true b is l e = let none = eqb-true n 0 is in absurd (omega (arith, none, l))
-some_written n false b is l e = e
-
-no_image : (q : ℕ) → q ≡ 6 → may_write (region_numbered q) ≡ true → ⊥
-no_image q e may = false≢true (sym (ap (λ x. may_write (region_numbered x)) e) ∙ may)
-
-may : (m : DataSpace) (a n : ℕ) (w : Width) → write_fault m a n w ≡ None → 0 < n → may_write (region_of a) ≡ true
-unfolding write_fault
-may m a n w e l = some_written n (n == 0) (may_write (region_of a)) refl l
-    (left_fault (read_fault m a n w) (n == 0 || may_write (region_of a)) e)
-
-under_image : (q : ℕ) → q ≤ 6 → (q ≡ 6 → ⊥) → q ≤ 5
-under_image q l other = elim (cases_lt q 6) [
-  | inl h ↦ omega (arith, h)
-  | inr h ↦ absurd (other (omega (arith, h, l)))
-]
-
-place_under : (a n : ℕ) → 1 ≤ a / span → a / span ≤ 5 → a % span + n ≤ 0x4_0000 → place_of a + n ≤ 0x14_0000
-place_under a n some last within = omega (arith, some, last, within)
-
-fault_place : (g : Given) (m : DataSpace) (a n : ℕ) (w : Width) → write_fault m a n w ≡ None → 0 < n
-    → place_of a + n ≤ 0x14_0000
-fault_place g m a n w e l =
-    let placed = g.ranges.placed m a n w (g.parts.reads m a n w e) l in
-    place_under a n placed.some
-    (under_image (a / span) placed.last (λ six. no_image (a / span) six (may m a n w e l))) placed.within
-
--- as many bytes as may be written, or fewer
-pub fault_stands :
-    (g : Given) (m : DataSpace) (a n : ℕ) (ys : List ℕ) (w : Width) → IsSound m → AreBytes ys → length ys ≤ n
-    → write_fault m a n w ≡ None → Stands m (written m a ys)
-fault_stands g m a n [] w sound small few e = subst (λ x. Stands m x) (sym (g.joins.none m a)) (same m sound)
-fault_stands g m a n (y ∷ ys) w sound small few e =
-    let most = fault_place g m a n w e (omega (arith, few)) in
-    below_stands m a (y ∷ ys) sound small (omega (arith, most, few))
+pub same : (m : DataSpace) → IsSound m → Keeps m m
+same m sound = record {
+  sound = sound;
+  images = (refl, refl);
+  properties = record { reads = λ a n from to. refl; ends = refl };
+}
 
 -- and then others
-pub then_stands : (m after last : DataSpace) → Stands m after → Stands after last → Stands m last
-then_stands m after last x y = (y.0 ∙ x.0, (λ p l. y.1 p l ∙ x.1 p l), y.2)
+pub then_kept : (m between after : DataSpace) → Keeps m between → Keeps between after → Keeps m after
+then_kept m between after f g = record {
+  sound = g.sound;
+  images = (g.images.0 ∙ f.images.0, g.images.1 ∙ f.images.1);
+  properties = record {
+    reads = λ a n from to. g.properties.reads a n from to ∙ f.properties.reads a n from to;
+    ends = g.properties.ends ∙ f.properties.ends;
+  };
+}
 
--- ---- answers
+-- what a call left, and what one left that answers, too
+abbrev pub Left : DataSpace → Result DataSpace MemFault → Type 0
+Left m (Ok after) = Keeps m after
+Left m (Err fault) = Unit {0}
 
-abbrev pub MemStands : DataSpace → Result DataSpace MemFault → Type 0
-MemStands m (Ok after) = Stands m after
-MemStands m (Err fault) = Unit {0}
+abbrev pub Answered : DataSpace → Result (ℕ × DataSpace) MemFault → Type 0
+Answered m (Ok x) = Keeps m x.1
+Answered m (Err fault) = Unit {0}
 
-abbrev pub AddressStands : DataSpace → Result (ℕ × DataSpace) MemFault → Type 0
-AddressStands m (Ok x) = Stands m x.1
-AddressStands m (Err fault) = Unit {0}
+pub by_write : (l : Laws) (w : Width) (m : DataSpace) (a x : ℕ) (r : Result DataSpace MemFault) → IsSound m
+    → write w m a x ≡ r → Left m r
+by_write l w m a x (Ok after) sound e = record {
+  sound = l.sound.by_write w m after a x sound e;
+  images = l.images.by_write w m after a x sound e;
+  properties = l.properties.by_write w m after a x sound e;
+}
+by_write l w m a x (Err fault) sound e = tt
 
-pub unless_stands : (m : DataSpace) (f : Option MemFault) (after : DataSpace) → (f ≡ None → Stands m after)
-    → MemStands m (unless f after)
-unless_stands m None after h = h refl
-unless_stands m (Some f) after h = tt
+pub by_fill : (l : Laws) (m : DataSpace) (a n x : ℕ) (r : Result DataSpace MemFault) → IsSound m → x < 256
+    → filled m a n x ≡ r → Left m r
+by_fill l m a n x (Ok after) sound small e = record {
+  sound = l.sound.by_fill m after a n x sound small e;
+  images = l.images.by_fill m after a n x sound e;
+  properties = l.properties.by_fill m after a n x sound e;
+}
+by_fill l m a n x (Err fault) sound small e = tt
 
--- ---- blocks of the heap
+pub by_copy : (l : Laws) (m : DataSpace) (from to n : ℕ) (r : Result DataSpace MemFault) → IsSound m
+    → copied m from to n ≡ r → Left m r
+by_copy l m from to n (Ok after) sound e = record {
+  sound = l.sound.by_copy m after from to n sound e;
+  images = l.images.by_copy m after from to n sound e;
+  properties = l.properties.by_copy m after from to n sound e;
+}
+by_copy l m from to n (Err fault) sound e = tt
 
--- a number from the first on, a multiple of 8 behind it, that passes
-abbrev Passes : (ℕ → Bool) → ℕ → ℕ → Type 0
-Passes p low x = (p x ≡ true) × (low ≤ x) × (x % 8 ≡ 0)
+pub by_heap_give : (l : Laws) (m : DataSpace) (a n : ℕ) (r : Result DataSpace MemFault) → IsSound m
+    → heap_given m a n ≡ r → Left m r
+by_heap_give l m a n (Ok after) sound e = record {
+  sound = l.sound.by_heap_give m after a n sound e;
+  images = l.images.by_heap_give m after a n sound e;
+  properties = l.properties.by_heap_give m after a n e;
+}
+by_heap_give l m a n (Err fault) sound e = tt
 
-first_if : (p : ℕ → Bool) (b : Bool) (low a x : ℕ) (rest : Option ℕ) → p a ≡ b → low ≤ a → a % 8 ≡ 0
-    → (rest ≡ Some x → Passes p low x) → (if b then Some a else rest) ≡ Some x → Passes p low x
-first_if p true low a x rest e l eighth h at = let one : a ≡ x = cc in subst (λ y. Passes p low y) one (e, l, eighth)
-first_if p false low a x rest e l eighth h at = h at
+pub by_heap_take : (l : Laws) (m : DataSpace) (n : ℕ) (r : Result (ℕ × DataSpace) MemFault) → IsSound m
+    → heap_taken m n ≡ r → Answered m r
+by_heap_take l m n (Ok x) sound e = record {
+  sound = l.sound.by_heap_take m x.1 n x.0 sound e;
+  images = l.images.by_heap_take m x.1 n x.0 sound e;
+  properties = l.properties.by_heap_take m x.1 n x.0 sound e;
+}
+by_heap_take l m n (Err fault) sound e = tt
 
-first_passes : (p : ℕ → Bool) (low a n x : ℕ) → low ≤ a → a % 8 ≡ 0 → first_of_eighths p a n ≡ Some x
-    → Passes p low x
-first_passes p low a zero x l eighth e = absurd cc
-first_passes p low a (suc n) x l eighth e =
-    first_if p (p a) low a x (first_of_eighths p (a + 8) n) refl l eighth
-    (λ h. first_passes p low (a + 8) n x (omega (arith, l)) (omega (arith, eighth)) h) e
+pub by_append : (l : Laws) (m : DataSpace) (xs : List ℕ) (r : Result (ℕ × DataSpace) MemFault) → IsSound m
+    → AreBytes xs → appended m xs ≡ r → Answered m r
+by_append l m xs (Ok x) sound small e = record {
+  sound = l.sound.by_append m x.1 xs x.0 sound small e;
+  images = l.images.by_append m x.1 xs x.0 sound e;
+  properties = l.properties.by_append m x.1 xs x.0 sound e;
+}
+by_append l m xs (Err fault) sound small e = tt
 
-pub free_is : (blocks : List Block) (size a : ℕ) → least_free heap_start heap_limit blocks size ≡ Some a
-    → IsFree heap_start heap_limit blocks size a
-unfolding least_free
-free_is blocks size a e =
-    let found = first_passes (λ x. nat_le (x + size) heap_limit && meets_none blocks size x) heap_start heap_start
-    ((heap_limit - heap_start) / 8) a (omega arith) (omega arith) e in
-    let both = and_parts (nat_le (a + size) heap_limit) (meets_none blocks size a) found.0 in
-    record { aligned = found.2; from = found.1; to = leb-true (a + size) heap_limit both.0; apart = both.1 }
+pub by_append_copy : (l : Laws) (m : DataSpace) (a n : ℕ) (tail : List ℕ) (r : Result (ℕ × DataSpace) MemFault)
+    → IsSound m → AreBytes tail → append_copied m a n tail ≡ r → Answered m r
+by_append_copy l m a n tail (Ok x) sound small e = record {
+  sound = l.sound.by_append_copy m x.1 a n tail x.0 sound small e;
+  images = l.images.by_append_copy m x.1 a n tail x.0 sound e;
+  properties = l.properties.by_append_copy m x.1 a n tail x.0 sound e;
+}
+by_append_copy l m a n tail (Err fault) sound small e = tt
 
--- ---- the image region
+pub by_zeros : (l : Laws) (m : DataSpace) (n : ℕ) (r : Result (ℕ × DataSpace) MemFault) → IsSound m
+    → zeros_allotted m n ≡ r → Answered m r
+by_zeros l m n (Ok x) sound e = record {
+  sound = l.sound.by_zeros m x.1 n x.0 sound e;
+  images = l.images.by_zeros m x.1 n x.0 sound e;
+  properties = l.properties.by_zeros m x.1 n x.0 sound e;
+}
+by_zeros l m n (Err fault) sound e = tt
 
-behind : (xs : List ℕ) (p : ℕ) → 0x14_0000 ≤ p → drop p xs ≡ drop (p - 0x14_0000) (drop 0x14_0000 xs)
-behind xs p l =
-    let whole : 0x14_0000 + (p - 0x14_0000) ≡ p = omega (arith, l) in
-    sym (drop-drop (p - 0x14_0000) 0x14_0000 xs ∙ ap (λ k. drop k xs) whole)
+pub by_state : (l : Laws) (m : DataSpace) (compiling : Bool) → IsSound m → Keeps m (with_state m compiling)
+by_state l m compiling sound = record {
+  sound = l.sound.by_state m compiling sound;
+  images = l.images.by_state m compiling sound;
+  properties = l.properties.by_state m compiling sound;
+}
 
--- where the image region is as it was, so are all bytes from there on
-pub kept_stands : (m after : DataSpace) → KeepsImages m after → IsSound after → Stands m after
-kept_stands m after k sound = (
-  k.0,
-  (λ p l. behind after.bytes p l ∙ ap (λ xs. drop (p - 0x14_0000) xs) k.1 ∙ sym (behind m.bytes p l)),
-  sound,
-)
+-- a number where it may be written
+pub number_kept : (l : Laws) (w : Width) (m : DataSpace) (a x : ℕ) → IsSound m → write_fault m a (bytes_in w) w ≡ None
+    → Keeps m (written m a (bytes_high_first (bytes_in w) x))
+number_kept l w m a x sound e =
+    let after = written m a (bytes_high_first (bytes_in w) x) in
+    by_write l w m a x (Ok after) sound (ap (λ (f : Option MemFault). unless f after) e)
 
-pub images_kept : (m after : DataSpace) → Stands m after → KeepsImages m after
-images_kept m after stands = (stands.0, stands.1 (place_of image_start) (omega arith))
+-- bytes where as many or more may be written
+pub bytes_kept : (l : Laws) (m : DataSpace) (a n : ℕ) (xs : List ℕ) → IsSound m → AreBytes xs → length xs ≤ n
+    → write_fault m a n One ≡ None → Keeps m (written m a xs)
+bytes_kept l m a n xs sound small few e =
+    let after = written m a xs in
+    let first : a + 0 ≡ a = omega arith in
+    let whole : (a + 0) % 1 ≡ 0 = omega arith in
+    let part : write_fault m (a + 0) (length xs) One ≡ None =
+    l.parts.part_writes m a n 0 (length xs) One One e (omega (arith, few)) whole in
+    let fault : write_fault m a (length xs) One ≡ None =
+    subst (λ (b : ℕ). write_fault m b (length xs) One ≡ None) first part in
+    let done : bytes_written m a xs ≡ Ok after = ap (λ (f : Option MemFault). unless f after) fault in
+    record {
+      sound = l.sound.by_bytes m after a xs sound small done;
+      images = l.images.by_bytes m after a xs sound done;
+      properties = l.properties.by_bytes m after a xs sound done;
+    }
+
+-- ---- the board
+
+-- a sound data space with the same images, and properties that are stored if they were
+abbrev pub Stands : Board → Board → Type 0
+Stands w after =
+    KeepsImages w.memory after.memory × IsSound after.memory
+    × (AreStored w.memory w.tree → AreStored after.memory after.tree)
+
+pub stays : (w : Board) → IsSound w.memory → Stands w w
+stays w sound = ((refl, refl), sound, (λ a. a))
+
+pub then_stands : (w between after : Board) → Stands w between → Stands between after → Stands w after
+then_stands w between after f g = ((g.0.0 ∙ f.0.0, g.0.1 ∙ f.0.1), g.1, (λ a. g.2 (f.2 a)))
+
+-- with another data space
+pub by_space : (l : Laws) (w : Board) (m : DataSpace) → IsSound w.memory → Keeps w.memory m
+    → Stands w (record w { memory = m })
+by_space l w m sound k =
+    (k.images, k.sound, (λ a. l.stored.by_others w.memory m w.tree sound k.properties a))
+
+pub by_words : (w after : Board) → KeepsBoard w after → Stands w after
+by_words w after k = (k.images, k.sound, k.stored)
+
+abbrev pub BoardStands : Board → Result Board Throw → Type 0
+BoardStands w (Ok after) = Stands w after
+BoardStands w (Err t) = Unit {0}

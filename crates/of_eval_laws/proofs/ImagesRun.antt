@@ -17,28 +17,32 @@ use Rattle.of_eval.specs.Steps.{due, settled_of, stepped, steps_from}
 use Rattle.of_eval_laws.specs.Running.{DueLeaves, GoOn, ImagesRun, LatestEnd, OneBegins, OthersRun, RunningImage}
 use Rattle.of_eval_laws.specs.Running.{SomeEnd, is_at_end, running, throws_late}
 use Rattle.of_eval_laws.specs.Sound.{HasSoundSpace}
-use Rattle.of_eval_laws.proofs.FramedSpace.{Stands, then_stands}
-use Rattle.of_eval_laws.proofs.Begun.{Opened, image_stands, opened_stands}
+use Rattle.of_board.specs.declared.board.Board.{Board}
+use Rattle.of_eval_laws.proofs.FramedSpace.{Laws, Stands, then_stands}
+use Rattle.of_eval_laws.proofs.Begun.{Opened, image_pushes, opened_kept}
 use Rattle.of_eval_laws.proofs.RunningBytes.{all_run}
 use Rattle.of_eval_laws.proofs.RunningEnds.{end_leaves, left_ends, settles_ends, then_end, worked_off}
 use Rattle.of_eval_laws.proofs.SoundSteps.{kept_sound, step_sound, steps_keep}
 use Rattle.of_eval_laws.proofs.RunningTokens.{due_leaves}
-use Rattle.of_eval_laws.proofs.RunningWords.{Kept, KeptBy, Laws}
+use Rattle.of_eval_laws.proofs.RunningWords.{Kept, KeptBy}
 
-due_left : (b : Bool) (m after : DataSpace) (e : Result (Unit {0}) Throw) → AreStacked m.images → KeptBy b m after e
-    → DueLeaves b m after e
-due_left false m after (Ok x) stacked (inl h) = inl (all_run m after stacked h)
-due_left false m after (Ok x) stacked (inr h) = inr h.1
-due_left true m after (Ok x) stacked (inl h) = inr (inl (all_run m after stacked h))
-due_left true m after (Ok x) stacked (inr (r, inl e)) = inl e
-due_left true m after (Ok x) stacked (inr (r, inr one)) = inr (inr one)
-due_left b m after (Err t) stacked h = all_run m after stacked h
+due_left : (b : Bool) (w after : Board) (e : Result (Unit {0}) Throw) → AreStacked w.memory.images
+    → KeptBy b w after e → DueLeaves b w.memory after.memory e
+due_left false w after (Ok x) stacked (inl h) = inl (all_run w.memory after.memory stacked h.0)
+due_left false w after (Ok x) stacked (inr h) = inr h.2
+due_left true w after (Ok x) stacked (inl h) = inr (inl (all_run w.memory after.memory stacked h.0))
+due_left true w after (Ok x) stacked (inr (r, stored, inl e)) = inl e
+due_left true w after (Ok x) stacked (inr (r, stored, inr one)) = inr (inr one)
+due_left b w after (Err t) stacked h = all_run w.memory after.memory stacked h.0
 
 -- ---- with what is worked off then
 
-goes_on : (m after last : DataSpace) → IsSound m → Kept false m after → Stands after last → GoOn m last
-goes_on m after last r (inl h) st = inl (all_run m last r.images (then_stands m after last h st))
-goes_on m after last r (inr (full, (image, e))) st = inr (image, all_run after last full.images st ∙ e)
+goes_on : (w after last : Board) → IsSound w.memory → Kept false w after → Stands after last
+    → GoOn w.memory last.memory
+goes_on w after last r (inl h) st =
+    inl (all_run w.memory last.memory r.images (then_stands w after last h st).0)
+goes_on w after last r (inr (full, stored, (image, e))) st =
+    inr (image, all_run after.memory last.memory full.images st.0 ∙ e)
 
 -- what a whole step may leave
 abbrev StepLeaves : DataSpace → DataSpace → Type 0
@@ -52,32 +56,35 @@ begins_then : (m after last : DataSpace) → OneBegins m after → SomeEnd after
 begins_then m after last (image, e) (zero, h) = inr (inr (image, h ∙ e))
 begins_then m after last (image, e) (suc n, h) = inl (n, h ∙ ap (λ x. drop (suc n) x) e)
 
-kept_ends : (b : Bool) (m after last : DataSpace) → IsSound m → Kept b m after → SomeEnd after last
-    → StepLeaves m last
-kept_ends false m after last r (inl h) e = inl (then_end m after last 0 (all_run m after r.images h) e)
-kept_ends false m after last r (inr (full, one)) e = begins_then m after last one e
-kept_ends true m after last r (inl h) e = inl (then_end m after last 0 (all_run m after r.images h) e)
-kept_ends true m after last r (inr (full, inl e)) h = inl (ends_then m after last e h)
-kept_ends true m after last r (inr (full, inr one)) e = begins_then m after last one e
+kept_ends : (b : Bool) (w after last : Board) → IsSound w.memory → Kept b w after → SomeEnd after.memory last.memory
+    → StepLeaves w.memory last.memory
+kept_ends false w after last r (inl h) e =
+    inl (then_end w.memory after.memory last.memory 0 (all_run w.memory after.memory r.images h.0) e)
+kept_ends false w after last r (inr (full, stored, one)) e = begins_then w.memory after.memory last.memory one e
+kept_ends true w after last r (inl h) e =
+    inl (then_end w.memory after.memory last.memory 0 (all_run w.memory after.memory r.images h.0) e)
+kept_ends true w after last r (inr (full, stored, inl e)) h =
+    inl (ends_then w.memory after.memory last.memory e h)
+kept_ends true w after last r (inr (full, stored, inr one)) e = begins_then w.memory after.memory last.memory one e
 
-settles : {S : Type 0} (b : Bool) (c : Calls S) (m : DataSpace) (e : Result (Unit {0}) Throw) (s : State S)
-    → IsSound m → KeptBy b m s.board.memory e
-    → StepLeaves m (settled c s.flow.items (thrown_in e) s).board.memory
-settles b c m (Ok x) s r h =
-    kept_ends b m s.board.memory (settled c s.flow.items None s).board.memory r h
-    (settles_ends c s.flow.items None s (kept_sound b m s.board.memory h)).1
-settles b c m (Err t) s r h =
+settles : {S : Type 0} (l : Laws) (b : Bool) (c : Calls S) (w : Board) (e : Result (Unit {0}) Throw) (s : State S)
+    → IsSound w.memory → KeptBy b w s.board e
+    → StepLeaves w.memory (settled c s.flow.items (thrown_in e) s).board.memory
+settles l b c w (Ok x) s r h =
+    kept_ends b w s.board (settled c s.flow.items None s).board r h
+    (settles_ends l c s.flow.items None s (kept_sound b w s.board h).sound).2
+settles l b c w (Err t) s r h =
     inl
-    (then_end m s.board.memory (settled c s.flow.items (Some t) s).board.memory 0 (all_run m s.board.memory r.images h)
-    (settles_ends c s.flow.items (Some t) s h.2).1)
+    (then_end w.memory s.board.memory (settled c s.flow.items (Some t) s).board.memory 0
+    (all_run w.memory s.board.memory r.images h.0) (settles_ends l c s.flow.items (Some t) s h.1).2)
 
-nothing_ends : {S : Type 0} (c : Calls S) (m : DataSpace) (e : Result (Unit {0}) Throw) (s : State S) → IsSound m
-    → e ≡ Ok tt → throws_late s.flow.items s.board.stack ≡ false → KeptBy false m s.board.memory e
-    → GoOn m (settled c s.flow.items (thrown_in e) s).board.memory
-nothing_ends c m (Ok x) s r done late h =
-    goes_on m s.board.memory (settled c s.flow.items None s).board.memory r h
-    (worked_off c s.flow.items s late (kept_sound false m s.board.memory h))
-nothing_ends c m (Err t) s r done late h = absurd cc
+nothing_ends : {S : Type 0} (l : Laws) (c : Calls S) (w : Board) (e : Result (Unit {0}) Throw) (s : State S)
+    → IsSound w.memory → e ≡ Ok tt → throws_late s.flow.items s.board.stack ≡ false → KeptBy false w s.board e
+    → GoOn w.memory (settled c s.flow.items (thrown_in e) s).board.memory
+nothing_ends l c w (Ok x) s r done late h =
+    goes_on w s.board (settled c s.flow.items None s).board r h
+    (worked_off l c s.flow.items s late (kept_sound false w s.board h).sound)
+nothing_ends l c w (Err t) s r done late h = absurd cc
 
 -- ---- one step, or none where nothing runs
 
@@ -92,7 +99,7 @@ unfolding stepped
 step_leaves l c s sound =
     let o = due c s.flow.next s in
     either (λ x. StepLeaves s.board.memory x) s.flow.is_running (settled_of c o) s
-    (settles (is_at_end s.flow.next s) c s.board.memory o.ended o.state sound
+    (settles l (is_at_end s.flow.next s) c s.board o.ended o.state sound
     (due_leaves l c s.flow.next s sound))
     (inr (inl refl))
 
@@ -105,8 +112,8 @@ unfolding stepped
 step_goes_on l c s sound inside done late =
     let o = due c s.flow.next s in
     either (λ x. GoOn s.board.memory x) s.flow.is_running (settled_of c o) s
-    (nothing_ends c s.board.memory o.ended o.state sound done late
-    (subst (λ b. KeptBy b s.board.memory o.state.board.memory o.ended) inside (due_leaves l c s.flow.next s sound)))
+    (nothing_ends l c s.board o.ended o.state sound done late
+    (subst (λ b. KeptBy b s.board o.state.board o.ended) inside (due_leaves l c s.flow.next s sound)))
     (inl refl)
 
 -- ---- any number of steps
@@ -133,7 +140,7 @@ steps_run : {S : Type 0} (l : Laws) (c : Calls S) (n : ℕ) (s after : State S) 
 steps_run l c n s after sound e =
     (steps_keep (λ x. IsLater s.board.memory x) c
     (λ x h. (
-      step_sound l c x h.0,
+      (step_sound l c x h.0).sound,
       run_then s.board.memory x.board.memory (stepped c x).board.memory h.1 (step_leaves l c x h.0),
     ))
     n s after (sound, (0, [], refl)) e).1
@@ -149,12 +156,12 @@ runs_on : {S : Type 0} (l : Laws) (image : List ℕ) (node : Phandle) (s : State
     → RunsOn s.board.memory image (image_begun image node x.0 x.1 s).board.memory
 runs_on l image node s x sound e fits =
     let m = s.board.memory in
-    let stands = opened_stands l.instances s.board node x sound e in
-    let begins = ap free_after stands.0 in
-    (image_stands l.pushes m x.1.1 image stands fits).0.1
+    let kept = opened_kept l s.board node x sound e in
+    let begins = ap free_after kept.images.0 in
+    (image_pushes l m x.1.1 image kept fits).runs
     ∙ ap (λ (a : ℕ). record { begin = a; bytes = image } ∷ running x.1.1) begins
     ∙ ap (λ (rest : List RunningImage). record { begin = free_after m.images; bytes = image } ∷ rest)
-    (all_run m x.1.1 sound.images stands)
+    (all_run m x.1.1 sound.images kept.images)
 
 begun_runs_at : {S : Type 0} (l : Laws) (image : List ℕ) (node : Phandle) (s : State S) (b : Bool)
     (r : Result Opened InstanceFault) → image_fits s.board.memory (length image) ≡ b → instance_on node s.board ≡ r
@@ -179,12 +186,12 @@ begun_runs l image node s sound none =
 pub images_run : Laws → (S : Type 0) → ImagesRun S
 images_run l S = record {
   begun = λ image node s sound none. begun_runs l image node s sound none;
-  given_back = λ now items b sound. left_ends now items b sound;
+  given_back = λ now items b sound. left_ends l now items b sound;
   done = λ c s sound.
       let o = due c s.flow.next s in
-      due_left (is_at_end s.flow.next s) s.board.memory o.state.board.memory o.ended sound.images
+      due_left (is_at_end s.flow.next s) s.board o.state.board o.ended sound.images
       (due_leaves l c s.flow.next s sound);
-  settled = λ c items thrown s sound. end_leaves c items thrown s sound;
+  settled = λ c items thrown s sound. end_leaves l c items thrown s sound;
   go_on = λ c s sound inside done late. step_goes_on l c s sound inside done late;
   step = λ c s sound. step_leaves l c s sound;
   steps = λ c n s after sound e. steps_run l c n s after sound e;

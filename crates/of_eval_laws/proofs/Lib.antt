@@ -7,8 +7,8 @@
 -- ListedFaults, ListedWords, Raised: the law `steps_throw_listed`, from one fault of several up to a step.
 -- Mismatch: the law `mismatch_is_no_body`.
 -- Frames, FramedTurns, FramedReading, FramedStack: the law `frames_hold`.
--- SoundSpace, SoundTree: what writes leaves a data space sound, from bytes up to words over the device tree.
--- FramedSpace, FramedMemory, FramedWriting: the law `images_stand`, and that the data space stays sound.
+-- Bytes: which lists are bytes.
+-- FramedSpace, FramedMemory, FramedWriting: the law `images_stand`, and what else ordinary words keep.
 -- DefinedSpace: what words that define, and stores into slots, leave of the data space.
 -- ThrowsSettle: the law `throws_settle`.
 -- Released, Begun: what releasing instances and an image that begins leave of the data space.
@@ -50,8 +50,7 @@ pub mod TokenLemmas
 pub mod FramedTurns
 pub mod FramedReading
 pub mod FramedStack
-pub mod SoundSpace
-pub mod SoundTree
+pub mod Bytes
 pub mod FramedSpace
 pub mod FramedMemory
 pub mod DefinedSpace

@@ -55,9 +55,9 @@ use Rattle.of_words.specs.Words.{word_entry}
 use Rattle.of_eval_laws.specs.Listed.{plan_of_item}
 use Rattle.of_eval_laws.specs.Readings.{BeganInside, is_image, kept_readings}
 use Rattle.of_eval_laws.specs.Throws.{image_more}
-use Rattle.of_eval_laws.proofs.FramedWriting.{BoardStands, word_stands}
+use Rattle.of_eval_laws.proofs.FramedWriting.{word_stands}
 use Rattle.of_eval_laws.proofs.ReadingsEnds.{Counted, Goes, Reads, given_up_reads, rests, source_reads}
-use Rattle.of_eval_laws.proofs.RunningWords.{Laws}
+use Rattle.of_eval_laws.proofs.FramedSpace.{BoardStands, Laws}
 use Rattle.of_eval_laws.proofs.Walk.{IsAct, Turns, item_acts, typed_acts}
 use Rattle.of_eval_laws.proofs.WalkFree.{anywhere, free, free_turns}
 use Rattle.of_eval_laws.proofs.WalkTyped.{typed_may}
@@ -67,7 +67,7 @@ use Rattle.of_compile.specs.SlotWords.{slot_making, slot_word_made}
 use Rattle.of_dict.specs.declared.word.Slot.{Slot}
 use Rattle.of_ihandles.specs.declared.instance_fault.InstanceFault.{InstanceFault}
 use Rattle.of_ihandles.specs.Table.{InstanceTable}
-use Rattle.of_eval_laws.proofs.DefinedSpace.{slot_stands, slot_word_stands}
+use Rattle.of_eval_laws.proofs.DefinedSpace.{slot_kept, slot_word_kept}
 
 -- ---- one image more
 
@@ -263,8 +263,8 @@ slot_reads : {S : Type 0} (l : Laws) (k : Slot) (f : Option Throw) (home : Optio
 slot_reads l k (Some t) home x r s e sound h = h
 slot_reads l k None home x r s e sound h =
     same_images _ s
-    (slot_word_stands l.instances k s.words.pending home x r
-    (slot_making s.words s.board.stack s.board.memory s.board.instances) sound e).0
+    (slot_word_kept l k s.words.pending home x r
+    (slot_making s.words s.board.stack s.board.memory s.board.instances) sound e).images.0
     h
 
 word_reads : {S : Type 0} (l : Laws) (c : Calls S) (d : DefiningWord) (o : Option Slot) (s : State S)
@@ -332,15 +332,15 @@ string_reads a (Err fault) s e h = refused_reads a.ended _ s h
 
 -- ---- acts of words
 
-board_read : {S : Type 0} (r : Result Board Throw) (s : State S) → BoardStands s.board.memory r → Goes s
+board_read : {S : Type 0} (r : Result Board Throw) (s : State S) → BoardStands s.board r → Goes s
     → Goes (by_board r s).state
-board_read (Ok p) s stands h = same_images p.memory.images s stands.0 h
+board_read (Ok p) s stands h = same_images p.memory.images s stands.0.0 h
 board_read (Err t) s stands h = h
 
 ordinary_reads : {S : Type 0} (l : Laws) (w : Word) (s : State S) → IsSound s.board.memory → Goes s
     → Goes (by_board (word_entry w s.board) s).state
 ordinary_reads l w s sound h =
-    board_read (word_entry w s.board) s (word_stands l.given l.tree w s.board sound) h
+    board_read (word_entry w s.board) s (word_stands l w s.board sound) h
 
 appended_reads : {S : Type 0} (code : S) (e : Result (Unit {0}) Throw) (cells : List Cell) (s : State S) → Goes s
     → Goes (appended (record { code = code; ended = e }) cells s).state
@@ -363,7 +363,7 @@ worked_reads l c (act.Moves cells move to) s w sound h =
     (moved_kept s.board.memory.images s.flow.reading.input move to s w.0 w.2 h.0, h.1)
 worked_reads l c (act.Knows x cells) s w sound h = h
 worked_reads l c (act.Stores m cells) s w sound h =
-    same_images m.images s (slot_stands l.given s.board w.0 w.1 m sound w.2).0 h
+    same_images m.images s (slot_kept l s.board w.0 w.1 m sound w.2).images.0 h
 worked_reads l c (act.Appends e cells) s w sound h =
     appended_reads (c.element e s.code).code (c.element e s.code).ended cells s h
 worked_reads l c (act.Loads size m cells) s w sound h = ((ap length w.1 ∙ ap suc h.0.0, (inl refl, h.0.1)), h.1)
@@ -371,8 +371,8 @@ worked_reads l c (act.Takes cells a) s w sound h = worked_reads l c a (with_stac
 worked_reads l c (act.Guards cells a) s w sound h = worked_reads l c a (guarded cells s) w sound h
 worked_reads l c (act.Enters cells d ih a) s w sound h = worked_reads l c a (entered cells d ih s) w.1 sound h
 worked_reads l c (act.Opens x a) s w sound h =
-    let kept = l.tree.opened s.board w.1.0 w.1.1 w.1.2 w.1.3 x sound w.1.4 in
-    worked_reads l c a (furnished x s) w.2 kept.1 (same_images x.1.images s kept.0.0 h)
+    let kept = l.words.opened s.board w.1.0 w.1.1 w.1.2 w.1.3 x sound w.1.4 in
+    worked_reads l c a (furnished x s) w.2 kept.sound (same_images x.1.images s kept.images.0 h)
 worked_reads l c (act.Refuses t) s w sound h = h
 
 -- ---- acts

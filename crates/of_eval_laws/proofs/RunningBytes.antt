@@ -1,23 +1,18 @@
 -- The law `images_run`: what writes, a new image and the end of the latest leave of the images that run.
-use Rattle.std.proofs.Common.{◌≡◌, ℕ, ◌+◌, ◌-◌, ◌≤◌, ◌<◌, Bool, true, false, List, [], ◌∷◌, length, take, drop}
+use Rattle.std.proofs.Common.{◌≡◌, ℕ, ◌+◌, ◌-◌, ◌≤◌, Bool, true, false, List, [], ◌∷◌, length, take, drop}
 use Rattle.std.proofs.Common.{replicate, Result, Ok, Err, refl, sym, ap, ◌∙◌, subst, arith, nat_le, nat_lt}
 use Rattle.std.proofs.Common.{if◌then◌else◌}
 use Rattle.std.specs.Prelude.{◌&&◌}
-use Rattle.std.specs.Int.{bytes_high_first}
-use Rattle.of_cells.specs.Numbers.{flag}
-use Rattle.std.proofs.lemmas.Bool.{and_parts, leb-true, ltb-true}
-use Rattle.std.proofs.lemmas.List.{length-replicate, places, same_lists}
+use Rattle.std.proofs.lemmas.Bool.{and_parts, leb-true}
+use Rattle.std.proofs.lemmas.List.{drop-drop, length-replicate, places, same_lists}
 use Rattle.of_memory.specs.declared.fault.MemFault.{MemFault}
 use Rattle.of_memory.specs.declared.fault.MemFault.TheVariants.{Full}
 use Rattle.of_memory.specs.DataSpace.{AreStacked, DataSpace, IsSound, bytes_from, free_after, splice, written}
-use Rattle.of_memory.specs.Growth.{image_popped, image_pushed, with_state, without_image}
+use Rattle.of_memory.specs.Growth.{image_popped, image_pushed, without_image}
+use Rattle.of_memory.specs.ImageRegion.{KeepsImages}
 use Rattle.of_memory.specs.Images.{LatestIsPushed, latest_image}
-use Rattle.of_memory.specs.Regions.{byte_count, image_count, image_limit, image_start, place_of, property_start}
+use Rattle.of_memory.specs.Regions.{byte_count, image_count, image_limit, image_start, place_of}
 use Rattle.of_eval_laws.specs.Running.{AllRun, RunningImage, images_to, running}
-use Rattle.of_eval_laws.specs.Sound.{AreBytes}
-use Rattle.of_eval_laws.proofs.FramedSpace.{Stands, below_stands}
-use Rattle.of_eval_laws.proofs.SoundSpace.{free_from, high_bytes, high_length, popped_sound, with_image}
-use Rattle.of_eval_laws.proofs.SoundSpace.{with_image_sound}
 
 -- ---- what stands
 
@@ -53,17 +48,18 @@ images_same m after (end ∷ ends) h agrees =
     (agrees (place_of a) (end - a) (low_place a h.0 (omega (arith, h.1, h.2))) (end_place a end h.0 h.1 h.2))
     (images_same m after ends h.3 (λ p n l e. agrees p n l (omega (arith, e, lower))))
 
-pub all_run : (m after : DataSpace) → AreStacked m.images → Stands m after → AllRun m after
+behind : (xs : List ℕ) (p : ℕ) → 0x14_0000 ≤ p → drop p xs ≡ drop (p - 0x14_0000) (drop 0x14_0000 xs)
+behind xs p l =
+    let whole : 0x14_0000 + (p - 0x14_0000) ≡ p = omega (arith, l) in
+    sym (drop-drop (p - 0x14_0000) 0x14_0000 xs ∙ ap (λ k. drop k xs) whole)
+
+-- where the image region is as it was, so are all bytes from there on
+pub all_run : (m after : DataSpace) → AreStacked m.images → KeepsImages m after → AllRun m after
 all_run m after stacked h =
     ap (λ ends. images_to after ends) h.0
-    ∙ images_same m after m.images stacked (λ p n l e. ap (λ xs. take n xs) (h.1 p l))
-
--- ---- the cell `state`
-
-pub state_stands : (m : DataSpace) (b : Bool) → IsSound m → Stands m (with_state m b)
-state_stands m b sound =
-    below_stands m property_start (bytes_high_first 4 (flag b).0) sound (high_bytes 4 (flag b).0)
-    (omega (arith, high_length 4 (flag b).0))
+    ∙ images_same m after m.images stacked
+    (λ p n l e. ap (λ xs. take n xs)
+    (behind after.bytes p l ∙ ap (λ xs. drop (p - 0x14_0000) xs) h.1 ∙ sym (behind m.bytes p l)))
 
 -- ---- images that begin and end
 
@@ -80,10 +76,6 @@ written_agrees m a ys full from to p n l e =
 zeros_fit : (end a : ℕ) → a ≤ end → end ≤ image_limit → a + length (replicate {A = ℕ} (end - a) 0) ≤ image_limit
 zeros_fit end a l to = omega (arith, length-replicate {A = ℕ} (end - a) 0)
 
--- the latest has ended, and the others run
-abbrev pub Popped : DataSpace → DataSpace → Type 0
-Popped m after = IsSound after × (running after ≡ drop 1 (running m))
-
 popped_from : (m : DataSpace) (ends : List ℕ) → m.images ≡ ends → IsSound m
     → running (without_image m ends) ≡ drop 1 (running m)
 popped_from m [] e s = ap (λ x. images_to m x) e ∙ sym (ap (λ x. drop 1 (images_to m x)) e)
@@ -95,26 +87,31 @@ popped_from m (end ∷ ends) e s =
     (written_agrees m a zeros s.bytes h.0 (zeros_fit end a h.1 h.2))
     ∙ sym (ap (λ x. drop 1 (images_to m x)) e)
 
-pub popped : (m : DataSpace) → IsSound m → Popped m (image_popped m)
-popped m s = (popped_sound m s, popped_from m m.images refl s)
+-- the latest has ended, and the others run
+pub popped : (m : DataSpace) → IsSound m → running (image_popped m) ≡ drop 1 (running m)
+popped m s = popped_from m m.images refl s
 
--- one more runs; if it has bytes, the data space is sound
+free_from : (ends : List ℕ) → AreStacked ends → image_start ≤ free_after ends
+free_from [] h = omega arith
+free_from (end ∷ ends) h = omega (arith, h.0, h.1)
+
+-- the data space with an image more
+abbrev pub with_image : DataSpace → List ℕ → DataSpace
+with_image m xs =
+    record (written m (free_after m.images) xs) { images = (free_after m.images + length xs) ∷ m.images }
+
+-- one more runs
 abbrev pub Pushed : DataSpace → ℕ → List ℕ → DataSpace → Type 0
-Pushed m a xs after =
-    (AreBytes xs → IsSound after) × (running after ≡ record { begin = a; bytes = xs } ∷ running m)
+Pushed m a xs after = running after ≡ record { begin = a; bytes = xs } ∷ running m
 
 with_image_runs : (m : DataSpace) (xs : List ℕ) → IsSound m → free_after m.images + length xs ≤ image_limit
-    → length m.images < image_count
     → bytes_from (with_image m xs) (free_after m.images) (free_after m.images + length xs - free_after m.images) ≡ xs
     → Pushed m (free_after m.images) xs (with_image m xs)
-with_image_runs m xs s to few e =
-    let from = free_from m.images s.images in (
-      (λ small. with_image_sound m xs s small to few),
-      ap (λ (x : List ℕ). record { begin = free_after m.images; bytes = x } ∷ images_to (with_image m xs) m.images) e
-          ∙ ap (λ (x : List RunningImage). record { begin = free_after m.images; bytes = xs } ∷ x)
-          (images_same m (with_image m xs) m.images s.images
-          (written_agrees m (free_after m.images) xs s.bytes from to)),
-    )
+with_image_runs m xs s to e =
+    let from = free_from m.images s.images in
+    ap (λ (x : List ℕ). record { begin = free_after m.images; bytes = x } ∷ images_to (with_image m xs) m.images) e
+    ∙ ap (λ (x : List RunningImage). record { begin = free_after m.images; bytes = xs } ∷ x)
+    (images_same m (with_image m xs) m.images s.images (written_agrees m (free_after m.images) xs s.bytes from to))
 
 abbrev answer_if : Bool → DataSpace → List ℕ → Result (ℕ × DataSpace) MemFault
 answer_if true m xs = Ok (free_after m.images, with_image m xs)
@@ -131,7 +128,7 @@ pushed_if true m after xs a h s e latest =
     let fits = leb-true (free_after m.images + length xs) image_limit both.0 in
     let left : with_image m xs ≡ after = ap (λ (p : ℕ × DataSpace). p.1) one in
     subst (λ (p : ℕ × DataSpace). Pushed m p.0 xs p.1) one
-    (with_image_runs m xs s fits (ltb-true (length m.images) image_count both.1)
+    (with_image_runs m xs s fits
     (subst (λ x. latest_image x ≡ xs) (sym left) latest))
 pushed_if false m after xs a h s e latest = absurd cc
 

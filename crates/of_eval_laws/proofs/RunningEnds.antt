@@ -22,71 +22,74 @@ use Rattle.of_eval.specs.Settling.{is_empty, open_answered, reading_on, settled,
 use Rattle.of_eval_laws.specs.Running.{EndLeaves, LatestEnd, SomeEnd, running, throws_late}
 use Rattle.of_board.specs.declared.board.Board.{Board}
 use Rattle.of_eval_laws.specs.Throws.{image_more, images_ended, left_by, left_through}
-use Rattle.of_eval_laws.proofs.Released.{all_leave, due_leaves, released_leaves}
-use Rattle.of_eval_laws.proofs.FramedSpace.{Stands, same, then_stands}
-use Rattle.of_eval_laws.proofs.RunningBytes.{all_run, popped, state_stands}
-use Rattle.of_eval_laws.proofs.SoundSpace.{popped_sound}
+use Rattle.of_eval_laws.proofs.Released.{all_stand, due_leaves, released_leaves}
+use Rattle.of_nodes.specs.Stored.{AreStored}
+use Rattle.of_eval_laws.proofs.FramedSpace.{Laws, Stands, by_space, by_state, stays, then_stands}
+use Rattle.of_eval_laws.proofs.RunningBytes.{all_run, popped}
 
 -- ---- definitions that are given up
 
 -- a state in which the images stand
-abbrev pub StateStands : {S : Type 0} → DataSpace → State S → Type 0
-StateStands m s = Stands m s.board.memory
+abbrev pub StateStands : {S : Type 0} → Board → State S → Type 0
+StateStands w s = Stands w s.board
 
-either : {S : Type 0} (m : DataSpace) (b : Bool) (x y : State S) → StateStands m x → StateStands m y
-    → StateStands m (if b then x else y)
-either m true x y hx hy = hx
-either m false x y hx hy = hy
+either : {S : Type 0} (w : Board) (b : Bool) (x y : State S) → StateStands w x → StateStands w y
+    → StateStands w (if b then x else y)
+either w true x y hx hy = hx
+either w false x y hx hy = hy
 
-pub given_up_stands : {S : Type 0} (c : Calls S) (s : State S) → IsSound s.board.memory
-    → StateStands s.board.memory (given_up c s)
-given_up_stands c s sound =
-    either s.board.memory (is_some s.words.defining) _ s (state_stands s.board.memory false sound)
-    (same s.board.memory sound)
+pub given_up_stands : {S : Type 0} (l : Laws) (c : Calls S) (s : State S) → IsSound s.board.memory
+    → StateStands s.board (given_up c s)
+given_up_stands l c s sound =
+    either s.board (is_some s.words.defining) _ s (by_space l s.board _ sound (by_state l s.board.memory false sound))
+    (stays s.board sound)
 
-since_stands : {S : Type 0} (c : Calls S) (o : Option Cell) (s : State S) → IsSound s.board.memory
-    → StateStands s.board.memory (given_up_since c o s)
-since_stands c o s sound =
-    either s.board.memory (is_same (open_xt s) o) s (given_up c s) (same s.board.memory sound)
-    (given_up_stands c s sound)
+since_stands : {S : Type 0} (l : Laws) (c : Calls S) (o : Option Cell) (s : State S) → IsSound s.board.memory
+    → StateStands s.board (given_up_since c o s)
+since_stands l c o s sound =
+    either s.board (is_same (open_xt s) o) s (given_up c s) (stays s.board sound)
+    (given_up_stands l c s sound)
 
-caught_stands : {S : Type 0} (c : Calls S) (h : ExceptionFrame) (t : Throw) (s : State S)
-    → IsSound s.board.memory → StateStands s.board.memory (caught c h t s)
-caught_stands c h t s sound = since_stands c h.opened _ sound
+caught_stands : {S : Type 0} (l : Laws) (c : Calls S) (h : ExceptionFrame) (t : Throw) (s : State S)
+    → IsSound s.board.memory → StateStands s.board (caught c h t s)
+caught_stands l c h t s sound = since_stands l c h.opened _ sound
 
-load_stands : {S : Type 0} (d : Due) (s : State S) → IsSound s.board.memory
-    → StateStands s.board.memory (load_left d s)
-load_stands (due.Load active me instance count) s sound =
-    (due_leaves (due.Load active me instance count) s.board).1 sound
-load_stands (due.Method me) s sound = same s.board.memory sound
-load_stands (due.Open me instance) s sound = same s.board.memory sound
-load_stands (due.Close me instance) s sound = same s.board.memory sound
+load_stands : {S : Type 0} (l : Laws) (d : Due) (s : State S) → IsSound s.board.memory
+    → StateStands s.board (load_left d s)
+load_stands l (due.Load active me instance count) s sound =
+    by_space l s.board _ sound ((due_leaves (due.Load active me instance count) s.board).1 l sound)
+load_stands l (due.Method me) s sound = stays s.board sound
+load_stands l (due.Open me instance) s sound = stays s.board sound
+load_stands l (due.Close me instance) s sound = stays s.board sound
 
-answered_stands : {S : Type 0} (ih : Cell) (cells : List Cell) (s : State S) → IsSound s.board.memory
-    → StateStands s.board.memory (open_answered ih cells s)
-answered_stands ih [] s sound = same s.board.memory sound
-answered_stands ih (x ∷ cells) s sound =
-    either s.board.memory (x.0 == 0) _ _ ((released_leaves s.board.instances s.board.memory ih).1 sound)
-    (same s.board.memory sound)
+answered_stands : {S : Type 0} (l : Laws) (ih : Cell) (cells : List Cell) (s : State S) → IsSound s.board.memory
+    → StateStands s.board (open_answered ih cells s)
+answered_stands l ih [] s sound = stays s.board sound
+answered_stands l ih (x ∷ cells) s sound =
+    either s.board (x.0 == 0) _ _
+    (by_space l s.board _ sound ((released_leaves s.board.instances s.board.memory ih).1 l sound))
+    (stays s.board sound)
 
-due_stands : {S : Type 0} (d : Due) (s : State S) → IsSound s.board.memory → StateStands s.board.memory (due_left d s)
-due_stands (due.Load active me instance count) s sound = load_stands (due.Load active me instance count) s sound
-due_stands (due.Close me instance) s sound = (released_leaves s.board.instances s.board.memory instance).1 sound
-due_stands (due.Method me) s sound = same s.board.memory sound
-due_stands (due.Open me instance) s sound = answered_stands instance s.board.stack s sound
+due_stands : {S : Type 0} (l : Laws) (d : Due) (s : State S) → IsSound s.board.memory
+    → StateStands s.board (due_left d s)
+due_stands l (due.Load active me instance count) s sound = load_stands l (due.Load active me instance count) s sound
+due_stands l (due.Close me instance) s sound =
+    by_space l s.board _ sound ((released_leaves s.board.instances s.board.memory instance).1 l sound)
+due_stands l (due.Method me) s sound = stays s.board sound
+due_stands l (due.Open me instance) s sound = answered_stands l instance s.board.stack s sound
 
 -- ---- what is due
 
-worked_stands : {S : Type 0} (c : Calls S) (item : ReturnItem) (s : State S)
-    → IsSound s.board.memory → StateStands s.board.memory (worked_one c item s)
-worked_stands c (Handler h) s sound =
-    either s.board.memory (is_full s) _ _ (caught_stands c h stack_overflow s sound)
-    (same s.board.memory sound)
-worked_stands c (Caller d) s sound = due_stands d _ sound
-worked_stands c (Source r) s sound = same s.board.memory sound
-worked_stands c (Return to) s sound = same s.board.memory sound
-worked_stands c (Loop l) s sound = same s.board.memory sound
-worked_stands c (User x) s sound = same s.board.memory sound
+worked_stands : {S : Type 0} (l : Laws) (c : Calls S) (item : ReturnItem) (s : State S)
+    → IsSound s.board.memory → StateStands s.board (worked_one c item s)
+worked_stands l c (Handler h) s sound =
+    either s.board (is_full s) _ _ (caught_stands l c h stack_overflow s sound)
+    (stays s.board sound)
+worked_stands l c (Caller d) s sound = due_stands l d _ sound
+worked_stands l c (Source r) s sound = stays s.board sound
+worked_stands l c (Return to) s sound = stays s.board sound
+worked_stands l c (Loop x) s sound = stays s.board sound
+worked_stands l c (User x) s sound = stays s.board sound
 
 -- ---- where nothing is thrown late
 
@@ -143,64 +146,66 @@ full_late (Caller (due.Method me)) s f = refl
 full_late (Caller (due.Open me instance)) s f =
     no_late s.flow.is_running (is_empty s.board.stack) stack_underflow f
 
-full_off : {S : Type 0} (c : Calls S) (items : List ReturnItem) (s : State S) → is_empty s.board.stack ≡ false
-    → IsSound s.board.memory → StateStands s.board.memory (settled c items None s)
+full_off : {S : Type 0} (l : Laws) (c : Calls S) (items : List ReturnItem) (s : State S)
+    → is_empty s.board.stack ≡ false → IsSound s.board.memory → StateStands s.board (settled c items None s)
 unfolding settled
-full_off c [] s f r = same s.board.memory r
-full_off c (item ∷ items) s f r =
+full_off l c [] s f r = stays s.board r
+full_off l c (item ∷ items) s f r =
     let next = worked_one c item (with_items items s) in
-    let kept = worked_stands c item (with_items items s) r in
-    let rest : StateStands next.board.memory (settled c items (thrown_at item s) next) =
-    subst (λ t. StateStands next.board.memory (settled c items t next)) (sym (full_late item s f))
-    (full_off c items next (worked_full c item (with_items items s) f) kept.2) in
-    either s.board.memory (is_due item) (settled c items (thrown_at item s) next) s
-    (then_stands s.board.memory next.board.memory (settled c items (thrown_at item s) next).board.memory kept rest)
-    (same s.board.memory r)
+    let kept = worked_stands l c item (with_items items s) r in
+    let rest : StateStands next.board (settled c items (thrown_at item s) next) =
+    subst (λ t. StateStands next.board (settled c items t next)) (sym (full_late item s f))
+    (full_off l c items next (worked_full c item (with_items items s) f) kept.1) in
+    either s.board (is_due item) (settled c items (thrown_at item s) next) s
+    (then_stands s.board next.board (settled c items (thrown_at item s) next).board kept rest)
+    (stays s.board r)
 
 -- a caller that isn't that of `open`
 called_off : {S : Type 0} (c : Calls S) (items : List ReturnItem) (s next : State S)
-    → StateStands s.board.memory next → StateStands next.board.memory (settled c items None next)
-    → StateStands s.board.memory (settled c items None next)
+    → StateStands s.board next → StateStands next.board (settled c items None next)
+    → StateStands s.board (settled c items None next)
 called_off c items s next kept rest =
-    then_stands s.board.memory next.board.memory (settled c items None next).board.memory kept rest
+    then_stands s.board next.board (settled c items None next).board kept rest
 
-pub worked_off : {S : Type 0} (c : Calls S) (items : List ReturnItem) (s : State S)
+pub worked_off : {S : Type 0} (l : Laws) (c : Calls S) (items : List ReturnItem) (s : State S)
     → throws_late items s.board.stack ≡ false → IsSound s.board.memory
-    → StateStands s.board.memory (settled c items None s)
+    → StateStands s.board (settled c items None s)
 unfolding settled
-worked_off c [] s e r = same s.board.memory r
-worked_off c (Handler h ∷ items) s e r =
+worked_off l c [] s e r = stays s.board r
+worked_off l c (Handler h ∷ items) s e r =
     let next = worked_one c (Handler h) (with_items items s) in
-    let kept = worked_stands c (Handler h) (with_items items s) r in
-    called_off c items s next kept (full_off c items next (handler_full c h (with_items items s)) kept.2)
-worked_off c (Caller (due.Open me instance) ∷ items) s e r =
-    full_off c (Caller (due.Open me instance) ∷ items) s e r
-worked_off c (Caller (due.Method me) ∷ items) s e r =
+    let kept = worked_stands l c (Handler h) (with_items items s) r in
+    called_off c items s next kept (full_off l c items next (handler_full c h (with_items items s)) kept.1)
+worked_off l c (Caller (due.Open me instance) ∷ items) s e r =
+    full_off l c (Caller (due.Open me instance) ∷ items) s e r
+worked_off l c (Caller (due.Method me) ∷ items) s e r =
     let next = worked_one c (Caller (due.Method me)) (with_items items s) in
-    let kept = worked_stands c (Caller (due.Method me)) (with_items items s) r in
-    called_off c items s next kept (worked_off c items next e kept.2)
-worked_off c (Caller (due.Close me instance) ∷ items) s e r =
+    let kept = worked_stands l c (Caller (due.Method me)) (with_items items s) r in
+    called_off c items s next kept (worked_off l c items next e kept.1)
+worked_off l c (Caller (due.Close me instance) ∷ items) s e r =
     let next = worked_one c (Caller (due.Close me instance)) (with_items items s) in
-    let kept = worked_stands c (Caller (due.Close me instance)) (with_items items s) r in
-    called_off c items s next kept (worked_off c items next e kept.2)
-worked_off c (Caller (due.Load active me instance count) ∷ items) s e r =
+    let kept = worked_stands l c (Caller (due.Close me instance)) (with_items items s) r in
+    called_off c items s next kept (worked_off l c items next e kept.1)
+worked_off l c (Caller (due.Load active me instance count) ∷ items) s e r =
     let load = Caller (due.Load active me instance count) in
     let next = worked_one c load (with_items items s) in
-    let kept = worked_stands c load (with_items items s) r in
-    called_off c items s next kept (worked_off c items next e kept.2)
-worked_off c (Source x ∷ items) s e r = same s.board.memory r
-worked_off c (Return to ∷ items) s e r = same s.board.memory r
-worked_off c (Loop l ∷ items) s e r = same s.board.memory r
-worked_off c (User x ∷ items) s e r = same s.board.memory r
+    let kept = worked_stands l c load (with_items items s) r in
+    called_off c items s next kept (worked_off l c items next e kept.1)
+worked_off l c (Source x ∷ items) s e r = stays s.board r
+worked_off l c (Return to ∷ items) s e r = stays s.board r
+worked_off l c (Loop x ∷ items) s e r = stays s.board r
+worked_off l c (User x ∷ items) s e r = stays s.board r
 
 -- ---- what is thrown
 
--- some have ended, and the data space is sound
-abbrev pub SomeEnded : DataSpace → DataSpace → Type 0
-SomeEnded m after = IsSound after × SomeEnd m after
+-- some have ended, the data space is sound, and properties are stored if they were
+abbrev pub SomeEnded : Board → Board → Type 0
+SomeEnded w after =
+    IsSound after.memory × (AreStored w.memory w.tree → AreStored after.memory after.tree)
+    × SomeEnd w.memory after.memory
 
-none_end : (m after : DataSpace) → IsSound m → Stands m after → SomeEnded m after
-none_end m after s h = (h.2, (0, all_run m after s.images h))
+none_end : (w after : Board) → IsSound w.memory → Stands w after → SomeEnded w after
+none_end w after s h = (h.1, h.2, (0, all_run w.memory after.memory s.images h.0))
 
 -- some end, and then others
 pub then_end : (m after last : DataSpace) (k : ℕ) → running after ≡ drop k (running m) → SomeEnd after last
@@ -208,65 +213,71 @@ pub then_end : (m after last : DataSpace) (k : ℕ) → running after ≡ drop k
 then_end m after last k e h =
     (k + h.0, h.1 ∙ ap (λ x. drop h.0 x) e ∙ drop-drop h.0 k (running m))
 
-back_sound : (i : Input) (m : DataSpace) → IsSound m → IsSound (given_back i m)
-back_sound input.Nothing m s = s
-back_sound (input.Text n) m s = s
-back_sound (input.Image size n) m s = popped_sound m s
+back_sound : (l : Laws) (i : Input) (m : DataSpace) → IsSound m → IsSound (given_back i m)
+back_sound l input.Nothing m s = s
+back_sound l (input.Text n) m s = s
+back_sound l (input.Image size n) m s = l.sound.by_pop m s
 
 -- what giving back an image and then more leaves
-back_ends : (i : Input) (m last : DataSpace) → IsSound m → SomeEnded (given_back i m) last → SomeEnded m last
-back_ends input.Nothing m last s h = h
-back_ends (input.Text n) m last s h = h
-back_ends (input.Image size n) m last s h = (h.0, then_end m (image_popped m) last 1 (popped m s).1 h.1)
-
-uncaught_ends : {S : Type 0} (c : Calls S) (t : Throw) (s : State S) → IsSound s.board.memory
-    → SomeEnded s.board.memory (uncaught c t s).board.memory
-uncaught_ends c t s r =
-    let kept = (all_leave s.board).1 r in
-    none_end s.board.memory (uncaught c t s).board.memory r
-    (then_stands s.board.memory (fallen t s).board.memory (uncaught c t s).board.memory kept
-    (given_up_stands c (fallen t s) kept.2))
+back_ends : (l : Laws) (i : Input) (w last : Board) → IsSound w.memory
+    → SomeEnded (record w { memory = given_back i w.memory }) last → SomeEnded w last
+back_ends l input.Nothing w last s h = h
+back_ends l (input.Text n) w last s h = h
+back_ends l (input.Image size n) w last s h = (
+  h.0,
+  (λ a. h.1 (l.stored.by_others w.memory (image_popped w.memory) w.tree s (l.properties.by_pop w.memory s) a)),
+  then_end w.memory (image_popped w.memory) last.memory 1 (popped w.memory s) h.2,
+)
 
 -- what stands, and then some end
-stood_ends : (m after last : DataSpace) → IsSound m → Stands m after → SomeEnded after last → SomeEnded m last
-stood_ends m after last sound kept rest =
-    (rest.0, then_end m after last 0 (all_run m after sound.images kept) rest.1)
+stood_ends : (w after last : Board) → IsSound w.memory → Stands w after → SomeEnded after last → SomeEnded w last
+stood_ends w after last sound kept rest = (
+  rest.0,
+  (λ a. rest.1 (kept.2 a)),
+  then_end w.memory after.memory last.memory 0 (all_run w.memory after.memory sound.images kept.0) rest.2,
+)
 
-ends_if : {S : Type 0} (m : DataSpace) (b : Bool) (x y : State S) → SomeEnded m x.board.memory
-    → SomeEnded m y.board.memory → SomeEnded m (if b then x else y).board.memory
-ends_if m true x y hx hy = hx
-ends_if m false x y hx hy = hy
+uncaught_ends : {S : Type 0} (l : Laws) (c : Calls S) (t : Throw) (s : State S) → IsSound s.board.memory
+    → SomeEnded s.board (uncaught c t s).board
+uncaught_ends l c t s r =
+    let kept = all_stand l s.board r in
+    stood_ends s.board (fallen t s).board (uncaught c t s).board r kept
+    (none_end (fallen t s).board (uncaught c t s).board kept.1 (given_up_stands l c (fallen t s) kept.1))
 
-pub settles_ends : {S : Type 0} (c : Calls S) (items : List ReturnItem) (thrown : Option Throw) (s : State S)
-    → IsSound s.board.memory → SomeEnded s.board.memory (settled c items thrown s).board.memory
+ends_if : {S : Type 0} (w : Board) (b : Bool) (x y : State S) → SomeEnded w x.board → SomeEnded w y.board
+    → SomeEnded w (if b then x else y).board
+ends_if w true x y hx hy = hx
+ends_if w false x y hx hy = hy
+
+pub settles_ends : {S : Type 0} (l : Laws) (c : Calls S) (items : List ReturnItem) (thrown : Option Throw) (s : State S)
+    → IsSound s.board.memory → SomeEnded s.board (settled c items thrown s).board
 unfolding settled
-settles_ends c [] None s r = none_end s.board.memory s.board.memory r (same s.board.memory r)
-settles_ends c (item ∷ items) None s r =
+settles_ends l c [] None s r = none_end s.board s.board r (stays s.board r)
+settles_ends l c (item ∷ items) None s r =
     let next = worked_one c item (with_items items s) in
-    let kept = worked_stands c item (with_items items s) r in
-    ends_if s.board.memory (is_due item) (settled c items (thrown_at item s) next) s
-    (stood_ends s.board.memory next.board.memory (settled c items (thrown_at item s) next).board.memory r kept
-    (settles_ends c items (thrown_at item s) next kept.2))
-    (none_end s.board.memory s.board.memory r (same s.board.memory r))
-settles_ends c [] (Some t) s r = uncaught_ends c t s r
-settles_ends c (Return to ∷ items) (Some t) s r = settles_ends c items (Some t) (with_items items s) r
-settles_ends c (Loop l ∷ items) (Some t) s r = settles_ends c items (Some t) (with_items items s) r
-settles_ends c (User x ∷ items) (Some t) s r = settles_ends c items (Some t) (with_items items s) r
-settles_ends c (Handler h ∷ items) (Some t) s r =
+    let kept = worked_stands l c item (with_items items s) r in
+    ends_if s.board (is_due item) (settled c items (thrown_at item s) next) s
+    (stood_ends s.board next.board (settled c items (thrown_at item s) next).board r kept
+    (settles_ends l c items (thrown_at item s) next kept.1))
+    (none_end s.board s.board r (stays s.board r))
+settles_ends l c [] (Some t) s r = uncaught_ends l c t s r
+settles_ends l c (Return to ∷ items) (Some t) s r = settles_ends l c items (Some t) (with_items items s) r
+settles_ends l c (Loop x ∷ items) (Some t) s r = settles_ends l c items (Some t) (with_items items s) r
+settles_ends l c (User x ∷ items) (Some t) s r = settles_ends l c items (Some t) (with_items items s) r
+settles_ends l c (Handler h ∷ items) (Some t) s r =
     let next = caught c h t (with_items items s) in
-    let kept = caught_stands c h t (with_items items s) r in
-    stood_ends s.board.memory next.board.memory (settled c items None next).board.memory r kept
-    (settles_ends c items None next kept.2)
-settles_ends c (Source x ∷ items) (Some t) s r =
+    let kept = caught_stands l c h t (with_items items s) r in
+    stood_ends s.board next.board (settled c items None next).board r kept (settles_ends l c items None next kept.1)
+settles_ends l c (Source x ∷ items) (Some t) s r =
     let i = s.flow.reading.input in
     let next = reading_on x (with_items items s) in
-    back_ends i s.board.memory (settled c items (Some t) next).board.memory r
-    (settles_ends c items (Some t) next (back_sound i s.board.memory r))
-settles_ends c (Caller d ∷ items) (Some t) s r =
+    back_ends l i s.board (settled c items (Some t) next).board r
+    (settles_ends l c items (Some t) next (back_sound l i s.board.memory r))
+settles_ends l c (Caller d ∷ items) (Some t) s r =
     let next = load_left d (with_items items s) in
-    let kept = load_stands d (with_items items s) r in
-    stood_ends s.board.memory next.board.memory (settled c items (Some t) next).board.memory r kept
-    (settles_ends c items (Some t) next kept.2)
+    let kept = load_stands l d (with_items items s) r in
+    stood_ends s.board next.board (settled c items (Some t) next).board r kept
+    (settles_ends l c items (Some t) next kept.1)
 
 -- ---- so many images
 
@@ -276,35 +287,31 @@ back_one input.Nothing m last n r e = e
 back_one (input.Text position) m last n r e = e
 back_one (input.Image size position) m last n r e =
     let count : 1 + n ≡ suc n = omega arith in
-    e ∙ ap (λ x. drop n x) (popped m r).1 ∙ drop-drop n 1 (running m) ∙ ap (λ k. drop k (running m)) count
+    e ∙ ap (λ x. drop n x) (popped m r) ∙ drop-drop n 1 (running m) ∙ ap (λ k. drop k (running m)) count
 
-pub left_ends : (now : Input) (items : List ReturnItem) (b : Board) → IsSound b.memory
+pub left_ends : (l : Laws) (now : Input) (items : List ReturnItem) (b : Board) → IsSound b.memory
     → LatestEnd (images_ended now items) b.memory (left_through now items b).memory
-left_ends now [] b r = refl
-left_ends now (Source x ∷ items) b r =
+left_ends l now [] b r = refl
+left_ends l now (Source x ∷ items) b r =
     let freed : Board = record b { memory = given_back now b.memory } in
     back_one now b.memory (left_through x.input items freed).memory (images_ended x.input items) r
-    (left_ends x.input items freed (back_sound now b.memory r))
-left_ends now (Caller d ∷ items) b r =
-    let kept = (due_leaves d b).1 r in
-    left_ends now items (left_by d b) kept.2
-    ∙ ap (λ x. drop (images_ended now items) x) (all_run b.memory (left_by d b).memory r.images kept)
-left_ends now (Return to ∷ items) b r = left_ends now items b r
-left_ends now (Loop l ∷ items) b r = left_ends now items b r
-left_ends now (User x ∷ items) b r = left_ends now items b r
-left_ends now (Handler h ∷ items) b r = left_ends now items b r
+    (left_ends l x.input items freed (back_sound l now b.memory r))
+left_ends l now (Caller d ∷ items) b r =
+    let kept = (due_leaves d b).1 l r in
+    left_ends l now items (left_by d b) kept.sound
+    ∙ ap (λ x. drop (images_ended now items) x) (all_run b.memory (left_by d b).memory r.images kept.images)
+left_ends l now (Return to ∷ items) b r = left_ends l now items b r
+left_ends l now (Loop x ∷ items) b r = left_ends l now items b r
+left_ends l now (User x ∷ items) b r = left_ends l now items b r
+left_ends l now (Handler h ∷ items) b r = left_ends l now items b r
 
 -- ---- the end of a step
 
-pub end_leaves : {S : Type 0} (c : Calls S) (items : List ReturnItem) (thrown : Option Throw) (s : State S)
+pub end_leaves : {S : Type 0} (l : Laws) (c : Calls S) (items : List ReturnItem) (thrown : Option Throw) (s : State S)
     → IsSound s.board.memory
     → EndLeaves (throws_late items s.board.stack) s.board.memory (settled c items thrown s).board.memory thrown
-end_leaves c items None s r = (
-  (λ e. all_run s.board.memory (settled c items None s).board.memory r.images (worked_off c items s e r)),
-  (settles_ends c items None s r).1,
+end_leaves l c items None s r = (
+  (λ e. all_run s.board.memory (settled c items None s).board.memory r.images (worked_off l c items s e r).0),
+  (settles_ends l c items None s r).2,
 )
-end_leaves c items (Some t) s r = (settles_ends c items (Some t) s r).1
-
-pub settled_sound : {S : Type 0} (c : Calls S) (items : List ReturnItem) (thrown : Option Throw) (s : State S)
-    → IsSound s.board.memory → IsSound (settled c items thrown s).board.memory
-settled_sound c items thrown s r = (settles_ends c items thrown s r).0
+end_leaves l c items (Some t) s r = (settles_ends l c items (Some t) s r).2

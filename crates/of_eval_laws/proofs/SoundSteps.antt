@@ -1,66 +1,119 @@
 -- The law `space_stays_sound`: at first, a load, what comes next, the end of a step, and steps.
-use Rattle.std.proofs.Common.{◌≡◌, inl, inr, ℕ, zero, suc, Bool, true, false, List, Option, Some, None, Result, Ok, Err}
-use Rattle.std.proofs.Common.{refl, subst, if◌then◌else◌}
+use Rattle.std.proofs.Common.{◌≡◌, inl, inr, ℕ, zero, suc, Bool, true, false, List, [], Option, Some, None}
+use Rattle.std.proofs.Common.{Result, Ok, Err, refl, subst, if◌then◌else◌}
+use Rattle.std.specs.List.{IsDistinct}
 use Rattle.std.specs.Prelude.{option_and_then}
 use Rattle.of_fcodes.specs.declared.words.Word.{Word}
-use Rattle.of_memory.specs.DataSpace.{DataSpace, IsSound}
+use Rattle.of_memory.specs.DataSpace.{DataSpace, IsSound, fresh}
+use Rattle.of_memory.specs.Growth.{image_pushed}
+use Rattle.of_memory.specs.SoundChanges.{AreBytes}
+use Rattle.of_nodes.specs.Nodes.{first_tree}
+use Rattle.of_nodes.specs.Stored.{AreStored}
+use Rattle.of_nodes.specs.declared.fault.NodeFault.{NodeFault}
 use Rattle.of_nodes.specs.declared.phandles.Phandle.{Phandle}
+use Rattle.of_nodes.specs.declared.tree.Node.{Node}
+use Rattle.of_stacks.specs.declared.return_item.ReturnItem.{ReturnItem}
 use Rattle.of_stacks.specs.declared.throws.Throw.{Throw}
 use Rattle.of_board.specs.declared.board.Board.{Board}
-use Rattle.of_eval.specs.Loading.{begun}
-use Rattle.of_eval.specs.Settling.{thrown_in}
+use Rattle.of_eval.specs.Loading.{begun, image_copied, made_or_none}
+use Rattle.of_eval.specs.Settling.{settled, thrown_in}
 use Rattle.of_eval.specs.State.{Calls, State}
 use Rattle.of_eval.specs.Steps.{due, settled_of, stepped, steps_from}
 use Rattle.of_words.specs.Words.{word_entry}
 use Rattle.of_eval_laws.specs.Running.{is_at_end}
-use Rattle.of_eval_laws.specs.Sound.{AreBytes, HasSoundSpace, SpaceStaysSound}
-use Rattle.of_eval_laws.proofs.FramedWriting.{left_stands, word_stands}
-use Rattle.of_eval_laws.proofs.Begun.{begun_is, image_stands, opened_stands}
-use Rattle.of_eval_laws.proofs.RunningEnds.{settled_sound}
+use Rattle.of_eval_laws.specs.Sound.{HasSoundSpace, SpaceStaysSound, StaysSound}
+use Rattle.of_eval_laws.proofs.Begun.{begun_is, image_pushes, opened_kept}
+use Rattle.of_eval_laws.proofs.FramedSpace.{Laws, Stands}
+use Rattle.of_eval_laws.proofs.FramedWriting.{left_stands}
+use Rattle.of_eval_laws.proofs.RunningEnds.{settles_ends}
 use Rattle.of_eval_laws.proofs.RunningTokens.{due_leaves}
-use Rattle.of_eval_laws.proofs.RunningWords.{Kept, KeptBy, Laws}
-use Rattle.of_eval_laws.proofs.SoundTree.{first_sound}
+use Rattle.of_eval_laws.proofs.RunningWords.{Kept, KeptBy}
+
+-- ---- at first
+
+nothing_stored : (m : DataSpace) → AreStored m []
+unfolding IsDistinct
+nothing_stored m = λ i. record { held = λ name p e. absurd cc; distinct = tt }
+
+record IsFirst (x : List Node × DataSpace) : Type 0 where
+  sound : IsSound x.1
+  stored : AreStored x.1 x.0
+
+first_of : (l : Laws) (r : Result (List Node × DataSpace) NodeFault) → first_tree fresh ≡ r → IsFirst (made_or_none r)
+first_of l (Ok x) e = record {
+  sound = (l.nodes.first fresh x.1 x.0 l.sound.at_first e).sound;
+  stored = l.stored.first fresh x.1 x.0 l.sound.at_first e;
+}
+first_of l (Err fault) e = record { sound = l.sound.at_first; stored = nothing_stored fresh }
+
+first_is : (l : Laws) → IsFirst (made_or_none (first_tree fresh))
+first_is l = first_of l (first_tree fresh) refl
 
 -- ---- what comes next
 
-pub kept_sound : (b : Bool) (m after : DataSpace) → Kept b m after → IsSound after
-kept_sound b m after (inl h) = h.2
-kept_sound b m after (inr h) = h.0
+same_sound : (w : Board) → IsSound w.memory → StaysSound w w
+same_sound w sound = record { sound = sound; stored = λ a. a }
 
-left_sound : (b : Bool) (m after : DataSpace) (e : Result (Unit {0}) Throw) → KeptBy b m after e → IsSound after
-left_sound b m after (Ok x) h = kept_sound b m after h
-left_sound b m after (Err t) h = h.2
+then_sound : (w between after : Board) → StaysSound w between → StaysSound between after → StaysSound w after
+then_sound w between after f g = record { sound = g.sound; stored = λ a. g.stored (f.stored a) }
+
+stands_sound : (w after : Board) → Stands w after → StaysSound w after
+stands_sound w after h = record { sound = h.1; stored = h.2 }
+
+pub kept_sound : (b : Bool) (w after : Board) → Kept b w after → StaysSound w after
+kept_sound b w after (inl h) = stands_sound w after h
+kept_sound b w after (inr h) = record { sound = h.0; stored = h.1 }
+
+left_sound : (b : Bool) (w after : Board) (e : Result (Unit {0}) Throw) → KeptBy b w after e → StaysSound w after
+left_sound b w after (Ok x) h = kept_sound b w after h
+left_sound b w after (Err t) h = stands_sound w after h
 
 due_sound : {S : Type 0} (l : Laws) (c : Calls S) (s : State S) → HasSoundSpace s
-    → HasSoundSpace (due c s.flow.next s).state
+    → StaysSound s.board (due c s.flow.next s).state.board
 due_sound l c s sound =
     let o = due c s.flow.next s in
-    left_sound (is_at_end s.flow.next s) s.board.memory o.state.board.memory o.ended
-    (due_leaves l c s.flow.next s sound)
+    left_sound (is_at_end s.flow.next s) s.board o.state.board o.ended (due_leaves l c s.flow.next s sound)
+
+settled_sound : {S : Type 0} (l : Laws) (c : Calls S) (items : List ReturnItem) (thrown : Option Throw) (s : State S)
+    → HasSoundSpace s → StaysSound s.board (settled c items thrown s).board
+settled_sound l c items thrown s sound =
+    let h = settles_ends l c items thrown s sound in record { sound = h.0; stored = h.1 }
 
 -- ---- a load
 
 begun_sound : {S : Type 0} (l : Laws) (image : List ℕ) (node : Phandle) (s : State S) → HasSoundSpace s
-    → AreBytes image → HasSoundSpace (begun image node s)
+    → AreBytes image → StaysSound s.board (begun image node s).board
 begun_sound l image node s sound small =
-    begun_is (λ x. HasSoundSpace x) image node s sound
+    let m = s.board.memory in
+    let ns = s.board.tree in
+    begun_is (λ x. StaysSound s.board x.board) image node s (same_sound s.board sound)
     (λ x e fits.
-    (image_stands l.pushes s.board.memory x.1.1 image (opened_stands l.instances s.board node x sound e) fits).0.0
-    small)
+    let kept = opened_kept l s.board node x sound e in
+    let one = image_pushes l m x.1.1 image kept fits in
+    record {
+      sound = one.sound small;
+      stored = λ a.
+          l.stored.by_others x.1.1 (image_copied (image_pushed x.1.1 image) x.1.1) ns kept.sound one.properties
+          (l.stored.by_others m x.1.1 ns sound kept.properties a);
+    })
 
 -- ---- steps
 
-either : {S : Type 0} (b : Bool) (x y : State S) → HasSoundSpace x → HasSoundSpace y
-    → HasSoundSpace (if b then x else y)
-either true x y h k = h
-either false x y h k = k
+either : {S : Type 0} (w : Board) (b : Bool) (x y : State S) → StaysSound w x.board → StaysSound w y.board
+    → StaysSound w (if b then x else y).board
+either w true x y h k = h
+either w false x y h k = k
 
-pub step_sound : {S : Type 0} (l : Laws) (c : Calls S) (s : State S) → HasSoundSpace s → HasSoundSpace (stepped c s)
+pub step_sound : {S : Type 0} (l : Laws) (c : Calls S) (s : State S) → HasSoundSpace s
+    → StaysSound s.board (stepped c s).board
 unfolding stepped
 step_sound l c s sound =
     let o = due c s.flow.next s in
-    either s.flow.is_running (settled_of c o) s
-    (settled_sound c o.state.flow.items (thrown_in o.ended) o.state (due_sound l c s sound)) sound
+    let one = due_sound l c s sound in
+    either s.board s.flow.is_running (settled_of c o) s
+    (then_sound s.board o.state.board (settled_of c o).board one
+    (settled_sound l c o.state.flow.items (thrown_in o.ended) o.state one.sound))
+    (same_sound s.board sound)
 
 one_keeps : {S : Type 0} (P : State S → Type 0) (c : Calls S) (b : Bool) (s after : State S) → P (stepped c s)
     → (if b then Some (stepped c s) else None) ≡ Some after → P after
@@ -83,18 +136,24 @@ steps_keep P c step (suc n) s after h e =
 
 -- ---- the law
 
-word_sound : (l : Laws) (w : Word) (m after : Board) → IsSound m.memory → word_entry w m ≡ Ok after
-    → IsSound after.memory
-word_sound l w m after sound e =
-    (left_stands m.memory (word_entry w m) after e (word_stands l.given l.tree w m sound)).2
+word_sound : (l : Laws) (w : Word) (b after : Board) → IsSound b.memory → word_entry w b ≡ Ok after → StaysSound b after
+word_sound l w b after sound e = stands_sound b after (left_stands l w b after sound e)
+
+steps_sound : {S : Type 0} (l : Laws) (c : Calls S) (n : ℕ) (s after : State S) → HasSoundSpace s
+    → steps_from c n s ≡ Some after → StaysSound s.board after.board
+steps_sound l c n s after sound e =
+    steps_keep (λ x. StaysSound s.board x.board) c
+    (λ x h. then_sound s.board x.board (stepped c x).board h (step_sound l c x h.sound))
+    n s after (same_sound s.board sound) e
 
 pub space_stays_sound : Laws → (S : Type 0) → SpaceStaysSound S
 space_stays_sound l S = record {
-  first = λ code. first_sound;
+  first = λ code. (first_is l).sound;
+  first_stored = (first_is l).stored;
   begun = λ image node s sound small. begun_sound l image node s sound small;
-  words = λ w m after sound e. word_sound l w m after sound e;
+  words = λ w b after sound e. word_sound l w b after sound e;
   done = λ c s sound. due_sound l c s sound;
-  settled = λ c items thrown s sound. settled_sound c items thrown s sound;
+  settled = λ c items thrown s sound. settled_sound l c items thrown s sound;
   step = λ c s sound. step_sound l c s sound;
-  steps = λ c n s after sound e. steps_keep (λ x. HasSoundSpace x) c (λ x h. step_sound l c x h) n s after sound e;
+  steps = λ c n s after sound e. steps_sound l c n s after sound e;
 }

@@ -20,8 +20,12 @@ ghost use Rattle.of_eval_laws.specs.Tokens.{ThrowTakes, TokensAreTyped, TokensCo
 use of_compile::{compiles_reading, runs_by_structure, structures_are_flat};
 use of_eval::plans_unroll;
 use of_ihandles::instances_keep_the_space;
-use of_instances::{images_stay, tree_words_throw_listed};
-use of_memory::{latest_is_pushed, parts_are_good, ranges_are_placed, writes_join};
+use of_instances::{tree_words_throw_listed, words_keep_the_space};
+use of_memory::{
+    changes_stay_sound, images_change_by_images_alone, latest_is_pushed, parts_are_good,
+    properties_change_by_puts_alone, scratch_is_open,
+};
+use of_nodes::{properties_keep_the_space, stored_stays};
 use of_prims::prims_throw_listed;
 
 /// What the ordinary words throw has one of the numbers that words raise of themselves.
@@ -86,14 +90,20 @@ pub fn stack_leads_back()
     ensures bodies { StackLeadsBack Definitions }
 {}
 
-/// An ordinary word keeps the images that run: it writes only where programs may.
+/// An ordinary word keeps the images that run: what it does to the data space changes none.
 pub fn images_stand()
     ensures { ImagesStand }
 {
-    images_stay();
+    changes_stay_sound();
+    images_change_by_images_alone();
+    properties_change_by_puts_alone();
     parts_are_good();
-    ranges_are_placed();
-    writes_join();
+    scratch_is_open();
+    latest_is_pushed();
+    properties_keep_the_space();
+    stored_stays();
+    instances_keep_the_space();
+    words_keep_the_space();
 }
 
 /// A throw ends all that runs, or control goes on behind the latest `catch` that waits, and what is due beneath it is
@@ -104,17 +114,22 @@ pub fn throws_settle()
     ensures bodies { ThrowsSettle Definitions }
 {}
 
-/// The data space is sound at first, and a load and each step leave it so, whatever is done or thrown.
+/// The data space is sound at first, and a load and each step leave it so, whatever is done or thrown; and so the
+/// properties of the tree stay stored in it.
 pub fn space_stays_sound()
     ensures cells { SpaceStaysSound Coding }
     ensures bodies { SpaceStaysSound Definitions }
 {
-    images_stay();
-    instances_keep_the_space();
-    latest_is_pushed();
+    changes_stay_sound();
+    images_change_by_images_alone();
+    properties_change_by_puts_alone();
     parts_are_good();
-    ranges_are_placed();
-    writes_join();
+    scratch_is_open();
+    latest_is_pushed();
+    properties_keep_the_space();
+    stored_stays();
+    instances_keep_the_space();
+    words_keep_the_space();
 }
 
 /// The images that run are a stack, and each has the bytes that it had while it runs: a step ends some of the latest,
@@ -124,12 +139,16 @@ pub fn images_run()
     ensures cells { ImagesRun Coding }
     ensures bodies { ImagesRun Definitions }
 {
-    images_stay();
-    instances_keep_the_space();
-    latest_is_pushed();
+    changes_stay_sound();
+    images_change_by_images_alone();
+    properties_change_by_puts_alone();
     parts_are_good();
-    ranges_are_placed();
-    writes_join();
+    scratch_is_open();
+    latest_is_pushed();
+    properties_keep_the_space();
+    stored_stays();
+    instances_keep_the_space();
+    words_keep_the_space();
 }
 
 /// The images that stand in the image region are as many as the images that are being read, at first and whatever is
@@ -139,12 +158,16 @@ pub fn images_are_readings()
     ensures cells { ImagesAreReadings Coding }
     ensures bodies { ImagesAreReadings Definitions }
 {
-    images_stay();
-    instances_keep_the_space();
-    latest_is_pushed();
+    changes_stay_sound();
+    images_change_by_images_alone();
+    properties_change_by_puts_alone();
     parts_are_good();
-    ranges_are_placed();
-    writes_join();
+    scratch_is_open();
+    latest_is_pushed();
+    properties_keep_the_space();
+    stored_stays();
+    instances_keep_the_space();
+    words_keep_the_space();
 }
 
 /// Each item of a definition leaves both stacks, and control goes on at its target, exactly as its control structure

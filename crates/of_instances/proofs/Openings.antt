@@ -12,7 +12,6 @@ use Rattle.of_ihandles.specs.Ihandles.{IhandlesAreNew, IsOpened}
 use Rattle.of_ihandles.specs.Instances.{argument_span, opened}
 use Rattle.of_ihandles.specs.OwnedBlocks.{OwnBlocks}
 use Rattle.of_ihandles.specs.OwnSlots.{HasSlots}
-use Rattle.of_ihandles.specs.SpaceKept.{InstancesKeepTheSpace}
 use Rattle.of_ihandles.specs.Table.{InstanceTable}
 use Rattle.of_ihandles.specs.declared.instance_fault.InstanceFault.{InstanceFault}
 use Rattle.of_board.specs.declared.board.Board.{Board}
@@ -20,7 +19,7 @@ use Rattle.of_instances.specs.Calling.{opened_with}
 use Rattle.of_instances.specs.Faults.{of_instance}
 use Rattle.of_instances.specs.Openings.{InstancesOpen}
 use Rattle.of_instances.specs.Reading.{text_at, text_read}
-use Rattle.of_instances.proofs.TreeSpace.{opens}
+use Rattle.of_instances.specs.SpaceKept.{WordsKeepTheSpace}
 
 abbrev Answer : Type 0 → Type 0
 Answer E = Result (Cell × (InstanceTable × DataSpace)) E
@@ -79,10 +78,10 @@ text_with l w ph (Ok xs) owns slots =
     same w xs (Err t) h = tt
 text_with l w ph (Err fault) owns slots = tt
 
-pub instances_open : IhandlesAreNew → InstancesBegin → InstancesKeepTheSpace → InstancesOpen
+pub instances_open : IhandlesAreNew → InstancesBegin → WordsKeepTheSpace → InstancesOpen
 instances_open new begin keep = record {
   below = λ w ph a n ih x e. subst (λ r. IsBelow w ph r) e (below_with new w ph (text_at w.memory a n));
   text = λ w ph a n ih x b sound owns slots e found.
       subst (λ r. ReadsSame w (read_bytes w.memory a.0 n.0) r) e
-      (text_with begin w ph (read_bytes w.memory a.0 n.0) owns slots) b (opens keep w ph a n ih x sound e).sound found;
+      (text_with begin w ph (read_bytes w.memory a.0 n.0) owns slots) b (keep.opened w ph a n ih x sound e).sound found;
 }

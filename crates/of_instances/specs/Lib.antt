@@ -9,5 +9,5 @@ pub mod Calling
 pub mod PropertyWords
 pub mod TreeWords
 pub mod Listed
-pub mod Images
+pub mod SpaceKept
 pub mod Openings

@@ -1,6 +1,6 @@
 ghost use Rattle.std.specs.Prelude.{◌≡◌, ◌<◌, ◌≤◌, ◌+◌, length, OnOk, IfErr};
 ghost use Rattle.of_memory.specs.Regions.{data_limit};
-ghost use Rattle.of_stacks.specs.Stacks.{Becomes};
+ghost use Rattle.of_cells.specs.Outcomes.{Becomes};
 ghost use Rattle.of_stacks.specs.Throws.{dictionary_overflow};
 ghost use Rattle.of_instances.specs.Encoding.{decode_int_entry, decode_phys_entry, decode_string_entry};
 ghost use Rattle.of_instances.specs.Encoding.{encode_bytes_entry, encode_int_entry, encode_phys_entry};

@@ -2,7 +2,8 @@
 ghost use Rattle.std.specs.Prelude.{◌≡◌, ◌≤◌, ◌<◌, ◌+◌, length, take, drop, true, IfOk, IfErr, IfSome, MatchOption};
 ghost use Rattle.std.specs.Prelude.{Some, None, Ok, Err};
 ghost use Rattle.arrayvec.specs.ArrayVec.{array_vec_len};
-ghost use Rattle.of_stacks.specs.Stacks.{Becomes, Makes};
+ghost use Rattle.of_cells.specs.Outcomes.{Becomes};
+ghost use Rattle.of_stacks.specs.Stacks.{Makes};
 ghost use Rattle.of_instances.specs.InstanceWords.{arguments_left, my_address_entry, my_args_entry, my_parent_entry};
 ghost use Rattle.of_instances.specs.InstanceWords.{my_self_entry, my_space_entry, my_unit_entry, numbers_read};
 ghost use Rattle.of_instances.specs.InstanceWords.{own_cells, own_unit, package_of_entry, set_args_entry};

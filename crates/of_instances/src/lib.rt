@@ -14,6 +14,6 @@ mod setting;
 mod tree_words;
 
 pub use calling::{Callee, CallingWord, MethodCall, Operands, find_call, open_instance};
-pub use laws::{images_stay, instances_open, tree_words_throw_listed};
+pub use laws::{instances_open, tree_words_throw_listed, words_keep_the_space};
 pub use property_words::run_properties_word;
 pub use tree_words::run_tree_word;

@@ -1,5 +1,6 @@
 ghost use Rattle.std.specs.Prelude.{◌≡◌, ◌≤◌, ◌++◌, ◌∷◌, [], length, drop, codes, true, IfOk};
-ghost use Rattle.of_stacks.specs.Stacks.{Becomes, Makes};
+ghost use Rattle.of_cells.specs.Outcomes.{Becomes};
+ghost use Rattle.of_stacks.specs.Stacks.{Makes};
 ghost use Rattle.of_instances.specs.Setting.{delete_entry, property_entry, property_put, reg_entry, string_entry};
 
 use crate::cells::{cells_under, push_cells};

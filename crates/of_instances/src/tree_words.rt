@@ -1,5 +1,6 @@
 ghost use Rattle.std.specs.Prelude.{◌≡◌, true};
-ghost use Rattle.of_stacks.specs.Stacks.{Becomes, Makes};
+ghost use Rattle.of_cells.specs.Outcomes.{Becomes};
+ghost use Rattle.of_stacks.specs.Stacks.{Makes};
 ghost use Rattle.of_board.specs.Active.{device_finished};
 ghost use Rattle.of_instances.specs.TreeWords.{child_entry, find_method_entry, find_package_entry, finished_left};
 ghost use Rattle.of_instances.specs.TreeWords.{handle, named_unopened_entry, unopened_entry};

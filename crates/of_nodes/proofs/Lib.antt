@@ -20,6 +20,7 @@ mod MethodsAreFound
 mod PropertyNames
 mod PropertiesAreFound
 mod StoredStays
+mod SpaceKept
 mod WaysLead
 mod AfterRuns
 mod ComponentsAreMeant

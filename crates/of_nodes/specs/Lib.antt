@@ -18,3 +18,4 @@ pub mod FirstPaths
 pub mod MethodLaw
 pub mod PropertyLaw
 pub mod Stored
+pub mod SpaceKept

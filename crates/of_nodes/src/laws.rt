@@ -4,11 +4,14 @@ ghost use Rattle.of_nodes.specs.FirstPaths.{FirstPathsFind};
 ghost use Rattle.of_nodes.specs.MethodLaw.{MethodsAreFound};
 ghost use Rattle.of_nodes.specs.Preorder.{AfterRuns};
 ghost use Rattle.of_nodes.specs.PropertyLaw.{PropertiesAreFound};
+ghost use Rattle.of_nodes.specs.SpaceKept.{PropertiesKeepTheSpace};
 ghost use Rattle.of_nodes.specs.Stored.{StoredStays};
 ghost use Rattle.of_nodes.specs.Tree.{TreeIsShown};
 ghost use Rattle.of_nodes.specs.TreePaths.{TreeFinds};
 ghost use Rattle.of_nodes.specs.WayLaw.{WaysLead};
 ghost use Rattle.of_nodes.specs.Ways.{PathsFind};
+
+use of_memory::{changes_stay_sound, images_change_by_images_alone};
 
 /// Each node stands in the tree; its parent is the one round it there, its child the first of its children,
 /// and its peer the sibling behind it.
@@ -57,6 +60,15 @@ pub fn properties_are_found()
 pub fn stored_stays()
     ensures { StoredStays }
 {}
+
+/// The first tree, and each property that is set, leave a sound data space sound, and the images that run as they
+/// were.
+pub fn properties_keep_the_space()
+    ensures { PropertiesKeepTheSpace }
+{
+    changes_stay_sound();
+    images_change_by_images_alone();
+}
 
 /// From a node the empty path leads to the node itself, `..` to its parent, a longer path on from where its first
 /// part leads to; and a path without `..` leads from the root to what it finds behind a slash.

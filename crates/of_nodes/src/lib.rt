@@ -17,7 +17,8 @@ mod tree;
 pub use fault::NodeFault;
 pub use laws::{
     after_runs, components_are_meant, first_paths_find, methods_are_found, paths_find,
-    properties_are_found, stored_stays, tree_finds, tree_is_shown, ways_lead,
+    properties_are_found, properties_keep_the_space, stored_stays, tree_finds, tree_is_shown,
+    ways_lead,
 };
 pub use methods::Methods;
 pub use phandles::Phandle;

@@ -5,8 +5,8 @@ use of_memory::{
 };
 use of_nodes::{
     NodeFault, Phandle, Tree, after_runs, before, behind, components_are_meant, first_paths_find,
-    methods_are_found, paths_find, properties_are_found, stored_stays, tree_finds, tree_is_shown,
-    ways_lead,
+    methods_are_found, paths_find, properties_are_found, properties_keep_the_space, stored_stays,
+    tree_finds, tree_is_shown, ways_lead,
 };
 use std::alloc::Global;
 use std::test::Fail;
@@ -22,6 +22,7 @@ fn laws_hold() {
     paths_find();
     properties_are_found();
     properties_change_by_puts_alone();
+    properties_keep_the_space();
     stored_stays();
     tree_finds();
     tree_is_shown();

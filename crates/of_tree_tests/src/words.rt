@@ -2,7 +2,7 @@
 
 use crate::histories;
 use crate::running::differing;
-use of_instances::{images_stay, tree_words_throw_listed};
+use of_instances::{tree_words_throw_listed, words_keep_the_space};
 use std::test::Fail;
 
 /// Values at `here`, and what is read of them.
@@ -138,5 +138,5 @@ fn histories(rt: HostRuntime) -> Result<(), Fail> {
 #[test]
 fn laws() {
     tree_words_throw_listed();
-    images_stay();
+    words_keep_the_space();
 }

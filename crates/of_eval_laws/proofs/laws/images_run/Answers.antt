@@ -1,32 +1,21 @@
 use Rattle.of_compile.specs.Structured.{Definitions}
 use Rattle.of_compile.specs.Coding.{Coding}
+use Rattle.of_eval_laws.proofs.FramedSpace.{Laws}
 use Rattle.of_eval_laws.proofs.ImagesRun.{images_run}
 use Rattle.of_eval_laws.proofs.laws.images_run.Goals as goal
 
-pub returns-clause-cells : goal.returns-clause-cells
-returns-clause-cells c =
-    images_run (record {
-      given = record {
-        parts = c.parts_are_good.ensures;
-        ranges = c.ranges_are_placed.ensures;
-        joins = c.writes_join.ensures;
-      };
+pub returns : goal.returns
+returns c =
+    let l : Laws = record {
+      sound = c.changes_stay_sound.ensures;
+      images = c.images_change_by_images_alone.ensures;
+      properties = c.properties_change_by_puts_alone.ensures;
+      parts = c.parts_are_good.ensures;
+      scratch = c.scratch_is_open.ensures;
       pushes = c.latest_is_pushed.ensures;
-      tree = c.images_stay.ensures;
+      nodes = c.properties_keep_the_space.ensures;
+      stored = c.stored_stays.ensures;
       instances = c.instances_keep_the_space.ensures;
-    })
-    Coding
-
-pub returns-clause-bodies : goal.returns-clause-bodies
-returns-clause-bodies c =
-    images_run (record {
-      given = record {
-        parts = c.parts_are_good.ensures;
-        ranges = c.ranges_are_placed.ensures;
-        joins = c.writes_join.ensures;
-      };
-      pushes = c.latest_is_pushed.ensures;
-      tree = c.images_stay.ensures;
-      instances = c.instances_keep_the_space.ensures;
-    })
-    Definitions
+      words = c.words_keep_the_space.ensures;
+    } in
+    record { cells = images_run l Coding; bodies = images_run l Definitions }

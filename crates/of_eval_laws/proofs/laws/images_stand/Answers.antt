@@ -1,11 +1,19 @@
+use Rattle.of_eval_laws.proofs.FramedSpace.{Laws}
 use Rattle.of_eval_laws.proofs.FramedWriting.{images_stand}
 use Rattle.of_eval_laws.proofs.laws.images_stand.Goals as goal
 
 pub returns : goal.returns
 returns c =
-    images_stand (record {
+    let l : Laws = record {
+      sound = c.changes_stay_sound.ensures;
+      images = c.images_change_by_images_alone.ensures;
+      properties = c.properties_change_by_puts_alone.ensures;
       parts = c.parts_are_good.ensures;
-      ranges = c.ranges_are_placed.ensures;
-      joins = c.writes_join.ensures;
-    })
-    c.images_stay.ensures
+      scratch = c.scratch_is_open.ensures;
+      pushes = c.latest_is_pushed.ensures;
+      nodes = c.properties_keep_the_space.ensures;
+      stored = c.stored_stays.ensures;
+      instances = c.instances_keep_the_space.ensures;
+      words = c.words_keep_the_space.ensures;
+    } in
+    images_stand l
