@@ -5,31 +5,11 @@
 # and with a slot, where there are so many; and a slot of a package with one instance, where it has so many.
 # usage: bench/slots.sh
 set -euo pipefail
-top=$(cd "$(dirname "${BASH_SOURCE[0]}")/.." && pwd)
-folder=$(mktemp -d)
-trap 'rm -rf "$folder"' EXIT
-"$top/ofw" run "$top/examples/empty-program.hex"
-program=$top/crates/ofw/out/ofw
-
-# NAME TOKENS: an image of these tokens
-image() { printf 'f108000000000000\n%s 00\n' "$2" >"$folder/$1"; }
-
-# NAME: the instructions of a run
-instructions() {
-    valgrind --tool=callgrind --callgrind-out-file=/dev/null "$program" run "$folder/$1" 2>&1 >/dev/null |
-        sed -n 's/.*Collected : \([0-9]*\).*/\1/p'
-}
+source "$(dirname "${BASH_SOURCE[0]}")/images.sh"
 
 # COUNT TOKENS: these tokens so many times
 repeated() { for _ in $(seq "$1"); do printf '%s ' "$2"; done; }
 
-# NAME DEFINITIONS CALL: the instructions of one turn of : loops  0 do CALL loop ;
-turn() {
-    for turns in 00000400 00000800; do
-        image "$1-$turns" "$2 b50801 b7 a5 17 $4 $3 15 $5 c2 10 $turns 0801"
-    done
-    echo "$1: $((($(instructions "$1-00000800") - $(instructions "$1-00000400")) / 1024)) instructions"
-}
 value='a7 b50800 b8'
 defer='b50800 bc 11 7b c3 0800'
 turn 'a value and drop' "$value" '0800 46' 0008 fffc
@@ -43,12 +23,12 @@ turn 'a defer to noop' "$defer" '0800' 0007 fffd
 turn 'a defer to noop of each instance' "c0 $defer" '0800' 0007 fffd
 
 image none ''
-none=$(instructions none)
+none=$(image_instructions none)
 
 # COUNT NAME TOKENS: the instructions of these tokens, where they stand so many times
 each() {
     image "$2-$1" "$(repeated "$1" "$3")"
-    echo "$2, $1: $((($(instructions "$2-$1") - none) / $1)) instructions"
+    echo "$2, $1: $((($(image_instructions "$2-$1") - none) / $1)) instructions"
 }
 for count in 128 256 512 1021; do
     each "$count" 'a node with an instance' '011f'
