@@ -6,6 +6,7 @@ use of_cells::Cell;
 use of_code::{CodeStore, ItemPlace, Place, item_count, item_place};
 use of_compile::Words;
 use of_fcodes::FCode;
+use of_ihandles::Instances;
 use of_memory::Memory;
 use of_nodes::{Phandle, Tree};
 use of_stacks::{Continuation, Input};
@@ -38,6 +39,13 @@ impl<C: CodeStore> Eval<C> {
         ensures { result.now ≡ self.now.board.tree }
     {
         &self.board.tree
+    }
+
+    /// The instances.
+    pub fn instances(&self) -> &Instances
+        ensures { result.now ≡ self.now.board.instances }
+    {
+        &self.board.instances
     }
 
     /// The active package, if there is one.

@@ -1,5 +1,7 @@
 -- Runs, turn by turn, over cells and over structure.
-use Rattle.std.proofs.Common.{◌≡◌, ◌⊎◌, inl, inr, ℕ, zero, suc, ◌+◌, Bool, true, false, List, [], length, Option}
+use Rattle.std.proofs.Common.{◌≡◌, ◌⊎◌, inl, inr, ℕ, zero, suc, ◌+◌, Bool, true, false, List, [], ◌∷◌, length, Option}
+use Rattle.std.proofs.lemmas.Bool.{leb-false, leb-true}
+use Rattle.std.proofs.lemmas.Option.{same_Some}
 use Rattle.std.proofs.Common.{Some, None, refl}
 use Rattle.std.proofs.Common.{ap, sym, subst, ◌∙◌, add-one, nat_lt, nat_le, arith}
 use Rattle.std.specs.Prelude.{if◌then◌else◌, option_and_then, ◌<◌, ◌≤◌, ◌^◌, ◌-◌, ◌&&◌}
@@ -18,10 +20,12 @@ use Rattle.of_machine.specs.declared.answers.Refusal.{Refusal}
 use Rattle.of_machine.specs.declared.answers.Refusal.TheVariants.{ImageTooLong}
 use Rattle.of_machine.specs.declared.answers.End.TheVariants.{LimitReached, Done}
 use Rattle.of_machine.specs.States.{HasMoved, MachineState, can_step, flat_machine, idle, image_refusal, is_running}
-use Rattle.of_machine.specs.States.{loaded, moved, slot, start_refusal}
-use Rattle.of_machine.proofs.EventLemmas.{begun_flat, some_same}
+use Rattle.of_machine.specs.States.{loaded, moved, served, slot, start_refusal}
+use Rattle.of_machine.proofs.EventLemmas.{begun_flat}
 use Rattle.of_machine.proofs.FirstLemmas.{first_images}
-use Rattle.of_machine.specs.Runs.{Feed, RunsAgree, RunsTo, States, after, beginning, next}
+use Rattle.of_client.specs.Services.{Reply}
+use Rattle.of_machine.specs.Runs.{Due, Feed, HasCome, RunsAgree, RunsTo, States, WentOn, after, beginning, caught_up}
+use Rattle.of_machine.specs.Runs.{next, settled, with_calls}
 
 -- ---- what is refused
 
@@ -47,45 +51,164 @@ fits_first image accepted =
     fits_empty first_board.memory (length image) first_images
     (short_by image (nat_lt 0x40000 (length image)) refl accepted)
 
+-- ---- clients
+
+pub none_left : {A : Type 0} (xs : List A) → length xs ≡ 0 → xs ≡ []
+none_left [] e = refl
+none_left (x ∷ xs) e = absurd cc
+
+-- no client is to be answered before so many steps are made
+abbrev pub IsLater : ℕ → List Due → Type 0
+IsLater n [] = Unit {0}
+IsLater n (call ∷ calls) = n < call.0
+
+not_due : {S : Type 0} (m : MachineState S) (call : Due) (calls : List Due) (b : Bool) → nat_le call.0 m.steps ≡ b
+    → m.steps < call.0
+    → (if b then caught_up (served m call.1) calls else (m, call ∷ calls)) ≡ (m, call ∷ calls)
+not_due m call calls true e later = absurd (omega (arith, leb-true call.0 m.steps e, later))
+not_due m call calls false e later = refl
+
+-- then none is answered
+none_due : {S : Type 0} (m : MachineState S) (calls : List Due) → IsLater m.steps calls
+    → caught_up m calls ≡ (m, calls)
+none_due m [] later = refl
+none_due m (call ∷ calls) later = not_due m call calls (nat_le call.0 m.steps) refl later
+
+abbrev with_left : MachineState Coding × List Due → Feed Coding
+with_left x = with_calls x.0 x.1
+
+rests : (m : MachineState Coding) (calls : List Due) → IsLater m.steps calls
+    → settled (with_calls m calls) ≡ with_calls m calls
+rests m calls later = ap with_left (none_due m calls later)
+
+-- one that is to be answered now is
+one_due : (m : MachineState Coding) (call : Due) (calls : List Due) (b : Bool) → nat_le call.0 m.steps ≡ b
+    → call.0 ≤ m.steps
+    → (if b then caught_up (served m call.1) calls else (m, call ∷ calls)) ≡ caught_up (served m call.1) calls
+one_due m call calls true e due = refl
+one_due m call calls false e due = absurd (omega (arith, leb-false call.0 m.steps e, due))
+
+pub answered : (m : MachineState Coding) (call : Due) (calls : List Due) → call.0 ≤ m.steps
+    → settled (with_calls m (call ∷ calls)) ≡ settled (with_calls (served m call.1) calls)
+answered m call calls due = ap with_left (one_due m call calls (nat_le call.0 m.steps) refl due)
+
 -- ---- runs over cells
 
--- a machine to which nothing is to be handed in
-abbrev pub feed_from : MachineState Coding → Feed Coding
-feed_from m = record { machine = m; lines = []; answers = []; calls = [] }
-
-abbrev at : State Coding → ℕ → MachineState Coding
-at s n = record { eval = s; steps = n }
+abbrev at : List Reply → State Coding → ℕ → MachineState Coding
+at r s n = record { eval = s; steps = n; replies = r }
 
 -- one step more, where something runs
-turn_made : (n : ℕ) (s t : State Coding) (b : Bool) → s.flow.is_running ≡ b → n < 2 ^ 64 - 1
+turn_made : (r : List Reply) (calls : List Due) (n : ℕ) (s t : State Coding) (b : Bool) → s.flow.is_running ≡ b
+    → n < 2 ^ 64 - 1
     → ◌≡◌ {A = Option (State Coding)} (if b then Some (stepped flat_calls s) else None) (Some t)
-    → feed_from (at t (n + 1)) ≡ next flat_calls (feed_from (at s n))
+    → settled (with_calls (at r t (n + 1)) calls) ≡ next flat_calls (with_calls (at r s n) calls)
 unfolding next
-turn_made n s t true e less h =
+turn_made r calls n s t true e less h =
     let counts : nat_lt n (2 ^ 64 - 1) ≡ true = grind (arith, nat_tests) in
-    let can : can_step (at s n) ≡ true = ap (λ b. b && nat_lt n (2 ^ 64 - 1)) e ∙ counts in
-    ap (λ u. feed_from (at u (n + 1))) (sym (some_same h))
-    ∙ ap (λ b. if b then feed_from (moved flat_calls (at s n)) else feed_from (at s n)) (sym can)
-turn_made n s t false e less h = cc
+    let can : can_step (at r s n) ≡ true = ap (λ b. b && nat_lt n (2 ^ 64 - 1)) e ∙ counts in
+    let f = with_calls (at r s n) calls in
+    ap (λ u. settled (with_calls (at r u (n + 1)) calls)) (sym (same_Some _ _ h))
+    ∙ ap (λ b. if b then settled (record f { machine = moved flat_calls (at r s n) }) else f) (sym can)
+turn_made r calls n s t false e less h = cc
 
 -- one step more, after those before
-turn_after : (n : ℕ) (g : Feed Coding) (o : Option (State Coding)) (t : State Coding) →
-    ((u : State Coding) → o ≡ Some u → feed_from (at u n) ≡ g) → n < 2 ^ 64 - 1
+turn_after : (r : List Reply) (calls : List Due) (n : ℕ) (g : Feed Coding) (o : Option (State Coding))
+    (t : State Coding) → ((u : State Coding) → o ≡ Some u → settled (with_calls (at r u n) calls) ≡ g)
+    → IsLater n calls → n < 2 ^ 64 - 1
     → option_and_then (λ (s : State Coding). if s.flow.is_running then Some (stepped flat_calls s) else None) o ≡ Some t
-    → feed_from (at t (n + 1)) ≡ next flat_calls g
-turn_after n g None t before less h = cc
-turn_after n g (Some u) t before less h =
-    turn_made n u t u.flow.is_running refl less h ∙ ap (next flat_calls) (before u refl)
+    → settled (with_calls (at r t (n + 1)) calls) ≡ next flat_calls g
+turn_after r calls n g None t before later less h = cc
+turn_after r calls n g (Some u) t before later less h =
+    turn_made r calls n u t u.flow.is_running refl less h
+    ∙ ap (next flat_calls) (sym (rests (at r u n) calls later) ∙ before u refl)
 
--- so many steps are as many turns
-pub turns_made : (n : ℕ) (s t : State Coding) → n < 2 ^ 64 → steps_from flat_calls n s ≡ Some t
-    → feed_from (at t n) ≡ after flat_calls n (feed_from (at s 0))
+-- so many steps, before which no client is to be answered, are as many turns
+abbrev pub IsUpto : ℕ → List Due → Type 0
+IsUpto n [] = Unit {0}
+IsUpto n (call ∷ calls) = n ≤ call.0
+
+before_it : (n k : ℕ) (calls : List Due) → IsUpto (n + suc k) calls → IsLater (n + k) calls
+before_it n k [] h = tt
+before_it n k (call ∷ calls) h = omega (arith, h)
+
+one_less : (n k : ℕ) (calls : List Due) → IsUpto (n + suc k) calls → IsUpto (n + k) calls
+one_less n k [] h = tt
+one_less n k (call ∷ calls) h = omega (arith, h)
+
+turns_made : (r : List Reply) (calls : List Due) (k n : ℕ) (s t : State Coding) → n + k < 2 ^ 64
+    → IsUpto (n + k) calls → steps_from flat_calls k s ≡ Some t
+    → settled (with_calls (at r t (n + k)) calls) ≡ after flat_calls k (settled (with_calls (at r s n) calls))
 unfolding steps_from after
-turns_made zero s t few h = ap (λ u. feed_from (at u 0)) (sym (some_same h))
-turns_made (suc n) s t few h =
-    let made = turn_after n (after flat_calls n (feed_from (at s 0))) (steps_from flat_calls n s) t
-    (λ u e. turns_made n s u (omega arith) e) (omega arith) h in
-    rw add-one at made
+turns_made r calls zero n s t few upto h =
+    let none : n + 0 ≡ n = omega arith in
+    ap (λ u. settled (with_calls (at r u (n + 0)) calls)) (sym (same_Some _ _ h))
+    ∙ ap (λ k. settled (with_calls (at r s k) calls)) none
+turns_made r calls (suc k) n s t few upto h =
+    let more : n + suc k ≡ n + k + 1 = omega arith in
+    ap (λ k. settled (with_calls (at r t k) calls)) more
+    ∙ turn_after r calls (n + k) (after flat_calls k (settled (with_calls (at r s n) calls)))
+    (steps_from flat_calls k s) t
+    (λ u e. turns_made r calls k n s u (omega (arith, few)) (one_less n k calls upto) e)
+    (before_it n k calls upto) (omega (arith, few)) h
+
+-- turns and then others
+turns_joined : (n k : ℕ) (f : Feed Coding) → after flat_calls k (after flat_calls n f) ≡ after flat_calls (n + k) f
+unfolding after
+turns_joined n zero f = let none : n + 0 ≡ n = omega arith in ap (λ k. after flat_calls k f) (sym none)
+turns_joined n (suc k) f =
+    let more : suc (n + k) ≡ n + suc k = omega arith in
+    ap (next flat_calls) (turns_joined n k f) ∙ ap (λ k. after flat_calls k f) more
+
+goes_on : (start : Feed Coding) (m new : MachineState Coding) (calls : List Due) → HasCome start m calls
+    → HasMoved m new → new.steps < 2 ^ 64 → IsUpto new.steps calls → HasCome start new calls
+goes_on start m new calls come went few upto =
+    let k = new.steps - m.steps in
+    let sum : m.steps + k ≡ new.steps = omega (arith, went.0) in
+    let turns = turns_made m.replies calls k m.steps m.eval new.eval (omega (arith, sum, few))
+    (subst (λ n. IsUpto n calls) (sym sum) upto) went.1 in
+    ap (λ n. after flat_calls n start) (sym sum) ∙ sym (turns_joined m.steps k start)
+    ∙ ap (after flat_calls k) come ∙ sym turns
+    ∙ ap (λ n. settled (with_calls (at m.replies new.eval n) calls)) sum
+    ∙ ap (λ r. settled (with_calls (at r new.eval new.steps) calls)) (sym went.2)
+
+pub serves : (start : Feed Coding) (m : MachineState Coding) (call : Due) (calls : List Due)
+    → HasCome start m (call ∷ calls) → call.0 ≤ m.steps → HasCome start (served m call.1) calls
+serves start m call calls come due = come ∙ answered m call calls due
+
+comes_to : (start : Feed Coding) (m : MachineState Coding) (calls : List Due) → HasCome start m calls
+    → IsLater m.steps calls → (after flat_calls m.steps start).machine ≡ m
+comes_to start m calls come later =
+    ap (λ (f : Feed Coding). f.machine) (come ∙ rests m calls later)
+
+-- up to a client
+pub comes_on : (start : Feed Coding) (m new : MachineState Coding) (call : Due) (calls : List Due) (due : ℕ)
+    → call.0 ≡ due → HasMoved m new → new.steps < 2 ^ 64 → new.steps ≤ due → HasCome start m (call ∷ calls)
+    → HasCome start new (call ∷ calls)
+comes_on start m new call calls due same went few upto come =
+    goes_on start m new (call ∷ calls) come went few (omega (arith, same, upto))
+
+pub starts : (m : MachineState Coding) (calls : List Due) → m.steps ≡ 0
+    → HasCome (settled (with_calls m calls)) m calls
+unfolding after
+starts m calls none = ap (λ n. after flat_calls n (settled (with_calls m calls))) none
+
+-- before a client that isn't reached
+pub stops : (limit : ℕ) (old m : MachineState Coding) (all calls : List Due) (call : Due)
+    → HasCome (settled (with_calls old all)) m (call ∷ calls) → m.steps < call.0 → m.steps ≤ limit
+    → (m.steps ≡ limit) ⊎ (can_step m ≡ false) → WentOn limit old all m
+stops limit old m all calls call come later few why =
+    (comes_to (settled (with_calls old all)) m (call ∷ calls) come later, few, why)
+
+-- behind all of them
+pub finishes : (limit : ℕ) (old m new : MachineState Coding) (all : List Due)
+    → HasCome (settled (with_calls old all)) m [] → HasMoved m new → limit < 2 ^ 64 → new.steps ≤ limit
+    → (new.steps ≡ limit) ⊎ (can_step new ≡ false) → WentOn limit old all new
+finishes limit old m new all come went small few why = (
+  comes_to (settled (with_calls old all)) new []
+      (goes_on (settled (with_calls old all)) m new [] come went (omega (arith, small, few)) tt) tt,
+  few,
+  why,
+)
 
 -- nothing runs, or a run stops at its limit
 stopped : (m : MachineState Coding) (limit : ℕ) → limit < 2 ^ 64 → m.steps ≤ limit → is_running m ≡ true
@@ -98,20 +221,58 @@ stopped m limit small few runs (inr e) =
 
 -- ---- over structure
 
+flat_served : (m : MachineState Definitions) (calls : List Due)
+    → caught_up (flat_machine m) calls ≡ (flat_machine (caught_up m calls).0, (caught_up m calls).1)
+flat_served m [] = refl
+flat_served m (call ∷ calls) = served_if (nat_le call.0 m.steps) m call calls (flat_served (served m call.1) calls)
+  where
+    served_if : (b : Bool) (m : MachineState Definitions) (call : Due) (calls : List Due)
+        → caught_up (flat_machine (served m call.1)) calls
+        ≡ (flat_machine (caught_up (served m call.1) calls).0, (caught_up (served m call.1) calls).1)
+        → (if b then caught_up (served (flat_machine m) call.1) calls else (flat_machine m, call ∷ calls))
+        ≡ (
+          flat_machine (if b then caught_up (served m call.1) calls else (m, call ∷ calls)).0,
+          (if b then caught_up (served m call.1) calls else (m, call ∷ calls)).1,
+        )
+    served_if true m call calls h = h
+    served_if false m call calls h = refl
+
 abbrev flat_feed : Feed Definitions → Feed Coding
 flat_feed f = record { machine = flat_machine f.machine; lines = f.lines; answers = f.answers; calls = f.calls }
 
+settled_flat : (f : Feed Definitions) → settled (flat_feed f) ≡ flat_feed (settled f)
+settled_flat f =
+    ap (λ (x : MachineState Coding × List Due). record (flat_feed f) { machine = x.0; calls = x.1 })
+    (flat_served f.machine f.calls)
+
+same_eval : (m : MachineState Definitions) (calls : List Due) → (caught_up m calls).0.eval ≡ m.eval
+same_eval m [] = refl
+same_eval m (call ∷ calls) = same_if (nat_le call.0 m.steps) m call calls (same_eval (served m call.1) calls)
+  where
+    same_if : (b : Bool) (m : MachineState Definitions) (call : Due) (calls : List Due)
+        → (caught_up (served m call.1) calls).0.eval ≡ m.eval
+        → (if b then caught_up (served m call.1) calls else (m, call ∷ calls)).0.eval ≡ m.eval
+    same_if true m call calls h = h
+    same_if false m call calls h = refl
+
+still_placed : (f : Feed Definitions) → AllPlaced f.machine.eval → AllPlaced (settled f).machine.eval
+still_placed f placed = subst (λ s. AllPlaced s) (sym (same_eval f.machine f.calls)) placed
+
 turned : (b : Bool) (f : Feed Definitions) → StepsAgree → StatesStayPlaced → AllPlaced f.machine.eval →
-    (if b then record (flat_feed f) { machine = moved flat_calls (flat_machine f.machine) } else flat_feed f)
-    ≡ flat_feed (if b then record f { machine = moved structured_calls f.machine } else f)
+    (if b then settled (record (flat_feed f) { machine = moved flat_calls (flat_machine f.machine) }) else flat_feed f)
+    ≡ flat_feed (if b then settled (record f { machine = moved structured_calls f.machine }) else f)
 turned true f agree stay placed =
-    ap (λ (s : State Coding). record (flat_feed f) { machine = record { eval = s; steps = f.machine.steps + 1 } })
+    ap (λ (s : State Coding). settled (record (flat_feed f) {
+      machine = record { eval = s; steps = f.machine.steps + 1; replies = f.machine.replies };
+    }))
     (agree f.machine.eval (stay.next f.machine.eval placed))
+    ∙ settled_flat (record f { machine = moved structured_calls f.machine })
 turned false f agree stay placed = refl
 
 stays : (b : Bool) (f : Feed Definitions) → StatesStayPlaced → AllPlaced f.machine.eval →
-    AllPlaced (if b then record f { machine = moved structured_calls f.machine } else f).machine.eval
-stays true f stay placed = stay.step f.machine.eval placed
+    AllPlaced (if b then settled (record f { machine = moved structured_calls f.machine }) else f).machine.eval
+stays true f stay placed =
+    still_placed (record f { machine = moved structured_calls f.machine }) (stay.step f.machine.eval placed)
 stays false f stay placed = placed
 
 all_placed : (n : ℕ) (f : Feed Definitions) → StatesStayPlaced → AllPlaced f.machine.eval
@@ -133,37 +294,34 @@ feeds_agree (suc n) f agree stay placed =
 pub runs_agree : StepsAgree → StatesStayPlaced → RunsAgree
 runs_agree agree stay image lines answers calls n =
     let first : State Definitions = first_state no_definitions in
-    let f = beginning no_definitions image lines answers calls in
-    let from : beginning (flat_of no_definitions) image lines answers calls ≡ flat_feed f =
-    ap (λ s. record { machine = record { eval = s; steps = 0 }; lines = lines; answers = answers; calls = calls })
-    (begun_flat image slot first) in
+    let begun : Feed Definitions =
+    record { machine = loaded (idle no_definitions) image slot; lines = lines; answers = answers; calls = calls } in
+    let from : beginning (flat_of no_definitions) image lines answers calls ≡ flat_feed (settled begun) =
+    ap (λ s. settled (record {
+      machine = record { eval = s; steps = 0; replies = [] };
+      lines = lines;
+      answers = answers;
+      calls = calls;
+    }))
+    (begun_flat image slot first)
+    ∙ settled_flat begun in
     ap (λ (g : Feed Coding). (after flat_calls n g).machine) from
     ∙ ap (λ (g : Feed Coding). g.machine)
-    (feeds_agree n f agree stay (stay.begun image slot first stay.first))
+    (feeds_agree n (settled begun) agree stay (still_placed begun (stay.begun image slot first stay.first)))
 
 -- a run as `run_script` makes it, and its end
-ends : (b : Bool) (image : List ℕ) (limit : ℕ) (m : MachineState Coding) → is_running m ≡ b
-    → m ≡ flat_machine (States image [] [] [] m.steps) → m.steps ≤ limit → limit < 2 ^ 64
+ends : (b : Bool) (image : List ℕ) (calls : List Due) (limit : ℕ) (m : MachineState Coding) → is_running m ≡ b
+    → m ≡ flat_machine (States image [] [] calls m.steps) → m.steps ≤ limit → limit < 2 ^ 64
     → (m.steps ≡ limit) ⊎ (can_step m ≡ false)
-    → RunsTo image [] [] [] limit m (if b then LimitReached else Done)
-ends true image limit m runs same few small why = (same, runs, stopped m limit small few runs why)
-ends false image limit m runs same few small why = (same, runs, few)
+    → RunsTo image [] [] calls limit m (if b then LimitReached else Done)
+ends true image calls limit m runs same few small why = (same, runs, stopped m limit small few runs why)
+ends false image calls limit m runs same few small why = (same, runs, few)
 
-pub run_ends : RunsAgree → (image : List ℕ) (limit : ℕ) (start m : MachineState Coding)
-    → start ≡ loaded (flat_machine (idle no_definitions)) image slot → limit < 2 ^ 64 → m.steps ≤ start.steps + limit
-    → HasMoved start m → (m.steps ≡ start.steps + limit) ⊎ (can_step m ≡ false)
-    → RunsTo image [] [] [] limit m (if is_running m then LimitReached else Done)
-run_ends agree image limit start m e small few moved why =
-    let first = loaded (flat_machine (idle no_definitions)) image slot in
-    let none : start.steps ≡ 0 = ap (λ (s : MachineState Coding). s.steps) e in
-    let within : m.steps ≤ limit = omega (arith, none) in
-    let at_limit : start.steps + limit ≡ limit = omega (arith, none) in
-    let reached : (m.steps ≡ limit) ⊎ (can_step m ≡ false) =
-    subst (λ k. (m.steps ≡ k) ⊎ (can_step m ≡ false)) at_limit why in
-    let went = subst (λ (s : MachineState Coding). HasMoved s m) e moved in
-    let whole : m.steps - 0 ≡ m.steps = omega arith in
-    let counted = subst (λ k. steps_from flat_calls k first.eval ≡ Some m.eval) whole went.1 in
-    let turns = turns_made m.steps first.eval m.eval (omega arith) counted in
-    let same : m ≡ flat_machine (States image [] [] [] m.steps) =
-    ap (λ (f : Feed Coding). f.machine) turns ∙ agree image [] [] [] m.steps in
-    ends (is_running m) image limit m refl same within small reached
+pub run_ends : RunsAgree → (image : List ℕ) (calls : List Due) (limit : ℕ) (start m : MachineState Coding)
+    → start ≡ loaded (flat_machine (idle no_definitions)) image slot → limit < 2 ^ 64 → WentOn limit start calls m
+    → RunsTo image [] [] calls limit m (if is_running m then LimitReached else Done)
+run_ends agree image calls limit start m e small went =
+    let same : m ≡ flat_machine (States image [] [] calls m.steps) =
+    sym went.0 ∙ ap (λ s. (after flat_calls m.steps (settled (with_calls s calls))).machine) e
+    ∙ agree image [] [] calls m.steps in
+    ends (is_running m) image calls limit m refl same went.1 small went.2

@@ -1,18 +1,21 @@
 -- A machine by what is done to it: each call is an event, and one that is refused changes nothing.
 use Rattle.std.specs.Prelude.{◌≡◌, ℕ, ◌-◌, ◌^◌, ◌<◌, List, [], ◌∷◌, Option, Some, None, replicate, if◌then◌else◌}
+use Rattle.of_client.specs.Services.{Service}
 use Rattle.of_compile.specs.Structured.{flat_of}
 use Rattle.of_compile.specs.Coding.{Coding}
 use Rattle.of_eval.specs.State.{Calls, flat_calls}
 use Rattle.of_eval_laws.specs.Structured.{structured_calls, no_definitions}
 use Rattle.of_machine.specs.declared.answers.Refusal.{Refusal}
 use Rattle.of_machine.specs.States.{HasMoved, MachineState, can_step, flat_machine, idle, load_refusal, loaded_for}
-use Rattle.of_machine.specs.States.{moved, node_at}
+use Rattle.of_machine.specs.States.{moved, node_at, served}
 
 pub data Event : Type 0 where
   -- an image is loaded for the package at a path
   Load : List ℕ → List ℕ → Event
   -- a step is made
   Step : Event
+  -- a client is answered
+  Client : Service → Event
 
 -- a machine with an image for the package at a path, unless it is refused
 abbrev pub loaded_unless : {S : Type 0} → Option Refusal → MachineState S → List ℕ → List ℕ → MachineState S
@@ -23,6 +26,7 @@ loaded_unless None m image path = loaded_for m image (node_at m path)
 abbrev pub done_by : {S : Type 0} → Calls S → Event → MachineState S → MachineState S
 done_by c (Load image path) m = loaded_unless (load_refusal m image path) m image path
 done_by c Step m = if can_step m then moved c m else m
+done_by c (Client service) m = served m service
 
 -- a machine after these events, the latest first
 unfoldable pub after_events : {S : Type 0} → Calls S → List Event → MachineState S → MachineState S

@@ -1,12 +1,15 @@
 -- The machine's states, and what each of its calls makes of them. They are the same whether the code of definitions is
 -- structured bodies or their cells.
-use Rattle.std.specs.Prelude.{◌≡◌, ◌≤◌, ◌⊎◌, ℕ, ◌+◌, ◌-◌, ◌^◌, Bool, true, false, List, length, Option, Some, None}
+use Rattle.std.specs.Prelude.{◌≡◌, ◌≤◌, ◌⊎◌, ℕ, ◌+◌, ◌-◌, ◌^◌, Bool, true, false, List, [], ◌∷◌, ◌++◌, length}
+use Rattle.std.specs.Prelude.{Option, Some, None}
 use Rattle.std.specs.Prelude.{nat_lt, ◌&&◌, is_ok, if◌then◌else◌}
 use Rattle.of_stream.specs.declared.fault.StreamFault.{StreamFault}
 use Rattle.of_stream.specs.Image.{header_fault}
 use Rattle.of_nodes.specs.declared.phandles.Phandle.{Phandle}
 use Rattle.of_nodes.specs.Lookup.{found}
 use Rattle.of_nodes.specs.Nodes.{phandle_of}
+use Rattle.of_client.specs.Services.{Reply, Service, reply_to}
+use Rattle.of_client.specs.declared.calls.ClientReply.{ClientReply}
 use Rattle.of_compile.specs.Coding.{Coding}
 use Rattle.of_compile.specs.Structured.{Definitions}
 use Rattle.of_eval.specs.State.{Calls, State, flat_calls}
@@ -25,14 +28,16 @@ pub record MachineState (S : Type 0) : Type 0 where
   pub eval : State S
   -- how many steps were made
   pub steps : ℕ
+  -- what clients were answered, the first first
+  pub replies : List Reply
 
 -- a machine as it is made
 abbrev pub idle : {S : Type 0} → S → MachineState S
-idle code = record { eval = first_state code; steps = 0 }
+idle code = record { eval = first_state code; steps = 0; replies = [] }
 
 -- the machine with its definitions as cells
 abbrev pub flat_machine : MachineState Definitions → MachineState Coding
-flat_machine m = record { eval = flat_state m.eval; steps = m.steps }
+flat_machine m = record { eval = flat_state m.eval; steps = m.steps; replies = m.replies }
 
 -- ---- a step
 
@@ -46,7 +51,7 @@ can_step m = is_running m && nat_lt m.steps (2 ^ 64 - 1)
 
 -- one step
 abbrev pub moved : {S : Type 0} → Calls S → MachineState S → MachineState S
-moved c m = record { eval = stepped c m.eval; steps = m.steps + 1 }
+moved c m = record m { eval = stepped c m.eval; steps = m.steps + 1 }
 
 -- what an answer of `step` says of the states before and after
 abbrev pub Steps : Progress → MachineState Coding → MachineState Coding → Type 0
@@ -57,9 +62,23 @@ Steps Ended old new = (can_step old ≡ false) × (new ≡ old)
 abbrev pub MayGrow : MachineState Coding → Type 0
 MayGrow m = due_grows flat_calls m.eval.flow.next m.eval ≡ true
 
--- as many steps were made as were counted
+-- as many steps were made as were counted, and no client was answered
 abbrev pub HasMoved : MachineState Coding → MachineState Coding → Type 0
-HasMoved old new = (old.steps ≤ new.steps) × (steps_from flat_calls (new.steps - old.steps) old.eval ≡ Some new.eval)
+HasMoved old new =
+    (old.steps ≤ new.steps) × (steps_from flat_calls (new.steps - old.steps) old.eval ≡ Some new.eval)
+    × (new.replies ≡ old.replies)
+
+-- ---- clients
+
+-- what a client sees of a reply
+abbrev pub reply_shown : ClientReply → Reply
+reply_shown r = (r.number, r.bytes.items)
+
+-- a machine that has answered a client's question between two steps (IEEE 1275-1994, 6.3.2)
+abbrev pub served : {S : Type 0} → MachineState S → Service → MachineState S
+served m service =
+    let board = m.eval.board in
+    record m { replies = m.replies ++ reply_to board.memory board.tree board.instances service ∷ [] }
 
 -- ---- loading
 

@@ -1,4 +1,3 @@
-use of_cells::Cell;
 use of_stream::StreamFault;
 use thiserror::Error;
 
@@ -50,27 +49,4 @@ pub enum Answer {
     Done,
     /// No device is there.
     BusFault,
-}
-
-/// What a client asks of the device tree (IEEE 1275-1994, 6.3.2.1, 6.3.2.2).
-#[derive(Drop)]
-pub enum ClientCall {
-    /// `finddevice`: the phandle of a path.
-    FindDevice(Vec<u8>),
-    /// `child`: the first child of a phandle.
-    Child(Cell),
-    /// `peer`: the next sibling of a phandle, or the root for 0.
-    Peer(Cell),
-    /// `parent`: the parent of a phandle.
-    Parent(Cell),
-    /// `getproplen`: how many bytes a property has.
-    GetPropLen(Cell, Vec<u8>),
-    /// `getprop`: so many bytes of a property at most.
-    GetProp(Cell, Vec<u8>, u32),
-    /// `nextprop`: the name of the property behind one.
-    NextProp(Cell, Vec<u8>),
-    /// `instance-to-package`: the phandle of an ihandle.
-    InstanceToPackage(Cell),
-    /// `package-to-path`: so many bytes of a phandle's path at most.
-    PackageToPath(Cell, u32),
 }

@@ -3,13 +3,15 @@ ghost use Rattle.std.specs.Prelude.{None, Some};
 ghost use Rattle.of_eval_laws.specs.Structured.{no_definitions};
 ghost use Rattle.of_machine.specs.States.{MayGrow, RefusesBefore, Steps, first_refusal, fit_refusal, flat_machine};
 ghost use Rattle.of_machine.specs.States.{idle, image_refusal, instance_refusal, loaded, or_next};
+ghost use Rattle.of_client.specs.Services.{service_of};
 ghost use Rattle.of_eval.specs.State.{flat_calls};
-ghost use Rattle.of_machine.specs.Events.{Load, Step, done_by};
+ghost use Rattle.of_machine.specs.Events.{Client, Load, Step, done_by};
 ghost use Rattle.of_eval.specs.Loading.{instance_on};
-ghost use Rattle.of_machine.specs.States.{HasMoved, can_step, load_refusal, loaded_for, node_at};
+ghost use Rattle.of_machine.specs.States.{HasMoved, can_step, load_refusal, loaded_for, node_at, served};
 ghost use Rattle.of_memory.specs.Growth.{image_fits};
 
 use crate::answers::{Progress, Refusal};
+use of_client::{ClientCall, ClientReply, reply_to};
 use of_code::CodeStore;
 use of_eval::{Eval, LoadFault, Pause};
 use of_nodes::Phandle;
@@ -27,18 +29,21 @@ pub const LONGEST_IMAGE: usize = 0x4_0000;
 /// A call that answers NoMemory has changed nothing, and may be made again.
 #[derive(Drop)]
 pub struct Machine<C: CodeStore> {
+    alloc: Global,
     eval: Eval<C>,
     steps: u64,
+    replies: Vec<ClientReply>,
 }
 
 // Clauses see a state of the machine whose definitions are cells.
 impl<C: CodeStore> Model for Machine<C> {
     ghost use Rattle.of_compile.specs.Coding.{Coding};
-    ghost use Rattle.of_machine.specs.States.{MachineState};
+    ghost use Rattle.std.specs.Prelude.{map};
+    ghost use Rattle.of_machine.specs.States.{MachineState, reply_shown};
 
     ghost Value = { MachineState Coding };
 
-    ghost view = { λ m. record { eval = m.eval; steps = m.steps } };
+    ghost view = { λ m. record { eval = m.eval; steps = m.steps; replies = map reply_shown m.replies.items } };
 }
 
 /// The image, with its header read.
@@ -68,8 +73,10 @@ impl<C: CodeStore + Drop> Machine<C> {
         ensures { IfOk result (λ m. m ≡ flat_machine (idle no_definitions)) }
     {
         Ok(Machine {
+            alloc,
             eval: Eval::new(alloc, code)?,
             steps: 0,
+            replies: Vec::new(alloc),
         })
     }
 }
@@ -110,6 +117,32 @@ impl<C: CodeStore> Machine<C> {
         match pause {
             Pause::LimitReached | Pause::Idle => Ok(()),
             Pause::NoMemory => Err(AllocError),
+        }
+    }
+
+    /// Answers a client's question about the device tree, between two steps (IEEE 1275-1994, 6.3.2): the reply is the
+    /// last of `replies`, and nothing else changes.
+    ///
+    /// NoMemory is the only refusal, and changes nothing.
+    pub fn client(&mut self, call: &ClientCall) -> Result<(), Refusal>
+        ensures ok { OnOk result (self.new ≡ served self.old (service_of call.now)) }
+        ensures event { OnOk result (self.new ≡ done_by flat_calls (Client (service_of call.now)) self.old) }
+        ensures err { IfErr result (λ e. e ≡ Refusal.NoMemory) }
+        ensures unchanged { OnErr result (self.new ≡ self.old) }
+    {
+        let eval = &self.eval;
+        let Ok(reply) = reply_to(
+            self.alloc,
+            eval.memory(),
+            eval.tree(),
+            eval.instances(),
+            call,
+        ) else {
+            return Err(Refusal::NoMemory);
+        };
+        match self.replies.push(reply) {
+            Ok(()) => Ok(()),
+            Err(_) => Err(Refusal::NoMemory),
         }
     }
 

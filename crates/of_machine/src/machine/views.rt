@@ -1,10 +1,11 @@
-ghost use Rattle.std.specs.Prelude.{◌≡◌, length, reverse};
+ghost use Rattle.std.specs.Prelude.{◌≡◌, length, map, reverse};
 ghost use Rattle.of_eval.specs.Views.{items_of_word, next_item, next_token};
-ghost use Rattle.of_machine.specs.States.{is_running};
+ghost use Rattle.of_machine.specs.States.{is_running, reply_shown};
 ghost use Rattle.of_machine.specs.Views.{active_method, byte_of, xt_named, xt_numbered};
 
 use super::Machine;
 use of_cells::Cell;
+use of_client::ClientReply;
 use of_code::{CodeStore, ItemPlace};
 use of_fcodes::{FCode, word_with_name};
 use of_memory::Memory;
@@ -33,6 +34,13 @@ impl<C: CodeStore> Machine<C> {
         ensures { result.now ≡ self.now.eval.board.memory }
     {
         self.eval.memory()
+    }
+
+    /// What clients were answered, the first first.
+    pub fn replies(&self) -> &[ClientReply]
+        ensures { map reply_shown result.now ≡ self.now.replies }
+    {
+        &self.replies
     }
 
     /// The device tree (IEEE 1275-1994, 3.2.1).

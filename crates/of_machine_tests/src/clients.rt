@@ -1,0 +1,236 @@
+//! Clients, whom a machine answers between two steps.
+use crate::shared::{
+    bytes_of, image_of, load, load_tokens, on_machine, on_machine_if_room, run_on,
+};
+use of_cells::Cell;
+use of_client::{ClientCall, ClientReply};
+use of_machine::{Refusal, ScriptMachine, run_script};
+use of_nodes::Phandle;
+use std::alloc::Global;
+use std::test::Fail;
+
+/// Tokens that are run for `/slot`, and what a client asks then, before what it is answered: a number in 8 digits, and
+/// bytes where there are some.
+const SERVICES: &str = "\
+00>finddevice /slot|d0000008
+00>finddevice /|d0000000
+00>finddevice slot|ffffffff
+00>finddevice|ffffffff
+00>finddevice /none|ffffffff
+00>child d0000000|d0000004
+00>child d0000008|00000000
+00>child d000000c|ffffffff
+00>child 0|ffffffff
+00>peer 0|d0000000
+00>peer d0000004|d0000008
+00>peer d0000008|00000000
+00>peer d0000000|00000000
+00>peer 1|ffffffff
+00>parent d0000008|d0000000
+00>parent d0000000|00000000
+00>parent d0000009|ffffffff
+00>getproplen d0000008 name|00000005
+00>getproplen d0000008 reg|ffffffff
+00>getproplen 0 name|ffffffff
+00>getprop d0000008 name 3|00000005 736c6f
+00>getprop d0000008 name 5|00000005 736c6f7400
+00>getprop d0000008 name ffffffff|00000005 736c6f7400
+00>getprop d0000008 name 0|00000005
+00>getprop d0000008 reg 3|ffffffff
+00>getprop d000000c name 3|ffffffff
+00>nextprop d0000008|00000001 6e616d65
+00>nextprop d0000008 name|00000000
+00>nextprop d0000008 reg|ffffffff
+00>nextprop 7|ffffffff
+00>package-to-path d0000008 20|00000005 2f736c6f74
+00>package-to-path d0000008 2|00000005 2f73
+00>package-to-path d0000000 9|00000001 2f
+00>package-to-path d0000010 9|ffffffff
+00>instance-to-package 0|ffffffff
+00>instance-to-package e0000000|ffffffff
+";
+
+/// Trees that images build, and instances that are live while they run.
+const BUILT: &str = "\
+a6 0111 120161 0110 a7 0111 120162 0110 00>nextprop d0000008|00000001 6e616d65
+a6 0111 120161 0110 a7 0111 120162 0110 00>nextprop d0000008 name|00000001 61
+a6 0111 120161 0110 a7 0111 120162 0110 00>nextprop d0000008 a|00000001 62
+a6 0111 120161 0110 a7 0111 120162 0110 00>nextprop d0000008 b|00000000
+1001020304 0111 120161 0110 00>getprop d0000008 a 3|00000004 010203
+1001020304 0111 120161 0110 1001020304 0111 120161 021e 00>getproplen d0000008 a|ffffffff
+011f 120170 0201 0127 00>child d0000008|d000000c
+011f 120170 0201 0127 00>package-to-path d000000c 7|00000007 2f736c6f742f70
+011f 120170 0201 0127 00>finddevice /slot/p|d000000c
+011f 13ffff 00>instance-to-package e0000004|d000000c
+011f 13ffff 00>instance-to-package e0000000|d0000008
+";
+
+/// A number in hexadecimal digits.
+fn number(digits: &str) -> u32 {
+    u32::from_str_radix(digits, 16).unwrap_or(0)
+}
+
+/// The node of a phandle.
+fn node(digits: &str) -> Phandle {
+    Phandle(Cell(number(digits)))
+}
+
+/// A name, a path, or none.
+fn text(alloc: Global, word: &str) -> Result<Vec<u8>, Fail> {
+    Ok(Vec::from_slice(alloc, word.as_bytes())?)
+}
+
+/// What a client asks with the words of a line.
+fn call_of(alloc: Global, line: &str) -> Result<ClientCall, Fail> {
+    let mut words = line.split_whitespace();
+    let service = words.next().unwrap_or("");
+    let first = words.next().unwrap_or("");
+    let second = words.next().unwrap_or("");
+    let third = words.next().unwrap_or("");
+    Ok(match service {
+        "finddevice" => ClientCall::FindDevice(text(alloc, first)?),
+        "child" => ClientCall::Child(node(first)),
+        "peer" => ClientCall::Peer(node(first)),
+        "parent" => ClientCall::Parent(node(first)),
+        "getproplen" => ClientCall::GetPropLen(node(first), text(alloc, second)?),
+        "getprop" => ClientCall::GetProp(node(first), text(alloc, second)?, number(third)),
+        "nextprop" => ClientCall::NextProp(node(first), text(alloc, second)?),
+        "package-to-path" => ClientCall::PackageToPath(node(first), number(second)),
+        _ => ClientCall::InstanceToPackage(Cell(number(first))),
+    })
+}
+
+/// Answers a client.
+fn serve(machine: &mut ScriptMachine, call: &ClientCall) -> Result<(), Fail> {
+    machine.client(call)?;
+    Ok(())
+}
+
+/// Appends a reply: its number, and its bytes if it has some.
+fn push_reply(out: &mut String, reply: &ClientReply) -> Result<(), Fail> {
+    write!(out, "{:08x}", reply.number.0)?;
+    for (place, byte) in reply.bytes.iter().enumerate() {
+        if place == 0 {
+            out.push(' ')?;
+        }
+        write!(out, "{byte:02x}")?;
+    }
+    Ok(())
+}
+
+/// All replies of a machine.
+fn replies(alloc: Global, machine: &ScriptMachine) -> Result<String, Fail> {
+    let mut out = String::new(alloc);
+    for reply in machine.replies() {
+        push_reply(&mut out, reply)?;
+    }
+    Ok(out)
+}
+
+/// What a client is answered once an image of tokens has run, for so many steps at most.
+fn answered(alloc: Global, tokens: &str, line: &str) -> Result<String, Fail> {
+    on_machine(alloc, |machine| {
+        load_tokens(alloc, machine, tokens, "/slot")?;
+        run_on(machine, 99)?;
+        serve(machine, &call_of(alloc, line)?)?;
+        replies(alloc, machine)
+    })
+}
+
+/// The lines of a table that give something else, with what they give.
+fn differing(alloc: Global, table: &str) -> Result<String, Fail> {
+    let mut out = String::new(alloc);
+    for line in table.lines() {
+        let (asked, wanted) = line.split_once('|').unwrap_or(("", ""));
+        let (tokens, call) = asked.split_once('>').unwrap_or(("", ""));
+        let given = answered(alloc, tokens, call)?;
+        if given.as_str() != wanted {
+            write!(out, "{asked}|{given}\n")?;
+        }
+    }
+    Ok(out)
+}
+
+#[test]
+fn services(rt: HostRuntime) -> Result<(), Fail> {
+    assert_eq!(rt; differing(rt.alloc(), SERVICES)?.as_str(), "");
+    Ok(())
+}
+
+#[test]
+fn services_of_what_was_built(rt: HostRuntime) -> Result<(), Fail> {
+    assert_eq!(rt; differing(rt.alloc(), BUILT)?.as_str(), "");
+    Ok(())
+}
+
+/// What a client is answered that asks for `/slot`'s child before each of the first steps.
+fn between_steps(alloc: Global, image: &[u8]) -> Result<String, Fail> {
+    on_machine(alloc, |machine| {
+        load(machine, image, "/slot")?;
+        for _ in 0..3 {
+            serve(machine, &call_of(alloc, "child d0000008")?)?;
+            run_on(machine, 1)?;
+        }
+        replies(alloc, machine)
+    })
+}
+
+#[test]
+fn clients_ask_between_steps(rt: HostRuntime) -> Result<(), Fail> {
+    let image = bytes_of(rt.alloc(), "f10800ce00000012011f1201700201012700")?;
+    assert_eq!(rt;
+        between_steps(rt.alloc(), &image)?.as_str(),
+        "00000000d000000cd000000c"
+    );
+    Ok(())
+}
+
+/// What clients are answered by a script's run of an image, for so many steps at most: each asks for `/slot`'s child
+/// once so many steps are made.
+fn by_script(alloc: Global, image: &[u8], dues: &[u64], limit: u64) -> Result<String, Fail> {
+    let mut calls = Vec::new(alloc);
+    for due in dues {
+        calls.push((*due, call_of(alloc, "child d0000008")?))?;
+    }
+    let (machine, _) = run_script(alloc, image, &[], &[], &calls, limit)?;
+    replies(alloc, &machine)
+}
+
+#[test]
+fn scripts_answer_clients(rt: HostRuntime) -> Result<(), Fail> {
+    let alloc = rt.alloc();
+    let image = bytes_of(alloc, "f10800ce00000012011f1201700201012700")?;
+    assert_eq!(rt;
+        by_script(alloc, &image, &[0, 1], 99)?.as_str(),
+        "00000000d000000c"
+    );
+    assert_eq!(rt;
+        by_script(alloc, &image, &[1, 0], 99)?.as_str(),
+        "d000000cd000000c"
+    );
+    assert_eq!(rt; by_script(alloc, &image, &[0, 1], 0)?.as_str(), "00000000");
+    assert_eq!(rt;
+        by_script(alloc, &image, &[0, 99, 0], 99)?.as_str(),
+        "00000000"
+    );
+    Ok(())
+}
+
+/// Whether a call is refused for memory alone, and then leaves no reply.
+fn is_kept(machine: &mut ScriptMachine, call: &ClientCall) -> bool {
+    match machine.client(call) {
+        Ok(()) => machine.replies().len() == 1,
+        Err(Refusal::NoMemory) => machine.replies().is_empty(),
+        Err(_) => false,
+    }
+}
+
+/// Run with each growth refused in turn.
+#[test]
+fn refused_replies_change_nothing(rt: HostRuntime) -> Result<(), Fail> {
+    let alloc = rt.alloc();
+    let call = ClientCall::PackageToPath(Phandle::of(2), 9);
+    let kept = on_machine_if_room(alloc, |machine| is_kept(machine, &call));
+    assert!(rt; kept.unwrap_or(true));
+    Ok(())
+}
