@@ -18,7 +18,7 @@ use Rattle.clap.specs.declared.builder.value_parser.ValueParser.TheVariants as p
 use Rattle.clap.proofs.ValueTestLemmas.{Accepts-accepts, accepts-Accepts}
 use Rattle.of_arguments.specs.CommandLine.{LinesAsk, is_plain, AsksToRun, AsksToList, AsksForLimit, number_in}
 use Rattle.of_arguments.specs.CommandLine.{ofw_app, run_app, AsksToExplain, AsksWith, plain_extras, AsksToKeep}
-use Rattle.of_arguments.specs.CommandLine.{AsksToTokenize, detok_app, tok_app}
+use Rattle.of_arguments.specs.CommandLine.{AsksForCalls, AsksToTokenize, client_app, detok_app, tok_app}
 
 -- ---- a word that begins with no hyphen is no option
 
@@ -59,6 +59,9 @@ word_has_no_fault s b rest h e =
 run_shape : Shape
 run_shape = built_leaf (inherited ofw_app.top run_app.top)
 
+client_shape : Shape
+client_shape = built_leaf (inherited ofw_app.top client_app.top)
+
 detok_shape : Shape
 detok_shape = built_leaf (inherited ofw_app.top detok_app.top)
 
@@ -83,6 +86,10 @@ with_path id name path = record {
 with_image : Text → Held
 with_image image = with_path (codes "image") (codes "limit") image
 
+-- of a client behind its image and `--calls`
+with_client : Text → Held
+with_client image = with_path (codes "image") (codes "calls") image
+
 -- of a source behind its path and `--output`
 with_source : Text → Held
 with_source source = with_path (codes "source") (codes "output") source
@@ -99,6 +106,15 @@ limit_met : (image : Text) (b : ℕ) (rest : Text) → (b == 45) ≡ false
     → word_met run_shape.rules [] false (option (codes "limit")) 2 (b ∷ rest) (with_image image)
     ≡ plain_word run_shape.rules (option (codes "limit")) (b ∷ rest) (with_image image)
 limit_met image b rest e = word_is_plain run_shape.rules (option (codes "limit")) 2 b rest (with_image image) e
+
+calls_met : (image : Text) (b : ℕ) (rest : Text) → (b == 45) ≡ false
+    → word_met client_shape.rules [] false (option (codes "calls")) 2 (b ∷ rest) (with_client image)
+    ≡ plain_word client_shape.rules (option (codes "calls")) (b ∷ rest) (with_client image)
+calls_met image b rest e = word_is_plain client_shape.rules (option (codes "calls")) 2 b rest (with_client image) e
+
+calls_pass : (image : Text) (b : ℕ) (rest : Text) → (b == 45) ≡ false
+    → word_fault client_shape [] false (option (codes "calls")) (b ∷ rest) (with_client image) ≡ []
+calls_pass image b rest e = word_has_no_fault client_shape b rest (with_client image) e
 
 output_met : (source : Text) (b : ℕ) (rest : Text) → (b == 45) ≡ false
     → word_met tok_shape.rules [] false (option (codes "output")) 2 (b ∷ rest) (with_source source)
@@ -175,6 +191,19 @@ keeps program b rest d name e f = (
   ) refl,
 )
 
+calls_asked : (program : Text) (b : ℕ) (rest : Text) (d : ℕ) (name : Text) → (b == 45) ≡ false → (d == 45) ≡ false
+    → AsksForCalls program (b ∷ rest) (d ∷ name)
+unfolding clap_on_literals client_shape with_client with_path
+calls_asked program b rest d name e f = (
+  rw (image_met client_shape b rest e, calls_met (b ∷ rest) d name f) refl,
+  rw (
+    image_met client_shape b rest e,
+    calls_met (b ∷ rest) d name f,
+    image_passes client_shape b rest e,
+    calls_pass (b ∷ rest) d name f,
+  ) refl,
+)
+
 -- a number in the range of limits is one of 64 bits
 limit_read : (limit : Text) → is_unsigned_in 0 1000000000 limit ≡ true
     → number_in limit ≡ Some (digits_value 10 (without_leading_plus limit))
@@ -218,12 +247,17 @@ lines_ask program (b ∷ rest) e = (
     with_part program b rest (hyphenless b e),
   ),
   kept,
+  called,
   limited,
 )
   where
     kept : (output : Text) → is_plain output ≡ true → AsksToKeep program (b ∷ rest) output
     kept [] f = absurd (true≢false (sym f))
     kept (d ∷ name) f = keeps program b rest d name (hyphenless b e) (hyphenless d f)
+
+    called : (calls : Text) → is_plain calls ≡ true → AsksForCalls program (b ∷ rest) calls
+    called [] f = absurd (true≢false (sym f))
+    called (d ∷ name) f = calls_asked program b rest d name (hyphenless b e) (hyphenless d f)
 
     limited : (limit : Text) → is_plain limit ≡ true → is_unsigned_in 0 1000000000 limit ≡ true
         → AsksForLimit program (b ∷ rest) limit

@@ -12,7 +12,7 @@ use Rattle.clap.specs.declared.builder.command.Command.TheViews.{out-Command}
 use Rattle.clap.specs.declared.builder.action.ArgAction.TheVariants.{Set, SetTrue}
 use Rattle.clap.specs.declared.builder.value_parser.ValueParser.TheVariants as value
 use Rattle.of_detok.specs.declared.notes.Extras.{Extras}
-use Rattle.of_arguments.specs.Asked.{Asked, a_run, an_image, a_listing}
+use Rattle.of_arguments.specs.Asked.{Asked, a_run, an_image, a_listing, client_calls}
 
 -- ---- the command line
 
@@ -45,6 +45,16 @@ flag_rule name = record (new_rule name) { long = Some name; action = Some SetTru
 abbrev pub run_app : App
 run_app = with_rule (with_rule (with_rule (new_app (codes "run")) image_rule) limit_rule) (flag_rule (codes "explain"))
 
+-- `--calls FILE`
+abbrev pub calls_rule : Rule
+calls_rule = record (path_rule (codes "calls")) { long = Some (codes "calls") }
+
+-- `client IMAGE --calls FILE [--limit N] [--explain]`
+abbrev pub client_app : App
+client_app =
+    with_rule (with_rule (with_rule (with_rule (new_app (codes "client")) image_rule) calls_rule) limit_rule)
+    (flag_rule (codes "explain"))
+
 -- `--output FILE`
 abbrev pub output_rule : Rule
 output_rule = record (new_rule (codes "output")) {
@@ -71,11 +81,11 @@ needing_subcommand a = record a { top = record a.top { subcommand_required = tru
 abbrev pub versioned : App → App
 versioned a = record a { top = record a.top { has_version = true } }
 
--- `ofw`, with one of the three
+-- `ofw`, with one of the four
 abbrev pub ofw_app : App
 ofw_app =
-    with_subcommand (with_subcommand (with_subcommand (needing_subcommand (versioned (new_app (codes "ofw"))))
-    run_app.top) tok_app.top) detok_app.top
+    with_subcommand (with_subcommand (with_subcommand (with_subcommand
+    (needing_subcommand (versioned (new_app (codes "ofw")))) run_app.top) client_app.top) tok_app.top) detok_app.top
 
 -- the command has this shape, and no argument that all its subcommands share
 abbrev pub IsBuilt : App → Command → Type 0
@@ -105,12 +115,19 @@ has_flag name rows = is_true (first_of name rows)
 abbrev pub extras_in : List Row → Extras
 extras_in rows = record { names = has_flag (codes "names") rows; indents = has_flag (codes "indent") rows }
 
+-- what `client` asks for with an image: the calls of the file that is given
+abbrev pub client_asked : List Row → Text → Option Asked
+client_asked rows image =
+    option_map (λ calls. client_calls image calls (limit_in rows) (has_flag (codes "explain") rows))
+    (first_of (codes "calls") rows)
+
 -- what a subcommand of this name asks for with an image
 abbrev pub asked_as : Text → List Row → Text → Option Asked
 asked_as name rows image =
     if bytes_eq name (codes "run") then Some (a_run image (limit_in rows) (has_flag (codes "explain") rows))
+    else (if bytes_eq name (codes "client") then client_asked rows image
     else (if bytes_eq name (codes "detok")
-    then Some (a_listing image (extras_in rows) (has_flag (codes "partial") rows)) else None)
+    then Some (a_listing image (extras_in rows) (has_flag (codes "partial") rows)) else None))
 
 -- what a subcommand asks for, by its name and the rows that were found for it
 abbrev pub asked_by : Text × List Row → Option Asked
@@ -153,6 +170,11 @@ abbrev pub AsksToExplain : Text → Text → Type 0
 AsksToExplain program image =
     Asks (program ∷ codes "run" ∷ image ∷ codes "--explain" ∷ []) (a_run image 1000000 true)
 
+-- a run, and then the calls of a file
+abbrev pub AsksForCalls : Text → Text → Text → Type 0
+AsksForCalls program image calls =
+    Asks (program ∷ codes "client" ∷ image ∷ codes "--calls" ∷ calls ∷ []) (client_calls image calls 1000000 false)
+
 -- a listing of an image
 abbrev pub AsksToList : Text → Text → Type 0
 AsksToList program image = Asks (program ∷ codes "detok" ∷ image ∷ []) (a_listing image plain_extras false)
@@ -182,5 +204,6 @@ abbrev pub LinesAsk : Type 0
 LinesAsk = (program image : Text) → is_plain image ≡ true → AsksToRun program image × AsksToList program image
     × AsksToTokenize program image × AsksToExplain program image × AsksForMore program image
     × ((output : Text) → is_plain output ≡ true → AsksToKeep program image output)
+    × ((calls : Text) → is_plain calls ≡ true → AsksForCalls program image calls)
     × ((limit : Text) → is_plain limit ≡ true → is_unsigned_in 0 1000000000 limit ≡ true
     → AsksForLimit program image limit)

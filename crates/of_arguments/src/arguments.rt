@@ -4,8 +4,9 @@ ghost use Rattle.clap.specs.Values.{kind_of};
 ghost use Rattle.std.specs.String.{string_bytes};
 ghost use Rattle.of_arguments.specs.Asked.{asked};
 ghost use Rattle.of_arguments.specs.Statuses.{unasked};
-ghost use Rattle.of_arguments.specs.CommandLine.{IsBuilt, asked_by, asks, detok_app, image_rule, limit_in};
-ghost use Rattle.of_arguments.specs.CommandLine.{limit_rule, flag_rule, has_flag, is_true, ofw_app, output_rule};
+ghost use Rattle.of_arguments.specs.CommandLine.{IsBuilt, asked_by, asks, calls_rule, client_app, client_asked};
+ghost use Rattle.of_arguments.specs.CommandLine.{detok_app, flag_rule, has_flag, image_rule, is_true, limit_in};
+ghost use Rattle.of_arguments.specs.CommandLine.{limit_rule, ofw_app, output_rule};
 ghost use Rattle.of_arguments.specs.CommandLine.{path_rule, run_app, source_rule, tok_app};
 
 use crate::request::Request;
@@ -23,6 +24,16 @@ const RUN_HELP: &str = "\
 Example: ofw run card.rom --limit 5000 --explain
 
 The file is a ROM as it stands where it begins with f0 to f3 or fd, else hexadecimal digits.
+
+Status: 0 done, 1 fault of input or output, 2 usage, 3 limit reached, 5 no memory";
+
+/// What the help of `client` ends with.
+const CLIENT_HELP: &str = "\
+Example: ofw client card.rom --calls card.calls
+
+The image is read as for run. A line of the calls is one of these, with numbers in hexadecimal digits:
+finddevice PATH, child PH, peer PH, parent PH, getproplen PH NAME, getprop PH NAME ROOM, nextprop PH NAME,
+instance-to-package IH, package-to-path PH ROOM.
 
 Status: 0 done, 1 fault of input or output, 2 usage, 3 limit reached, 5 no memory";
 
@@ -66,6 +77,13 @@ fn source_argument<'a>(alloc: Global) -> Arg<'a>
     path_argument(alloc, "source", "SOURCE", "the source, in words")
 }
 
+/// `--calls FILE`
+fn calls_argument<'a>(alloc: Global) -> Arg<'a>
+    ensures { (rule_of result ≡ calls_rule) × (result.global ≡ false) }
+{
+    path_argument(alloc, "calls", "FILE", "the calls of a client, one a line").long("calls")
+}
+
 /// `--output FILE`
 fn output_argument<'a>(alloc: Global) -> Arg<'a>
     ensures { (rule_of result ≡ output_rule) × (result.global ≡ false) }
@@ -107,6 +125,23 @@ fn run_command<'a>(alloc: Global) -> Result<Command<'a>, AllocError>
         .about("Runs an image and prints what it prints")
         .after_help(RUN_HELP)
         .arg(image_argument(alloc))?
+        .arg(limit_argument(alloc))?
+        .arg(flag(
+            alloc,
+            "explain",
+            "says on the error output how the run ended",
+        ))
+}
+
+/// `ofw client IMAGE --calls FILE [--limit N] [--explain]`
+fn client_command<'a>(alloc: Global) -> Result<Command<'a>, AllocError>
+    ensures { IfOk result (IsBuilt client_app) }
+{
+    Command::new(alloc, "client")
+        .about("Runs an image, and then prints what a client's calls are answered")
+        .after_help(CLIENT_HELP)
+        .arg(image_argument(alloc))?
+        .arg(calls_argument(alloc))?
         .arg(limit_argument(alloc))?
         .arg(flag(
             alloc,
@@ -170,6 +205,7 @@ fn command<'a>(alloc: Global) -> Result<Command<'a>, AllocError>
         .version("0.1")
         .subcommand_required(true);
     let command = with_subcommand(command, run_command(alloc))?;
+    let command = with_subcommand(command, client_command(alloc))?;
     let command = with_subcommand(command, tok_command(alloc))?;
     with_subcommand(command, detok_command(alloc))
 }
@@ -205,6 +241,18 @@ fn has_flag(matches: &ArgMatches, name: &str) -> bool
     is_true(value(matches, name))
 }
 
+/// What `client` asks for with an image.
+fn client_request<'a>(image: &'a str, matches: &ArgMatches<'a>) -> Option<Request<'a>>
+    ensures { option_map asked result ≡ client_asked (rows_of (found_of matches.now)) image.now }
+{
+    Some(Request::Client {
+        image,
+        calls: value(matches, "calls")?,
+        limit: step_limit(matches),
+        explain: has_flag(matches, "explain"),
+    })
+}
+
 /// What a subcommand asks for.
 fn request_of<'a>(name: &str, matches: &ArgMatches<'a>) -> Option<Request<'a>>
     ensures { option_map asked result ≡ asked_by (name.now, rows_of (found_of matches.now)) }
@@ -222,6 +270,7 @@ fn request_of<'a>(name: &str, matches: &ArgMatches<'a>) -> Option<Request<'a>>
             limit: step_limit(matches),
             explain: has_flag(matches, "explain"),
         }),
+        "client" => client_request(image, matches),
         "detok" => Some(Request::Detok {
             image,
             extras: Extras {
@@ -237,7 +286,7 @@ fn request_of<'a>(name: &str, matches: &ArgMatches<'a>) -> Option<Request<'a>>
 /// What the words of a command line ask for, the program's name first.
 ///
 /// An error is a call for help or a fault of the words: another subcommand or option, a word too
-/// many, no image, a limit given twice or one that is no number from 0 to 1,000,000,000. `None`
+/// many, no image, no file of calls, a limit given twice or one that is no number from 0 to 1,000,000,000. `None`
 /// stands for a subcommand that asks for nothing, and all that the command line has ask.
 #[tactic(auto, using(crate::proofs::Requests::ofw_is_simple, crate::proofs::Requests::ofw_is_free))]
 pub fn parse<'a>(alloc: Global, words: &'a [String]) -> Result<Option<Request<'a>>, Error>

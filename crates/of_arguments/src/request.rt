@@ -12,6 +12,17 @@ pub enum Request<'a> {
         /// Whether its end is explained on the error output.
         explain: bool,
     },
+    /// Run an image, and then answer a client's calls.
+    Client {
+        /// The path of the image.
+        image: &'a str,
+        /// The path of the file of calls.
+        calls: &'a str,
+        /// How many steps the run makes at most.
+        limit: u64,
+        /// Whether its end is explained on the error output.
+        explain: bool,
+    },
     /// Make the image of a source.
     Tok {
         /// The path of the source.

@@ -15,7 +15,6 @@ use Rattle.std.proofs.Math.Seq.{take-length}
 use Rattle.of_arguments.specs.declared.status.Status.{Status}
 use Rattle.of_arguments.specs.declared.status.Status.TheVariants as status
 use Rattle.of_machine.specs.declared.answers.Refusal.TheVariants as refusal
-use Rattle.of_source.specs.declared.fault.SourceFault.TheVariants as source
 use Rattle.of_tok.specs.declared.fault.TokFault.TheVariants as tok
 use Rattle.of_commands.specs.Messages.{AppendsPart, bad_start_of}
 use Rattle.of_commands.specs.Runs.{IsUnwritten, Lists, ListsFile, ListsPart, Prints, RunsFile, end_status}
@@ -98,6 +97,7 @@ unwritten_begins (fault.Unlisted g) unwritten = absurd unwritten
 unwritten_begins (fault.NoSource place g) unwritten = refl
 unwritten_begins (fault.OffsetTooLong place) unwritten = refl
 unwritten_begins (fault.NoImage g) unwritten = refl
+unwritten_begins (fault.NoCalls g) unwritten = refl
 unwritten_begins (fault.Unwritten code) unwritten = refl
 unwritten_begins fault.NoMemory unwritten = refl
 
@@ -134,6 +134,7 @@ fault_not_done (fault.OffsetTooLong place) = refl
 fault_not_done (fault.NoImage (tok.OffsetTooLong at)) = refl
 fault_not_done (fault.NoImage tok.TooManyWords) = refl
 fault_not_done (fault.NoImage tok.ImageTooLong) = refl
+fault_not_done (fault.NoCalls f) = refl
 fault_not_done (fault.Unwritten code) = refl
 
 -- a fault of the source that was read is one of the file

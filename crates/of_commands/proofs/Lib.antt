@@ -1,4 +1,5 @@
 pub mod Answered
+pub mod Called
 pub mod Faults
 pub mod Reading
 pub mod Written

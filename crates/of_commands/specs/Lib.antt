@@ -1,3 +1,4 @@
+pub mod Clients
 pub mod Files
 pub mod Messages
 pub mod Runs

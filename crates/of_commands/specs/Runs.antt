@@ -13,6 +13,8 @@ use Rattle.of_machine.specs.declared.answers.Refusal.TheVariants as refusal
 use Rattle.of_compile.specs.Coding.{Coding}
 use Rattle.of_machine.specs.States.{MachineState, image_refusal, Refuses}
 use Rattle.of_machine.specs.Runs.{RunsTo}
+use Rattle.of_calls.specs.declared.fault.CallFault.{CallFault}
+use Rattle.of_calls.specs.declared.fault.CallFault.TheVariants as call
 use Rattle.of_source.specs.declared.fault.SourceFault.{SourceFault}
 use Rattle.of_source.specs.declared.fault.SourceFault.TheVariants as source
 use Rattle.of_source.specs.declared.place.Place.{Place}
@@ -24,7 +26,7 @@ use Rattle.of_tok.specs.declared.fault.TokFault.{TokFault}
 use Rattle.of_tok.specs.declared.fault.TokFault.TheVariants as tok
 use Rattle.of_tok.specs.Image.{tokenized}
 use Rattle.of_tok.specs.Image.{IsRefused as HasNoImage}
-use Rattle.of_arguments.specs.Asked.{Asked, a_run, an_image, a_listing}
+use Rattle.of_arguments.specs.Asked.{Asked, a_run, an_image, a_listing, client_calls}
 use Rattle.of_commands.specs.Files.{image_in, FaultsReading, IsUnread}
 use Rattle.of_commands.specs.Messages.{AppendsPart}
 use Rattle.of_commands.specs.declared.fault.Fault.{Fault}
@@ -54,12 +56,21 @@ status_of (fault.OffsetTooLong place) = status.Fault
 status_of (fault.NoImage (tok.OffsetTooLong at)) = status.Fault
 status_of (fault.NoImage tok.TooManyWords) = status.Fault
 status_of (fault.NoImage tok.ImageTooLong) = status.Fault
+status_of (fault.NoCalls f) = status.Fault
 status_of (fault.Unwritten code) = status.Fault
 
--- the place in a source that has a fault
+-- the place in a text of calls that has a fault
+abbrev pub call_place_of : CallFault → Option Place
+call_place_of (call.Unknown place) = Some place
+call_place_of (call.BadNumber place) = Some place
+call_place_of (call.TooMany place) = Some place
+call_place_of call.NoMemory = None
+
+-- the place in a text that has a fault
 abbrev pub source_place_of : Fault → Option Place
 source_place_of (fault.NoSource place f) = Some place
 source_place_of (fault.OffsetTooLong place) = Some place
+source_place_of (fault.NoCalls f) = call_place_of f
 source_place_of _ = None
 
 -- the place of a position in a text
@@ -210,9 +221,10 @@ Writes bytes old new _ = ⊥
 
 -- ---- requests
 
--- what was printed of the file, where this was asked for, or why it wasn't
+-- what was printed of the file, where this was asked for, or why it wasn't: of `client` the run alone
 abbrev pub Does : Asked → List ℕ → Option (List ℕ) → Option (List ℕ) → Result Status Fault → Type 0
 Does (a_run image limit explain) file old new r = Prints file limit old new r
+Does (client_calls image calls limit explain) file old new r = Prints file limit old new r
 Does (an_image source output) file old new r = Tokenizes file old new r
 Does (a_listing image extras partial) file old new r = Lists extras partial file old new r
 
@@ -227,6 +239,7 @@ is_done status.NoMemory = false
 -- whether it is asked how a run ended
 abbrev pub is_explained : Asked → Bool
 is_explained (a_run image limit explain) = explain
+is_explained (client_calls image calls limit explain) = explain
 is_explained (an_image source output) = false
 is_explained (a_listing image extras partial) = false
 

@@ -50,7 +50,7 @@ fn run_image(alloc: Global, image: &[u8], limit: u64) -> Result<(ScriptMachine, 
 
 /// Runs the image of a file, and gives the image, too.
 #[tactic(auto, using(crate::proofs::Faults::run_unread, crate::proofs::Faults::run_refused))]
-fn run_file<R: Read>(
+pub(crate) fn run_file<R: Read>(
     alloc: Global,
     file: &mut R,
     limit: u64,
@@ -76,7 +76,7 @@ fn end_status(end: End) -> Status
 }
 
 /// Says how a run ended, where that is to be explained.
-fn explain_end<E: Write>(
+pub(crate) fn explain_end<E: Write>(
     alloc: Global,
     path: &str,
     image: &[u8],
@@ -331,6 +331,12 @@ fn perform<R: Read, W: Write, E: Write>(
             limit,
             explain,
         } => run(alloc, image, file, limit, explain, out, errors),
+        Request::Client {
+            image,
+            limit,
+            explain,
+            ..
+        } => run(alloc, image, file, limit, explain, out, errors),
         Request::Tok { .. } => tok(alloc, file, out),
         Request::Detok {
             extras,
@@ -344,12 +350,13 @@ fn perform<R: Read, W: Write, E: Write>(
 fn path_of(request: Request<'_>) -> &str {
     match request {
         Request::Run { image, .. } => image,
+        Request::Client { image, .. } => image,
         Request::Tok { source, .. } => source,
         Request::Detok { image, .. } => image,
     }
 }
 
-/// Does what was asked for with the file at its path, and gives the status.
+/// Does what was asked for with the file at its path, and gives the status. Of `client` this is the run alone.
 ///
 /// What is wrong is said on the error output, behind the path of the file; and how a run ended, where that is to be
 /// explained. Else nothing is said.

@@ -1,8 +1,10 @@
 ghost use Rattle.std.specs.Prelude.{◌≡◌, option_map};
 ghost use Rattle.of_commands.specs.Messages.{start_byte_of};
-ghost use Rattle.of_commands.specs.Runs.{no_image, no_source, place_at};
+ghost use Rattle.of_commands.specs.Clients.{no_calls};
+ghost use Rattle.of_commands.specs.Runs.{call_place_of, no_image, no_source, place_at};
 
 use of_arguments::Status;
+use of_calls::CallFault;
 use of_machine::Refusal;
 use of_source::{Place, SourceFault, place_in};
 use of_stream::StreamFault;
@@ -58,6 +60,9 @@ pub enum Fault {
     /// A source has no image for another reason.
     #[error(transparent)]
     NoImage(TokFault),
+    /// A text has no calls.
+    #[error(transparent)]
+    NoCalls(CallFault),
     /// A write failed, with the system's number of the reason.
     #[error("the output can't be written")]
     Unwritten(Option<i32>),
@@ -122,6 +127,32 @@ pub(crate) fn no_image(text: &[u8], fault: TokFault) -> Fault
     }
 }
 
+/// The fault of a text that has no calls.
+pub(crate) fn no_calls(fault: CallFault) -> Fault
+    ensures { result ≡ no_calls fault }
+{
+    match fault {
+        CallFault::Unknown(_) => Fault::NoCalls(fault),
+        CallFault::BadNumber(_) => Fault::NoCalls(fault),
+        CallFault::TooMany(_) => Fault::NoCalls(fault),
+        CallFault::NoMemory => Fault::NoMemory,
+    }
+}
+
+/// The place in a text of calls that has this fault, and what is wrong there.
+fn call_place(fault: CallFault) -> Option<(Place, &'static str)>
+    ensures { option_map (λ found. found.0) result ≡ call_place_of fault }
+{
+    match fault {
+        CallFault::Unknown(place) => Some((place, "unknown service")),
+        CallFault::BadNumber(place) => {
+            Some((place, "bad number: hexadecimal digits up to ffffffff"))
+        }
+        CallFault::TooMany(place) => Some((place, "more than the service takes")),
+        CallFault::NoMemory => None,
+    }
+}
+
 impl Fault {
     ghost use Rattle.of_commands.specs.Messages.{bad_start_of};
     ghost use Rattle.of_commands.specs.Runs.{source_place_of, status_of};
@@ -137,7 +168,7 @@ impl Fault {
         }
     }
 
-    /// The place in a source that has this fault, and what is wrong there.
+    /// The place in a text that has this fault, and what is wrong there.
     pub(crate) fn source_place(self) -> Option<(Place, &'static str)>
         ensures { option_map (λ found. found.0) result ≡ source_place_of self }
     {
@@ -147,6 +178,7 @@ impl Fault {
                 place,
                 "offset too long: 16 bits hold -32768 to 32767, 8 bits -128 to 127",
             )),
+            Fault::NoCalls(fault) => call_place(fault),
             _ => None,
         }
     }
@@ -174,6 +206,7 @@ impl Fault {
             Fault::NoSource { .. } => Status::Fault,
             Fault::OffsetTooLong(_) => Status::Fault,
             Fault::NoImage(_) => Status::Fault,
+            Fault::NoCalls(_) => Status::Fault,
             Fault::Unwritten(_) => Status::Fault,
         }
     }

@@ -1,6 +1,7 @@
 //! The commands of `ofw`, over any reader and any writers.
 #![tactic(auto)]
 
+mod clients;
 mod engine;
 mod explain;
 mod fault;
@@ -10,6 +11,7 @@ mod output;
 mod part;
 mod place;
 
+pub use clients::{ClientRun, client};
 pub use engine::{answer, image, keep};
 pub use fault::Fault;
 pub use messages::Messages;

@@ -3,7 +3,7 @@
 
 use clap::Error;
 use of_arguments::{Request, Status, parse, status_of};
-use of_commands::{Fault, Messages};
+use of_commands::{ClientRun, Fault, Messages};
 use std::fs::File;
 use std::io::Stderr;
 use std::process::ExitCode;
@@ -40,9 +40,44 @@ fn unopened(rt: &HostRuntime, path: &str, error: &io::Error) -> Status {
     report(rt, path, fault)
 }
 
+/// Opens both files of a client, runs the image and answers the calls.
+fn client(rt: &HostRuntime, run: &ClientRun) -> Status {
+    let mut calls = match File::open(rt, run.calls) {
+        Ok(file) => file,
+        Err(error) => return unopened(rt, run.calls, &error),
+    };
+    let mut image = match File::open(rt, run.image) {
+        Ok(file) => file,
+        Err(error) => return unopened(rt, run.image, &error),
+    };
+    let (mut out, mut errors) = (rt.stdout(), messages(rt));
+    of_commands::client(
+        rt.alloc(),
+        run,
+        &mut calls,
+        &mut image,
+        &mut out,
+        &mut errors,
+    )
+}
+
 /// Opens the file, and does with it what was asked for.
 fn answer(rt: &HostRuntime, request: Request) -> Status {
     let path = match request {
+        Request::Client {
+            image,
+            calls,
+            limit,
+            explain,
+        } => {
+            let run = ClientRun {
+                image,
+                calls,
+                limit,
+                explain,
+            };
+            return client(rt, &run);
+        }
         Request::Run { image, .. } => image,
         Request::Tok { source, .. } => source,
         Request::Detok { image, .. } => image,

@@ -3,7 +3,7 @@ use of_detok::Extras;
 use std::alloc::Global;
 use std::test::Fail;
 
-/// Words of a command line, and behind `:` what they ask for, if anything: the image, and for a
+/// Words of a command line, and behind `:` what they ask for, if anything: the image, for a client the calls, and for a
 /// run the limit.
 const LINES: &str = "\
 ofw run a.hex:a.hex 1000000
@@ -17,6 +17,14 @@ ofw detok --indent a.hex --partial:a.hex indents partial
 ofw detok a.hex --names --names:
 ofw run --explain a.hex --limit 5:a.hex 5 explained
 ofw run a.hex --names:
+ofw client a.hex --calls a.calls:a.hex a.calls 1000000
+ofw client --calls a.calls a.hex --limit 5 --explain:a.hex a.calls 5 explained
+ofw client a.hex:
+ofw client --calls a.calls:
+ofw client a.hex --calls a.calls --calls b.calls:
+ofw client a.hex b.hex --calls a.calls:
+ofw client a.hex --calls a.calls --limit 1000000001:
+ofw run a.hex --calls a.calls:
 ofw tok a.fs:a.fs
 ofw tok:
 ofw tok a.fs --limit 5:
@@ -41,6 +49,8 @@ ofw detok --help:Some(Done)
 ofw:Some(Usage)
 ofw walk:Some(Usage)
 ofw tok:Some(Usage)
+ofw client --help:Some(Done)
+ofw client a.hex:Some(Usage)
 ofw run a.hex --steps 5:Some(Usage)
 ofw run a.hex:None
 ";
@@ -58,6 +68,15 @@ fn shown(alloc: Global, request: Request) -> Result<String, Fail> {
             limit,
             explain,
         } => shown_run(alloc, image, limit, flag(explain, " explained")),
+        Request::Client {
+            image,
+            calls,
+            limit,
+            explain,
+        } => {
+            let run = shown_run(alloc, calls, limit, flag(explain, " explained"))?;
+            Ok(format!(in alloc; "{image} {run}")?)
+        }
         Request::Tok { source, output } => shown_tok(alloc, source, output),
         Request::Detok {
             image,

@@ -1,6 +1,7 @@
 use Rattle.std.proofs.Common.{rules, codes}
 use Rattle.clap.specs.Words.{new_app}
-use Rattle.of_arguments.specs.CommandLine.{detok_app, needing_subcommand, run_app, tok_app, versioned, IsBuilt}
+use Rattle.of_arguments.specs.CommandLine.{client_app, detok_app, needing_subcommand, run_app, tok_app, versioned}
+use Rattle.of_arguments.specs.CommandLine.{IsBuilt}
 use Rattle.of_arguments.proofs.arguments.command.Goals as goal
 
 pub returns : goal.returns
@@ -8,5 +9,6 @@ returns c =
     let base : IsBuilt (needing_subcommand (versioned (new_app (codes "ofw")))) c.subcommand_required-command.result =
     (search rules, search rules) in
     let with_run = c.in_ok-command.ensures _ run_app base c.run_command.ensures in
-    let with_tok = c.in_ok-command-2.ensures _ tok_app with_run c.tok_command.ensures in
-    c.with_subcommand-3.ensures _ detok_app with_tok c.detok_command.ensures
+    let with_client = c.in_ok-command-2.ensures _ client_app with_run c.client_command.ensures in
+    let with_tok = c.in_ok-command-3.ensures _ tok_app with_client c.tok_command.ensures in
+    c.with_subcommand-4.ensures _ detok_app with_tok c.detok_command.ensures

@@ -1,0 +1,140 @@
+-- What is printed of a run and of the replies to calls.
+use Rattle.std.proofs.Common.{◌≡◌, ◌⊎◌, ◌∙◌, ℕ, zero, suc, ◌+◌, List, [], ◌∷◌, ◌++◌, Option, Some, None, IfSome, IfOk}
+use Rattle.std.proofs.Common.{arith, OnOk, OnErr, IfErr, Ok, Err, Result, inl, inr, refl, sym, ap, subst, length, take}
+use Rattle.std.specs.Io.KnownBytes.{Appends, Keeps}
+use Rattle.std.proofs.KnownBytes.{Appends-trans}
+use Rattle.of_client.specs.Services.{Service}
+use Rattle.of_calls.specs.Calls.{parsed}
+use Rattle.of_calls.specs.declared.fault.CallFault.{CallFault}
+use Rattle.of_calls.specs.declared.fault.CallFault.TheVariants as call
+use Rattle.of_compile.specs.Coding.{Coding}
+use Rattle.of_machine.specs.States.{MachineState}
+use Rattle.of_machine.specs.declared.answers.End.{End}
+use Rattle.of_arguments.specs.declared.status.Status.{Status}
+use Rattle.of_commands.specs.declared.fault.Fault.{Fault}
+use Rattle.of_commands.specs.declared.fault.Fault.TheVariants as fault
+use Rattle.of_commands.specs.Clients.{AnswersCalls, AnswersClient, FaultsCalls, PrintsCalls, client_text, no_calls}
+use Rattle.of_commands.specs.Messages.{AppendsPart}
+use Rattle.of_commands.proofs.Faults.{all_are_part}
+use Rattle.of_commands.specs.Runs.{FaultsRun, IsUnwritten, RunsFile, end_status, status_of}
+
+-- ---- parts of two texts
+
+take_first : (n : ℕ) (a b : List ℕ) → (k : ℕ) × (take n a ≡ take k (a ++ b))
+take_first zero a b = (0, refl)
+take_first (suc n) [] b = (0, refl)
+take_first (suc n) (x ∷ a) b =
+    let rest = take_first n a b in
+    (suc rest.0, ap (λ t. x ∷ t) rest.1)
+
+take_both : (a b : List ℕ) (n : ℕ) → a ++ take n b ≡ take (length a + n) (a ++ b)
+take_both [] b n = let whole : 0 + n ≡ n = omega arith in rw whole refl
+take_both (x ∷ a) b n =
+    let whole : suc (length a) + n ≡ suc (length a + n) = omega arith in
+    rw whole (ap (λ t. x ∷ t) (take_both a b n))
+
+-- the first bytes of the first text
+pub first_part : (old new : Option (List ℕ)) (written a b : List ℕ) → written ≡ a → AppendsPart old new written
+    → AppendsPart old new (a ++ b)
+first_part old new written a b same part =
+    let first = take_first part.0 written b in
+    (first.0, subst (λ t. Appends old new (take first.0 (t ++ b))) same (subst (Appends old new) first.1 part.1))
+
+-- all of it, and all of the second where that went well
+pub both_whole : {A : Type 0} (r : Result A Fault) (old mid new : Option (List ℕ)) (written a b : List ℕ)
+    → written ≡ a → Appends old mid written → OnOk r (Appends mid new b) → OnOk r (Appends old new (a ++ b))
+both_whole (Ok x) old mid new written a b same all second =
+    Appends-trans old mid new a b (subst (Appends old mid) same all) second
+both_whole (Err f) old mid new written a b same all second = tt
+
+-- and else the first bytes of the second
+pub second_part : {A : Type 0} (r : Result A Fault) (old mid new : Option (List ℕ)) (written a b : List ℕ)
+    → written ≡ a → Appends old mid written → OnErr r (AppendsPart mid new b) → OnErr r (AppendsPart old new (a ++ b))
+second_part (Ok x) old mid new written a b same all part = tt
+second_part (Err f) old mid new written a b same all part = (
+  length a + part.0,
+  subst (Appends old new) (take_both a b part.0)
+      (Appends-trans old mid new a _ (subst (Appends old mid) same all) part.1),
+)
+
+-- ---- the file of calls
+
+pub calls_read : (known : Option (List ℕ)) (text read : List ℕ) (services : List Service) → read ≡ text
+    → IfSome known (λ bytes. text ≡ bytes) → parsed read ≡ Ok services
+    → IfSome known (λ bytes. parsed bytes ≡ Ok services)
+calls_read None text read services same all said = tt
+calls_read (Some bytes) text read services same all said = ap parsed (sym all ∙ sym same) ∙ said
+
+pub calls_refused : (known : Option (List ℕ)) (text read : List ℕ) (c : CallFault) → read ≡ text
+    → IfSome known (λ bytes. text ≡ bytes) → (c ≡ call.NoMemory) ⊎ (parsed read ≡ Err c)
+    → IfSome known (λ bytes. FaultsCalls bytes (no_calls c))
+calls_refused None text read c same all why = tt
+calls_refused (Some bytes) text read c same all (inl none) = inr (inr (inl (ap no_calls none)))
+calls_refused (Some bytes) text read c same all (inr wrong) =
+    inr (inr (inr (c, ap parsed (sym all ∙ sym same) ∙ wrong, refl)))
+
+-- ---- the run and its replies
+
+fault_of_run : (file : List ℕ) (f : Fault) → IsUnwritten f ⊎ (f ≡ fault.NoMemory) → FaultsRun file f
+fault_of_run file f (inl unwritten) = inl unwritten
+fault_of_run file f (inr none) = inr (inl (inr (inr (inl none))))
+
+-- there was no run
+pub called_unrun : (known : Option (List ℕ)) (services : List Service) (limit : ℕ) (old new : Option (List ℕ))
+    (f : Fault) → Keeps old new → IfSome known (λ file. FaultsRun file f)
+    → IfSome known (λ file. PrintsCalls services file limit old new (Err f))
+called_unrun None services limit old new f kept why = tt
+called_unrun (Some file) services limit old new f kept why = (inl kept, why)
+
+-- a part was printed
+pub called_part : (known : Option (List ℕ)) (services : List Service) (limit : ℕ) (m : MachineState Coding) (e : End)
+    (old new : Option (List ℕ)) (f : Fault) → IfSome known (λ file. RunsFile file limit m e)
+    → AppendsPart old new (client_text services m) → IsUnwritten f ⊎ (f ≡ fault.NoMemory)
+    → IfSome known (λ file. PrintsCalls services file limit old new (Err f))
+called_part None services limit m e old new f runs part why = tt
+called_part (Some file) services limit m e old new f runs part why =
+    (inr (m, (e, runs), part), fault_of_run file f why)
+
+-- all was printed
+pub called_all : (known : Option (List ℕ)) (services : List Service) (limit : ℕ) (m : MachineState Coding) (e : End)
+    (old new : Option (List ℕ)) (r : Result Status Fault) → IfSome known (λ file. RunsFile file limit m e)
+    → Appends old new (client_text services m) → IfOk r (λ s. s ≡ end_status e) → IfErr r (λ f. f ≡ fault.NoMemory)
+    → IfSome known (λ file. PrintsCalls services file limit old new r)
+called_all None services limit m e old new r runs all status why = tt
+called_all (Some file) services limit m e old new (Ok s) runs all status why = (m, (e, runs, sym status), all)
+called_all (Some file) services limit m e old new (Err f) runs all status why =
+    (inr (m, (e, runs), all_are_part old new _ all), fault_of_run file f (inr why))
+
+-- ---- answers
+
+pub called_done : (known : Option (List ℕ)) (services : List Service) (limit : ℕ) (old new : Option (List ℕ))
+    (Said : Fault → Type 0) (s : Status) → IfSome known (λ file. PrintsCalls services file limit old new (Ok s))
+    → IfSome known (λ file. AnswersCalls services file limit old new Said s)
+called_done None services limit old new Said s prints = tt
+called_done (Some file) services limit old new Said s prints = (Ok s, refl, prints, tt)
+
+pub called_failed : (known : Option (List ℕ)) (services : List Service) (limit : ℕ) (old new : Option (List ℕ))
+    (Said : Fault → Type 0) (f : Fault) (s : Status)
+    → IfSome known (λ file. PrintsCalls services file limit old new (Err f)) → s ≡ status_of f → Said f
+    → IfSome known (λ file. AnswersCalls services file limit old new Said s)
+called_failed None services limit old new Said f s prints status said = tt
+called_failed (Some file) services limit old new Said f s prints status said = (Err f, sym status, prints, said)
+
+pub text_answered : (text known : Option (List ℕ)) (services : List Service) (limit : ℕ) (old new : Option (List ℕ))
+    (Said : Fault → Type 0) (s : Status) → IfSome text (λ bytes. parsed bytes ≡ Ok services)
+    → IfSome known (λ file. AnswersCalls services file limit old new Said s)
+    → IfSome text (λ bytes. IfSome known (λ file. AnswersClient bytes file limit old new Said s))
+text_answered None known services limit old new Said s said answers = tt
+text_answered (Some bytes) None services limit old new Said s said answers = tt
+text_answered (Some bytes) (Some file) services limit old new Said s said answers = inr (services, said, answers)
+
+pub text_refused : (text known : Option (List ℕ)) (limit : ℕ) (old new : Option (List ℕ)) (Said : Fault → Type 0)
+    (f : Fault) (s : Status) → Keeps old new → IfSome text (λ bytes. FaultsCalls bytes f) → s ≡ status_of f → Said f
+    → IfSome text (λ bytes. IfSome known (λ file. AnswersClient bytes file limit old new Said s))
+text_refused None known limit old new Said f s kept why status said = tt
+text_refused (Some bytes) None limit old new Said f s kept why status said = tt
+text_refused (Some bytes) (Some file) limit old new Said f s kept why status said =
+    inl (f, sym status, kept, why, said)
+
+-- the answers of `client`
+pub ruleset answers = (text_answered, text_refused)

@@ -1,0 +1,235 @@
+use crate::doubles::{blank_screen, reader_of};
+use of_commands::{ClientRun, Messages, client};
+use std::alloc::Global;
+use std::process::Abort;
+use std::test::Fail;
+
+/// The image of an empty program, and one that prints `5 ` by its fourth step of five.
+const EMPTY: &str = "f10800000000000900";
+
+const FIVE: &str = "f108020a0000000da7a81e9d00";
+
+/// The calls of a client, the image, the read of the calls and the write that fail, the limit of steps, whether the end
+/// is explained, the number of the status, what goes out, and what is said.
+#[derive(Clone, Copy)]
+struct Case<'a> {
+    calls: &'a str,
+    image: &'a str,
+    read: u32,
+    write: u32,
+    limit: u64,
+    explain: bool,
+    status: u8,
+    printed: &'a str,
+    said: &'a str,
+}
+
+/// A case whose reads and writes don't fail, with a run of at most 99 steps.
+fn whole<'a>(
+    calls: &'a str,
+    image: &'a str,
+    status: u8,
+    printed: &'a str,
+    said: &'a str,
+) -> Case<'a> {
+    Case {
+        calls,
+        image,
+        read: 9999,
+        write: 9999,
+        limit: 99,
+        explain: false,
+        status,
+        printed,
+        said,
+    }
+}
+
+/// Whether a case does what it says.
+fn holds(rt: &impl Abort, alloc: Global, case: &Case<'_>) {
+    let mut calls = reader_of(case.calls.as_bytes(), case.read);
+    let mut image = reader_of(case.image.as_bytes(), 9999);
+    let mut out = blank_screen(alloc, case.write);
+    let mut errors = blank_screen(alloc, 9999);
+    let run = ClientRun {
+        image: "a.hex",
+        calls: "a.calls",
+        limit: case.limit,
+        explain: case.explain,
+    };
+    let status = client(
+        alloc,
+        &run,
+        &mut calls,
+        &mut image,
+        &mut out,
+        &mut Messages::new(&mut errors),
+    );
+    assert_eq!(rt; status.code(), case.status, "{}", case.calls);
+    assert_eq!(rt;
+        out.text.as_slice(),
+        case.printed.as_bytes(),
+        "{}",
+        case.calls
+    );
+    assert_eq!(rt;
+        errors.text.as_slice(),
+        case.said.as_bytes(),
+        "{}",
+        case.calls
+    );
+}
+
+/// The calls of the worked example, a line for each service or more, and the lines that answer them.
+const WORKED: &str = "\
+finddevice /slot
+child d0000000
+peer d0000008
+parent d0000008
+getprop d0000008 name 3
+getproplen d0000008 reg
+nextprop d0000008
+nextprop d0000008 name
+instance-to-package 0
+package-to-path d0000008 20";
+
+const ANSWERED: &str = "\
+d0000008
+d0000004
+00000000
+d0000000
+00000005 736c6f
+ffffffff
+00000001 6e616d65
+00000000
+ffffffff
+00000005 2f736c6f74
+";
+
+#[test]
+fn worked_example(rt: HostRuntime) {
+    holds(&rt, rt.alloc(), &whole(WORKED, EMPTY, 0, ANSWERED, ""));
+}
+
+/// Texts of calls that have no fault, and what is printed for each behind `:`, with a blank for a newline.
+const LINES: &str = "\
+:
+finddevice /slot:d0000008
+finddevice:ffffffff
+finddevice /:d0000000
+  finddevice\t/slot \r:d0000008
+child D0000000:d0000004
+child 00000000d0000000:d0000004
+getproplen d0000008:ffffffff
+getproplen d0000008 name:00000005
+getprop d0000008 3:ffffffff
+getprop d0000008 name 0:00000005
+getprop d0000008 name ffffffff:00000005 736c6f7400
+getprop d0000008 3 3:ffffffff
+package-to-path d0000008 0:00000005
+package-to-path d0000000 9:00000001 2f
+peer 0:d0000000
+parent d0000000:00000000
+child 1:ffffffff";
+
+/// Texts that have a fault: its line and column, and what is wrong, behind `|`.
+const FAULTS: &str = "\
+find /slot|1:1: unknown service
+Child d0000000|1:1: unknown service
+# a comment|1:1: unknown service
+  childs d0000000|1:3: unknown service
+child|1:6: bad number: hexadecimal digits up to ffffffff
+child zz|1:7: bad number: hexadecimal digits up to ffffffff
+child -1|1:7: bad number: hexadecimal digits up to ffffffff
+child 0x10|1:7: bad number: hexadecimal digits up to ffffffff
+child 100000000|1:7: bad number: hexadecimal digits up to ffffffff
+child d0000000 d0000004|1:16: more than the service takes
+finddevice / /|1:14: more than the service takes
+getprop d0000008|1:17: bad number: hexadecimal digits up to ffffffff
+getprop d0000008 name|1:18: bad number: hexadecimal digits up to ffffffff
+getprop d0000008 name 3 4|1:25: more than the service takes
+getprop d0000008 name x|1:23: bad number: hexadecimal digits up to ffffffff
+package-to-path d0000008|1:25: bad number: hexadecimal digits up to ffffffff
+nextprop d0000008 name x|1:24: more than the service takes";
+
+#[test]
+fn lines(rt: HostRuntime) -> Result<(), Fail> {
+    for line in LINES.lines() {
+        let (calls, wanted) = line.split_once(':').unwrap_or(("", ""));
+        let mut printed = String::from_str(rt.alloc(), wanted)?;
+        if !wanted.is_empty() {
+            printed.push('\n')?;
+        }
+        holds(&rt, rt.alloc(), &whole(calls, EMPTY, 0, &printed, ""));
+    }
+    Ok(())
+}
+
+#[test]
+fn faults(rt: HostRuntime) -> Result<(), Fail> {
+    for line in FAULTS.lines() {
+        let (calls, wanted) = line.split_once('|').unwrap_or(("", ""));
+        let said = format!(in rt.alloc(); "ofw: a.calls:{wanted}\n")?;
+        holds(&rt, rt.alloc(), &whole(calls, FIVE, 1, "", &said));
+    }
+    Ok(())
+}
+
+/// The first fault of several lines counts; blank lines are lines, and no calls.
+#[test]
+fn several_lines(rt: HostRuntime) {
+    let calls = "\nchild d0000000\n \t\npeer x\nzork\n";
+    let said = "ofw: a.calls:4:6: bad number: hexadecimal digits up to ffffffff\n";
+    holds(&rt, rt.alloc(), &whole(calls, FIVE, 1, "", said));
+    let calls = "\n\nfinddevice /slot\r\n\nfinddevice /\n";
+    holds(
+        &rt,
+        rt.alloc(),
+        &whole(calls, FIVE, 0, "5 d0000008\nd0000000\n", ""),
+    );
+}
+
+/// The calls are made however the run ended, and its end can be explained.
+#[test]
+fn ends(rt: HostRuntime) {
+    let cut = whole("child d0000000\n", FIVE, 3, "5 d0000004\n", "");
+    holds(&rt, rt.alloc(), &Case { limit: 4, ..cut });
+    let said = "ofw: a.hex: done after 5 steps\nofw: a.hex: stack:\n";
+    let done = whole("child d0000000\n", FIVE, 0, "5 d0000004\n", said);
+    holds(
+        &rt,
+        rt.alloc(),
+        &Case {
+            explain: true,
+            ..done
+        },
+    );
+}
+
+/// What is wrong is said with the path of the file that it is in, and the calls come first.
+#[test]
+fn files(rt: HostRuntime) {
+    let said = "ofw: a.hex: image shorter than its header\n";
+    holds(&rt, rt.alloc(), &whole("child 0", "f108", 1, "", said));
+    let said = "ofw: bad start byte ff\n";
+    holds(
+        &rt,
+        rt.alloc(),
+        &whole("child 0", "ffffffffffffffff", 1, "", said),
+    );
+    let said = "ofw: a.calls:1:1: unknown service\n";
+    holds(
+        &rt,
+        rt.alloc(),
+        &whole("x", "ffffffffffffffff", 1, "", said),
+    );
+}
+
+#[test]
+fn reads_and_writes_that_fail(rt: HostRuntime) {
+    let case = whole("child d0000000", FIVE, 1, "", "ofw: a.calls: other error\n");
+    holds(&rt, rt.alloc(), &Case { read: 1, ..case });
+    let said = "ofw: the output can't be written: other error\n";
+    let case = whole("child d0000000", FIVE, 1, "5 d00", said);
+    holds(&rt, rt.alloc(), &Case { write: 5, ..case });
+}
