@@ -2,10 +2,11 @@
 use Rattle.std.proofs.Common.{◌≡◌, ◌∙◌, ℕ, suc, ◌+◌, ◌⊎◌, ◌<◌, ◌≤◌, IfSome, option_map, Bor, inl, inr, arith, cond}
 use Rattle.std.proofs.Common.{length, take, drop, List, [], ◌∷◌, ◌++◌, Bool, true, false, nat_eq, Ok, Err, Some, None}
 use Rattle.std.proofs.Common.{Option, Result, refl, sym, ap, subst, append_assoc, append-nil}
+use Rattle.std.specs.List.{onto_first}
 use Rattle.of_client.specs.Services.{Service}
 use Rattle.of_calls.specs.declared.fault.CallFault.{CallFault}
 use Rattle.of_calls.specs.declared.fault.CallFault.TheVariants as fault
-use Rattle.of_calls.specs.Lines.{before_first, behind_byte, first_line, left_behind, line_length, lines}
+use Rattle.of_calls.specs.Lines.{behind_byte, first_line, left_behind, line_length, lines}
 use Rattle.of_calls.specs.Lines.{lines_left, size_left}
 use Rattle.of_calls.specs.Calls.{and_call, and_more, and_those, call_in, calls_of}
 
@@ -25,7 +26,7 @@ lines_first (b ∷ text) = go (nat_eq b 10) refl (lines_first text)
         → lines (b ∷ text) ≡ first_line (b ∷ text) ∷ lines_left (left_behind (b ∷ text))
     go true e rest = rw e refl
     go false e rest =
-        ap (λ (t : Bool). cond t ([] ∷ lines text) (before_first b (lines text))) e ∙ ap (before_first b) rest
+        ap (λ (t : Bool). cond t ([] ∷ lines text) (onto_first b (lines text))) e ∙ ap (onto_first b) rest
         ∙ sym (ap (λ n. take n (b ∷ text) ∷ lines_left (behind_byte (drop n (b ∷ text)))) (longer b text e))
 
 calls_first : (number : ℕ) (text : List ℕ) → calls_of number (lines text)

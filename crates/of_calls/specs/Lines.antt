@@ -1,7 +1,8 @@
 -- The lines of a text, and the words of a line, by their order.
 use Rattle.std.specs.Prelude.{ℕ, zero, suc, ◌+◌, ◌-◌, ◌^◌, List, [], ◌∷◌, length, take, drop, take_while, Option}
 use Rattle.std.specs.Prelude.{Some, None}
-use Rattle.std.specs.Prelude.{not, nat_eq, if◌then◌else◌}
+use Rattle.std.specs.Prelude.{not, nat_eq}
+use Rattle.std.specs.List.{slice_split}
 use Rattle.of_cells.specs.declared.cells.Cell.{Cell}
 use Rattle.of_format.specs.Reading.{cell_read, digits_read}
 use Rattle.of_source.specs.Scan.{is_blank, word_length}
@@ -9,15 +10,9 @@ use Rattle.of_source.specs.declared.place.Place.{Place}
 
 -- ---- lines
 
--- a byte before the first of some lines
-abbrev pub before_first : ℕ → List (List ℕ) → List (List ℕ)
-before_first b [] = (b ∷ []) ∷ []
-before_first b (line ∷ more) = (b ∷ line) ∷ more
-
 -- the lines of a text: a byte 0x0A stands between two
 abbrev pub lines : List ℕ → List (List ℕ)
-lines [] = [] ∷ []
-lines (b ∷ text) = if nat_eq b 10 then [] ∷ lines text else before_first b (lines text)
+lines text = slice_split (λ b. nat_eq b 10) text
 
 -- how many bytes the first line of a text has
 abbrev pub line_length : List ℕ → ℕ

@@ -10,9 +10,9 @@ address_of (Ok a) = Ok a.0
 address_of (Err e) = Err e
 
 -- both addresses
-abbrev pub addresses_of : Result (Cell × Cell) MemFault → Result (ℕ × ℕ) MemFault
-addresses_of (Ok a) = Ok (a.0.0, a.1.0)
-addresses_of (Err e) = Err e
+abbrev pub places_of : Result (Cell × Cell) MemFault → Result (ℕ × ℕ) MemFault
+places_of (Ok a) = Ok (a.0.0, a.1.0)
+places_of (Err e) = Err e
 
 -- an answer of two numbers beside what is left
 abbrev pub paired : {S : Type 0} → Result (ℕ × ℕ × S) MemFault → Result ((ℕ × ℕ) × S) MemFault

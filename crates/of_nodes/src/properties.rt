@@ -70,15 +70,15 @@ fn store_named(memory: &mut Memory, name: &[u8], value: &[u8]) -> Result<Propert
 
 /// Puts another value of a property into the property region.
 #[tactic(auto, using(crate::proofs::PropertySpans::stores))]
-fn store_value(memory: &mut Memory, old: Property, value: &[u8]) -> Result<Property, NodeFault>
-    ensures { Answers (with_value old (length value.now) (property_put memory.old value.now)) memory.old memory.new result }
+fn store_value(memory: &mut Memory, old: Property, new: &[u8]) -> Result<Property, NodeFault>
+    ensures { Answers (with_value old (length new.now) (property_put memory.old new.now)) memory.old memory.new result }
 {
-    match memory.put_property(value) {
+    match memory.put_property(new) {
         Ok(address) => Ok(Property {
             name: old.name,
             value: Span {
                 address,
-                length: Cell(value.len() as u32),
+                length: Cell(new.len() as u32),
             },
         }),
         Err(_) => Err(NodeFault::PropertyFull),

@@ -1,4 +1,5 @@
 use crate::doubles::{blank_screen, reader_of};
+use of_client::{names_are_met, values_are_got};
 use of_commands::{ClientRun, Messages, client};
 use std::alloc::Global;
 use std::process::Abort;
@@ -232,4 +233,10 @@ fn reads_and_writes_that_fail(rt: HostRuntime) {
     let said = "ofw: the output can't be written: other error\n";
     let case = whole("child d0000000", FIVE, 1, "5 d00", said);
     holds(&rt, rt.alloc(), &Case { write: 5, ..case });
+}
+
+#[test]
+fn laws_of_the_services() {
+    names_are_met();
+    values_are_got();
 }

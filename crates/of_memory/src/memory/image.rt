@@ -64,25 +64,25 @@ impl Memory {
         Ok(Cell(at))
     }
 
-    /// Copies an image of `len` bytes of memory, the first at the address and each `spread` after
+    /// Copies an image of `len` bytes of memory, the first at the address and each `step` after
     /// the one before, into the image region as `image_push` does: the bytes that stood there
     /// before, also where they overlap with the image.
     ///
     /// Address, if the range from the first to the last of them can't be read; else Full, if the
     /// image doesn't fit, or 256 images run.
     #[tactic(auto, using(crate::proofs::Spread::every_length))]
-    pub fn image_push_from(&mut self, from: Cell, len: Cell, spread: Cell) -> Result<Cell, MemFault>
-        requires { 1 ≤ spread.0 }
-        ensures value { Answers (image_pushed_from self.old from.0 len.0 spread.0) self.old self.new (address_of result) }
+    pub fn image_push_from(&mut self, from: Cell, len: Cell, step: Cell) -> Result<Cell, MemFault>
+        requires { 1 ≤ step.0 }
+        ensures value { Answers (image_pushed_from self.old from.0 len.0 step.0) self.old self.new (address_of result) }
         ensures memory { TakesNoMemory result }
     {
-        let source = self.spread_source(from.0, len.0, spread.0)?;
+        let source = self.spread_source(from.0, len.0, step.0)?;
         let at = self.images.free();
         if len.0 > IMAGE_LIMIT - at || self.images.count() >= LIMIT {
             return Err(MemFault::Full);
         }
         self.images.push(at + len.0);
-        self.gather(source, place(at), len.0 as usize, spread.0 as usize);
+        self.gather(source, place(at), len.0 as usize, step.0 as usize);
         Ok(Cell(at))
     }
 

@@ -1,6 +1,6 @@
 ghost use Rattle.std.specs.Prelude.{◌≡◌, ◌≤◌};
 ghost use Rattle.of_cells.specs.Outcomes.{Answers};
-ghost use Rattle.of_memory.specs.Outcomes.{TakesNoMemory, address_of, addresses_of, paired};
+ghost use Rattle.of_memory.specs.Outcomes.{TakesNoMemory, address_of, places_of, paired};
 ghost use Rattle.of_memory.specs.Growth.{property_put, property_room, named_put, with_state};
 
 use super::Memory;
@@ -38,7 +38,7 @@ impl Memory {
     ///
     /// Full, if they don't both fit; then neither is put.
     pub fn put_named(&mut self, name: &[u8], value: &[u8]) -> Result<(Cell, Cell), MemFault>
-        ensures value { Answers (paired (named_put self.old name.now value.now)) self.old self.new (addresses_of result) }
+        ensures value { Answers (paired (named_put self.old name.now value.now)) self.old self.new (places_of result) }
         ensures memory { TakesNoMemory result }
     {
         let at = aligned(self.properties_end);

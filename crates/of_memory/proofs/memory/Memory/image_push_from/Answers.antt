@@ -12,7 +12,7 @@ pub returns-then-len-at-clause-value : goal.returns-then-len-at-clause-value
 returns-then-len-at-clause-value c =
     let m = c.args.self.now in
     let n = c.args.len.0 in
-    let s = c.args.spread.0 in
+    let s = c.args.step.0 in
     let xs = every m.bytes c.in_ok-source.source n s in
     let len : length xs ≡ n = every_length m.bytes c.in_ok-source.source n s in
     let r = read_spread m c.args.from.0 n s in
@@ -32,7 +32,7 @@ pub returns-clause-value : goal.returns-clause-value
 returns-clause-value c =
     let m = c.args.self.now in
     let n = c.args.len.0 in
-    let s = c.args.spread.0 in
+    let s = c.args.step.0 in
     let xs = every m.bytes c.in_ok-source.source n s in
     let len : length xs ≡ n = every_length m.bytes c.in_ok-source.source n s in
     let r = read_spread m c.args.from.0 n s in
