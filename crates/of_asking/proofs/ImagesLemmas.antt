@@ -1,7 +1,9 @@
--- The law `images_stay_asked`: these words write into the data space as its calls do, which keep the images.
+-- The law `images_stay_asked`: these words write into the data space as its calls do, which keep the images and the
+-- properties.
 use Rattle.std.proofs.Common.{◌≡◌, ℕ, Bool, true, false, List, [], ◌∷◌, length, nat_le}
 use Rattle.std.proofs.Common.{Option, Some, None, Result, Ok, Err, refl, subst, if◌then◌else◌}
 use Rattle.of_cells.specs.declared.cells.Cell.{Cell}
+use Rattle.of_cells.specs.Numbers.{flag}
 use Rattle.of_cells.specs.Splitting.{low_byte, low_half}
 use Rattle.of_stacks.specs.declared.throws.Throw.{Throw}
 use Rattle.of_stacks.specs.Throws.{misaligned, stack_overflow}
@@ -11,7 +13,8 @@ use Rattle.of_fcodes.specs.declared.words.KeysWord.{KeysWord}
 use Rattle.of_fcodes.specs.declared.words.KeysWord.TheVariants.{KeyReady, Key}
 use Rattle.of_memory.specs.Access.{read, write}
 use Rattle.of_memory.specs.DataSpace.{DataSpace, IsSound}
-use Rattle.of_memory.specs.ImageRegion.{ImagesChangeByImagesAlone}
+use Rattle.of_memory.specs.ImageRegion.{ImagesChangeByImagesAlone, KeepsImages}
+use Rattle.of_memory.specs.PropertyRegion.{KeepsProperties, PropertiesChangeByPutsAlone}
 use Rattle.of_memory.specs.SoundChanges.{ChangesStaySound}
 use Rattle.of_memory.specs.declared.fault.MemFault.{MemFault}
 use Rattle.of_memory.specs.declared.width.Width.{Width}
@@ -34,51 +37,75 @@ use Rattle.of_asking.specs.Questions.{Asking, Asks, Gives, answered, asked}
 pub record Given : Type 0 where
   pub sound : ChangesStaySound
   pub images : ImagesChangeByImagesAlone
+  pub properties : PropertiesChangeByPutsAlone
 
--- what is left keeps the images
-abbrev LeavesKept : DataSpace → Result Board Throw → Type 0
-LeavesKept m (Ok b) = Keeps m b.memory
-LeavesKept m (Err t) = Unit {0}
+-- a data space that is left keeps the images and the properties, and is sound
+record KeepsSpace (m after : DataSpace) : Type 0 where
+  images : KeepsImages m after
+  properties : KeepsProperties m after
+  sound : IsSound after
 
-abbrev AskingKeeps : DataSpace → Asking Board → Type 0
-AskingKeeps m (Gives r) = LeavesKept m r
-AskingKeeps m (Asks q) = Unit {0}
+-- what is left keeps them, and the tree
+abbrev LeavesKept : Board → Result Board Throw → Type 0
+LeavesKept b (Ok after) = Keeps b after
+LeavesKept b (Err t) = Unit {0}
+
+abbrev AskingKeeps : Board → Asking Board → Type 0
+AskingKeeps b (Gives r) = LeavesKept b r
+AskingKeeps b (Asks q) = Unit {0}
 
 abbrev SpaceKept : DataSpace → Result Space Throw → Type 0
-SpaceKept m (Ok x) = Keeps m x.1
+SpaceKept m (Ok x) = KeepsSpace m x.1
 SpaceKept m (Err t) = Unit {0}
 
-same : (m : DataSpace) → IsSound m → Keeps m m
-same m sound = ((refl, refl), sound)
+same : (m : DataSpace) → IsSound m → KeepsSpace m m
+same m sound = record {
+  images = (refl, refl);
+  properties = record { reads = λ a n from to. refl; ends = refl };
+  sound = sound;
+}
+
+by_write : (g : Given) (w : Width) (m after : DataSpace) (a x : ℕ) → IsSound m → write w m a x ≡ Ok after
+    → KeepsSpace m after
+by_write g w m after a x sound e = record {
+  images = g.images.by_write w m after a x sound e;
+  properties = g.properties.by_write w m after a x sound e;
+  sound = g.sound.by_write w m after a x sound e;
+}
+
+-- a board with another data stack and such a data space
+with_space : (b : Board) (s : List Cell) (m : DataSpace) → KeepsSpace b.memory m
+    → Keeps b (record b { stack = s; memory = m })
+with_space b s m k = record { images = k.images; properties = k.properties; tree = refl; sound = k.sound }
 
 -- ---- answers and tests
 
-left : (b : Board) (r : Result (List Cell) Throw) → IsSound b.memory → LeavesKept b.memory (stack_left b r)
-left b (Ok s) sound = same b.memory sound
+left : (b : Board) (r : Result (List Cell) Throw) → IsSound b.memory → LeavesKept b (stack_left b r)
+left b (Ok s) sound = with_space b s b.memory (same b.memory sound)
 left b (Err t) sound = tt
 
 questions : (q : Query) (reply : Option Answer) (b : Board) → IsSound b.memory
-    → AskingKeeps b.memory (asked q reply b)
+    → AskingKeeps b (asked q reply b)
 questions q None b sound = tt
 questions q (Some answer) b sound = left b (answered q answer b.stack) sound
 
-either : (c : Bool) (m : DataSpace) (x y : Asking Board) → AskingKeeps m x → AskingKeeps m y
-    → AskingKeeps m (if c then x else y)
-either true m x y h k = h
-either false m x y h k = k
+either : (c : Bool) (b : Board) (x y : Asking Board) → AskingKeeps b x → AskingKeeps b y
+    → AskingKeeps b (if c then x else y)
+either true b x y h k = h
+either false b x y h k = k
 
 device : (w : Width) (a : ℕ) (q : Query) (reply : Option Answer) (b : Board) (y : Asking Board) → IsSound b.memory
-    → AskingKeeps b.memory y
-    → AskingKeeps b.memory (if is_device a w then at_device a w (asked q reply b) else y)
+    → AskingKeeps b y
+    → AskingKeeps b (if is_device a w then at_device a w (asked q reply b) else y)
 device w a q reply b y sound k =
-    either (is_device a w) b.memory (at_device a w (asked q reply b)) y
-    (either (is_aligned a w) b.memory (asked q reply b) (Gives (Err misaligned)) (questions q reply b sound) tt)
+    either (is_device a w) b (at_device a w (asked q reply b)) y
+    (either (is_aligned a w) b (asked q reply b) (Gives (Err misaligned)) (questions q reply b sound) tt)
     k
 
 -- ---- the data space
 
-space : (b : Board) (r : Result Space Throw) → SpaceKept b.memory r → LeavesKept b.memory (space_left b r)
-space b (Ok x) h = h
+space : (b : Board) (r : Result Space Throw) → SpaceKept b.memory r → LeavesKept b (space_left b r)
+space b (Ok x) h = with_space b x.0 x.1 h
 space b (Err t) h = tt
 
 fetches : (s : List Cell) (m : DataSpace) (r : Result ℕ MemFault) → IsSound m → SpaceKept m (fetched s m r)
@@ -94,8 +121,7 @@ fetched_kept Four a s m sound = fetches s m (read Four m a.0) sound
 
 stores : (g : Given) (w : Width) (m : DataSpace) (a x : ℕ) (s : List Cell) (r : Result DataSpace MemFault) → IsSound m
     → write w m a x ≡ r → SpaceKept m (stored s r)
-stores g w m a x s (Ok after) sound e =
-    (g.images.by_write w m after a x sound e, g.sound.by_write w m after a x sound e)
+stores g w m a x s (Ok after) sound e = by_write g w m after a x sound e
 stores g w m a x s (Err fault) sound e = tt
 
 stored_kept : (g : Given) (w : Width) (a x : Cell) (s : List Cell) (m : DataSpace) → IsSound m
@@ -108,22 +134,22 @@ stored_kept g Two a x s m sound =
 stored_kept g Four a x s m sound = stores g Four m a.0 x.0 s (write Four m a.0 x.0) sound refl
 
 pokes_there : (g : Given) (w : Width) (a x : ℕ) (s : List Cell) (b : Board) (r : Result DataSpace MemFault)
-    → IsSound b.memory → write w b.memory a x ≡ r → LeavesKept b.memory (poked s b r)
+    → IsSound b.memory → write w b.memory a x ≡ r → LeavesKept b (poked s b r)
 pokes_there g w a x s b (Ok after) sound e =
-    (g.images.by_write w b.memory after a x sound e, g.sound.by_write w b.memory after a x sound e)
+    with_space b (flag true ∷ s) after (by_write g w b.memory after a x sound e)
 pokes_there g w a x s b (Err fault) sound e = left b (failed s fault) sound
 
 -- ---- words; the stack that each finds is the board's
 
 reads : (w : Width) (s : List Cell) (reply : Option Answer) (b : Board) → b.stack ≡ s → IsSound b.memory
-    → AskingKeeps b.memory (read_entry w s reply b)
+    → AskingKeeps b (read_entry w s reply b)
 reads w [] reply b e sound = tt
 reads w (a ∷ s) reply b e sound =
     device w a.0 (query.Read w a) reply b (in_memory (fetch_of w) b) sound
     (space b (memory_entry (fetch_of w) b.stack b.memory) (rw e (fetched_kept w a s b.memory sound)))
 
 writes : (g : Given) (w : Width) (s : List Cell) (reply : Option Answer) (b : Board) → b.stack ≡ s → IsSound b.memory
-    → AskingKeeps b.memory (write_entry w s reply b)
+    → AskingKeeps b (write_entry w s reply b)
 writes g w [] reply b e sound = tt
 writes g w (a ∷ []) reply b e sound = tt
 writes g w (a ∷ x ∷ s) reply b e sound =
@@ -131,14 +157,14 @@ writes g w (a ∷ x ∷ s) reply b e sound =
     (space b (memory_entry (store_of w) b.stack b.memory) (rw e (stored_kept g w a x s b.memory sound)))
 
 peeks : (w : Width) (s : List Cell) (reply : Option Answer) (b : Board) → IsSound b.memory
-    → AskingKeeps b.memory (peek_entry w s reply b)
+    → AskingKeeps b (peek_entry w s reply b)
 peeks w [] reply b sound = tt
 peeks w (a ∷ s) reply b sound =
     let r = peeked s (read w b.memory a.0) in
     device w a.0 (query.Peek w a) reply b (Gives (stack_left b r)) sound (left b r sound)
 
 pokes : (g : Given) (w : Width) (s : List Cell) (reply : Option Answer) (b : Board) → IsSound b.memory
-    → AskingKeeps b.memory (poke_entry w s reply b)
+    → AskingKeeps b (poke_entry w s reply b)
 pokes g w [] reply b sound = tt
 pokes g w (a ∷ []) reply b sound = tt
 pokes g w (a ∷ x ∷ s) reply b sound =
@@ -146,18 +172,18 @@ pokes g w (a ∷ x ∷ s) reply b sound =
     device w a.0 (query.Poke w a (cut w x)) reply b (Gives (poked s b r)) sound
     (pokes_there g w a.0 (cut w x).0 s b r sound refl)
 
-one : (q : Query) (reply : Option Answer) (b : Board) → IsSound b.memory → AskingKeeps b.memory (one_more q reply b)
+one : (q : Query) (reply : Option Answer) (b : Board) → IsSound b.memory → AskingKeeps b (one_more q reply b)
 one q reply b sound =
-    either (nat_le 256 (length b.stack)) b.memory (Gives (Err stack_overflow)) (asked q reply b) tt
+    either (nat_le 256 (length b.stack)) b (Gives (Err stack_overflow)) (asked q reply b) tt
     (questions q reply b sound)
 
 waits : (s : List Cell) (reply : Option Answer) (b : Board) → IsSound b.memory
-    → AskingKeeps b.memory (wait_entry s reply b)
+    → AskingKeeps b (wait_entry s reply b)
 waits [] reply b sound = tt
 waits (n ∷ s) reply b sound = questions (query.Wait n) reply b sound
 
 devices : (g : Given) (w : DevicesWord) (reply : Option Answer) (b : Board) → IsSound b.memory
-    → AskingKeeps b.memory (devices_entry w reply b)
+    → AskingKeeps b (devices_entry w reply b)
 unfolding devices_entry
 devices g word.PeekByte reply b sound = peeks One b.stack reply b sound
 devices g word.PeekWord reply b sound = peeks Two b.stack reply b sound
@@ -175,17 +201,16 @@ devices g word.Milliseconds reply b sound = one query.Milliseconds reply b sound
 devices g word.Wait reply b sound = waits b.stack reply b sound
 
 keys : (w : KeysWord) (reply : Option Answer) (b : Board) → IsSound b.memory
-    → AskingKeeps b.memory (keys_entry w reply b)
+    → AskingKeeps b (keys_entry w reply b)
 unfolding keys_entry
 keys KeyReady reply b sound = one query.KeyReady reply b sound
 keys Key reply b sound = one query.Key reply b sound
 
-given : (m : DataSpace) (x : Asking Board) (after : Board) → AskingKeeps m x → x ≡ Gives (Ok after)
-    → Keeps m after.memory
-given m x after h e = subst (AskingKeeps m) e h
+given : (b : Board) (x : Asking Board) (after : Board) → AskingKeeps b x → x ≡ Gives (Ok after) → Keeps b after
+given b x after h e = subst (AskingKeeps b) e h
 
 pub images_stay_asked : Given → ImagesStayAsked
 images_stay_asked g = record {
-  devices = λ w reply b after sound e. given b.memory (devices_entry w reply b) after (devices g w reply b sound) e;
-  keys = λ w reply b after sound e. given b.memory (keys_entry w reply b) after (keys w reply b sound) e;
+  devices = λ w reply b after sound e. given b (devices_entry w reply b) after (devices g w reply b sound) e;
+  keys = λ w reply b after sound e. given b (keys_entry w reply b) after (keys w reply b sound) e;
 }

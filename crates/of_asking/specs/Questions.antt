@@ -5,6 +5,8 @@ use Rattle.of_cells.specs.declared.cells.Cell.{Cell}
 use Rattle.of_cells.specs.Numbers.{flag}
 use Rattle.of_stacks.specs.declared.throws.Throw.{Throw}
 use Rattle.of_stacks.specs.Throws.{bus_fault}
+use Rattle.of_stacks.specs.declared.stop.Stop.{Stop}
+use Rattle.of_stacks.specs.declared.stop.Stop.TheVariants as stop
 use Rattle.of_stacks.specs.Stacks.{within}
 use Rattle.of_memory.specs.declared.width.Width.{Width}
 use Rattle.of_memory.specs.declared.width.Width.TheVariants.{One, Two, Four}
@@ -116,8 +118,14 @@ asked q (Some answer) b = Gives (stack_left b (answered q answer b.stack))
 
 -- ---- calls
 
+-- why a word that doesn't ask did not run to its end
+abbrev pub halted : Stop → Halt
+halted (stop.Thrown t) = halt.Thrown t
+halted stop.NoMemory = halt.NoMemory
+
 -- A call of such a word gave what the entry gives, threw so, or asks; where it threw or asks, nothing has changed.
 abbrev pub Tells : {A : Type 0} → Asking A → A → A → Result (Unit {0}) Halt → Type 0
 Tells entry old new (Ok _) = entry ≡ Gives (Ok new)
 Tells entry old new (Err (halt.Thrown t)) = (entry ≡ Gives (Err t)) × (new ≡ old)
+Tells entry old new (Err halt.NoMemory) = ⊥
 Tells entry old new (Err (halt.Asks q)) = (entry ≡ Asks q) × (new ≡ old)

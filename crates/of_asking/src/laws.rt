@@ -4,7 +4,9 @@ ghost use Rattle.of_asking.specs.Listed.{ThrowListedNumbers};
 ghost use Rattle.of_asking.specs.Said.{QuestionsAreSaid};
 ghost use Rattle.of_asking.specs.Settling.{AnswersSettle};
 
-use of_memory::{changes_stay_sound, images_change_by_images_alone};
+use of_memory::{
+    changes_stay_sound, images_change_by_images_alone, properties_change_by_puts_alone,
+};
 use of_prims::prims_throw_listed;
 
 /// With an answer at hand no word asks: where it would, the answer decides about the data stack and about nothing
@@ -29,11 +31,12 @@ pub fn asking_words_throw_listed()
     prims_throw_listed();
 }
 
-/// A word that doesn't throw or ask leaves the images that run and their bytes as they were, and a sound data space
-/// sound.
+/// A word that doesn't throw or ask leaves the images that run and the properties with their bytes as they were, and
+/// the device tree; and a sound data space sound.
 pub fn images_stay_asked()
     ensures { ImagesStayAsked }
 {
     changes_stay_sound();
     images_change_by_images_alone();
+    properties_change_by_puts_alone();
 }
