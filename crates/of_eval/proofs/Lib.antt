@@ -10,6 +10,7 @@
 -- MethodLemmas: words that become methods of a package.
 -- Runs: runs, step by step.
 -- Strings: strings that are compiled.
+-- Asked: with an answer at hand nothing asks.
 pub mod Registers
 pub mod Executed
 pub mod Keeping
@@ -24,3 +25,4 @@ pub mod StillRunning
 pub mod MethodLemmas
 pub mod Runs
 pub mod Strings
+pub mod Asked

@@ -51,7 +51,7 @@ known_if (Err t) home n s = s
 -- what making a word of a package came to, which can be found by its name if nothing was thrown
 abbrev pub then_known : {S : Type 0} → Option Phandle → Option ℕ → Outcome S → Outcome S
 then_known home None o = o
-then_known home (Some n) o = record { state = known_if o.ended home n o.state; ended = o.ended }
+then_known home (Some n) o = record { state = known_if o.ended home n o.state; ended = o.ended; asks = o.asks }
 
 -- the word that a name meant in the package before
 abbrev pub WasFormer : Option Phandle → List ℕ → Former → List Node → Type 0

@@ -1,3 +1,4 @@
+use of_asking::Answer;
 use of_board::Board;
 use of_code::CodeStore;
 use of_compile::{Coding, Words};
@@ -11,6 +12,7 @@ pub struct Eval<C: CodeStore> {
     pub(crate) flow: Flow,
     pub(crate) words: Words,
     pub(crate) coding: Coding<C>,
+    pub(crate) reply: Option<Answer>,
 }
 
 // Clauses see a state whose code is cells.
@@ -21,7 +23,13 @@ impl<C: CodeStore> Model for Eval<C> {
 
     ghost Value = { State Coding };
 
-    ghost view = { λ e. record { board = e.board; flow = e.flow; words = e.words; code = e.coding.coding } };
+    ghost view = { λ e. record {
+      board = e.board;
+      flow = e.flow;
+      words = e.words;
+      code = e.coding.coding;
+      reply = e.reply;
+    } };
 
     // what runs has room for the text of a throw
     ghost invariant = { λ e. e.flow.is_running ≡ true → e.board.console.ready ≡ true };

@@ -21,4 +21,4 @@ mod views;
 pub use eval::Eval;
 pub use laws::{plans_unroll, throws_run_on};
 pub use load_fault::LoadFault;
-pub use steps::Pause;
+pub use steps::{Bar, Pause};

@@ -63,6 +63,7 @@ impl<C: CodeStore + Drop> Eval<C> {
             },
             words,
             coding: Coding::new(code),
+            reply: None,
         })
     }
 }

@@ -6,7 +6,7 @@ ghost use Rattle.of_control.specs.Element.{Plain};
 ghost use Rattle.of_compile.specs.Elements.{CanBeStored, element_of, own_item};
 ghost use Rattle.of_compile.specs.declared.element.PlainItem.TheVariants as plain;
 ghost use Rattle.of_eval.specs.Acts.{Copies, Does, front_of, leaving};
-ghost use Rattle.of_eval.specs.Doing.{IsDone, acted, worked};
+ghost use Rattle.of_eval.specs.Doing.{IsDone, IsTaken, acted, worked};
 ghost use Rattle.of_eval.specs.Executing.{execution};
 ghost use Rattle.of_flow.specs.Returns.{pushed};
 ghost use Rattle.of_flow.specs.Reading.{IsShort};
@@ -15,6 +15,7 @@ ghost use Rattle.of_eval.specs.Tokens.{appending, calling, compiling_act, contro
 ghost use Rattle.of_eval.specs.Tokens.{plain_act, storing, string_address, token_act};
 
 use crate::eval::Eval;
+use of_asking::Halt;
 use of_cells::Cell;
 use of_code::{CAPACITY, CodeStore};
 use of_compile::{CompiledOperand, Element, PlainItem, TokenMaker, called, token_element};
@@ -128,25 +129,24 @@ impl<C: CodeStore> Eval<C> {
     /// An FCode that names a word: the word is executed.
     #[inline(always)]
     #[tactic(auto, unfolding(crate::specs::Doing::acted, crate::specs::Doing::worked))]
-    fn run_named(&mut self, code: FCode) -> Result<(), Stop>
-        ensures { IsDone (Does (named (entry_in self.old.words.table code.0)
+    fn run_named(&mut self, code: FCode) -> Result<(), Halt>
+        ensures { IsTaken (Does (named (entry_in self.old.words.table code.0)
             (λ xt. execution xt (front_of self.old)))) self.old self.new result }
     {
         let Some(entry) = self.words.table().get(code) else {
-            return Err(Stop::Thrown(Throw::NOT_ASSIGNED));
+            return Err(Halt::Thrown(Throw::NOT_ASSIGNED));
         };
-        let _ = self.perform(Cell(entry.xt), 0)?;
-        Ok(())
+        self.execute(Cell(entry.xt))
     }
 
     /// Does what a token does that isn't compiled.
     #[tactic(auto, unfolding(crate::specs::Tokens::token_act, crate::specs::Doing::acted, crate::specs::Doing::worked))]
-    fn run_token(&mut self, token: Token, here: Spot) -> Result<(), Stop>
+    fn run_token(&mut self, token: Token, here: Spot) -> Result<(), Halt>
         requires position { here.position < 2 ^ 63 }
         requires behind { here.behind ≤ here.size }
         requires fits { here.begin.0 + here.size < 2 ^ 32 }
         requires short { IsShort token }
-        ensures { IsDone (token_act token here (front_of self.old)) self.old self.new result }
+        ensures { IsTaken (token_act token here (front_of self.old)) self.old self.new result }
     {
         match token {
             Token::Literal(x) => Ok(self.board.stack.try_push(x)?),
@@ -167,11 +167,11 @@ impl<C: CodeStore> Eval<C> {
                         .announce(TokenMaker::New, code, &self.board.memory)?,
                 )
             }
-            Token::Define(word) => self.define(word),
-            Token::Semicolon => self.semicolon(),
+            Token::Define(word) => Ok(self.define(word)?),
+            Token::Semicolon => Ok(self.semicolon()?),
             Token::End => Ok(self.end_image()?),
             Token::Word(code) => self.run_named(code),
-            Token::Stray => Err(Stop::Thrown(Throw::NOT_ASSIGNED)),
+            Token::Stray => Err(Halt::Thrown(Throw::NOT_ASSIGNED)),
         }
     }
 
@@ -203,22 +203,21 @@ impl<C: CodeStore> Eval<C> {
 
     /// An FCode that names a word: an immediate word is executed, a call of another is appended.
     #[tactic(auto, unfolding(crate::specs::Doing::acted, crate::specs::Doing::worked))]
-    fn call_named(&mut self, code: FCode) -> Result<(), Stop>
-        ensures { IsDone (Does (calling (entry_in self.old.words.table code.0) (front_of self.old)))
+    fn call_named(&mut self, code: FCode) -> Result<(), Halt>
+        ensures { IsTaken (Does (calling (entry_in self.old.words.table code.0) (front_of self.old)))
             self.old self.new result }
     {
         let Some(entry) = self.words.table().get(code) else {
-            return Err(Stop::Thrown(Throw::NOT_ASSIGNED));
+            return Err(Halt::Thrown(Throw::NOT_ASSIGNED));
         };
         let xt = Cell(entry.xt);
         if entry.immediate {
-            let _ = self.perform(xt, 0)?;
-            return Ok(());
+            return self.execute(xt);
         }
         if !self.words.is_word(xt) {
-            return Err(Stop::Thrown(Throw::BAD_HANDLE));
+            return Err(Halt::Thrown(Throw::BAD_HANDLE));
         }
-        self.compile(Element::Plain(called(xt)))
+        Ok(self.compile(Element::Plain(called(xt)))?)
     }
 
     /// Copies a string that stands at an address to `here`, and appends its element.
@@ -243,26 +242,28 @@ impl<C: CodeStore> Eval<C> {
 
     /// Leaves in the open definition what a token leaves there; one that isn't appended acts.
     #[tactic(auto, unfolding(crate::specs::Tokens::compiling_act, crate::specs::Doing::acted))]
-    fn compile_token(&mut self, token: Token, here: Spot) -> Result<(), Stop>
+    fn compile_token(&mut self, token: Token, here: Spot) -> Result<(), Halt>
         requires position { here.position < 2 ^ 63 }
         requires behind { here.behind ≤ here.size }
         requires fits { here.begin.0 + here.size < 2 ^ 32 }
         requires short { IsShort token }
-        ensures { IsDone (compiling_act token here (front_of self.old)) self.old self.new result }
+        ensures { IsTaken (compiling_act token here (front_of self.old)) self.old self.new result }
     {
         match token {
-            Token::Literal(x) => self.compile(Element::Plain(PlainItem::Literal(x))),
-            Token::Tick(code) => self.compile_tick(code),
-            Token::To(code) => self.compile_store(code),
+            Token::Literal(x) => Ok(self.compile(Element::Plain(PlainItem::Literal(x)))?),
+            Token::Tick(code) => Ok(self.compile_tick(code)?),
+            Token::To(code) => Ok(self.compile_store(code)?),
             Token::String(length) => {
-                self.compile_string(here.string_address(length), Cell(length as u32))
+                Ok(self.compile_string(here.string_address(length), Cell(length as u32))?)
             }
-            Token::Control(word, by) => self.compile(control_element(word, here.position, by)),
-            Token::Leave => self.compile(Element::Leave),
-            Token::Case => self.compile(Element::Case),
-            Token::EndCase => self.compile(Element::EndCase),
-            Token::Mark => self.compile(Element::Mark(Some(here.position))),
-            Token::Resolve => self.compile(Element::Resolve(Some(here.position))),
+            Token::Control(word, by) => {
+                Ok(self.compile(control_element(word, here.position, by))?)
+            }
+            Token::Leave => Ok(self.compile(Element::Leave)?),
+            Token::Case => Ok(self.compile(Element::Case)?),
+            Token::EndCase => Ok(self.compile(Element::EndCase)?),
+            Token::Mark => Ok(self.compile(Element::Mark(Some(here.position)))?),
+            Token::Resolve => Ok(self.compile(Element::Resolve(Some(here.position)))?),
             Token::Word(code) => self.call_named(code),
             Token::Offset16 => self.run_token(Token::Offset16, here),
             Token::NewToken(code) => self.run_token(Token::NewToken(code), here),
@@ -275,12 +276,12 @@ impl<C: CodeStore> Eval<C> {
 
     /// Does what a token does, or appends it where words are compiled.
     #[inline(always)]
-    pub(crate) fn plain_token(&mut self, token: Token, here: Spot) -> Result<(), Stop>
+    pub(crate) fn plain_token(&mut self, token: Token, here: Spot) -> Result<(), Halt>
         requires position { here.position < 2 ^ 63 }
         requires behind { here.behind ≤ here.size }
         requires fits { here.begin.0 + here.size < 2 ^ 32 }
         requires short { IsShort token }
-        ensures { IsDone (plain_act token here (front_of self.old)) self.old self.new result }
+        ensures { IsTaken (plain_act token here (front_of self.old)) self.old self.new result }
     {
         if self.flow.is_compiling {
             self.compile_token(token, here)

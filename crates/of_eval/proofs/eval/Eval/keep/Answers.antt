@@ -14,6 +14,7 @@ returns-clause-outcome g c =
       flow = c.self.inside.flow;
       words = c.self.inside.words;
       code = c.self.inside.coding.coding;
+      reply = c.self.inside.reply;
     } in
     let same : s ≡ c.args.self.now = search rules in
     let xt = c.args.xt.0 in

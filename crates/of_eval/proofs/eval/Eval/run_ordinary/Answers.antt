@@ -13,6 +13,7 @@ returns g c =
       flow = c.self.inside.flow;
       words = c.self.inside.words;
       code = c.self.inside.coding.coding;
+      reply = c.self.inside.reply;
     } in
     let same : s ≡ c.args.self.now = search rules in
     let w = c.args.word in
