@@ -47,6 +47,7 @@ asking S = record (keeping S (λ s. Unit {0}) ((λ cells d ih s k p. (tt, tt, tt
   Works = λ w. ⊥;
   Appends = λ s. ⊥;
   Opening = ⊥;
+  asks = λ r. tt;
   works = λ r w. absurd r;
   may_open = λ r. absurd r;
   opens = λ r s p e. absurd r;

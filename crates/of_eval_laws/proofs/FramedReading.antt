@@ -25,6 +25,9 @@ use Rattle.of_compile.specs.declared.defining.DefiningWord.{DefiningWord}
 use Rattle.of_compile.specs.Defining.{Making, defining_entry, making, opens}
 use Rattle.of_flow.specs.declared.control_state.Flow.{Flow}
 use Rattle.of_board.specs.declared.board.Board.{Board}
+use Rattle.of_asking.specs.Devices.{devices_entry}
+use Rattle.of_asking.specs.Keys.{keys_entry}
+use Rattle.of_asking.specs.Questions.{Asking, Asks, Gives}
 use Rattle.of_eval.specs.Acts.{Act, Ends, To, WordAct, front_of}
 use Rattle.of_eval.specs.Acts as act
 use Rattle.of_eval.specs.Defining.{by_making, closed_if, define_entry, definition_ended, known_at_once, opened}
@@ -35,7 +38,7 @@ use Rattle.of_eval.specs.Executing.{entered, furnished, guarded, plan_in}
 use Rattle.of_flow.specs.Returns.{found}
 use Rattle.of_eval.specs.Items.{item_act}
 use Rattle.of_eval.specs.Methods.{then_known}
-use Rattle.of_eval.specs.State.{Answered, Calls, Outcome, State, by_code, by_board, with_items, with_stack}
+use Rattle.of_eval.specs.State.{Answered, Calls, Outcome, State, by_asking, by_board, by_code, with_items, with_stack}
 use Rattle.of_eval.specs.Steps.{found_token, item_done, read_on, token_due}
 use Rattle.of_eval.specs.Tokens.{act_of, spot_in}
 use Rattle.of_flow.specs.Tokens.{typed_of}
@@ -131,6 +134,10 @@ board_reads : {S : Type 0} (m : Result Board Throw) (s : State S) → Reads s.fl
 board_reads (Ok x) s = inl refl
 board_reads (Err t) s = inl refl
 
+asking_reads : {S : Type 0} (x : Asking Board) (s : State S) → Reads s.flow.reading (by_asking x s)
+asking_reads (Gives r) s = board_reads r s
+asking_reads (Asks q) s = inl refl
+
 appended_reads : {S : Type 0} (code : S) (ended : Result (Unit {0}) Throw) (cells : List Cell) (s : State S)
     → Reads s.flow.reading (appended (record { code = code; ended = ended }) cells s)
 appended_reads code (Ok x) cells s = inl refl
@@ -147,6 +154,8 @@ worked_reads c (act.Fails t) s = inl refl
 worked_reads c (act.Raises t cells) s = inl refl
 worked_reads c (act.Leaves cells) s = inl refl
 worked_reads c (act.Works w) s = board_reads (word_entry w s.board) s
+worked_reads c (act.Listens w) s = asking_reads (keys_entry w s.reply s.board) s
+worked_reads c (act.Reaches w) s = asking_reads (devices_entry w s.reply s.board) s
 worked_reads c (act.Moves cells move to) s =
     gone_reads to (with_stack cells (with_items (doing.moved move s.flow.items) s))
 worked_reads c (act.Knows w cells) s = inl refl

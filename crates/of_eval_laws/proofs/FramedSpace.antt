@@ -1,8 +1,15 @@
 -- What a call of the data space leaves, by the laws of the layers below: a sound one, with the same images and
 -- properties; and what is left of the board then.
 use Rattle.std.proofs.Common.{◌≡◌, ℕ, ◌+◌, ◌%◌, ◌<◌, ◌≤◌, Bool, List, length, Option, None}
-use Rattle.std.proofs.Common.{Result, Ok, Err, refl, ap, ◌∙◌, subst, arith}
+use Rattle.std.proofs.Common.{Result, Ok, Err, refl, sym, ap, ◌∙◌, subst, arith}
 use Rattle.of_stacks.specs.declared.throws.Throw.{Throw}
+use Rattle.of_fcodes.specs.declared.words.DevicesWord.{DevicesWord}
+use Rattle.of_fcodes.specs.declared.words.KeysWord.{KeysWord}
+use Rattle.of_asking.specs.Devices.{devices_entry}
+use Rattle.of_asking.specs.Images.{ImagesStayAsked, Keeps as KeepsAsked}
+use Rattle.of_asking.specs.Keys.{keys_entry}
+use Rattle.of_asking.specs.Questions.{Asking, Asks, Gives}
+use Rattle.of_asking.specs.declared.query.Answer.{Answer}
 use Rattle.of_memory.specs.Access.{bytes_written, copied, filled, unless, write, write_fault}
 use Rattle.of_memory.specs.BlockCalls.{heap_given, heap_taken}
 use Rattle.of_memory.specs.DataSpace.{DataSpace, IsSound, written}
@@ -35,6 +42,7 @@ pub record Laws : Type 0 where
   pub stored : StoredStays
   pub instances : InstancesKeepTheSpace
   pub words : WordsKeepTheSpace
+  pub asking : ImagesStayAsked
 
 -- ---- the data space
 
@@ -195,3 +203,33 @@ by_words w after k = (k.images, k.sound, k.stored)
 abbrev pub BoardStands : Board → Result Board Throw → Type 0
 BoardStands w (Ok after) = Stands w after
 BoardStands w (Err t) = Unit {0}
+
+-- ---- words that may ask
+
+abbrev pub AskingStands : Board → Asking Board → Type 0
+AskingStands w (Gives r) = BoardStands w r
+AskingStands w (Asks q) = Unit {0}
+
+by_asking_words : (l : Laws) (w after : Board) → IsSound w.memory → KeepsAsked w after → Stands w after
+by_asking_words l w after sound k = (
+  k.images,
+  k.sound,
+  (λ a. subst (λ ns. AreStored after.memory ns) (sym k.tree)
+      (l.stored.by_others w.memory after.memory w.tree sound k.properties a)),
+)
+
+asking_stands : (l : Laws) (b : Board) (x : Asking Board) → IsSound b.memory
+    → ((after : Board) → x ≡ Gives (Ok after) → KeepsAsked b after) → AskingStands b x
+asking_stands l b (Gives (Ok after)) sound h = by_asking_words l b after sound (h after refl)
+asking_stands l b (Gives (Err t)) sound h = tt
+asking_stands l b (Asks q) sound h = tt
+
+pub keys_stand : (l : Laws) (w : KeysWord) (reply : Option Answer) (b : Board) → IsSound b.memory
+    → AskingStands b (keys_entry w reply b)
+keys_stand l w reply b sound =
+    asking_stands l b (keys_entry w reply b) sound (λ after e. l.asking.keys w reply b after sound e)
+
+pub devices_stand : (l : Laws) (w : DevicesWord) (reply : Option Answer) (b : Board) → IsSound b.memory
+    → AskingStands b (devices_entry w reply b)
+devices_stand l w reply b sound =
+    asking_stands l b (devices_entry w reply b) sound (λ after e. l.asking.devices w reply b after sound e)

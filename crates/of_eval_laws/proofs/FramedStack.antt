@@ -10,11 +10,14 @@ use Rattle.of_stacks.specs.declared.throws.Throw.{Throw}
 use Rattle.of_stacks.specs.Returns.{has_due_top, return_on_top}
 use Rattle.of_flow.specs.declared.control_state.Flow.{Flow}
 use Rattle.of_board.specs.declared.board.Board.{Board}
+use Rattle.of_asking.specs.Devices.{devices_entry}
+use Rattle.of_asking.specs.Keys.{keys_entry}
+use Rattle.of_asking.specs.Questions.{Asking, Asks, Gives}
 use Rattle.of_eval.specs.Acts.{Move, To, WordAct, front_of}
 use Rattle.of_eval.specs.Acts as act
 use Rattle.of_eval.specs.Doing.{appended, executed, worked}
 use Rattle.of_eval.specs.Executing.{entered, execution, frame_of, furnished, guarded, plan_in}
-use Rattle.of_eval.specs.State.{Calls, State, by_board, with_stack}
+use Rattle.of_eval.specs.State.{Calls, State, by_asking, by_board, with_stack}
 use Rattle.of_words.specs.Words.{word_entry}
 use Rattle.of_eval_laws.specs.Returning.{IsCall}
 use Rattle.of_eval_laws.specs.Frames.{ExecutingLeaves, drops_item, last_word}
@@ -84,6 +87,10 @@ board_flow : {S : Type 0} (m : Result Board Throw) (s : State S) → (by_board m
 board_flow (Ok x) s = refl
 board_flow (Err t) s = refl
 
+asking_flow : {S : Type 0} (x : Asking Board) (s : State S) → (by_asking x s).state.flow ≡ s.flow
+asking_flow (Gives r) s = board_flow r s
+asking_flow (Asks q) s = refl
+
 appended_flow : {S : Type 0} (code : S) (ended : Result (Unit {0}) Throw) (cells : List Cell) (s : State S)
     → (appended (record { code = code; ended = ended }) cells s).state.flow ≡ s.flow
 appended_flow code (Ok x) cells s = refl
@@ -137,6 +144,10 @@ worked_leaves d c (act.Raises t cells) s h = stays d s (with_stack cells s) refl
 worked_leaves d c (act.Leaves cells) s h = stays d s (with_stack cells s) refl
 worked_leaves d c (act.Works w) s h =
     stays d s (by_board (word_entry w s.board) s).state (board_flow (word_entry w s.board) s)
+worked_leaves d c (act.Listens w) s h =
+    let x = keys_entry w s.reply s.board in stays d s (by_asking x s).state (asking_flow x s)
+worked_leaves d c (act.Reaches w) s h =
+    let x = devices_entry w s.reply s.board in stays d s (by_asking x s).state (asking_flow x s)
 worked_leaves d c (act.Moves cells move to) s h = moved_leaves d cells move to c s h
 worked_leaves d c (act.Knows w cells) s h = stays d s (worked c (act.Knows w cells) s).state refl
 worked_leaves d c (act.Stores m cells) s h = stays d s (worked c (act.Stores m cells) s).state refl

@@ -24,11 +24,14 @@ use Rattle.of_compile.specs.DictionaryWords.{kind_at, set_token_entry, store_ent
 use Rattle.of_compile.specs.DictionaryWords.{with_stored}
 use Rattle.of_compile.specs.Words.{WordsState, number_faults, numbered, own_number}
 use Rattle.of_board.specs.declared.board.Board.{Board}
+use Rattle.of_asking.specs.Devices.{devices_entry}
+use Rattle.of_asking.specs.Keys.{keys_entry}
+use Rattle.of_asking.specs.Questions.{Asking, Asks, Gives}
 use Rattle.of_eval.specs.Acts.{Act, Move, To, WordAct}
 use Rattle.of_eval.specs.Acts as act
 use Rattle.of_eval.specs.Doing.{appended, worked}
 use Rattle.of_eval.specs.Executing.{entered, furnished, guarded}
-use Rattle.of_eval.specs.State.{Calls, State, by_board, open_xt, with_stack}
+use Rattle.of_eval.specs.State.{Calls, State, by_asking, by_board, open_xt, with_stack}
 use Rattle.of_words.specs.Words.{word_entry}
 use Rattle.of_eval_laws.specs.Returning.{IsCall, IsPosition, Leads, LeadsBack, is_code, is_outer}
 use Rattle.of_eval_laws.proofs.LeadingEnds.{due_too, none_due}
@@ -306,6 +309,11 @@ module _ (image : List ℕ) (outer : Reading) where
   board_lead (Ok x) s h = h
   board_lead (Err t) s h = h
 
+  asking_leads : {S : Type 0} (x : Asking Board) (s : State S) → Leads image outer s
+      → Leads image outer (by_asking x s).state
+  asking_leads (Gives r) s h = board_lead r s h
+  asking_leads (Asks q) s h = h
+
   appended_leads : {S : Type 0} (code : S) (e : Result (Unit {0}) Throw) (cells : List Cell) (s : State S)
       → Leads image outer s → Leads image outer (appended (record { code = code; ended = e }) cells s).state
   appended_leads code (Ok x) cells s h = h
@@ -318,6 +326,8 @@ module _ (image : List ℕ) (outer : Reading) where
   worked_leads code c (act.Raises t cells) s h p = p.0
   worked_leads code c (act.Leaves cells) s h p = p.0
   worked_leads code c (act.Works w) s h p = board_lead (word_entry w s.board) s p.0
+  worked_leads code c (act.Listens w) s h p = asking_leads (keys_entry w s.reply s.board) s p.0
+  worked_leads code c (act.Reaches w) s h p = asking_leads (devices_entry w s.reply s.board) s p.0
   worked_leads code c (act.Moves cells move to) s h p = move_leads code cells move to c s h p
   worked_leads code c (act.Knows w cells) s h p = (p.0.0, (λ o. h ∙ p.0.1 o))
   worked_leads code c (act.Stores m cells) s h p = p.0

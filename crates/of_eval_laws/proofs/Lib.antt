@@ -22,6 +22,7 @@
 -- TokenLemmas: the laws `tokens_are_typed`, `tokens_go` and `throw_takes`.
 -- AskingLemmas: the law `memory_is_asked`.
 -- HomeLemmas: the law `names_stay_home`.
+-- AnsweredActs, QuietActs, QuestionLemmas: the law `questions_settle`.
 -- MethodLemmas: words that become methods leave what runs and the code.
 pub mod MethodLemmas
 pub mod AskingLemmas
@@ -47,6 +48,9 @@ pub mod Mismatch
 pub mod GoingLemmas
 pub mod CallingLemmas
 pub mod TokenLemmas
+pub mod AnsweredActs
+pub mod QuietActs
+pub mod QuestionLemmas
 pub mod FramedTurns
 pub mod FramedReading
 pub mod FramedStack

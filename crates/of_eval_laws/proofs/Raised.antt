@@ -41,6 +41,10 @@ use Rattle.of_compile.specs.Coding.{fits}
 use Rattle.of_compile.specs.Defining.{Making, making}
 use Rattle.of_compile.specs.Elements.{own_item}
 use Rattle.of_board.specs.declared.board.Board.{Board}
+use Rattle.of_asking.specs.Devices.{devices_entry}
+use Rattle.of_asking.specs.Keys.{keys_entry}
+use Rattle.of_asking.specs.Listed.{AsksOrThrowsListed, ThrowListedNumbers as AskingWordsListed}
+use Rattle.of_asking.specs.Questions.{Asking, Asks, Gives}
 use Rattle.of_eval.specs.Acts.{Act, Closes, Fails, WordAct, front_of}
 use Rattle.of_eval.specs.Acts as act
 use Rattle.of_eval.specs.Defining.{by_making, define_entry, known_at_once, semicolon_entry, string_compiled}
@@ -50,7 +54,8 @@ use Rattle.of_eval.specs.Executing.{entered, furnished, guarded, plan_in}
 use Rattle.of_eval.specs.Items.{item_act}
 use Rattle.of_eval.specs.Methods.{then_known}
 use Rattle.of_eval.specs.Settling.{ended, is_same}
-use Rattle.of_eval.specs.State.{Answered, Calls, Outcome, State, by_board, flat_calls, open_xt, with_next, with_stack}
+use Rattle.of_eval.specs.State.{Answered, Calls, Outcome, State, by_asking, by_board, flat_calls, open_xt, with_next}
+use Rattle.of_eval.specs.State.{with_stack}
 use Rattle.of_eval.specs.Steps.{due, found_token, item_done, item_due, read_on, token_due}
 use Rattle.of_eval.specs.Tokens.{act_of, spot_in}
 use Rattle.of_flow.specs.Tokens.{typed_of}
@@ -103,6 +108,7 @@ record Laws (S : Type 0) (c : Calls S) : Type 0 where
   words : WordsThrowListed
   faults : ThrowListedNumbers
   methods : TreeWordsListed
+  asking : AskingWordsListed
 
 -- ---- the rules
 
@@ -130,6 +136,10 @@ board_left : {S : Type 0} (r : Result Board Throw) (s : State S) → ThrowsListe
 board_left (Ok p) s h = tt
 board_left (Err t) s h = h
 
+asking_left : {S : Type 0} (x : Asking Board) (s : State S) → AsksOrThrowsListed x → Lists (by_asking x s)
+asking_left (Gives r) s h = board_left r s h
+asking_left (Asks q) s h = tt
+
 worked_raises : {S : Type 0} (c : Calls S) (l : Laws S c) (taken : Option Cell) (ends : Bool) (a : WordAct)
     (s : State S) → IsWork (listing S l.faults l.methods taken) s a → Raised taken ends (worked c a s)
 unfolding worked
@@ -138,6 +148,10 @@ worked_raises c l taken ends (act.Raises t cells) s h = inr (inr h)
 worked_raises c l taken ends (act.Leaves cells) s h = tt
 worked_raises c l taken ends (act.Works w) s h =
     weaker taken ends _ (board_left (word_entry w s.board) s (l.words.words w s.board))
+worked_raises c l taken ends (act.Listens w) s h =
+    weaker taken ends _ (asking_left (keys_entry w s.reply s.board) s (l.asking.keys w s.reply s.board))
+worked_raises c l taken ends (act.Reaches w) s h =
+    weaker taken ends _ (asking_left (devices_entry w s.reply s.board) s (l.asking.devices w s.reply s.board))
 worked_raises c l taken ends (act.Moves cells move to) s h = tt
 worked_raises c l taken ends (act.Knows w cells) s h = tt
 worked_raises c l taken ends (act.Stores m cells) s h = tt
@@ -355,12 +369,25 @@ mismatch_unlisted : is_listed control_mismatch ≡ false
 unfolding is_listed listed_numbers
 mismatch_unlisted = refl
 
-pub steps_throw_listed : WordsThrowListed → ThrowListedNumbers → TreeWordsListed → StepsThrowListed
-steps_throw_listed words law methods = record {
+pub steps_throw_listed : WordsThrowListed → ThrowListedNumbers → TreeWordsListed → AskingWordsListed → StepsThrowListed
+steps_throw_listed words law methods asking = record {
   flat = λ s.
-      dues flat_calls (record { calls = calls_listed; words = words; faults = law; methods = methods }) s.flow.next s;
+      let l : Laws Coding flat_calls = record {
+        calls = calls_listed;
+        words = words;
+        faults = law;
+        methods = methods;
+        asking = asking;
+      } in
+      dues flat_calls l s.flow.next s;
   structured = λ s.
-      dues structured_calls (record { calls = structured_listed; words = words; faults = law; methods = methods })
-      s.flow.next s;
+      let l : Laws Definitions structured_calls = record {
+        calls = structured_listed;
+        words = words;
+        faults = law;
+        methods = methods;
+        asking = asking;
+      } in
+      dues structured_calls l s.flow.next s;
   mismatch = mismatch_unlisted;
 }

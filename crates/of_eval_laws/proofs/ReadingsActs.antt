@@ -36,6 +36,9 @@ use Rattle.of_compile.specs.declared.words.Pending.{Pending}
 use Rattle.of_compile.specs.Defining.{Made, defining_faults, made_by, making, opens, word_made}
 use Rattle.of_compile.specs.Words.{WordsState}
 use Rattle.of_board.specs.declared.board.Board.{Board}
+use Rattle.of_asking.specs.Devices.{devices_entry}
+use Rattle.of_asking.specs.Keys.{keys_entry}
+use Rattle.of_asking.specs.Questions.{Asking, Asks, Gives}
 use Rattle.of_eval.specs.Acts.{Act, Move, To, WordAct, front_of}
 use Rattle.of_eval.specs.Acts as act
 use Rattle.of_eval.specs.Defining.{by_making, closed_if, define_entry, definition_ended, known_at_once, opened}
@@ -47,7 +50,8 @@ use Rattle.of_eval.specs.Executing.{entered, furnished, guarded, plan_in}
 use Rattle.of_eval.specs.Items.{item_act}
 use Rattle.of_eval.specs.Methods.{as_method, known_if, method_made, then_known, xt_cell}
 use Rattle.of_eval.specs.Settling.{ended, is_same}
-use Rattle.of_eval.specs.State.{Answered, Calls, Outcome, State, by_board, open_xt, with_items, with_next, with_stack}
+use Rattle.of_eval.specs.State.{Answered, Calls, Outcome, State, by_asking, by_board, open_xt, with_items, with_next}
+use Rattle.of_eval.specs.State.{with_stack}
 use Rattle.of_eval.specs.Steps.{due, found_token, item_due, read_on, token_due}
 use Rattle.of_eval.specs.Tokens.{act_of, spot_in}
 use Rattle.of_flow.specs.Tokens.{typed_of}
@@ -57,7 +61,7 @@ use Rattle.of_eval_laws.specs.Readings.{BeganInside, is_image, kept_readings}
 use Rattle.of_eval_laws.specs.Throws.{image_more}
 use Rattle.of_eval_laws.proofs.FramedWriting.{word_stands}
 use Rattle.of_eval_laws.proofs.ReadingsEnds.{Counted, Goes, Reads, given_up_reads, rests, source_reads}
-use Rattle.of_eval_laws.proofs.FramedSpace.{BoardStands, Laws}
+use Rattle.of_eval_laws.proofs.FramedSpace.{AskingStands, BoardStands, Laws, devices_stand, keys_stand}
 use Rattle.of_eval_laws.proofs.Walk.{IsAct, Turns, item_acts, typed_acts}
 use Rattle.of_eval_laws.proofs.WalkFree.{anywhere, free, free_turns}
 use Rattle.of_eval_laws.proofs.WalkTyped.{typed_may}
@@ -337,6 +341,11 @@ board_read : {S : Type 0} (r : Result Board Throw) (s : State S) → BoardStands
 board_read (Ok p) s stands h = same_images p.memory.images s stands.0.0 h
 board_read (Err t) s stands h = h
 
+asking_reads : {S : Type 0} (x : Asking Board) (s : State S) → AskingStands s.board x → Goes s
+    → Goes (by_asking x s).state
+asking_reads (Gives r) s stands h = board_read r s stands h
+asking_reads (Asks q) s stands h = h
+
 ordinary_reads : {S : Type 0} (l : Laws) (w : Word) (s : State S) → IsSound s.board.memory → Goes s
     → Goes (by_board (word_entry w s.board) s).state
 ordinary_reads l w s sound h =
@@ -358,6 +367,10 @@ worked_reads l c (act.Fails t) s w sound h = h
 worked_reads l c (act.Raises t cells) s w sound h = h
 worked_reads l c (act.Leaves cells) s w sound h = h
 worked_reads l c (act.Works x) s w sound h = ordinary_reads l x s sound h
+worked_reads l c (act.Listens x) s w sound h =
+    asking_reads (keys_entry x s.reply s.board) s (keys_stand l x s.reply s.board sound) h
+worked_reads l c (act.Reaches x) s w sound h =
+    asking_reads (devices_entry x s.reply s.board) s (devices_stand l x s.reply s.board sound) h
 worked_reads l c (act.Moves cells move to) s w sound h =
     gone_reads to (with_stack cells (with_items (doing.moved move s.flow.items) s))
     (moved_kept s.board.memory.images s.flow.reading.input move to s w.0 w.2 h.0, h.1)

@@ -57,7 +57,7 @@ use Rattle.of_eval_laws.proofs.PlacedActs.{found_none}
 use Rattle.of_eval_laws.proofs.Bytes.{no_bytes}
 use Rattle.of_eval_laws.proofs.RunningEnds.{given_up_stands}
 use Rattle.of_eval_laws.proofs.RunningWords.{Begins, Changes, Kept, KeptBy, Leaves, either, image_begins, left}
-use Rattle.of_eval_laws.proofs.RunningWords.{ordinary, stands_by}
+use Rattle.of_eval_laws.proofs.RunningWords.{listens, ordinary, reaches, stands_by}
 use Rattle.of_eval_laws.proofs.Walk.{IsAct, Turns, item_acts, typed_acts}
 use Rattle.of_eval_laws.proofs.WalkFree.{anywhere, free_turns, keeping}
 use Rattle.of_eval_laws.proofs.WalkTyped.{typed_may}
@@ -305,6 +305,8 @@ worked_leaves l c (act.Fails t) s h sound = stays s.board sound
 worked_leaves l c (act.Raises t cells) s h sound = stays s.board sound
 worked_leaves l c (act.Leaves cells) s h sound = left s.board sound
 worked_leaves l c (act.Works w) s h sound = ordinary l w s sound
+worked_leaves l c (act.Listens w) s h sound = listens l w s sound
+worked_leaves l c (act.Reaches w) s h sound = reaches l w s sound
 worked_leaves l c (act.Moves cells move to) s h sound =
     gone_leaves to (with_stack cells (with_items (doing.moved move s.flow.items) s)) sound
 worked_leaves l c (act.Knows w cells) s h sound = left s.board sound

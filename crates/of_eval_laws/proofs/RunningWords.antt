@@ -2,6 +2,8 @@
 use Rattle.std.proofs.Common.{◌≡◌, ◌⊎◌, inl, ℕ, Bool, true, false, List, Option, Some, None, Result, Ok, Err}
 use Rattle.std.proofs.Common.{if◌then◌else◌}
 use Rattle.of_stacks.specs.declared.throws.Throw.{Throw}
+use Rattle.of_fcodes.specs.declared.words.DevicesWord.{DevicesWord}
+use Rattle.of_fcodes.specs.declared.words.KeysWord.{KeysWord}
 use Rattle.of_fcodes.specs.declared.words.Word.{Word}
 use Rattle.of_memory.specs.declared.fault.MemFault.{MemFault}
 use Rattle.of_memory.specs.declared.width.Width.TheVariants.{One}
@@ -12,10 +14,13 @@ use Rattle.of_memory.specs.PropertyRegion.{KeepsProperties}
 use Rattle.of_memory.specs.Regions.{place_of}
 use Rattle.of_nodes.specs.Stored.{AreStored}
 use Rattle.of_board.specs.declared.board.Board.{Board}
-use Rattle.of_eval.specs.State.{Outcome, State, by_board}
+use Rattle.of_asking.specs.Devices.{devices_entry}
+use Rattle.of_asking.specs.Keys.{keys_entry}
+use Rattle.of_asking.specs.Questions.{Asking, Asks, Gives}
+use Rattle.of_eval.specs.State.{Outcome, State, by_asking, by_board}
 use Rattle.of_words.specs.Words.{word_entry}
 use Rattle.of_eval_laws.specs.Running.{LatestEnd, OneBegins}
-use Rattle.of_eval_laws.proofs.FramedSpace.{BoardStands, Laws, Stands, stays}
+use Rattle.of_eval_laws.proofs.FramedSpace.{AskingStands, BoardStands, Laws, Stands, devices_stand, keys_stand, stays}
 use Rattle.of_eval_laws.proofs.FramedWriting.{word_stands}
 use Rattle.of_eval_laws.proofs.RunningBytes.{pushed}
 
@@ -64,6 +69,23 @@ board_leave (Err t) s sound h = stays s.board sound
 pub ordinary : {S : Type 0} (l : Laws) (w : Word) (s : State S) → IsSound s.board.memory
     → Leaves false s.board (by_board (word_entry w s.board) s)
 ordinary l w s sound = board_leave (word_entry w s.board) s sound (word_stands l w s.board sound)
+
+-- ---- words that may ask
+
+asking_leaves : {S : Type 0} (x : Asking Board) (s : State S) → IsSound s.board.memory → AskingStands s.board x
+    → Leaves false s.board (by_asking x s)
+asking_leaves (Gives r) s sound h = board_leave r s sound h
+asking_leaves (Asks q) s sound h = left s.board sound
+
+pub listens : {S : Type 0} (l : Laws) (w : KeysWord) (s : State S) → IsSound s.board.memory
+    → Leaves false s.board (by_asking (keys_entry w s.reply s.board) s)
+listens l w s sound =
+    asking_leaves (keys_entry w s.reply s.board) s sound (keys_stand l w s.reply s.board sound)
+
+pub reaches : {S : Type 0} (l : Laws) (w : DevicesWord) (s : State S) → IsSound s.board.memory
+    → Leaves false s.board (by_asking (devices_entry w s.reply s.board) s)
+reaches l w s sound =
+    asking_leaves (devices_entry w s.reply s.board) s sound (devices_stand l w s.reply s.board sound)
 
 -- ---- `byte-load`
 

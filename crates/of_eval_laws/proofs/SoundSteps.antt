@@ -2,7 +2,7 @@
 use Rattle.std.proofs.Common.{◌≡◌, inl, inr, ℕ, zero, suc, Bool, true, false, List, [], Option, Some, None}
 use Rattle.std.proofs.Common.{Result, Ok, Err, refl, subst, if◌then◌else◌}
 use Rattle.std.specs.List.{IsDistinct}
-use Rattle.std.specs.Prelude.{option_and_then}
+use Rattle.std.specs.Prelude.{◌&&◌, is_none, option_and_then}
 use Rattle.of_fcodes.specs.declared.words.Word.{Word}
 use Rattle.of_memory.specs.DataSpace.{DataSpace, IsSound, fresh}
 use Rattle.of_memory.specs.Growth.{image_pushed}
@@ -18,7 +18,7 @@ use Rattle.of_board.specs.declared.board.Board.{Board}
 use Rattle.of_eval.specs.Loading.{begun, image_copied, made_or_none}
 use Rattle.of_eval.specs.Settling.{settled, thrown_in}
 use Rattle.of_eval.specs.State.{Calls, State}
-use Rattle.of_eval.specs.Steps.{due, settled_of, stepped, steps_from}
+use Rattle.of_eval.specs.Steps.{asked_by, due, made, settled_of, stepped, steps_from}
 use Rattle.of_words.specs.Words.{word_entry}
 use Rattle.of_eval_laws.specs.Running.{is_at_end}
 use Rattle.of_eval_laws.specs.Sound.{HasSoundSpace, SpaceStaysSound, StaysSound}
@@ -122,9 +122,10 @@ one_keeps P c false s after h e = absurd cc
 
 then_keeps : {S : Type 0} (P : State S → Type 0) (c : Calls S) → ((s : State S) → P s → P (stepped c s))
     → (o : Option (State S)) (after : State S) → ((s : State S) → o ≡ Some s → P s)
-    → option_and_then (λ m. if m.flow.is_running then Some (stepped c m) else None) o ≡ Some after → P after
+    → option_and_then (made c) o ≡ Some after → P after
 then_keeps P c step None after h e = absurd cc
-then_keeps P c step (Some s) after h e = one_keeps P c s.flow.is_running s after (step s (h s refl)) e
+then_keeps P c step (Some s) after h e =
+    one_keeps P c (s.flow.is_running && is_none (asked_by c s)) s after (step s (h s refl)) e
 
 -- what each step keeps, any number of steps does
 pub steps_keep : {S : Type 0} (P : State S → Type 0) (c : Calls S) → ((s : State S) → P s → P (stepped c s))

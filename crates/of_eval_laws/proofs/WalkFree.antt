@@ -27,6 +27,7 @@ abbrev pub keeping : (S : Type 0) (Held : State S → Type 0) → Stays Held →
 keeping S Held stays = record {
   Held = Held;
   Runs = Unit {0};
+  Asks = Unit {0};
   Works = λ w. Unit {0};
   Fails = λ t. Unit {0};
   Raises = λ t. Unit {0};
@@ -38,6 +39,7 @@ keeping S Held stays = record {
   Appends = λ s. Unit {0};
   Loads = λ s m. Unit {0};
   Opening = Unit {0};
+  asks = λ r. tt;
   works = λ r w. tt;
   fails = λ t l. tt;
   faults = λ f. tt;

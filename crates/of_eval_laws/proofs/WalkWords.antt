@@ -92,8 +92,9 @@ IsStoring m s = (n : ℕ) × (x : Cell) × (slot_written s.board n x ≡ Ok m)
 pub record Rules (S : Type 0) : Type 1 where
   -- what is so of the state
   pub Held : State S → Type 0
-  -- where words are executed, and of an ordinary one
+  -- where words are executed, where one may ask, and of an ordinary one
   pub Runs : Type 0
+  pub Asks : Type 0
   pub Works : Word → Type 0
   -- of what is thrown, and of what `throw` throws
   pub Fails : Throw → Type 0
@@ -110,7 +111,8 @@ pub record Rules (S : Type 0) : Type 1 where
   pub Loads : State S → DataSpace → Type 0
   -- where an instance is opened
   pub Opening : Type 0
-  -- an ordinary word runs; what the tables throw is listed, or a fault of memory
+  -- one may ask, and an ordinary word runs; what the tables throw is listed, or a fault of memory
+  pub asks : Runs → Asks
   pub works : Runs → (w : Word) → Works w
   pub fails : (t : Throw) → is_listed t ≡ true → Fails t
   pub faults : (fault : MemFault) → Fails (throw_of fault)
@@ -200,6 +202,8 @@ IsWork R s (act.Fails t) = R.Fails t
 IsWork R s (act.Raises t cells) = R.Raises t
 IsWork R s (act.Leaves cells) = Unit {0}
 IsWork R s (act.Works w) = R.Works w
+IsWork R s (act.Listens w) = R.Asks
+IsWork R s (act.Reaches w) = R.Asks
 IsWork R s (act.Moves cells move to) = IsMove R s move × IsTo R s to × Fits R s move to
 IsWork R s (act.Knows w cells) = R.Known s w
 IsWork R s (act.Stores m cells) = IsStoring m s
@@ -294,7 +298,7 @@ returning_works R (Err t) cells s p d e l = R.fails t l
 
 -- ---- own words
 
-own_works : {S : Type 0} (R : Rules S) (k : Option Kind) (xt : ℕ) (s : State S)
+pub own_works : {S : Type 0} (R : Rules S) (k : Option Kind) (xt : ℕ) (s : State S)
     → kind_in (own_word s.words.dictionary xt) ≡ k → R.Held s → IsWork R s (own_act k xt (front_of s))
 unfolding is_listed listed_numbers
 own_works R None xt s e p = R.fails _ refl
@@ -326,7 +330,7 @@ unlooping_works R (Ok l) cells s d e t = (d, tt, inr (l, e))
 unlooping_works R (Err t) cells s d e l = R.fails t l
 
 -- a word drops an item only where it is known as one that does
-returns_works : {S : Type 0} (R : Rules S) (w : ReturnsWord) (cells : List Cell) (s : State S) → R.Held s
+pub returns_works : {S : Type 0} (R : Rules S) (w : ReturnsWord) (cells : List Cell) (s : State S) → R.Held s
     → (drops_item (Some (word.Returns w)) ≡ true → R.Drops s) → IsWork R s (returns_act w cells s.flow.items)
 unfolding returns_act is_listed listed_numbers
 returns_works R returns.ToReturn [] s p d = R.fails _ refl
@@ -354,7 +358,7 @@ unfolding is_listed listed_numbers
 throw_works R [] s h = R.fails _ refl
 throw_works R (n ∷ cells) s h = if_works R (n.0 == 0) _ _ s (λ e. tt) (λ e. h n refl)
 
-throws_work : {S : Type 0} (R : Rules S) (w : ThrowsWord) (cells : List Cell) (s : State S)
+pub throws_work : {S : Type 0} (R : Rules S) (w : ThrowsWord) (cells : List Cell) (s : State S)
     → MayRaise R (Some (Written (word.Throws w))) cells → IsWork R s (throws_act w cells)
 unfolding is_listed listed_numbers
 throws_work R throws.Abort cells s h = R.fails _ refl
@@ -374,12 +378,16 @@ unfolding is_listed listed_numbers
 comma_none R true s = R.fails _ refl
 comma_none R false s = R.fails _ refl
 
-comma_works : {S : Type 0} (R : Rules S) → R.Runs → (cells : List Cell) (s : State S) → R.Held s
+-- `compile,` may append where a definition is open
+abbrev pub MayAppend : {S : Type 0} → Rules S → Type 0
+MayAppend {S} R = (s : State S) → R.Held s → is_none s.words.defining ≡ false → R.Appends s
+
+comma_works : {S : Type 0} (R : Rules S) → MayAppend R → (cells : List Cell) (s : State S) → R.Held s
     → IsWork R s (comma_act s.words cells)
-comma_works R r [] s p = comma_none R (is_none s.words.defining) s
-comma_works R r (xt ∷ cells) s p =
+comma_works R o [] s p = comma_none R (is_none s.words.defining) s
+comma_works R o (xt ∷ cells) s p =
     unless_works R (counting (comma_faults s.words xt)) _ s (comma_fault s.words xt)
-    (λ e. R.opens r s p
+    (λ e. o s p
     (none_found (is_none s.words.defining) compile_only
     (counting (fault_if (not (is_word s.words.dictionary xt.0)) bad_handle ∷ [])) e))
 
@@ -410,23 +418,23 @@ load_works R (fetch ∷ a ∷ cells) s p shut =
 
 -- ---- all words
 
-dictionary_works : {S : Type 0} (R : Rules S) → R.Runs → (w : DictionaryWord) (s : State S) → R.Held s
+pub dictionary_works : {S : Type 0} (R : Rules S) → MayAppend R → (w : DictionaryWord) (s : State S) → R.Held s
     → IsWork R s (dictionary_act w (front_of s))
 unfolding dictionary_act is_listed listed_numbers
-dictionary_works R r dictionary.FromBody s p = leaving_works R _ s (from_body_listed s.words s.board.stack)
-dictionary_works R r dictionary.ToBody s p = leaving_works R _ s (to_body_listed s.words s.board.stack)
-dictionary_works R r dictionary.GetToken s p = leaving_works R _ s (get_token_listed s.words s.board.stack)
-dictionary_works R r dictionary.SetToken s p =
+dictionary_works R o dictionary.FromBody s p = leaving_works R _ s (from_body_listed s.words s.board.stack)
+dictionary_works R o dictionary.ToBody s p = leaving_works R _ s (to_body_listed s.words s.board.stack)
+dictionary_works R o dictionary.GetToken s p = leaving_works R _ s (get_token_listed s.words s.board.stack)
+dictionary_works R o dictionary.SetToken s p =
     knowing_works R (set_token_entry s.words s.board.stack) s (set_token_listed s.words s.board.stack)
     (λ x e. R.sets x s p e)
-dictionary_works R r dictionary.State s p = pushed_works R _ s.board.stack s
-dictionary_works R r dictionary.CompileComma s p = comma_works R r s.board.stack s p
-dictionary_works R r dictionary.Behavior s p =
+dictionary_works R o dictionary.State s p = pushed_works R _ s.board.stack s
+dictionary_works R o dictionary.CompileComma s p = comma_works R o s.board.stack s p
+dictionary_works R o dictionary.Behavior s p =
     leaving_works R _ s (behavior_of_listed s.words s.board s.board.stack)
-dictionary_works R r dictionary.Instance s p = R.waits s p
-dictionary_works R r dictionary.ByteLoad s p =
+dictionary_works R o dictionary.Instance s p = R.waits s p
+dictionary_works R o dictionary.ByteLoad s p =
     if_works R (is_some s.words.defining) _ _ s (λ e. R.fails _ refl) (λ e. load_works R s.board.stack s p e)
-dictionary_works R r w s p = R.fails _ refl
+dictionary_works R o w s p = R.fails _ refl
 
 written_works : {S : Type 0} (R : Rules S) → R.Runs → (w : Word) (s : State S) → R.Held s
     → (drops_item (Some w) ≡ true → R.Drops s) → MayRaise R (Some (Written w)) s.board.stack
@@ -434,10 +442,12 @@ written_works : {S : Type 0} (R : Rules S) → R.Runs → (w : Word) (s : State 
 unfolding written_act is_listed listed_numbers
 written_works R r (word.Returns w) s p d h = returns_works R w s.board.stack s p d
 written_works R r (word.Throws w) s p d h = throws_work R w s.board.stack s h
-written_works R r (word.Dictionary w) s p d h = dictionary_works R r w s p
+written_works R r (word.Dictionary w) s p d h = dictionary_works R (R.opens r) w s p
 written_works R r (word.Stream w) s p d h = R.fails _ refl
 written_works R r (word.Parsing w) s p d h = R.fails _ refl
 written_works R r (word.Compiling w) s p d h = R.fails _ refl
+written_works R r (word.Keys w) s p d h = R.asks r
+written_works R r (word.Devices w) s p d h = R.asks r
 written_works R r w s p d h = R.works r w
 
 -- where a plan stops, that is by a throw that the law allows; what is called is a method, and what is opened is opened

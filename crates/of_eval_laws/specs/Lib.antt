@@ -13,3 +13,4 @@ pub mod Calling
 pub mod Tokens
 pub mod Asking
 pub mod Homes
+pub mod Questions

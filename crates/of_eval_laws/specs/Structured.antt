@@ -15,7 +15,7 @@ use Rattle.of_compile.specs.Coding.{Coding}
 use Rattle.of_compile.specs.Elements.{element_cells}
 use Rattle.of_eval.specs.Defining.{semicolon_entry}
 use Rattle.of_eval.specs.State.{Answered, Calls, Outcome, State, flat_calls}
-use Rattle.of_eval.specs.Steps.{stepped}
+use Rattle.of_eval.specs.Steps.{asked_by, stepped}
 
 -- no word is finished, and the open definition is empty
 abbrev pub no_definitions : Definitions
@@ -36,10 +36,16 @@ structured_calls = record {
 
 -- the state with its definitions as cells
 abbrev pub flat_state : State Definitions → State Coding
-flat_state s = record { board = s.board; flow = s.flow; words = s.words; code = flat_of s.code }
+flat_state s = record {
+  board = s.board;
+  flow = s.flow;
+  words = s.words;
+  code = flat_of s.code;
+  reply = s.reply;
+}
 
 abbrev pub flat_outcome : Outcome Definitions → Outcome Coding
-flat_outcome o = record { state = flat_state o.state; ended = o.ended }
+flat_outcome o = record { state = flat_state o.state; ended = o.ended; asks = o.asks }
 
 -- where control goes on lies in a finished definition, unless it is in what is read
 abbrev pub IsPlacedIn : ℕ → Continuation → Type 0
@@ -49,10 +55,14 @@ IsPlacedIn end (Code n) = n < end
 abbrev pub IsPlaced : State Definitions → Type 0
 IsPlaced s = IsPlacedIn (length (laid_all s.code.finished)) s.flow.next
 
--- a step of structured definitions is, laid out, the step of their cells
-abbrev pub StepsAgree : Type 0
-StepsAgree =
-    (s : State Definitions) → IsPlaced s → stepped flat_calls (flat_state s) ≡ flat_state (stepped structured_calls s)
+pub record StepsAgree : Type 0 where
+  -- a step of structured definitions is, laid out, the step of their cells
+  pub step :
+      (s : State Definitions) → IsPlaced s →
+      stepped flat_calls (flat_state s) ≡ flat_state (stepped structured_calls s)
+  -- and what comes next asks the same
+  pub asks :
+      (s : State Definitions) → IsPlaced s → asked_by flat_calls (flat_state s) ≡ asked_by structured_calls s
 
 -- what `b(;)` makes of the open definition, the word n, by its elements
 pub record MismatchIsNoBody : Type 0 where

@@ -10,6 +10,7 @@ ghost use Rattle.of_eval_laws.specs.Homes.{NamesStayHome};
 ghost use Rattle.of_eval_laws.specs.Images.{ImagesStand};
 ghost use Rattle.of_eval_laws.specs.Listed.{StepsThrowListed, WordsThrowListed};
 ghost use Rattle.of_eval_laws.specs.Placed.{StatesStayPlaced};
+ghost use Rattle.of_eval_laws.specs.Questions.{QuestionsSettle};
 ghost use Rattle.of_eval_laws.specs.Readings.{ImagesAreReadings};
 ghost use Rattle.of_eval_laws.specs.Returning.{StackLeadsBack};
 ghost use Rattle.of_eval_laws.specs.Running.{ImagesRun};
@@ -17,6 +18,7 @@ ghost use Rattle.of_eval_laws.specs.Sound.{SpaceStaysSound};
 ghost use Rattle.of_eval_laws.specs.Throws.{ThrowsSettle};
 ghost use Rattle.of_eval_laws.specs.Tokens.{ThrowTakes, TokensAreTyped, TokensCompile, TokensGo};
 
+use of_asking::{answers_settle, asking_words_throw_listed, images_stay_asked};
 use of_compile::{compiles_reading, runs_by_structure, structures_are_flat};
 use of_eval::plans_unroll;
 use of_ihandles::instances_keep_the_space;
@@ -46,10 +48,11 @@ pub fn steps_throw_listed()
     words_throw_listed();
     prims_throw_listed();
     tree_words_throw_listed();
+    asking_words_throw_listed();
 }
 
 /// A step over structured definitions is, with these laid out as cells, the step over their cells, wherever control
-/// goes on in what is read or in a finished definition.
+/// goes on in what is read or in a finished definition; and it asks the same.
 pub fn steps_agree()
     ensures { StepsAgree }
 {
@@ -104,6 +107,7 @@ pub fn images_stand()
     stored_stays();
     instances_keep_the_space();
     words_keep_the_space();
+    images_stay_asked();
 }
 
 /// A throw ends all that runs, or control goes on behind the latest `catch` that waits, and what is due beneath it is
@@ -130,6 +134,7 @@ pub fn space_stays_sound()
     stored_stays();
     instances_keep_the_space();
     words_keep_the_space();
+    images_stay_asked();
 }
 
 /// The images that run are a stack, and each has the bytes that it had while it runs: a step ends some of the latest,
@@ -149,6 +154,7 @@ pub fn images_run()
     stored_stays();
     instances_keep_the_space();
     words_keep_the_space();
+    images_stay_asked();
 }
 
 /// The images that stand in the image region are as many as the images that are being read, at first and whatever is
@@ -168,6 +174,7 @@ pub fn images_are_readings()
     stored_stays();
     instances_keep_the_space();
     words_keep_the_space();
+    images_stay_asked();
 }
 
 /// Each item of a definition leaves both stacks, and control goes on at its target, exactly as its control structure
@@ -242,6 +249,18 @@ pub fn loads_begin()
     ensures cells { LoadsBegin Coding }
     ensures bodies { LoadsBegin Definitions }
 {}
+
+/// With an answer at hand nothing asks, so that a step which asked is made. Without one a word over keys, devices or
+/// time asks just what its table says; `execute`, `catch` and words that call a method ask what the word asks that they
+/// run; and nothing else asks. What asks needs no memory, unless it opens an instance.
+#[tactic(auto, using(crate::proofs::QuestionLemmas::questions_settle))]
+pub fn questions_settle()
+    ensures cells { QuestionsSettle Coding }
+    ensures bodies { QuestionsSettle Definitions }
+{
+    answers_settle();
+    plans_unroll();
+}
 
 /// Which tokens and items ask for no memory.
 pub fn memory_is_asked()
