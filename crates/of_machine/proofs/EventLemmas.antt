@@ -2,26 +2,28 @@
 use Rattle.std.proofs.Common.{◌≡◌, ℕ, zero, suc, ◌+◌, ◌-◌, ◌<◌, ◌≤◌, ◌^◌, Bool, true, false, List, [], ◌∷◌, Option}
 use Rattle.std.proofs.lemmas.Option.{same_Some}
 use Rattle.std.proofs.Common.{Some, None, Result, Ok, Err, refl, ap, sym, ◌∙◌, nat_lt, arith}
-use Rattle.std.specs.Prelude.{if◌then◌else◌, option_and_then, replicate, ◌&&◌}
+use Rattle.std.specs.Prelude.{if◌then◌else◌, option_and_then, replicate, ◌&&◌, is_none}
 use Rattle.std.proofs.lemmas.Bool.Decides.{nat_tests}
 use Rattle.of_memory.specs.DataSpace.{DataSpace}
 use Rattle.of_cells.specs.declared.cells.Cell.{Cell}
 use Rattle.of_ihandles.specs.Table.{InstanceTable}
 use Rattle.of_ihandles.specs.declared.instance_fault.InstanceFault.{InstanceFault}
 use Rattle.of_nodes.specs.declared.phandles.Phandle.{Phandle}
-use Rattle.of_client.specs.Services.{Reply}
+use Rattle.of_asking.specs.declared.query.Answer.{Answer}
+use Rattle.of_asking.specs.declared.query.Query.{Query}
 use Rattle.of_compile.specs.Structured.{Definitions}
 use Rattle.of_compile.specs.Coding.{Coding}
 use Rattle.of_eval.specs.State.{State, flat_calls}
-use Rattle.of_eval.specs.Steps.{stepped, steps_from}
+use Rattle.of_eval.specs.Steps.{asked_by, made, replied, stepped, steps_from}
 use Rattle.of_eval.specs.Loading.{begun, begun_by, begun_unless, instance_on, load_fault}
 use Rattle.of_eval.specs.declared.load_fault.LoadFault.{LoadFault}
 use Rattle.of_eval_laws.specs.Structured.{StepsAgree, structured_calls, flat_state, no_definitions}
 use Rattle.of_eval_laws.specs.Placed.{AllPlaced, StatesStayPlaced}
 use Rattle.of_machine.specs.declared.answers.Refusal.{Refusal}
-use Rattle.of_machine.specs.Events.{CallsAgree, Client, Event, Load, Step, after_events, done_by, loaded_unless}
-use Rattle.of_machine.specs.States.{HasMoved, MachineState, can_step, flat_machine, idle, load_refusal, loaded_for}
-use Rattle.of_machine.specs.States.{moved, node_at}
+use Rattle.of_machine.specs.Events.{Answers, CallsAgree, Client, Event, Load, Step, after_events, done_by}
+use Rattle.of_machine.specs.Events.{loaded_unless}
+use Rattle.of_machine.specs.States.{HasMoved, MachineState, answer_refusal, answered_unless, can_step, flat_machine}
+use Rattle.of_machine.specs.States.{idle, load_refusal, loaded_for, made_or_opened, node_at, tried}
 
 -- ---- an image
 
@@ -43,8 +45,7 @@ loaded_flat : (o : Option Phandle) (image : List ℕ) (m : MachineState Definiti
     → loaded_for (flat_machine m) image o ≡ flat_machine (loaded_for m image o)
 loaded_flat None image m = refl
 loaded_flat (Some node) image m =
-    ap (λ (s : State Coding). record { eval = s; steps = m.steps; replies = m.replies })
-    (begun_flat image node m.eval)
+    ap (λ (s : State Coding). record (flat_machine m) { eval = s }) (begun_flat image node m.eval)
 
 loaded_placed : (o : Option Phandle) (image : List ℕ) (m : MachineState Definitions) → StatesStayPlaced
     → AllPlaced m.eval → AllPlaced (loaded_for m image o).eval
@@ -64,18 +65,56 @@ unless_placed None m image path stay placed = loaded_placed (node_at m path) ima
 
 -- ---- a step
 
+made_flat : (o : Option Query) (m : MachineState Definitions) → StepsAgree → StatesStayPlaced → AllPlaced m.eval
+    → made_or_opened flat_calls o (flat_machine m) ≡ flat_machine (made_or_opened structured_calls o m)
+made_flat None m agree stay placed =
+    ap (λ (s : State Coding). record (flat_machine m) { eval = s; steps = m.steps + 1 })
+    (agree.step m.eval (stay.next m.eval placed))
+made_flat (Some q) m agree stay placed = refl
+
+tried_flat : (o : Option Query) (m : MachineState Definitions) → StepsAgree → StatesStayPlaced → AllPlaced m.eval
+    → tried flat_calls o (flat_machine m) ≡ flat_machine (tried structured_calls o m)
+tried_flat None m agree stay placed =
+    ap (λ q. made_or_opened flat_calls q (flat_machine m)) (agree.asks m.eval (stay.next m.eval placed))
+    ∙ made_flat (asked_by structured_calls m.eval) m agree stay placed
+tried_flat (Some q) m agree stay placed = refl
+
 turned : (b : Bool) (m : MachineState Definitions) → StepsAgree → StatesStayPlaced → AllPlaced m.eval
-    → (if b then moved flat_calls (flat_machine m) else flat_machine m)
-    ≡ flat_machine (if b then moved structured_calls m else m)
-turned true m agree stay placed =
-    ap (λ (s : State Coding). record { eval = s; steps = m.steps + 1; replies = m.replies })
-    (agree m.eval (stay.next m.eval placed))
+    → (if b then tried flat_calls m.waiting (flat_machine m) else flat_machine m)
+    ≡ flat_machine (if b then tried structured_calls m.waiting m else m)
+turned true m agree stay placed = tried_flat m.waiting m agree stay placed
 turned false m agree stay placed = refl
 
+made_placed : (o : Option Query) (m : MachineState Definitions) → StatesStayPlaced → AllPlaced m.eval
+    → AllPlaced (made_or_opened structured_calls o m).eval
+made_placed None m stay placed = stay.step m.eval placed
+made_placed (Some q) m stay placed = placed
+
+tried_placed : (o : Option Query) (m : MachineState Definitions) → StatesStayPlaced → AllPlaced m.eval
+    → AllPlaced (tried structured_calls o m).eval
+tried_placed None m stay placed = made_placed (asked_by structured_calls m.eval) m stay placed
+tried_placed (Some q) m stay placed = placed
+
 stays : (b : Bool) (m : MachineState Definitions) → StatesStayPlaced → AllPlaced m.eval
-    → AllPlaced (if b then moved structured_calls m else m).eval
-stays true m stay placed = stay.step m.eval placed
+    → AllPlaced (if b then tried structured_calls m.waiting m else m).eval
+stays true m stay placed = tried_placed m.waiting m stay placed
 stays false m stay placed = placed
+
+-- ---- an answer
+
+answer_flat : (o : Option Refusal) (answer : Answer) (m : MachineState Definitions) → StepsAgree → StatesStayPlaced
+    → AllPlaced m.eval
+    → answered_unless flat_calls o answer (flat_machine m) ≡ flat_machine (answered_unless structured_calls o answer m)
+answer_flat None answer m agree stay placed =
+    ap (λ (s : State Coding). record (flat_machine m) { eval = s; steps = m.steps + 1; waiting = None })
+    (ap (λ (t : State Coding). record t { reply = m.eval.reply })
+    (agree.step (replied answer m.eval) (stay.next (replied answer m.eval) placed)))
+answer_flat (Some e) answer m agree stay placed = refl
+
+answer_placed : (o : Option Refusal) (answer : Answer) (m : MachineState Definitions) → StatesStayPlaced
+    → AllPlaced m.eval → AllPlaced (answered_unless structured_calls o answer m).eval
+answer_placed None answer m stay placed = stay.step (replied answer m.eval) placed
+answer_placed (Some e) answer m stay placed = placed
 
 -- ---- events
 
@@ -83,12 +122,16 @@ event_flat : (e : Event) (m : MachineState Definitions) → StepsAgree → State
     → done_by flat_calls e (flat_machine m) ≡ flat_machine (done_by structured_calls e m)
 event_flat (Load image path) m agree stay placed = unless_flat (load_refusal m image path) m image path
 event_flat Step m agree stay placed = turned (can_step m) m agree stay placed
+event_flat (Answers answer) m agree stay placed =
+    answer_flat (answer_refusal m.waiting answer) answer m agree stay placed
 event_flat (Client call) m agree stay placed = refl
 
 event_placed : (e : Event) (m : MachineState Definitions) → StatesStayPlaced → AllPlaced m.eval
     → AllPlaced (done_by structured_calls e m).eval
 event_placed (Load image path) m stay placed = unless_placed (load_refusal m image path) m image path stay placed
 event_placed Step m stay placed = stays (can_step m) m stay placed
+event_placed (Answers answer) m stay placed =
+    answer_placed (answer_refusal m.waiting answer) answer m stay placed
 event_placed (Client call) m stay placed = placed
 
 all_placed : (es : List Event) (m : MachineState Definitions) → StatesStayPlaced → AllPlaced m.eval
@@ -108,45 +151,88 @@ events_agree (e ∷ es) m agree stay placed =
 
 -- ---- so many steps
 
-abbrev at : List Reply → State Coding → ℕ → MachineState Coding
-at r s n = record { eval = s; steps = n; replies = r }
+-- what a step that is made says of the state before
+pub made_runs : (s t : State Coding) → made flat_calls s ≡ Some t → s.flow.is_running ≡ true
+made_runs s t e = by_case s.flow.is_running e
+  where
+    by_case : (b : Bool)
+        → (if b && is_none (asked_by flat_calls s) then Some (stepped flat_calls s) else None) ≡ Some t → b ≡ true
+    by_case true h = refl
+    by_case false h = cc
 
-step_made : (r : List Reply) (n : ℕ) (s t : State Coding) (b : Bool) → s.flow.is_running ≡ b → n < 2 ^ 64 - 1
-    → ◌≡◌ {A = Option (State Coding)} (if b then Some (stepped flat_calls s) else None) (Some t)
-    → at r t (n + 1) ≡ done_by flat_calls Step (at r s n)
-step_made r n s t true e less h =
+pub made_quiet : (s t : State Coding) → made flat_calls s ≡ Some t → asked_by flat_calls s ≡ None
+made_quiet s t e =
+    by_case (asked_by flat_calls s) refl
+    (sym
+    (ap (λ b. if b && is_none (asked_by flat_calls s) then Some (stepped flat_calls s) else None) (made_runs s t e))
+    ∙ e)
+  where
+    by_case : (o : Option Query) → asked_by flat_calls s ≡ o
+        → (if is_none o then Some (stepped flat_calls s) else None) ≡ Some t → asked_by flat_calls s ≡ None
+    by_case None e h = e
+    by_case (Some q) e h = cc
+
+pub made_is : (s t : State Coding) → made flat_calls s ≡ Some t → stepped flat_calls s ≡ t
+made_is s t e = by_case (s.flow.is_running && is_none (asked_by flat_calls s)) e
+  where
+    by_case : (b : Bool) → (if b then Some (stepped flat_calls s) else None) ≡ Some t → stepped flat_calls s ≡ t
+    by_case true h = same_Some _ _ h
+    by_case false h = cc
+
+abbrev at : MachineState Coding → State Coding → ℕ → MachineState Coding
+at m s n = record m { eval = s; steps = n }
+
+step_made : (m : MachineState Coding) (n : ℕ) (s t : State Coding) → m.waiting ≡ None → n < 2 ^ 64 - 1
+    → made flat_calls s ≡ Some t → at m t (n + 1) ≡ done_by flat_calls Step (at m s n)
+step_made m n s t none less e =
     let counts : nat_lt n (2 ^ 64 - 1) ≡ true = grind (arith, nat_tests) in
-    let can : can_step (at r s n) ≡ true = ap (λ b. b && nat_lt n (2 ^ 64 - 1)) e ∙ counts in
-    ap (λ u. at r u (n + 1)) (sym (same_Some _ _ h))
-    ∙ ap (λ b. if b then moved flat_calls (at r s n) else at r s n) (sym can)
-step_made r n s t false e less h = cc
+    let can : can_step (at m s n) ≡ true = ap (λ b. b && nat_lt n (2 ^ 64 - 1)) (made_runs s t e) ∙ counts in
+    let x = at m s n in
+    ap (λ u. at m u (n + 1)) (sym (made_is s t e))
+    ∙ sym (ap (λ o. made_or_opened flat_calls o x) (made_quiet s t e))
+    ∙ ap (λ o. tried flat_calls o x) (sym none)
+    ∙ ap (λ b. if b then tried flat_calls x.waiting x else x) (sym can)
 
-step_after : (r : List Reply) (n : ℕ) (g : MachineState Coding) (o : Option (State Coding)) (t : State Coding)
-    → ((u : State Coding) → o ≡ Some u → at r u n ≡ g) → n < 2 ^ 64 - 1
-    → option_and_then (λ (s : State Coding). if s.flow.is_running then Some (stepped flat_calls s) else None) o ≡ Some t
-    → at r t (n + 1) ≡ done_by flat_calls Step g
-step_after r n g None t before less h = cc
-step_after r n g (Some u) t before less h =
-    step_made r n u t u.flow.is_running refl less h ∙ ap (done_by flat_calls Step) (before u refl)
+step_after : (m : MachineState Coding) (n : ℕ) (g : MachineState Coding) (o : Option (State Coding))
+    (t : State Coding) → ((u : State Coding) → o ≡ Some u → at m u n ≡ g) → m.waiting ≡ None → n < 2 ^ 64 - 1
+    → option_and_then (made flat_calls) o ≡ Some t → at m t (n + 1) ≡ done_by flat_calls Step g
+step_after m n g None t before none less h = cc
+step_after m n g (Some u) t before none less h =
+    step_made m n u t none less h ∙ ap (done_by flat_calls Step) (before u refl)
 
-steps_made : (r : List Reply) (k n : ℕ) (s t : State Coding) → n + k < 2 ^ 64 → steps_from flat_calls k s ≡ Some t
-    → at r t (n + k) ≡ after_events flat_calls (replicate k Step) (at r s n)
+steps_made : (m : MachineState Coding) (k n : ℕ) (s t : State Coding) → m.waiting ≡ None → n + k < 2 ^ 64
+    → steps_from flat_calls k s ≡ Some t
+    → at m t (n + k) ≡ after_events flat_calls (replicate k Step) (at m s n)
 unfolding steps_from after_events
-steps_made r zero n s t few h =
-    let none : n + 0 ≡ n = omega arith in ap (λ u. at r u (n + 0)) (sym (same_Some _ _ h)) ∙ ap (at r s) none
-steps_made r (suc k) n s t few h =
+steps_made m zero n s t none few h =
+    let same : n + 0 ≡ n = omega arith in ap (λ u. at m u (n + 0)) (sym (same_Some _ _ h)) ∙ ap (at m s) same
+steps_made m (suc k) n s t none few h =
     let more : n + suc k ≡ n + k + 1 = omega arith in
-    ap (at r t) more
-    ∙ step_after r (n + k) (after_events flat_calls (replicate k Step) (at r s n)) (steps_from flat_calls k s) t
-    (λ u e. steps_made r k n s u (omega arith) e) (omega arith) h
+    ap (at m t) more
+    ∙ step_after m (n + k) (after_events flat_calls (replicate k Step) (at m s n)) (steps_from flat_calls k s) t
+    (λ u e. steps_made m k n s u none (omega arith) e) none (omega arith) h
 
-moved_by_steps : (old new : MachineState Coding) → HasMoved old new → new.steps < 2 ^ 64
+-- no step is made
+pub stays_put : (m : MachineState Coding) → HasMoved m m
+unfolding steps_from
+stays_put m =
+    let none : m.steps - m.steps ≡ 0 = omega arith in
+    (omega arith, ap (λ n. steps_from flat_calls n m.eval) none, refl, refl, refl)
+
+-- what has moved is as it was but for these
+pub has_moved : (old new : MachineState Coding) → HasMoved old new
+    → new ≡ record old { eval = new.eval; steps = new.steps }
+has_moved old new h =
+    ap (λ r. record new { replies = r }) h.2 ∙ ap (λ r. record new { replies = old.replies; asked = r }) h.3
+    ∙ ap (λ r. record old { eval = new.eval; steps = new.steps; waiting = r }) h.4
+
+moved_by_steps : (old new : MachineState Coding) → old.waiting ≡ None → HasMoved old new → new.steps < 2 ^ 64
     → new ≡ after_events flat_calls (replicate (new.steps - old.steps) Step) old
-moved_by_steps old new h few =
+moved_by_steps old new none h few =
     let upto : old.steps ≤ new.steps = h.0 in
     let sum : old.steps + (new.steps - old.steps) ≡ new.steps = omega arith in
-    ap (λ r. at r new.eval new.steps) h.2 ∙ ap (at old.replies new.eval) (sym sum)
-    ∙ steps_made old.replies (new.steps - old.steps) old.steps old.eval new.eval (omega (arith, sum, few)) h.1
+    has_moved old new h ∙ ap (at old new.eval) (sym sum)
+    ∙ steps_made old (new.steps - old.steps) old.steps old.eval new.eval none (omega (arith, sum, few)) h.1
 
 pub calls_agree : StepsAgree → StatesStayPlaced → CallsAgree
 calls_agree agree stay = record {

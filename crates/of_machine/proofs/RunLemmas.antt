@@ -1,10 +1,10 @@
 -- Runs, turn by turn, over cells and over structure.
 use Rattle.std.proofs.Common.{◌≡◌, ◌⊎◌, inl, inr, ℕ, zero, suc, ◌+◌, Bool, true, false, List, [], ◌∷◌, length, Option}
-use Rattle.std.proofs.lemmas.Bool.{leb-false, leb-true}
+use Rattle.std.proofs.lemmas.Bool.{false≢true, leb-false, leb-true}
 use Rattle.std.proofs.lemmas.Option.{same_Some}
-use Rattle.std.proofs.Common.{Some, None, refl}
+use Rattle.std.proofs.Common.{Some, None, Result, Ok, Err, IfOk, refl}
 use Rattle.std.proofs.Common.{ap, sym, subst, ◌∙◌, add-one, nat_lt, nat_le, arith}
-use Rattle.std.specs.Prelude.{if◌then◌else◌, option_and_then, ◌<◌, ◌≤◌, ◌^◌, ◌-◌, ◌&&◌}
+use Rattle.std.specs.Prelude.{if◌then◌else◌, option_and_then, ◌<◌, ◌≤◌, ◌^◌, ◌-◌, ◌&&◌, drop, is_none, is_some}
 use Rattle.std.proofs.lemmas.Bool.Decides.{nat_tests}
 use Rattle.of_memory.specs.DataSpace.{DataSpace}
 use Rattle.of_memory.specs.Growth.{image_fits}
@@ -12,20 +12,27 @@ use Rattle.of_stream.specs.Image.{header_fault}
 use Rattle.of_compile.specs.Structured.{Definitions, flat_of}
 use Rattle.of_compile.specs.Coding.{Coding}
 use Rattle.of_eval.specs.State.{State, flat_calls}
-use Rattle.of_eval.specs.Steps.{stepped, steps_from}
+use Rattle.of_asking.specs.Questions.{fits}
+use Rattle.of_asking.specs.declared.query.Answer.{Answer}
+use Rattle.of_asking.specs.declared.query.Query.{Query}
+use Rattle.of_eval.specs.Steps.{answered as eval_answered, asked_by, made, replied, steps_from}
 use Rattle.of_eval.specs.Loading.{first_board, first_state}
-use Rattle.of_eval_laws.specs.Structured.{StepsAgree, structured_calls, no_definitions}
+use Rattle.of_eval_laws.specs.Structured.{StepsAgree, flat_state, structured_calls, no_definitions}
 use Rattle.of_eval_laws.specs.Placed.{AllPlaced, StatesStayPlaced}
 use Rattle.of_machine.specs.declared.answers.Refusal.{Refusal}
 use Rattle.of_machine.specs.declared.answers.Refusal.TheVariants.{ImageTooLong}
-use Rattle.of_machine.specs.declared.answers.End.TheVariants.{LimitReached, Done}
-use Rattle.of_machine.specs.States.{HasMoved, MachineState, can_step, flat_machine, idle, image_refusal, is_running}
-use Rattle.of_machine.specs.States.{loaded, moved, served, slot, start_refusal}
-use Rattle.of_machine.proofs.EventLemmas.{begun_flat}
+use Rattle.of_machine.specs.declared.answers.End.{End}
+use Rattle.of_machine.specs.declared.answers.End.TheVariants.{AnswersOut, Done, LimitReached}
+use Rattle.of_machine.specs.declared.answers.Progress.TheVariants.{Asks, Ended}
+use Rattle.of_machine.specs.declared.answers.Progress.TheVariants as progress
+use Rattle.of_machine.specs.States.{HasMoved, MachineState, Steps, answer_refusal, answered, can_step, fit_of}
+use Rattle.of_machine.specs.States.{flat_machine, goes_on, idle, image_refusal, is_running, loaded, made_or_opened}
+use Rattle.of_machine.specs.States.{moved, opened, question, served, slot, start_refusal, tried}
+use Rattle.of_machine.proofs.EventLemmas.{begun_flat, has_moved, made_is, made_quiet, made_runs}
 use Rattle.of_machine.proofs.FirstLemmas.{first_images}
-use Rattle.of_client.specs.Services.{Reply}
-use Rattle.of_machine.specs.Runs.{Due, Feed, HasCome, RunsAgree, RunsTo, States, WentOn, after, beginning, caught_up}
-use Rattle.of_machine.specs.Runs.{next, settled, with_calls}
+use Rattle.of_machine.specs.Runs.{AreLater, AreUpto, Due, Feed, HasGone, IsCalm, IsOut, IsOver, IsTold, RunsAgree}
+use Rattle.of_machine.specs.Runs.{RunsTo, States, after, asking, beginning, caught_up, fitting, next, next_answer}
+use Rattle.of_machine.specs.Runs.{settled, told, turned}
 
 -- ---- what is refused
 
@@ -53,33 +60,23 @@ fits_first image accepted =
 
 -- ---- clients
 
-pub none_left : {A : Type 0} (xs : List A) → length xs ≡ 0 → xs ≡ []
-none_left [] e = refl
-none_left (x ∷ xs) e = absurd cc
-
--- no client is to be answered before so many steps are made
-abbrev pub IsLater : ℕ → List Due → Type 0
-IsLater n [] = Unit {0}
-IsLater n (call ∷ calls) = n < call.0
-
 not_due : {S : Type 0} (m : MachineState S) (call : Due) (calls : List Due) (b : Bool) → nat_le call.0 m.steps ≡ b
     → m.steps < call.0
     → (if b then caught_up (served m call.1) calls else (m, call ∷ calls)) ≡ (m, call ∷ calls)
 not_due m call calls true e later = absurd (omega (arith, leb-true call.0 m.steps e, later))
 not_due m call calls false e later = refl
 
--- then none is answered
-none_due : {S : Type 0} (m : MachineState S) (calls : List Due) → IsLater m.steps calls
+-- none is answered that is to be later
+none_due : {S : Type 0} (m : MachineState S) (calls : List Due) → AreLater m.steps calls
     → caught_up m calls ≡ (m, calls)
 none_due m [] later = refl
 none_due m (call ∷ calls) later = not_due m call calls (nat_le call.0 m.steps) refl later
 
-abbrev with_left : MachineState Coding × List Due → Feed Coding
-with_left x = with_calls x.0 x.1
+abbrev left_with : {S : Type 0} → Feed S → MachineState S × List Due → Feed S
+left_with f x = record f { machine = x.0; calls = x.1 }
 
-rests : (m : MachineState Coding) (calls : List Due) → IsLater m.steps calls
-    → settled (with_calls m calls) ≡ with_calls m calls
-rests m calls later = ap with_left (none_due m calls later)
+pub rests : (f : Feed Coding) → AreLater f.machine.steps f.calls → settled f ≡ f
+rests f later = ap (left_with f) (none_due f.machine f.calls later)
 
 -- one that is to be answered now is
 one_due : (m : MachineState Coding) (call : Due) (calls : List Due) (b : Bool) → nat_le call.0 m.steps ≡ b
@@ -88,68 +85,93 @@ one_due : (m : MachineState Coding) (call : Due) (calls : List Due) (b : Bool) �
 one_due m call calls true e due = refl
 one_due m call calls false e due = absurd (omega (arith, leb-false call.0 m.steps e, due))
 
-pub answered : (m : MachineState Coding) (call : Due) (calls : List Due) → call.0 ≤ m.steps
-    → settled (with_calls m (call ∷ calls)) ≡ settled (with_calls (served m call.1) calls)
-answered m call calls due = ap with_left (one_due m call calls (nat_le call.0 m.steps) refl due)
+pub answers_one : (f g : Feed Coding) (call : Due) (calls : List Due) → f.calls ≡ call ∷ calls
+    → call.0 ≤ f.machine.steps → g ≡ record f { machine = served f.machine call.1; calls = calls }
+    → settled f ≡ settled g
+answers_one f g call calls e due same =
+    ap (λ x. left_with f (caught_up f.machine x)) e
+    ∙ ap (left_with f) (one_due f.machine call calls (nat_le call.0 f.machine.steps) refl due)
+    ∙ ap settled (sym same)
+
+-- clients see the machine as it was, but for their replies
+same_machine : (m : MachineState Coding) (calls : List Due)
+    → (caught_up m calls).0 ≡ record m { replies = (caught_up m calls).0.replies }
+same_machine m [] = refl
+same_machine m (call ∷ calls) = same_if (nat_le call.0 m.steps) m call calls (same_machine (served m call.1) calls)
+  where
+    same_if : (b : Bool) (m : MachineState Coding) (call : Due) (calls : List Due)
+        → (caught_up (served m call.1) calls).0
+        ≡ record m { replies = (caught_up (served m call.1) calls).0.replies }
+        → (if b then caught_up (served m call.1) calls else (m, call ∷ calls)).0
+        ≡ record m {
+          replies = (if b then caught_up (served m call.1) calls else (m, call ∷ calls)).0.replies;
+        }
+    same_if true m call calls h = h
+    same_if false m call calls h = refl
+
+pub same_steps : (f g : Feed Coding) → g ≡ settled f → g.machine.steps ≡ f.machine.steps
+same_steps f g e =
+    ap (λ (x : Feed Coding). x.machine.steps) e
+    ∙ ap (λ (m : MachineState Coding). m.steps) (same_machine f.machine f.calls)
+
+pub same_waiting : (f g : Feed Coding) → g ≡ settled f → g.machine.waiting ≡ f.machine.waiting
+same_waiting f g e =
+    ap (λ (x : Feed Coding). x.machine.waiting) e
+    ∙ ap (λ (m : MachineState Coding). m.waiting) (same_machine f.machine f.calls)
 
 -- ---- runs over cells
 
-abbrev at : List Reply → State Coding → ℕ → MachineState Coding
-at r s n = record { eval = s; steps = n; replies = r }
+abbrev at : Feed Coding → State Coding → ℕ → Feed Coding
+at f s n = record f { machine = record f.machine { eval = s; steps = n } }
 
--- one step more, where something runs
-turn_made : (r : List Reply) (calls : List Due) (n : ℕ) (s t : State Coding) (b : Bool) → s.flow.is_running ≡ b
-    → n < 2 ^ 64 - 1
-    → ◌≡◌ {A = Option (State Coding)} (if b then Some (stepped flat_calls s) else None) (Some t)
-    → settled (with_calls (at r t (n + 1)) calls) ≡ next flat_calls (with_calls (at r s n) calls)
+-- a turn from a feed with no question open
+pub turn : (f : Feed Coding) → can_step f.machine ≡ true → f.machine.waiting ≡ None
+    → next flat_calls f ≡ turned flat_calls (asked_by flat_calls f.machine.eval) f
 unfolding next
-turn_made r calls n s t true e less h =
+turn f can none = rw (can, none) refl
+
+-- one step more
+turn_made : (f : Feed Coding) (n : ℕ) (s t : State Coding) → f.machine.waiting ≡ None → n < 2 ^ 64 - 1
+    → made flat_calls s ≡ Some t → settled (at f t (n + 1)) ≡ next flat_calls (at f s n)
+turn_made f n s t none less e =
     let counts : nat_lt n (2 ^ 64 - 1) ≡ true = grind (arith, nat_tests) in
-    let can : can_step (at r s n) ≡ true = ap (λ b. b && nat_lt n (2 ^ 64 - 1)) e ∙ counts in
-    let f = with_calls (at r s n) calls in
-    ap (λ u. settled (with_calls (at r u (n + 1)) calls)) (sym (same_Some _ _ h))
-    ∙ ap (λ b. if b then settled (record f { machine = moved flat_calls (at r s n) }) else f) (sym can)
-turn_made r calls n s t false e less h = cc
+    let can : can_step (at f s n).machine ≡ true
+    = ap (λ b. b && nat_lt n (2 ^ 64 - 1)) (made_runs s t e) ∙ counts in
+    ap (λ u. settled (at f u (n + 1))) (sym (made_is s t e))
+    ∙ sym (ap (λ o. turned flat_calls o (at f s n)) (made_quiet s t e))
+    ∙ sym (turn (at f s n) can none)
 
--- one step more, after those before
-turn_after : (r : List Reply) (calls : List Due) (n : ℕ) (g : Feed Coding) (o : Option (State Coding))
-    (t : State Coding) → ((u : State Coding) → o ≡ Some u → settled (with_calls (at r u n) calls) ≡ g)
-    → IsLater n calls → n < 2 ^ 64 - 1
-    → option_and_then (λ (s : State Coding). if s.flow.is_running then Some (stepped flat_calls s) else None) o ≡ Some t
-    → settled (with_calls (at r t (n + 1)) calls) ≡ next flat_calls g
-turn_after r calls n g None t before later less h = cc
-turn_after r calls n g (Some u) t before later less h =
-    turn_made r calls n u t u.flow.is_running refl less h
-    ∙ ap (next flat_calls) (sym (rests (at r u n) calls later) ∙ before u refl)
+-- after those before
+turn_after : (f : Feed Coding) (n : ℕ) (g : Feed Coding) (o : Option (State Coding)) (t : State Coding)
+    → ((u : State Coding) → o ≡ Some u → settled (at f u n) ≡ g) → f.machine.waiting ≡ None
+    → AreLater n f.calls → n < 2 ^ 64 - 1 → option_and_then (made flat_calls) o ≡ Some t
+    → settled (at f t (n + 1)) ≡ next flat_calls g
+turn_after f n g None t before none later less h = cc
+turn_after f n g (Some u) t before none later less h =
+    turn_made f n u t none less h ∙ ap (next flat_calls) (sym (rests (at f u n) later) ∙ before u refl)
 
--- so many steps, before which no client is to be answered, are as many turns
-abbrev pub IsUpto : ℕ → List Due → Type 0
-IsUpto n [] = Unit {0}
-IsUpto n (call ∷ calls) = n ≤ call.0
-
-before_it : (n k : ℕ) (calls : List Due) → IsUpto (n + suc k) calls → IsLater (n + k) calls
+before_it : (n k : ℕ) (calls : List Due) → AreUpto (n + suc k) calls → AreLater (n + k) calls
 before_it n k [] h = tt
 before_it n k (call ∷ calls) h = omega (arith, h)
 
-one_less : (n k : ℕ) (calls : List Due) → IsUpto (n + suc k) calls → IsUpto (n + k) calls
+one_less : (n k : ℕ) (calls : List Due) → AreUpto (n + suc k) calls → AreUpto (n + k) calls
 one_less n k [] h = tt
 one_less n k (call ∷ calls) h = omega (arith, h)
 
-turns_made : (r : List Reply) (calls : List Due) (k n : ℕ) (s t : State Coding) → n + k < 2 ^ 64
-    → IsUpto (n + k) calls → steps_from flat_calls k s ≡ Some t
-    → settled (with_calls (at r t (n + k)) calls) ≡ after flat_calls k (settled (with_calls (at r s n) calls))
+-- so many steps, before which no client is to be answered, are as many turns
+turns_made : (f : Feed Coding) (k n : ℕ) (s t : State Coding) → f.machine.waiting ≡ None → n + k < 2 ^ 64
+    → AreUpto (n + k) f.calls → steps_from flat_calls k s ≡ Some t
+    → settled (at f t (n + k)) ≡ after flat_calls k (settled (at f s n))
 unfolding steps_from after
-turns_made r calls zero n s t few upto h =
-    let none : n + 0 ≡ n = omega arith in
-    ap (λ u. settled (with_calls (at r u (n + 0)) calls)) (sym (same_Some _ _ h))
-    ∙ ap (λ k. settled (with_calls (at r s k) calls)) none
-turns_made r calls (suc k) n s t few upto h =
+turns_made f zero n s t none few upto h =
+    let same : n + 0 ≡ n = omega arith in
+    ap (λ u. settled (at f u (n + 0))) (sym (same_Some _ _ h)) ∙ ap (λ k. settled (at f s k)) same
+turns_made f (suc k) n s t none few upto h =
     let more : n + suc k ≡ n + k + 1 = omega arith in
-    ap (λ k. settled (with_calls (at r t k) calls)) more
-    ∙ turn_after r calls (n + k) (after flat_calls k (settled (with_calls (at r s n) calls)))
-    (steps_from flat_calls k s) t
-    (λ u e. turns_made r calls k n s u (omega (arith, few)) (one_less n k calls upto) e)
-    (before_it n k calls upto) (omega (arith, few)) h
+    ap (λ k. settled (at f t k)) more
+    ∙ turn_after f (n + k) (after flat_calls k (settled (at f s n))) (steps_from flat_calls k s) t
+    (λ u e. turns_made f k n s u none (omega (arith, few)) (one_less n k f.calls upto) e) none
+    (before_it n k f.calls upto) (omega (arith, few)) h
 
 -- turns and then others
 turns_joined : (n k : ℕ) (f : Feed Coding) → after flat_calls k (after flat_calls n f) ≡ after flat_calls (n + k) f
@@ -159,56 +181,248 @@ turns_joined n (suc k) f =
     let more : suc (n + k) ≡ n + suc k = omega arith in
     ap (next flat_calls) (turns_joined n k f) ∙ ap (λ k. after flat_calls k f) more
 
-goes_on : (start : Feed Coding) (m new : MachineState Coding) (calls : List Due) → HasCome start m calls
-    → HasMoved m new → new.steps < 2 ^ 64 → IsUpto new.steps calls → HasCome start new calls
-goes_on start m new calls come went few upto =
-    let k = new.steps - m.steps in
-    let sum : m.steps + k ≡ new.steps = omega (arith, went.0) in
-    let turns = turns_made m.replies calls k m.steps m.eval new.eval (omega (arith, sum, few))
-    (subst (λ n. IsUpto n calls) (sym sum) upto) went.1 in
-    ap (λ n. after flat_calls n start) (sym sum) ∙ sym (turns_joined m.steps k start)
-    ∙ ap (after flat_calls k) come ∙ sym turns
-    ∙ ap (λ n. settled (with_calls (at m.replies new.eval n) calls)) sum
-    ∙ ap (λ r. settled (with_calls (at r new.eval new.steps) calls)) (sym went.2)
-
-pub serves : (start : Feed Coding) (m : MachineState Coding) (call : Due) (calls : List Due)
-    → HasCome start m (call ∷ calls) → call.0 ≤ m.steps → HasCome start (served m call.1) calls
-serves start m call calls come due = come ∙ answered m call calls due
-
-comes_to : (start : Feed Coding) (m : MachineState Coding) (calls : List Due) → HasCome start m calls
-    → IsLater m.steps calls → (after flat_calls m.steps start).machine ≡ m
-comes_to start m calls come later =
-    ap (λ (f : Feed Coding). f.machine) (come ∙ rests m calls later)
-
--- up to a client
-pub comes_on : (start : Feed Coding) (m new : MachineState Coding) (call : Due) (calls : List Due) (due : ℕ)
-    → call.0 ≡ due → HasMoved m new → new.steps < 2 ^ 64 → new.steps ≤ due → HasCome start m (call ∷ calls)
-    → HasCome start new (call ∷ calls)
-comes_on start m new call calls due same went few upto come =
-    goes_on start m new (call ∷ calls) come went few (omega (arith, same, upto))
-
-pub starts : (m : MachineState Coding) (calls : List Due) → m.steps ≡ 0
-    → HasCome (settled (with_calls m calls)) m calls
+one_turn : (k : ℕ) (f : Feed Coding) → after flat_calls (k + 1) f ≡ next flat_calls (after flat_calls k f)
 unfolding after
-starts m calls none = ap (λ n. after flat_calls n (settled (with_calls m calls))) none
+one_turn k f = rw add-one refl
+
+-- ---- a round
+
+-- steps that ask nothing, up to a client
+pub went : (f g : Feed Coding) (m : MachineState Coding) → IsCalm f → HasMoved f.machine m → m.steps < 2 ^ 64
+    → AreUpto m.steps f.calls → g ≡ record f { machine = m }
+    → after flat_calls (m.steps - f.machine.steps) f ≡ settled g
+went f g m calm moves few upto same =
+    let k = m.steps - f.machine.steps in
+    let n = f.machine.steps in
+    let sum : n + k ≡ m.steps = omega (arith, moves.0) in
+    let turns = turns_made f k n f.machine.eval m.eval calm.1 (omega (arith, sum, few))
+    (subst (λ x. AreUpto x f.calls) (sym sum) upto) moves.1 in
+    ap (after flat_calls k) (sym (rests f calm.0))
+    ∙ sym turns
+    ∙ ap (λ x. settled (at f m.eval x)) sum
+    ∙ ap (λ x. settled (record f { machine = x })) (sym (has_moved f.machine m moves))
+    ∙ ap settled (sym same)
+
+pub still_none : (f : Feed Coding) (m : MachineState Coding) → IsCalm f → HasMoved f.machine m → m.waiting ≡ None
+still_none f m calm moves = moves.4 ∙ calm.1
 
 -- before a client that isn't reached
-pub stops : (limit : ℕ) (old m : MachineState Coding) (all calls : List Due) (call : Due)
-    → HasCome (settled (with_calls old all)) m (call ∷ calls) → m.steps < call.0 → m.steps ≤ limit
-    → (m.steps ≡ limit) ⊎ (can_step m ≡ false) → WentOn limit old all m
-stops limit old m all calls call come later few why =
-    (comes_to (settled (with_calls old all)) m (call ∷ calls) come later, few, why)
+pub later_than : (n until : ℕ) (calls : List Due) → AreUpto until calls → n < until → AreLater n calls
+later_than n until [] upto less = tt
+later_than n until (call ∷ calls) upto less = omega (arith, upto, less)
 
--- behind all of them
-pub finishes : (limit : ℕ) (old m new : MachineState Coding) (all : List Due)
-    → HasCome (settled (with_calls old all)) m [] → HasMoved m new → limit < 2 ^ 64 → new.steps ≤ limit
-    → (new.steps ≡ limit) ⊎ (can_step new ≡ false) → WentOn limit old all new
-finishes limit old m new all come went small few why = (
-  comes_to (settled (with_calls old all)) new []
-      (goes_on (settled (with_calls old all)) m new [] come went (omega (arith, small, few)) tt) tt,
-  few,
-  why,
-)
+pub fewer_upto : (n until : ℕ) (calls : List Due) → AreUpto until calls → n ≤ until → AreUpto n calls
+fewer_upto n until [] upto less = tt
+fewer_upto n until (call ∷ calls) upto less = omega (arith, upto, less)
+
+-- the turn of a step that asks
+pub asks_then : (f : Feed Coding) (q : Query) (o : Option Answer) → can_step f.machine ≡ true
+    → f.machine.waiting ≡ None → asked_by flat_calls f.machine.eval ≡ Some q → fitting q f.answers ≡ o
+    → next flat_calls f ≡ told flat_calls o (asking q f)
+asks_then f q o can none asks fit =
+    turn f can none ∙ ap (λ x. turned flat_calls x f) asks ∙ ap (λ x. told flat_calls x (asking q f)) fit
+
+-- ---- the next answer
+
+fits_by : (b : Bool) (answer : Answer) → fit_of b ≡ None
+    → ◌≡◌ {A = Option Answer} (if b then Some answer else None) (Some answer)
+fits_by true answer h = refl
+fits_by false answer h = cc
+
+-- one that isn't refused is the next
+pub is_next : (o : Option Query) (answer : Answer) (all rest : List Answer) → all ≡ answer ∷ rest
+    → answer_refusal o answer ≡ None → next_answer o all ≡ Some answer
+is_next None answer all rest e h = cc
+is_next (Some q) answer all rest e h = ap (fitting q) e ∙ fits_by (fits q answer) answer h
+
+pub is_told : (f g new : Feed Coding) (m : MachineState Coding) (answer : Answer) (rest : List Answer)
+    → f.answers ≡ answer ∷ rest → answer_refusal f.machine.waiting answer ≡ None
+    → m ≡ answered flat_calls answer f.machine → g ≡ record f { machine = m; answers = rest } → new ≡ settled g
+    → AreLater new.machine.steps new.calls → IsTold f new
+is_told f g new m answer rest split accepted moved same e later =
+    let left : rest ≡ drop 1 f.answers = sym (ap (drop 1) split) in (
+      answer,
+      is_next f.machine.waiting answer f.answers rest split accepted,
+      e ∙ ap settled
+          (same ∙ ap (λ x. record f { machine = x; answers = rest }) moved
+          ∙ ap (λ x. record f { machine = answered flat_calls answer f.machine; answers = x }) left),
+      (
+        later,
+        same_waiting g new e ∙ ap (λ (x : Feed Coding). x.machine.waiting) same
+            ∙ ap (λ (x : MachineState Coding). x.waiting) moved,
+      ),
+    )
+
+-- behind steps that ask nothing
+pub turn_behind : (f g n : Feed Coding) (k : ℕ) → after flat_calls k f ≡ g → next flat_calls g ≡ n
+    → after flat_calls (k + 1) f ≡ n
+turn_behind f g n k before e = one_turn k f ∙ ap (next flat_calls) before ∙ e
+
+-- a step that asks, where no question is open
+opens : (m n : MachineState Coding) (q : Query) → m.waiting ≡ None → Steps (Asks q) m n
+    → (asked_by flat_calls m.eval ≡ Some q) × (n ≡ opened q m)
+opens m n q none s =
+    let asks : asked_by flat_calls m.eval ≡ Some q = ap (λ o. question flat_calls o m) (sym none) ∙ s.1 in (
+      asks,
+      s.2 ∙ ap (λ o. tried flat_calls o m) none ∙ ap (λ o. made_or_opened flat_calls o m) asks,
+    )
+
+-- up to a client, or to the limit
+pub reaches : (f g new : Feed Coding) (m : MachineState Coding) (until : ℕ) → IsCalm f → HasMoved f.machine m
+    → m.steps < 2 ^ 64 → m.steps ≡ until → AreUpto until f.calls → g ≡ record f { machine = m } → new ≡ settled g
+    → AreLater new.machine.steps new.calls → HasGone f new
+reaches f g new m until calm moves few at upto same e later =
+    let made : new.machine.steps ≡ m.steps =
+    same_steps g new e ∙ ap (λ (x : Feed Coding). x.machine.steps) same in (
+      omega (arith, moves.0, made),
+      ap (λ n. after flat_calls (n - f.machine.steps) f) made
+          ∙ went f g m calm moves few (subst (λ n. AreUpto n f.calls) (sym at) upto) same ∙ sym e,
+      (
+        later,
+        same_waiting g new e ∙ ap (λ (x : Feed Coding). x.machine.waiting) same ∙ still_none f m calm moves,
+      ),
+    )
+
+-- steps that ask nothing, before a client that isn't reached
+goes : (f : Feed Coding) (m : MachineState Coding) (until : ℕ) → IsCalm f → HasMoved f.machine m → m.steps < 2 ^ 64
+    → m.steps < until → AreUpto until f.calls
+    → after flat_calls (m.steps - f.machine.steps) f ≡ record f { machine = m }
+goes f m until calm moves few less upto =
+    let g : Feed Coding = record f { machine = m } in
+    went f g m calm moves few (fewer_upto m.steps until f.calls upto (omega (arith, less))) refl
+    ∙ rests g (later_than m.steps until f.calls upto less)
+
+-- and then one that asks, with its answer
+pub asks_on : (f g new : Feed Coding) (m n : MachineState Coding) (q : Query) (until : ℕ) → IsCalm f
+    → HasMoved f.machine m → m.steps < 2 ^ 64 → m.steps < until → AreUpto until f.calls → Steps (Asks q) m n
+    → g ≡ record f { machine = n } → IsTold g new → HasGone f new × (new.machine.steps ≡ m.steps + 1)
+asks_on f g new m n q until calm moves few less upto asks same told_so =
+    let none : m.waiting ≡ None = still_none f m calm moves in
+    let f1 : Feed Coding = record f { machine = m } in
+    let so = opens m n q none asks in
+    let there : g ≡ asking q f1 = same ∙ ap (λ x. record f { machine = x }) so.1 in
+    let answer = told_so.0 in
+    let fit : fitting q f.answers ≡ Some answer =
+    ap (λ (x : Feed Coding). next_answer x.machine.waiting x.answers) (sym there) ∙ told_so.1 in
+    let turned_so : next flat_calls f1 ≡ new =
+    asks_then f1 q (Some answer) asks.0 none so.0 fit ∙ ap (told flat_calls (Some answer)) (sym there)
+    ∙ sym told_so.2 in
+    let with_it : Feed Coding =
+    record g { machine = answered flat_calls answer g.machine; answers = drop 1 g.answers } in
+    let made : new.machine.steps ≡ m.steps + 1 =
+    same_steps with_it new told_so.2 ∙ ap (λ (x : Feed Coding). x.machine.steps + 1) there in
+    let k : m.steps - f.machine.steps + 1 ≡ new.machine.steps - f.machine.steps = omega (arith, made, moves.0) in (
+      (
+        omega (arith, made, moves.0),
+        ap (λ x. after flat_calls x f) (sym k)
+            ∙ turn_behind f f1 new (m.steps - f.machine.steps) (goes f m until calm moves few less upto) turned_so,
+        told_so.3,
+      ),
+      made,
+    )
+
+-- or without one
+pub asks_out : (f g new : Feed Coding) (m n : MachineState Coding) (q : Query) (until limit : ℕ) → IsCalm f
+    → HasMoved f.machine m → m.steps < 2 ^ 64 → m.steps < until → until ≤ limit → AreUpto until f.calls
+    → Steps (Asks q) m n → g ≡ record f { machine = n } → IsOut g new → IsOver limit f new
+asks_out f g new m n q until limit calm moves few less within upto asks same out =
+    let none : m.waiting ≡ None = still_none f m calm moves in
+    let f1 : Feed Coding = record f { machine = m } in
+    let so = opens m n q none asks in
+    let there : g ≡ asking q f1 = same ∙ ap (λ x. record f { machine = x }) so.1 in
+    let fit : fitting q f.answers ≡ None =
+    ap (λ (x : Feed Coding). next_answer x.machine.waiting x.answers) (sym there) ∙ out.0 in
+    let last : new ≡ asking q f1 = out.1 ∙ there in
+    let turned_so : next flat_calls f1 ≡ new = asks_then f1 q None asks.0 none so.0 fit ∙ sym last in
+    let made : new.machine.steps ≡ m.steps = ap (λ (x : Feed Coding). x.machine.steps) last in
+    let k : m.steps - f.machine.steps + 1 ≡ new.machine.steps - f.machine.steps + 1 = omega (arith, made, moves.0) in
+    inr (
+      omega (arith, made, moves.0),
+      omega (arith, made, less, within),
+      ap (λ (x : Feed Coding). is_some x.machine.waiting) last,
+      ap (λ x. after flat_calls x f) (sym k)
+          ∙ turn_behind f f1 new (m.steps - f.machine.steps) (goes f m until calm moves few less upto) turned_so,
+    )
+
+-- or none that can be made
+pub stands : (f new : Feed Coding) (m n : MachineState Coding) (until limit : ℕ) → IsCalm f → HasMoved f.machine m
+    → m.steps < 2 ^ 64 → m.steps < until → until ≤ limit → AreUpto until f.calls → Steps Ended m n
+    → new ≡ record f { machine = n } → IsOver limit f new
+stands f new m n until limit calm moves few less within upto ended same =
+    let last : new ≡ record f { machine = m } = same ∙ ap (λ x. record f { machine = x }) ended.1 in
+    let made : new.machine.steps ≡ m.steps = ap (λ (x : Feed Coding). x.machine.steps) last in
+    inl (
+      (
+        omega (arith, made, moves.0),
+        ap (λ n. after flat_calls (n - f.machine.steps) f) made ∙ goes f m until calm moves few less upto
+            ∙ sym last,
+        subst IsCalm (sym last) (later_than m.steps until f.calls upto less, still_none f m calm moves),
+      ),
+      omega (arith, made, less, within),
+      inr (ap (λ (x : Feed Coding). can_step x.machine) last ∙ ended.0),
+    )
+
+-- so many steps can be made at least as were
+pub until_after : (n until limit : ℕ) → n ≤ limit → until ≤ limit → (until < limit → n < until) → n ≤ until
+until_after n until limit few upto due = by_case (nat_lt until limit) refl
+  where
+    by_case : (b : Bool) → nat_lt until limit ≡ b → n ≤ until
+    by_case true e = omega (arith, due (leb-true (suc until) limit e))
+    by_case false e = omega (arith, leb-false (suc until) limit e, few)
+
+-- where fewer steps were made than could be, none is made now
+pub rests_so : (m : MachineState Coding) (n until : ℕ) → n ≤ until
+    → (m.steps ≡ n + (until - n)) ⊎ (goes_on flat_calls m ≡ false) → m.steps < until → goes_on flat_calls m ≡ false
+rests_so m n until upto (inl e) less = absurd (omega (arith, upto, e, less))
+rests_so m n until upto (inr e) less = e
+
+pub if_so : {E : Type 0} (r : Result Bool E) (P Q : Bool → Type 0) → ((b : Bool) → P b → Q b) → IfOk r P → IfOk r Q
+if_so (Ok b) P Q f h = f b h
+if_so (Err e) P Q f h = tt
+
+-- a step isn't made where it was said that none is
+pub not_made : (m n : MachineState Coding) → goes_on flat_calls m ≡ false → Steps progress.Done m n → ⊥
+not_made m n stays made =
+    false≢true
+    (sym stays ∙ ap (λ b. b && is_none (question flat_calls m.waiting m)) made.0 ∙ ap (λ o. is_none o) made.1)
+
+-- ---- rounds
+
+pub none_gone : (f : Feed Coding) → IsCalm f → HasGone f f
+unfolding after
+none_gone f calm =
+    let none : f.machine.steps - f.machine.steps ≡ 0 = omega arith in
+    (omega arith, ap (λ n. after flat_calls n f) none, calm)
+
+sums : (a b c : ℕ) → a ≤ b → b ≤ c → (b - a) + (c - b) ≡ c - a
+sums a b c ab bc = omega (arith, ab, bc)
+
+pub gone_on : (f g h : Feed Coding) → HasGone f g → HasGone g h → HasGone f h
+gone_on f g h before behind =
+    let k = g.machine.steps - f.machine.steps in
+    let l = h.machine.steps - g.machine.steps in
+    let sum : k + l ≡ h.machine.steps - f.machine.steps
+    = sums f.machine.steps g.machine.steps h.machine.steps before.0 behind.0 in (
+      omega (arith, before.0, behind.0),
+      ap (λ n. after flat_calls n f) (sym sum) ∙ sym (turns_joined k l f)
+          ∙ ap (after flat_calls l) before.1 ∙ behind.1,
+      behind.2,
+    )
+
+pub over_behind : (limit : ℕ) (f g h : Feed Coding) → HasGone f g → IsOver limit g h → IsOver limit f h
+over_behind limit f g h before (inl x) = inl (gone_on f g h before x.0, x.1, x.2)
+over_behind limit f g h before (inr x) =
+    let k = g.machine.steps - f.machine.steps in
+    let l = h.machine.steps - g.machine.steps in
+    let sum : k + (l + 1) ≡ h.machine.steps - f.machine.steps + 1 =
+    omega (arith, sums f.machine.steps g.machine.steps h.machine.steps before.0 x.0) in
+    inr (
+      omega (arith, before.0, x.0),
+      x.1,
+      x.2,
+      ap (λ n. after flat_calls n f) (sym sum) ∙ sym (turns_joined k (l + 1) f)
+          ∙ ap (after flat_calls (l + 1)) before.1 ∙ x.3,
+    )
 
 -- nothing runs, or a run stops at its limit
 stopped : (m : MachineState Coding) (limit : ℕ) → limit < 2 ^ 64 → m.steps ≤ limit → is_running m ≡ true
@@ -258,38 +472,89 @@ same_eval m (call ∷ calls) = same_if (nat_le call.0 m.steps) m call calls (sam
 still_placed : (f : Feed Definitions) → AllPlaced f.machine.eval → AllPlaced (settled f).machine.eval
 still_placed f placed = subst (λ s. AllPlaced s) (sym (same_eval f.machine f.calls)) placed
 
-turned : (b : Bool) (f : Feed Definitions) → StepsAgree → StatesStayPlaced → AllPlaced f.machine.eval →
-    (if b then settled (record (flat_feed f) { machine = moved flat_calls (flat_machine f.machine) }) else flat_feed f)
-    ≡ flat_feed (if b then settled (record f { machine = moved structured_calls f.machine }) else f)
-turned true f agree stay placed =
+-- a turn without a question, and one with its answer, if there is one
+moved_flat : (f : Feed Definitions) → StepsAgree → StatesStayPlaced → AllPlaced f.machine.eval
+    → settled (record (flat_feed f) { machine = moved flat_calls (flat_machine f.machine) })
+    ≡ flat_feed (settled (record f { machine = moved structured_calls f.machine }))
+moved_flat f agree stay placed =
     ap (λ (s : State Coding). settled (record (flat_feed f) {
-      machine = record { eval = s; steps = f.machine.steps + 1; replies = f.machine.replies };
+      machine = record (flat_machine f.machine) { eval = s; steps = f.machine.steps + 1 };
     }))
-    (agree f.machine.eval (stay.next f.machine.eval placed))
+    (agree.step f.machine.eval (stay.next f.machine.eval placed))
     ∙ settled_flat (record f { machine = moved structured_calls f.machine })
-turned false f agree stay placed = refl
+
+pub answered_flat : (answer : Answer) (s : State Definitions) → StepsAgree → StatesStayPlaced → AllPlaced s
+    → eval_answered flat_calls answer (flat_state s) ≡ flat_state (eval_answered structured_calls answer s)
+answered_flat answer s agree stay placed =
+    ap (λ (t : State Coding). record t { reply = s.reply })
+    (agree.step (replied answer s) (stay.next (replied answer s) placed))
+
+told_flat : (o : Option Answer) (f : Feed Definitions) → StepsAgree → StatesStayPlaced → AllPlaced f.machine.eval
+    → told flat_calls o (flat_feed f) ≡ flat_feed (told structured_calls o f)
+told_flat None f agree stay placed = refl
+told_flat (Some answer) f agree stay placed =
+    ap (λ (s : State Coding). settled (record (flat_feed f) {
+      machine = record (flat_machine f.machine) { eval = s; steps = f.machine.steps + 1; waiting = None };
+      answers = drop 1 f.answers;
+    }))
+    (answered_flat answer f.machine.eval agree stay placed)
+    ∙ settled_flat (record f { machine = answered structured_calls answer f.machine; answers = drop 1 f.answers })
+
+question_flat : (o : Option Query) (f : Feed Definitions) → StepsAgree → StatesStayPlaced → AllPlaced f.machine.eval
+    → turned flat_calls o (flat_feed f) ≡ flat_feed (turned structured_calls o f)
+question_flat None f agree stay placed = moved_flat f agree stay placed
+question_flat (Some q) f agree stay placed = told_flat (fitting q f.answers) (asking q f) agree stay placed
+
+turned_flat : (b : Bool) (f : Feed Definitions) → StepsAgree → StatesStayPlaced → AllPlaced f.machine.eval →
+    (if b then turned flat_calls (asked_by flat_calls (flat_state f.machine.eval)) (flat_feed f) else flat_feed f)
+    ≡ flat_feed (if b then turned structured_calls (asked_by structured_calls f.machine.eval) f else f)
+turned_flat true f agree stay placed =
+    ap (λ o. turned flat_calls o (flat_feed f))
+    (agree.asks f.machine.eval (stay.next f.machine.eval placed))
+    ∙ question_flat (asked_by structured_calls f.machine.eval) f agree stay placed
+turned_flat false f agree stay placed = refl
+
+pub answered_placed : (answer : Answer) (s : State Definitions) → StatesStayPlaced → AllPlaced s
+    → AllPlaced (eval_answered structured_calls answer s)
+answered_placed answer s stay placed = stay.step (replied answer s) placed
+
+told_placed : (o : Option Answer) (f : Feed Definitions) → StatesStayPlaced → AllPlaced f.machine.eval
+    → AllPlaced (told structured_calls o f).machine.eval
+told_placed None f stay placed = placed
+told_placed (Some answer) f stay placed =
+    still_placed (record f { machine = answered structured_calls answer f.machine; answers = drop 1 f.answers })
+    (answered_placed answer f.machine.eval stay placed)
+
+question_placed : (o : Option Query) (f : Feed Definitions) → StatesStayPlaced → AllPlaced f.machine.eval
+    → AllPlaced (turned structured_calls o f).machine.eval
+question_placed None f stay placed =
+    still_placed (record f { machine = moved structured_calls f.machine }) (stay.step f.machine.eval placed)
+question_placed (Some q) f stay placed = told_placed (fitting q f.answers) (asking q f) stay placed
 
 stays : (b : Bool) (f : Feed Definitions) → StatesStayPlaced → AllPlaced f.machine.eval →
-    AllPlaced (if b then settled (record f { machine = moved structured_calls f.machine }) else f).machine.eval
-stays true f stay placed =
-    still_placed (record f { machine = moved structured_calls f.machine }) (stay.step f.machine.eval placed)
+    AllPlaced (if b then turned structured_calls (asked_by structured_calls f.machine.eval) f else f).machine.eval
+stays true f stay placed = question_placed (asked_by structured_calls f.machine.eval) f stay placed
 stays false f stay placed = placed
+
+abbrev turns : Feed Definitions → Bool
+turns f = can_step f.machine && is_none f.machine.waiting
 
 all_placed : (n : ℕ) (f : Feed Definitions) → StatesStayPlaced → AllPlaced f.machine.eval
     → AllPlaced (after structured_calls n f).machine.eval
 unfolding after next
 all_placed zero f stay placed = placed
 all_placed (suc n) f stay placed =
-    stays (can_step (after structured_calls n f).machine) (after structured_calls n f) stay (all_placed n f stay placed)
+    let g = after structured_calls n f in
+    stays (turns g) g stay (all_placed n f stay placed)
 
 feeds_agree : (n : ℕ) (f : Feed Definitions) → StepsAgree → StatesStayPlaced → AllPlaced f.machine.eval
     → after flat_calls n (flat_feed f) ≡ flat_feed (after structured_calls n f)
 unfolding after next
 feeds_agree zero f agree stay placed = refl
 feeds_agree (suc n) f agree stay placed =
+    let g = after structured_calls n f in
     ap (next flat_calls) (feeds_agree n f agree stay placed)
-    ∙ turned (can_step (after structured_calls n f).machine) (after structured_calls n f) agree stay
-    (all_placed n f stay placed)
+    ∙ turned_flat (turns g) g agree stay (all_placed n f stay placed)
 
 pub runs_agree : StepsAgree → StatesStayPlaced → RunsAgree
 runs_agree agree stay image lines answers calls n =
@@ -298,7 +563,7 @@ runs_agree agree stay image lines answers calls n =
     record { machine = loaded (idle no_definitions) image slot; lines = lines; answers = answers; calls = calls } in
     let from : beginning (flat_of no_definitions) image lines answers calls ≡ flat_feed (settled begun) =
     ap (λ s. settled (record {
-      machine = record { eval = s; steps = 0; replies = [] };
+      machine = record { eval = s; steps = 0; replies = []; asked = []; waiting = None };
       lines = lines;
       answers = answers;
       calls = calls;
@@ -310,18 +575,49 @@ runs_agree agree stay image lines answers calls n =
     (feeds_agree n (settled begun) agree stay (still_placed begun (stay.begun image slot first stay.first)))
 
 -- a run as `run_script` makes it, and its end
-ends : (b : Bool) (image : List ℕ) (calls : List Due) (limit : ℕ) (m : MachineState Coding) → is_running m ≡ b
-    → m ≡ flat_machine (States image [] [] calls m.steps) → m.steps ≤ limit → limit < 2 ^ 64
-    → (m.steps ≡ limit) ⊎ (can_step m ≡ false)
-    → RunsTo image [] [] calls limit m (if b then LimitReached else Done)
-ends true image calls limit m runs same few small why = (same, runs, stopped m limit small few runs why)
-ends false image calls limit m runs same few small why = (same, runs, few)
+abbrev pub end_of : Option Query → Bool → End
+end_of (Some q) runs = AnswersOut
+end_of None runs = if runs then LimitReached else Done
 
-pub run_ends : RunsAgree → (image : List ℕ) (calls : List Due) (limit : ℕ) (start m : MachineState Coding)
-    → start ≡ loaded (flat_machine (idle no_definitions)) image slot → limit < 2 ^ 64 → WentOn limit start calls m
-    → RunsTo image [] [] calls limit m (if is_running m then LimitReached else Done)
-run_ends agree image calls limit start m e small went =
-    let same : m ≡ flat_machine (States image [] [] calls m.steps) =
-    sym went.0 ∙ ap (λ s. (after flat_calls m.steps (settled (with_calls s calls))).machine) e
-    ∙ agree image [] [] calls m.steps in
-    ends (is_running m) image calls limit m refl same went.1 small went.2
+ends : (b : Bool) (image : List ℕ) (answers : List Answer) (calls : List Due) (limit : ℕ) (m : MachineState Coding)
+    → is_running m ≡ b → m ≡ flat_machine (States image [] answers calls m.steps) → m.steps ≤ limit
+    → limit < 2 ^ 64 → (m.steps ≡ limit) ⊎ (can_step m ≡ false) → m.waiting ≡ None
+    → RunsTo image [] answers calls limit m (if b then LimitReached else Done)
+ends true image answers calls limit m runs same few small why none =
+    (same, runs, stopped m limit small few runs why, none)
+ends false image answers calls limit m runs same few small why none = (same, runs, few)
+
+-- so many turns from the beginning
+reached : RunsAgree → (image : List ℕ) (answers : List Answer) (calls : List Due) (n : ℕ) (start f : Feed Coding)
+    → start ≡ beginning (flat_of no_definitions) image [] answers calls → after flat_calls n start ≡ f
+    → f.machine ≡ flat_machine (States image [] answers calls n)
+reached agree image answers calls n start f e h =
+    ap (λ (x : Feed Coding). x.machine) (sym h ∙ ap (after flat_calls n) e) ∙ agree image [] answers calls n
+
+pub run_ends : RunsAgree → (image : List ℕ) (answers : List Answer) (calls : List Due) (limit : ℕ)
+    (start f : Feed Coding) → start ≡ beginning (flat_of no_definitions) image [] answers calls → limit < 2 ^ 64
+    → start.machine.steps ≡ 0 → IsOver limit start f
+    → RunsTo image [] answers calls limit f.machine (end_of f.machine.waiting (is_running f.machine))
+run_ends agree image answers calls limit start f e small none (inl x) =
+    let m = f.machine in
+    let n : m.steps - start.machine.steps ≡ m.steps = omega (arith, none) in
+    let turns : after flat_calls m.steps start ≡ f = ap (λ k. after flat_calls k start) (sym n) ∙ x.0.1 in
+    let same : m ≡ flat_machine (States image [] answers calls m.steps)
+    = reached agree image answers calls m.steps start f e turns in
+    let quiet : m.waiting ≡ None = x.0.2.1 in
+    subst (λ o. RunsTo image [] answers calls limit m (end_of o (is_running m))) (sym quiet)
+    (ends (is_running m) image answers calls limit m refl same x.1 small x.2 quiet)
+run_ends agree image answers calls limit start f e small none (inr x) =
+    let m = f.machine in
+    let n : m.steps - start.machine.steps + 1 ≡ m.steps + 1 = omega (arith, none) in
+    let turns : after flat_calls (m.steps + 1) start ≡ f = ap (λ k. after flat_calls k start) (sym n) ∙ x.3 in
+    let same : m ≡ flat_machine (States image [] answers calls (m.steps + 1))
+    = reached agree image answers calls (m.steps + 1) start f e turns in
+    by_question m.waiting refl x.2 same x.1
+  where
+    by_question : (o : Option Query) → f.machine.waiting ≡ o → is_some o ≡ true
+        → f.machine ≡ flat_machine (States image [] answers calls (f.machine.steps + 1))
+        → f.machine.steps < limit
+        → RunsTo image [] answers calls limit f.machine (end_of o (is_running f.machine))
+    by_question None e h same few = cc
+    by_question (Some q) e h same few = (same, ap is_some e, few)

@@ -1,16 +1,20 @@
 -- Runs: a machine with what is still to be handed in to it, turn by turn.
-use Rattle.std.specs.Prelude.{◌≡◌, ◌⊎◌, ℕ, zero, suc, ◌≤◌, nat_le, List, [], ◌∷◌, true, false, if◌then◌else◌}
+use Rattle.std.specs.Prelude.{◌≡◌, ◌⊎◌, ℕ, zero, suc, ◌+◌, ◌-◌, ◌≤◌, ◌<◌, nat_le, List, [], ◌∷◌, drop, true, false}
+use Rattle.std.specs.Prelude.{Option, Some, None, is_none, is_some, ◌&&◌, if◌then◌else◌}
+use Rattle.of_asking.specs.Questions.{fits}
+use Rattle.of_asking.specs.declared.query.Answer.{Answer}
+use Rattle.of_asking.specs.declared.query.Query.{Query}
 use Rattle.of_compile.specs.Coding.{Coding}
 use Rattle.of_compile.specs.Structured.{Definitions, flat_of}
 use Rattle.of_eval.specs.State.{Calls, flat_calls}
+use Rattle.of_eval.specs.Steps.{asked_by}
 use Rattle.of_eval_laws.specs.Structured.{structured_calls, no_definitions}
-use Rattle.of_machine.specs.declared.answers.Answer.{Answer}
 use Rattle.of_client.specs.Services.{Service, service_of}
 use Rattle.of_client.specs.declared.calls.ClientCall.{ClientCall}
 use Rattle.of_machine.specs.declared.answers.End.{End}
-use Rattle.of_machine.specs.declared.answers.End.TheVariants.{Done, LimitReached}
-use Rattle.of_machine.specs.States.{MachineState, can_step, flat_machine, idle, is_running, loaded, moved, served}
-use Rattle.of_machine.specs.States.{slot}
+use Rattle.of_machine.specs.declared.answers.End.TheVariants.{AnswersOut, Done, LimitReached}
+use Rattle.of_machine.specs.States.{MachineState, answered, can_step, flat_machine, idle, is_running, loaded, moved}
+use Rattle.of_machine.specs.States.{opened, served, slot}
 
 -- what a client asks once so many steps are made
 abbrev pub Due : Type 0
@@ -19,7 +23,7 @@ Due = ℕ × Service
 abbrev pub due_of : ℕ × ClientCall → Due
 due_of call = (call.0, service_of call.1)
 
--- a machine, and what clients ask, the console lines and the answers that are left; nothing takes the last two yet
+-- a machine, and what clients ask, the answers and the console lines that are left; nothing takes the last yet
 pub record Feed (S : Type 0) : Type 0 where
   pub machine : MachineState S
   pub lines : List (List ℕ)
@@ -43,9 +47,30 @@ beginning code image lines answers calls =
     settled
     (record { machine = loaded (idle code) image slot; lines = lines; answers = answers; calls = calls })
 
--- one turn of a run: a step, where one can be made, and the clients that are to be answered behind it
+-- the next answer, if it fits
+abbrev pub fitting : Query → List Answer → Option Answer
+fitting q [] = None
+fitting q (answer ∷ answers) = if fits q answer then Some answer else None
+
+-- the step whose question is open is made with the next answer, or the question stays open
+abbrev pub told : {S : Type 0} → Calls S → Option Answer → Feed S → Feed S
+told c (Some answer) f = settled (record f { machine = answered c answer f.machine; answers = drop 1 f.answers })
+told c None f = f
+
+-- a step asks
+abbrev pub asking : {S : Type 0} → Query → Feed S → Feed S
+asking q f = record f { machine = opened q f.machine }
+
+-- a turn, by the question of its step, if that asks
+abbrev pub turned : {S : Type 0} → Calls S → Option Query → Feed S → Feed S
+turned c None f = settled (record f { machine = moved c f.machine })
+turned c (Some q) f = told c (fitting q f.answers) (asking q f)
+
+-- One turn of a run: a step, where one can be made and no question is open, and the clients that are to be answered
+-- behind it.
 unfoldable pub next : {S : Type 0} → Calls S → Feed S → Feed S
-next c f = if can_step f.machine then settled (record f { machine = moved c f.machine }) else f
+next c f =
+    if can_step f.machine && is_none f.machine.waiting then turned c (asked_by c f.machine.eval) f else f
 
 -- the run after n turns
 unfoldable pub after : {S : Type 0} → Calls S → ℕ → Feed S → Feed S
@@ -53,33 +78,69 @@ after c zero f = f
 after c (suc n) f = next c (after c n f)
 
 -- The abstract machine, whose definitions are structured bodies: its state after n steps of the image's run, or the
--- last state that there is.
+-- last state that there is, with its question open.
 abbrev pub States : List ℕ → List (List ℕ) → List Answer → List Due → ℕ → MachineState Definitions
 States image lines answers calls n =
     (after structured_calls n (beginning no_definitions image lines answers calls)).machine
 
 -- What a run of at most `limit` steps answers: the machine is the abstract machine after its steps, with the
--- definitions laid out as cells. It is done where nothing runs after at most that many steps; otherwise the limit was
--- reached.
+-- definitions laid out as cells. It is done where nothing runs after at most that many steps. Otherwise the limit was
+-- reached, before a next question; or the answers are out, since that of an earlier step has no answer that fits.
 abbrev pub RunsTo : List ℕ → List (List ℕ) → List Answer → List Due → ℕ → MachineState Coding → End → Type 0
 RunsTo image lines answers calls limit m Done =
     (m ≡ flat_machine (States image lines answers calls m.steps)) × (is_running m ≡ false) × (m.steps ≤ limit)
 RunsTo image lines answers calls limit m LimitReached =
     (m ≡ flat_machine (States image lines answers calls m.steps)) × (is_running m ≡ true) × (m.steps ≡ limit)
+    × (m.waiting ≡ None)
+RunsTo image lines answers calls limit m AnswersOut =
+    (m ≡ flat_machine (States image lines answers calls (m.steps + 1))) × (is_some m.waiting ≡ true)
+    × (m.steps < limit)
 
--- a machine with what clients ask, and nothing else
-abbrev pub with_calls : MachineState Coding → List Due → Feed Coding
-with_calls m calls = record { machine = m; lines = []; answers = []; calls = calls }
+-- ---- runs over cells, as they are made
 
--- a run from a feed has come to a machine, with these clients left
-abbrev pub HasCome : Feed Coding → MachineState Coding → List Due → Type 0
-HasCome start m calls = after flat_calls m.steps start ≡ settled (with_calls m calls)
+-- no client is to be answered now
+abbrev pub AreLater : ℕ → List Due → Type 0
+AreLater n [] = Unit {0}
+AreLater n (call ∷ calls) = n < call.0
 
--- From a machine that made no step a run went on to another, over cells: to the limit, or as far as steps can be made.
-abbrev pub WentOn : ℕ → MachineState Coding → List Due → MachineState Coding → Type 0
-WentOn limit old calls new =
-    ((after flat_calls new.steps (settled (with_calls old calls))).machine ≡ new) × (new.steps ≤ limit)
-    × ((new.steps ≡ limit) ⊎ (can_step new ≡ false))
+-- a feed from which a turn can be made: its clients are answered, and no question is open
+abbrev pub IsCalm : Feed Coding → Type 0
+IsCalm f = AreLater f.machine.steps f.calls × (f.machine.waiting ≡ None)
+
+-- no client is to be answered before so many steps are made
+abbrev pub AreUpto : ℕ → List Due → Type 0
+AreUpto n [] = Unit {0}
+AreUpto n (call ∷ calls) = n ≤ call.0
+
+-- the next answer, if it fits the question that is open
+abbrev pub next_answer : Option Query → List Answer → Option Answer
+next_answer None answers = None
+next_answer (Some q) answers = fitting q answers
+
+-- the step whose question is open was made with the next answer
+abbrev pub IsTold : Feed Coding → Feed Coding → Type 0
+IsTold old new =
+    (answer : Answer) × (next_answer old.machine.waiting old.answers ≡ Some answer)
+    × (new ≡ told flat_calls (Some answer) old) × IsCalm new
+
+-- or there is none that fits
+abbrev pub IsOut : Feed Coding → Feed Coding → Type 0
+IsOut old new = (next_answer old.machine.waiting old.answers ≡ None) × (new ≡ old)
+
+-- A run went on from one feed to another by as many turns as steps were made.
+abbrev pub HasGone : Feed Coding → Feed Coding → Type 0
+HasGone old new =
+    (old.machine.steps ≤ new.machine.steps)
+    × (after flat_calls (new.machine.steps - old.machine.steps) old ≡ new) × IsCalm new
+
+-- It is over at the limit, or where no step can be made, or at a question for which there is no answer.
+abbrev pub IsOver : ℕ → Feed Coding → Feed Coding → Type 0
+IsOver limit old new =
+    (HasGone old new × (new.machine.steps ≤ limit)
+    × ((new.machine.steps ≡ limit) ⊎ (can_step new.machine ≡ false)))
+    ⊎ ((old.machine.steps ≤ new.machine.steps) × (new.machine.steps < limit)
+    × (is_some new.machine.waiting ≡ true)
+    × (after flat_calls (new.machine.steps - old.machine.steps + 1) old ≡ new))
 
 -- A run over the cells of definitions is the abstract machine's, laid out, after each number of turns.
 abbrev pub RunsAgree : Type 0

@@ -2,7 +2,10 @@
 -- structured bodies or their cells.
 use Rattle.std.specs.Prelude.{◌≡◌, ◌≤◌, ◌⊎◌, ℕ, ◌+◌, ◌-◌, ◌^◌, Bool, true, false, List, [], ◌∷◌, ◌++◌, length}
 use Rattle.std.specs.Prelude.{Option, Some, None}
-use Rattle.std.specs.Prelude.{nat_lt, ◌&&◌, is_ok, if◌then◌else◌}
+use Rattle.std.specs.Prelude.{nat_lt, ◌&&◌, is_none, is_ok, is_some, if◌then◌else◌}
+use Rattle.of_asking.specs.Questions.{fits}
+use Rattle.of_asking.specs.declared.query.Answer.{Answer}
+use Rattle.of_asking.specs.declared.query.Query.{Query}
 use Rattle.of_stream.specs.declared.fault.StreamFault.{StreamFault}
 use Rattle.of_stream.specs.Image.{header_fault}
 use Rattle.of_nodes.specs.declared.phandles.Phandle.{Phandle}
@@ -13,14 +16,15 @@ use Rattle.of_client.specs.declared.calls.ClientReply.{ClientReply}
 use Rattle.of_compile.specs.Coding.{Coding}
 use Rattle.of_compile.specs.Structured.{Definitions}
 use Rattle.of_eval.specs.State.{Calls, State, flat_calls}
-use Rattle.of_eval.specs.Steps.{due_grows, stepped, steps_from}
+use Rattle.of_eval.specs.Steps.{answered as eval_answered, asked_by, due_grows, stepped, steps_from}
 use Rattle.of_memory.specs.Growth.{image_fits}
 use Rattle.of_eval.specs.Loading.{begun, first_state, instance_on}
 use Rattle.of_eval_laws.specs.Structured.{flat_state}
 use Rattle.of_machine.specs.declared.answers.Progress.{Progress}
-use Rattle.of_machine.specs.declared.answers.Progress.TheVariants.{Done, Ended}
+use Rattle.of_machine.specs.declared.answers.Progress.TheVariants.{Asks, Done, Ended}
 use Rattle.of_machine.specs.declared.answers.Refusal.{Refusal}
 use Rattle.of_machine.specs.declared.answers.Refusal.TheVariants.{Busy, ImageTooLong, BadStart, NoNode, NoMemory}
+use Rattle.of_machine.specs.declared.answers.Refusal.TheVariants.{NotAsked, WrongAnswer}
 
 -- code is an S
 pub record MachineState (S : Type 0) : Type 0 where
@@ -30,14 +34,24 @@ pub record MachineState (S : Type 0) : Type 0 where
   pub steps : ℕ
   -- what clients were answered, the first first
   pub replies : List Reply
+  -- what was asked, the first first
+  pub asked : List Query
+  -- the question that is open: the last that was asked
+  pub waiting : Option Query
 
 -- a machine as it is made
 abbrev pub idle : {S : Type 0} → S → MachineState S
-idle code = record { eval = first_state code; steps = 0; replies = [] }
+idle code = record { eval = first_state code; steps = 0; replies = []; asked = []; waiting = None }
 
 -- the machine with its definitions as cells
 abbrev pub flat_machine : MachineState Definitions → MachineState Coding
-flat_machine m = record { eval = flat_state m.eval; steps = m.steps; replies = m.replies }
+flat_machine m = record {
+  eval = flat_state m.eval;
+  steps = m.steps;
+  replies = m.replies;
+  asked = m.asked;
+  waiting = m.waiting;
+}
 
 -- ---- a step
 
@@ -53,20 +67,67 @@ can_step m = is_running m && nat_lt m.steps (2 ^ 64 - 1)
 abbrev pub moved : {S : Type 0} → Calls S → MachineState S → MachineState S
 moved c m = record m { eval = stepped c m.eval; steps = m.steps + 1 }
 
+-- a step that asks isn't made: its question is open, and all else is as it was
+abbrev pub opened : {S : Type 0} → Query → MachineState S → MachineState S
+opened q m = record m { asked = m.asked ++ q ∷ []; waiting = Some q }
+
+-- the step that asked, made with an answer (IEEE 1275-1994, 5.3.7.3)
+abbrev pub answered : {S : Type 0} → Calls S → Answer → MachineState S → MachineState S
+answered c answer m =
+    record m { eval = eval_answered c answer m.eval; steps = m.steps + 1; waiting = None }
+
+-- what a step makes of a machine, by its question if it asks
+abbrev pub made_or_opened : {S : Type 0} → Calls S → Option Query → MachineState S → MachineState S
+made_or_opened c None m = moved c m
+made_or_opened c (Some q) m = opened q m
+
+-- the same, while none is open; an open one stays open
+abbrev pub tried : {S : Type 0} → Calls S → Option Query → MachineState S → MachineState S
+tried c None m = made_or_opened c (asked_by c m.eval) m
+tried c (Some q) m = m
+
+-- the question of the step, where one can be made: the open one, or the one that it asks
+abbrev pub question : {S : Type 0} → Calls S → Option Query → MachineState S → Option Query
+question c (Some q) m = Some q
+question c None m = asked_by c m.eval
+
 -- what an answer of `step` says of the states before and after
 abbrev pub Steps : Progress → MachineState Coding → MachineState Coding → Type 0
-Steps Done old new = (can_step old ≡ true) × (new ≡ moved flat_calls old)
+Steps Done old new =
+    (can_step old ≡ true) × (question flat_calls old.waiting old ≡ None) × (new ≡ moved flat_calls old)
+Steps (Asks q) old new =
+    (can_step old ≡ true) × (question flat_calls old.waiting old ≡ Some q) × (new ≡ tried flat_calls old.waiting old)
 Steps Ended old new = (can_step old ≡ false) × (new ≡ old)
 
--- something grows by the token or item that comes next
+-- something grows by the token or item that comes next, or by its question
 abbrev pub MayGrow : MachineState Coding → Type 0
-MayGrow m = due_grows flat_calls m.eval.flow.next m.eval ≡ true
+MayGrow m =
+    (due_grows flat_calls m.eval.flow.next m.eval ≡ true) ⊎ (is_some (asked_by flat_calls m.eval) ≡ true)
 
--- as many steps were made as were counted, and no client was answered
+-- as many steps were made as were counted, no client was answered, and nothing asked
 abbrev pub HasMoved : MachineState Coding → MachineState Coding → Type 0
 HasMoved old new =
     (old.steps ≤ new.steps) × (steps_from flat_calls (new.steps - old.steps) old.eval ≡ Some new.eval)
-    × (new.replies ≡ old.replies)
+    × (new.replies ≡ old.replies) × (new.asked ≡ old.asked) × (new.waiting ≡ old.waiting)
+
+-- whether a step is made now: one can be, no question is open, and it doesn't ask
+abbrev pub goes_on : {S : Type 0} → Calls S → MachineState S → Bool
+goes_on c m = can_step m && is_none (question c m.waiting m)
+
+-- ---- answers
+
+-- why an answer is refused, if it is: no question is open, or it doesn't fit that one
+abbrev pub fit_of : Bool → Option Refusal
+fit_of fits = if fits then None else Some WrongAnswer
+
+abbrev pub answer_refusal : Option Query → Answer → Option Refusal
+answer_refusal None answer = Some NotAsked
+answer_refusal (Some q) answer = fit_of (fits q answer)
+
+-- a machine with an answer, unless it is refused
+abbrev pub answered_unless : {S : Type 0} → Calls S → Option Refusal → Answer → MachineState S → MachineState S
+answered_unless c None answer m = answered c answer m
+answered_unless c (Some e) answer m = m
 
 -- ---- clients
 

@@ -1,3 +1,4 @@
+use of_asking::Query;
 use of_stream::StreamFault;
 use thiserror::Error;
 
@@ -8,6 +9,12 @@ pub enum Refusal {
     /// An image runs.
     #[error("busy")]
     Busy,
+    /// No question is open.
+    #[error("not asked")]
+    NotAsked,
+    /// The answer doesn't fit the question.
+    #[error("wrong answer")]
+    WrongAnswer,
     /// The image has more than 256 KiB.
     #[error("image too long")]
     ImageTooLong,
@@ -23,10 +30,12 @@ pub enum Refusal {
 }
 
 /// What a call of `step` came to.
-#[derive(Clone, Copy, Debug, PartialEq, Eq)]
+#[derive(Clone, Copy)]
 pub enum Progress {
     /// A step was made.
     Done,
+    /// The step asks, and is made by `answer`.
+    Asks(Query),
     /// None can be made: nothing runs, or the machine has made as many as it can count.
     Ended,
 }
@@ -38,15 +47,6 @@ pub enum End {
     Done,
     /// The limit of steps was reached before.
     LimitReached,
-}
-
-/// What a device answers.
-#[derive(Clone, Copy)]
-pub enum Answer {
-    /// What was read, a key, whether there is one, or the time in milliseconds.
-    Value(u32),
-    /// What was to be written is written, or the time is over.
-    Done,
-    /// No device is there.
-    BusFault,
+    /// A step asks, and there is no answer that fits.
+    AnswersOut,
 }

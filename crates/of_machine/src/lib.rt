@@ -6,7 +6,7 @@ mod laws;
 mod machine;
 mod run;
 
-pub use answers::{Answer, End, Progress, Refusal};
+pub use answers::{End, Progress, Refusal};
 pub use laws::{calls_agree, runs_agree};
 pub use machine::{LONGEST_IMAGE, Machine};
 pub use run::{ScriptMachine, run_script};

@@ -1,19 +1,22 @@
 ghost use Rattle.std.specs.Prelude.{◌≡◌, length, ◌≤◌, ◌+◌, ◌⊎◌, [], false, true, is_ok, IfOk, IfErr, OnOk, OnErr};
 ghost use Rattle.std.specs.Prelude.{None, Some};
 ghost use Rattle.of_eval_laws.specs.Structured.{no_definitions};
-ghost use Rattle.of_machine.specs.States.{MayGrow, RefusesBefore, Steps, first_refusal, fit_refusal, flat_machine};
-ghost use Rattle.of_machine.specs.States.{idle, image_refusal, instance_refusal, loaded, or_next};
+ghost use Rattle.of_machine.specs.States.{MayGrow, RefusesBefore, Steps, answer_refusal, answered, first_refusal};
+ghost use Rattle.of_machine.specs.States.{fit_refusal, flat_machine, goes_on, idle, image_refusal, instance_refusal};
+ghost use Rattle.of_machine.specs.States.{loaded, or_next};
 ghost use Rattle.of_client.specs.Services.{service_of};
 ghost use Rattle.of_eval.specs.State.{flat_calls};
-ghost use Rattle.of_machine.specs.Events.{Client, Load, Step, done_by};
+ghost use Rattle.of_eval.specs.Steps.{due_grows};
+ghost use Rattle.of_machine.specs.Events.{Answers, Client, Load, Step, done_by};
 ghost use Rattle.of_eval.specs.Loading.{instance_on};
-ghost use Rattle.of_machine.specs.States.{HasMoved, can_step, load_refusal, loaded_for, node_at, served};
+ghost use Rattle.of_machine.specs.States.{HasMoved, load_refusal, loaded_for, node_at, served};
 ghost use Rattle.of_memory.specs.Growth.{image_fits};
 
 use crate::answers::{Progress, Refusal};
+use of_asking::{Answer, Query, is_fitting};
 use of_client::{ClientCall, ClientReply, reply_to};
 use of_code::CodeStore;
-use of_eval::{Eval, LoadFault, Pause};
+use of_eval::{Bar, Eval, LoadFault, Pause};
 use of_nodes::Phandle;
 use of_stream::{Stream, open};
 use std::alloc::{AllocError, Global};
@@ -33,17 +36,28 @@ pub struct Machine<C: CodeStore> {
     eval: Eval<C>,
     steps: u64,
     replies: Vec<ClientReply>,
+    asked: Vec<Query>,
+    waiting: Option<Query>,
 }
 
 // Clauses see a state of the machine whose definitions are cells.
 impl<C: CodeStore> Model for Machine<C> {
     ghost use Rattle.of_compile.specs.Coding.{Coding};
-    ghost use Rattle.std.specs.Prelude.{map};
+    ghost use Rattle.std.specs.Prelude.{◌≡◌, ◌<◌, ◌-◌, ◌^◌, is_some, map, true};
     ghost use Rattle.of_machine.specs.States.{MachineState, reply_shown};
 
     ghost Value = { MachineState Coding };
 
-    ghost view = { λ m. record { eval = m.eval; steps = m.steps; replies = map reply_shown m.replies.items } };
+    ghost view = { λ m. record {
+      eval = m.eval;
+      steps = m.steps;
+      replies = map reply_shown m.replies.items;
+      asked = m.asked.items;
+      waiting = m.waiting;
+    } };
+
+    // a step that waits for its answer can be counted
+    ghost invariant = { λ m. is_some m.waiting ≡ true → m.steps < 2 ^ 64 - 1 };
 }
 
 /// The image, with its header read.
@@ -77,17 +91,20 @@ impl<C: CodeStore + Drop> Machine<C> {
             eval: Eval::new(alloc, code)?,
             steps: 0,
             replies: Vec::new(alloc),
+            asked: Vec::new(alloc),
+            waiting: None,
         })
     }
 }
 
 impl<C: CodeStore> Machine<C> {
     /// Makes one step, if one can be made: a token of the running image, or an item of the definition that runs, and
-    /// what is due then (IEEE 1275-1994, 5.2).
+    /// what is due then (IEEE 1275-1994, 5.2). A step that asks isn't made: its question is open then, and is given
+    /// again by each call, until `answer` makes the step.
     ///
     /// An error is for memory alone, and then nothing has changed. It comes only where the token or item prints, takes
-    /// a block of the heap, sets a property, makes a node, sets arguments, defines a word, or is appended to the open
-    /// definition: the other steps ask for no memory, also where they throw.
+    /// a block of the heap, sets a property, makes a node, sets arguments, opens an instance, defines a word, is
+    /// appended to the open definition, or asks: the other steps ask for no memory, also where they throw.
     pub fn step(&mut self) -> Result<Progress, AllocError>
         ensures ok { IfOk result (λ p. Steps p self.old self.new) }
         ensures event { OnOk result (self.new ≡ done_by flat_calls Step self.old) }
@@ -97,26 +114,70 @@ impl<C: CodeStore> Machine<C> {
         if !self.eval.is_running() || self.steps == u64::MAX {
             return Ok(Progress::Ended);
         }
-        self.eval.step()?;
-        self.steps += 1;
-        Ok(Progress::Done)
+        if let Some(query) = self.waiting {
+            return Ok(Progress::Asks(query));
+        }
+        match self.eval.step() {
+            Ok(()) => {
+                self.steps += 1;
+                Ok(Progress::Done)
+            }
+            Err(Bar::NoMemory) => Err(AllocError),
+            Err(Bar::Asks(query)) => {
+                self.asked.push(query)?;
+                self.waiting = Some(query);
+                Ok(Progress::Asks(query))
+            }
+        }
     }
 
-    /// Makes steps while one can be made, at most `limit`, as `step` does.
+    /// Makes the step whose question is open, with its answer (IEEE 1275-1994, 5.3.7.3).
+    ///
+    /// NotAsked where none is open, then WrongAnswer where the answer doesn't fit it; NoMemory only where the step
+    /// opens an instance, by whose `open` the question is asked. A refusal changes nothing.
+    pub fn answer(&mut self, answer: Answer) -> Result<(), Refusal>
+        ensures accepted { OnOk result (answer_refusal self.old.waiting answer ≡ None) }
+        ensures ok { OnOk result (self.new ≡ answered flat_calls answer self.old) }
+        ensures event { OnOk result (self.new ≡ done_by flat_calls (Answers answer) self.old) }
+        ensures err { IfErr result (λ e. (answer_refusal self.old.waiting answer ≡ Some e)
+            ⊎ ((answer_refusal self.old.waiting answer ≡ None) × (e ≡ Refusal.NoMemory)
+            × (due_grows flat_calls self.old.eval.flow.next self.old.eval ≡ true))) }
+        ensures unchanged { OnErr result (self.new ≡ self.old) }
+    {
+        let Some(query) = self.waiting else {
+            return Err(Refusal::NotAsked);
+        };
+        if !is_fitting(query, answer) {
+            return Err(Refusal::WrongAnswer);
+        }
+        if self.eval.answer(answer).is_err() {
+            return Err(Refusal::NoMemory);
+        }
+        self.steps += 1;
+        self.waiting = None;
+        Ok(())
+    }
+
+    /// Makes steps while one is made, at most `limit`, as `step` does; none while a question is open, and it stops
+    /// before a step that asks.
     ///
     /// An error is for memory alone: the steps before stand, and the next one may grow.
+    #[tactic(auto, using(crate::proofs::EventLemmas::stays_put))]
     pub fn run(&mut self, limit: u64) -> Result<(), AllocError>
         ensures few { self.new.steps ≤ self.old.steps + limit }
         ensures steps { HasMoved self.old self.new }
-        ensures ok { OnOk result ((self.new.steps ≡ self.old.steps + limit) ⊎ (can_step self.new ≡ false)) }
+        ensures ok { OnOk result ((self.new.steps ≡ self.old.steps + limit) ⊎ (goes_on flat_calls self.new ≡ false)) }
         ensures grows { OnErr result (MayGrow self.new) }
     {
+        if self.waiting.is_some() {
+            return Ok(());
+        }
         let countable = u64::MAX - self.steps;
         let (made, pause) = self.eval.run(limit.min(countable));
         self.steps += made;
         match pause {
-            Pause::LimitReached | Pause::Idle => Ok(()),
-            Pause::NoMemory => Err(AllocError),
+            Pause::LimitReached | Pause::Idle | Pause::Barred(Bar::Asks(_)) => Ok(()),
+            Pause::Barred(Bar::NoMemory) => Err(AllocError),
         }
     }
 

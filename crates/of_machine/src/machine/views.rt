@@ -4,6 +4,7 @@ ghost use Rattle.of_machine.specs.States.{is_running, reply_shown};
 ghost use Rattle.of_machine.specs.Views.{active_method, byte_of, xt_named, xt_numbered};
 
 use super::Machine;
+use of_asking::Query;
 use of_cells::Cell;
 use of_client::ClientReply;
 use of_code::{CodeStore, ItemPlace};
@@ -41,6 +42,20 @@ impl<C: CodeStore> Machine<C> {
         ensures { map reply_shown result.now ≡ self.now.replies }
     {
         &self.replies
+    }
+
+    /// What was asked, the first first.
+    pub fn asked(&self) -> &[Query]
+        ensures { result.now ≡ self.now.asked }
+    {
+        &self.asked
+    }
+
+    /// The question that is open, if one is: the last that was asked.
+    pub fn question(&self) -> Option<Query>
+        ensures { result ≡ self.now.waiting }
+    {
+        self.waiting
     }
 
     /// The device tree (IEEE 1275-1994, 3.2.1).
