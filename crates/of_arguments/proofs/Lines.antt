@@ -18,7 +18,8 @@ use Rattle.clap.specs.declared.builder.value_parser.ValueParser.TheVariants as p
 use Rattle.clap.proofs.ValueTestLemmas.{Accepts-accepts, accepts-Accepts}
 use Rattle.of_arguments.specs.CommandLine.{LinesAsk, is_plain, AsksToRun, AsksToList, AsksForLimit, number_in}
 use Rattle.of_arguments.specs.CommandLine.{ofw_app, run_app, AsksToExplain, AsksWith, plain_extras, AsksToKeep}
-use Rattle.of_arguments.specs.CommandLine.{AsksForCalls, AsksToTokenize, client_app, detok_app, tok_app}
+use Rattle.of_arguments.specs.CommandLine.{AsksForCalls, AsksToTokenize, AsksWithAnswers, client_app, detok_app}
+use Rattle.of_arguments.specs.CommandLine.{tok_app}
 
 -- ---- a word that begins with no hyphen is no option
 
@@ -86,6 +87,10 @@ with_path id name path = record {
 with_image : Text → Held
 with_image image = with_path (codes "image") (codes "limit") image
 
+-- of a run behind its image and `--answers`
+with_run : Text → Held
+with_run image = with_path (codes "image") (codes "answers") image
+
 -- of a client behind its image and `--calls`
 with_client : Text → Held
 with_client image = with_path (codes "image") (codes "calls") image
@@ -124,6 +129,15 @@ output_met source b rest e = word_is_plain tok_shape.rules (option (codes "outpu
 output_passes : (source : Text) (b : ℕ) (rest : Text) → (b == 45) ≡ false
     → word_fault tok_shape [] false (option (codes "output")) (b ∷ rest) (with_source source) ≡ []
 output_passes source b rest e = word_has_no_fault tok_shape b rest (with_source source) e
+
+answers_met : (image : Text) (b : ℕ) (rest : Text) → (b == 45) ≡ false
+    → word_met run_shape.rules [] false (option (codes "answers")) 2 (b ∷ rest) (with_run image)
+    ≡ plain_word run_shape.rules (option (codes "answers")) (b ∷ rest) (with_run image)
+answers_met image b rest e = word_is_plain run_shape.rules (option (codes "answers")) 2 b rest (with_run image) e
+
+answers_pass : (image : Text) (b : ℕ) (rest : Text) → (b == 45) ≡ false
+    → word_fault run_shape [] false (option (codes "answers")) (b ∷ rest) (with_run image) ≡ []
+answers_pass image b rest e = word_has_no_fault run_shape b rest (with_run image) e
 
 limit_passes : (image : Text) (b : ℕ) (rest : Text) → (b == 45) ≡ false
     → word_fault run_shape [] false (option (codes "limit")) (b ∷ rest) (with_image image) ≡ []
@@ -204,6 +218,19 @@ calls_asked program b rest d name e f = (
   ) refl,
 )
 
+answered : (program : Text) (b : ℕ) (rest : Text) (d : ℕ) (name : Text) → (b == 45) ≡ false → (d == 45) ≡ false
+    → AsksWithAnswers program (b ∷ rest) (d ∷ name)
+unfolding clap_on_literals run_shape with_run with_path
+answered program b rest d name e f = (
+  rw (image_met run_shape b rest e, answers_met (b ∷ rest) d name f) refl,
+  rw (
+    image_met run_shape b rest e,
+    answers_met (b ∷ rest) d name f,
+    image_passes run_shape b rest e,
+    answers_pass (b ∷ rest) d name f,
+  ) refl,
+)
+
 -- a number in the range of limits is one of 64 bits
 limit_read : (limit : Text) → is_unsigned_in 0 1000000000 limit ≡ true
     → number_in limit ≡ Some (digits_value 10 (without_leading_plus limit))
@@ -248,6 +275,7 @@ lines_ask program (b ∷ rest) e = (
   ),
   kept,
   called,
+  with_answers,
   limited,
 )
   where
@@ -258,6 +286,10 @@ lines_ask program (b ∷ rest) e = (
     called : (calls : Text) → is_plain calls ≡ true → AsksForCalls program (b ∷ rest) calls
     called [] f = absurd (true≢false (sym f))
     called (d ∷ name) f = calls_asked program b rest d name (hyphenless b e) (hyphenless d f)
+
+    with_answers : (answers : Text) → is_plain answers ≡ true → AsksWithAnswers program (b ∷ rest) answers
+    with_answers [] f = absurd (true≢false (sym f))
+    with_answers (d ∷ name) f = answered program b rest d name (hyphenless b e) (hyphenless d f)
 
     limited : (limit : Text) → is_plain limit ≡ true → is_unsigned_in 0 1000000000 limit ≡ true
         → AsksForLimit program (b ∷ rest) limit

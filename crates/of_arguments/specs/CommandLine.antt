@@ -37,31 +37,37 @@ limit_rule = record (new_rule (codes "limit")) {
   parser = Some (value.Unsigned 0 1000000000);
 }
 
+-- an option with a value that is the path of a file, by its name behind two hyphens
+abbrev pub option_rule : Text → Rule
+option_rule name = record (new_rule name) { long = Some name; value_names = 1; action = Some Set }
+
 -- a flag, by its name behind two hyphens
 abbrev pub flag_rule : Text → Rule
 flag_rule name = record (new_rule name) { long = Some name; action = Some SetTrue }
 
--- `run IMAGE [--limit N] [--explain]`
+-- `--answers FILE`
+abbrev pub answers_rule : Rule
+answers_rule = option_rule (codes "answers")
+
+-- `run IMAGE [--answers FILE] [--limit N] [--explain]`
 abbrev pub run_app : App
-run_app = with_rule (with_rule (with_rule (new_app (codes "run")) image_rule) limit_rule) (flag_rule (codes "explain"))
+run_app =
+    with_rule (with_rule (with_rule (with_rule (new_app (codes "run")) image_rule) answers_rule) limit_rule)
+    (flag_rule (codes "explain"))
 
 -- `--calls FILE`
 abbrev pub calls_rule : Rule
 calls_rule = record (path_rule (codes "calls")) { long = Some (codes "calls") }
 
--- `client IMAGE --calls FILE [--limit N] [--explain]`
+-- `client IMAGE --calls FILE [--answers FILE] [--limit N] [--explain]`
 abbrev pub client_app : App
 client_app =
-    with_rule (with_rule (with_rule (with_rule (new_app (codes "client")) image_rule) calls_rule) limit_rule)
-    (flag_rule (codes "explain"))
+    with_rule (with_rule (with_rule (with_rule (with_rule (new_app (codes "client")) image_rule) calls_rule)
+    answers_rule) limit_rule) (flag_rule (codes "explain"))
 
 -- `--output FILE`
 abbrev pub output_rule : Rule
-output_rule = record (new_rule (codes "output")) {
-  long = Some (codes "output");
-  value_names = 1;
-  action = Some Set;
-}
+output_rule = option_rule (codes "output")
 
 -- `tok SOURCE [--output FILE]`
 abbrev pub tok_app : App
@@ -115,16 +121,21 @@ has_flag name rows = is_true (first_of name rows)
 abbrev pub extras_in : List Row → Extras
 extras_in rows = record { names = has_flag (codes "names") rows; indents = has_flag (codes "indent") rows }
 
--- what `client` asks for with an image: the calls of the file that is given
+-- what `run` asks for with an image: a run with the answers of the file that is given, if one is
+abbrev pub run_asked : List Row → Text → Asked
+run_asked rows image =
+    a_run image (first_of (codes "answers") rows) (limit_in rows) (has_flag (codes "explain") rows)
+
+-- what `client` asks for with an image: the calls of the file that is given, behind such a run
 abbrev pub client_asked : List Row → Text → Option Asked
 client_asked rows image =
-    option_map (λ calls. client_calls image calls (limit_in rows) (has_flag (codes "explain") rows))
-    (first_of (codes "calls") rows)
+    option_map (λ calls. client_calls image calls (first_of (codes "answers") rows) (limit_in rows)
+    (has_flag (codes "explain") rows)) (first_of (codes "calls") rows)
 
 -- what a subcommand of this name asks for with an image
 abbrev pub asked_as : Text → List Row → Text → Option Asked
 asked_as name rows image =
-    if bytes_eq name (codes "run") then Some (a_run image (limit_in rows) (has_flag (codes "explain") rows))
+    if bytes_eq name (codes "run") then Some (run_asked rows image)
     else (if bytes_eq name (codes "client") then client_asked rows image
     else (if bytes_eq name (codes "detok")
     then Some (a_listing image (extras_in rows) (has_flag (codes "partial") rows)) else None))
@@ -157,23 +168,28 @@ Asks words what = (asks words ≡ Some what) × (fault_of ofw_app words ≡ [])
 
 -- a run of an image with no limit given
 abbrev pub AsksToRun : Text → Text → Type 0
-AsksToRun program image = Asks (program ∷ codes "run" ∷ image ∷ []) (a_run image 1000000 false)
+AsksToRun program image = Asks (program ∷ codes "run" ∷ image ∷ []) (a_run image None 1000000 false)
 
 -- a run with a limit given
 abbrev pub AsksForLimit : Text → Text → Text → Type 0
 AsksForLimit program image limit =
     Asks (program ∷ codes "run" ∷ image ∷ codes "--limit" ∷ limit ∷ [])
-    (a_run image (digits_value 10 (without_leading_plus limit)) false)
+    (a_run image None (digits_value 10 (without_leading_plus limit)) false)
+
+-- a run with the answers of a file
+abbrev pub AsksWithAnswers : Text → Text → Text → Type 0
+AsksWithAnswers program image answers =
+    Asks (program ∷ codes "run" ∷ image ∷ codes "--answers" ∷ answers ∷ []) (a_run image (Some answers) 1000000 false)
 
 -- a run whose end is explained
 abbrev pub AsksToExplain : Text → Text → Type 0
 AsksToExplain program image =
-    Asks (program ∷ codes "run" ∷ image ∷ codes "--explain" ∷ []) (a_run image 1000000 true)
+    Asks (program ∷ codes "run" ∷ image ∷ codes "--explain" ∷ []) (a_run image None 1000000 true)
 
 -- a run, and then the calls of a file
 abbrev pub AsksForCalls : Text → Text → Text → Type 0
 AsksForCalls program image calls =
-    Asks (program ∷ codes "client" ∷ image ∷ codes "--calls" ∷ calls ∷ []) (client_calls image calls 1000000 false)
+    Asks (program ∷ codes "client" ∷ image ∷ codes "--calls" ∷ calls ∷ []) (client_calls image calls None 1000000 false)
 
 -- a listing of an image
 abbrev pub AsksToList : Text → Text → Type 0
@@ -205,5 +221,6 @@ LinesAsk = (program image : Text) → is_plain image ≡ true → AsksToRun prog
     × AsksToTokenize program image × AsksToExplain program image × AsksForMore program image
     × ((output : Text) → is_plain output ≡ true → AsksToKeep program image output)
     × ((calls : Text) → is_plain calls ≡ true → AsksForCalls program image calls)
+    × ((answers : Text) → is_plain answers ≡ true → AsksWithAnswers program image answers)
     × ((limit : Text) → is_plain limit ≡ true → is_unsigned_in 0 1000000000 limit ≡ true
     → AsksForLimit program image limit)

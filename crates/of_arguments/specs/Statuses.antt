@@ -11,6 +11,7 @@ code_of status.Done = 0
 code_of status.Fault = 1
 code_of status.Usage = 2
 code_of status.LimitReached = 3
+code_of status.AnswersOut = 4
 code_of status.NoMemory = 5
 
 -- how the program ends where a command line asks for nothing

@@ -4,9 +4,9 @@ ghost use Rattle.clap.specs.Values.{kind_of};
 ghost use Rattle.std.specs.String.{string_bytes};
 ghost use Rattle.of_arguments.specs.Asked.{asked};
 ghost use Rattle.of_arguments.specs.Statuses.{unasked};
-ghost use Rattle.of_arguments.specs.CommandLine.{IsBuilt, asked_by, asks, calls_rule, client_app, client_asked};
-ghost use Rattle.of_arguments.specs.CommandLine.{detok_app, flag_rule, has_flag, image_rule, is_true, limit_in};
-ghost use Rattle.of_arguments.specs.CommandLine.{limit_rule, ofw_app, output_rule};
+ghost use Rattle.of_arguments.specs.CommandLine.{IsBuilt, answers_rule, asked_by, asks, calls_rule, client_app};
+ghost use Rattle.of_arguments.specs.CommandLine.{client_asked, detok_app, flag_rule, has_flag, image_rule};
+ghost use Rattle.of_arguments.specs.CommandLine.{is_true, limit_in, limit_rule, ofw_app, output_rule};
 ghost use Rattle.of_arguments.specs.CommandLine.{path_rule, run_app, source_rule, tok_app};
 
 use crate::request::Request;
@@ -23,19 +23,20 @@ const DEFAULT_LIMIT: u64 = 1_000_000;
 const RUN_HELP: &str = "\
 Example: ofw run card.rom --limit 5000 --explain
 
-The file is a ROM as it stands where it begins with f0 to f3 or fd, else hexadecimal digits.
+The file is a ROM as it stands where it begins with f0 to f3 or fd, else hexadecimal digits. A line of the answers is
+`v NUMBER`, with hexadecimal digits, `done` or `fault`: the k-th line is for the k-th question to a device.
 
-Status: 0 done, 1 fault of input or output, 2 usage, 3 limit reached, 5 no memory";
+Status: 0 done, 1 fault of input or output, 2 usage, 3 limit reached, 4 answers out, 5 no memory";
 
 /// What the help of `client` ends with.
 const CLIENT_HELP: &str = "\
 Example: ofw client card.rom --calls card.calls
 
-The image is read as for run. A line of the calls is one of these, with numbers in hexadecimal digits:
+The image and the answers are read as for run. A line of the calls is one of these, with numbers in hexadecimal digits:
 finddevice PATH, child PH, peer PH, parent PH, getproplen PH NAME, getprop PH NAME ROOM, nextprop PH NAME,
 instance-to-package IH, package-to-path PH ROOM.
 
-Status: 0 done, 1 fault of input or output, 2 usage, 3 limit reached, 5 no memory";
+Status: 0 done, 1 fault of input or output, 2 usage, 3 limit reached, 4 answers out, 5 no memory";
 
 /// What the help of `tok` ends with.
 const TOK_HELP: &str = "\
@@ -84,6 +85,17 @@ fn calls_argument<'a>(alloc: Global) -> Arg<'a>
     path_argument(alloc, "calls", "FILE", "the calls of a client, one a line").long("calls")
 }
 
+/// `--answers FILE`
+fn answers_argument<'a>(alloc: Global) -> Arg<'a>
+    ensures { (rule_of result ≡ answers_rule) × (result.global ≡ false) }
+{
+    Arg::new(alloc, "answers")
+        .long("answers")
+        .value_name("FILE")
+        .help("what devices answer")
+        .action(ArgAction::Set)
+}
+
 /// `--output FILE`
 fn output_argument<'a>(alloc: Global) -> Arg<'a>
     ensures { (rule_of result ≡ output_rule) × (result.global ≡ false) }
@@ -117,7 +129,7 @@ fn flag<'a>(alloc: Global, name: &'a str, help: &'a str) -> Arg<'a>
         .action(ArgAction::SetTrue)
 }
 
-/// `ofw run IMAGE [--limit N] [--explain]`
+/// `ofw run IMAGE [--answers FILE] [--limit N] [--explain]`
 fn run_command<'a>(alloc: Global) -> Result<Command<'a>, AllocError>
     ensures { IfOk result (IsBuilt run_app) }
 {
@@ -125,6 +137,7 @@ fn run_command<'a>(alloc: Global) -> Result<Command<'a>, AllocError>
         .about("Runs an image and prints what it prints")
         .after_help(RUN_HELP)
         .arg(image_argument(alloc))?
+        .arg(answers_argument(alloc))?
         .arg(limit_argument(alloc))?
         .arg(flag(
             alloc,
@@ -133,7 +146,7 @@ fn run_command<'a>(alloc: Global) -> Result<Command<'a>, AllocError>
         ))
 }
 
-/// `ofw client IMAGE --calls FILE [--limit N] [--explain]`
+/// `ofw client IMAGE --calls FILE [--answers FILE] [--limit N] [--explain]`
 fn client_command<'a>(alloc: Global) -> Result<Command<'a>, AllocError>
     ensures { IfOk result (IsBuilt client_app) }
 {
@@ -142,6 +155,7 @@ fn client_command<'a>(alloc: Global) -> Result<Command<'a>, AllocError>
         .after_help(CLIENT_HELP)
         .arg(image_argument(alloc))?
         .arg(calls_argument(alloc))?
+        .arg(answers_argument(alloc))?
         .arg(limit_argument(alloc))?
         .arg(flag(
             alloc,
@@ -248,6 +262,7 @@ fn client_request<'a>(image: &'a str, matches: &ArgMatches<'a>) -> Option<Reques
     Some(Request::Client {
         image,
         calls: value(matches, "calls")?,
+        answers: value(matches, "answers"),
         limit: step_limit(matches),
         explain: has_flag(matches, "explain"),
     })
@@ -267,6 +282,7 @@ fn request_of<'a>(name: &str, matches: &ArgMatches<'a>) -> Option<Request<'a>>
     match name {
         "run" => Some(Request::Run {
             image,
+            answers: value(matches, "answers"),
             limit: step_limit(matches),
             explain: has_flag(matches, "explain"),
         }),

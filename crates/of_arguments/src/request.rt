@@ -7,6 +7,8 @@ pub enum Request<'a> {
     Run {
         /// The path of the image.
         image: &'a str,
+        /// The path of the file of what devices answer, where there is one.
+        answers: Option<&'a str>,
         /// How many steps the run makes at most.
         limit: u64,
         /// Whether its end is explained on the error output.
@@ -18,6 +20,8 @@ pub enum Request<'a> {
         image: &'a str,
         /// The path of the file of calls.
         calls: &'a str,
+        /// The path of the file of what devices answer, where there is one.
+        answers: Option<&'a str>,
         /// How many steps the run makes at most.
         limit: u64,
         /// Whether its end is explained on the error output.

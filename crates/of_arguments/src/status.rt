@@ -11,6 +11,8 @@ pub enum Status {
     Usage,
     /// The limit of steps was reached.
     LimitReached,
+    /// The run asks what no answer is left for, or what the next one doesn't fit.
+    AnswersOut,
     /// A growth of memory was refused.
     NoMemory,
 }
@@ -18,8 +20,8 @@ pub enum Status {
 impl Status {
     ghost use Rattle.of_arguments.specs.Statuses.{code_of};
 
-    /// The number that the program gives back: 0 done, 1 fault, 2 usage, 3 limit reached, 5 no
-    /// memory.
+    /// The number that the program gives back: 0 done, 1 fault, 2 usage, 3 limit reached, 4 answers
+    /// out, 5 no memory.
     pub fn code(self) -> u8
         ensures { result ≡ code_of self }
     {
@@ -28,6 +30,7 @@ impl Status {
             Status::Fault => 1,
             Status::Usage => 2,
             Status::LimitReached => 3,
+            Status::AnswersOut => 4,
             Status::NoMemory => 5,
         }
     }

@@ -1,16 +1,15 @@
 -- The calls that a text says: a line has the name of a service, and what the service takes.
-use Rattle.std.specs.Prelude.{ℕ, ◌+◌, List, [], ◌∷◌, ◌++◌, length, codes, Option, Some, None, Result, Ok, Err, nat_eq}
-use Rattle.std.specs.Prelude.{option_map}
+use Rattle.std.specs.Prelude.{ℕ, List, [], length, codes, Option, Some, None, Result, Err, nat_eq, option_map}
 use Rattle.std.specs.Prelude.{if◌then◌else◌}
 use Rattle.std.specs.Str.{bytes_eq}
 use Rattle.of_cells.specs.declared.cells.Cell.{Cell}
 use Rattle.of_nodes.specs.declared.phandles.Phandle.{Phandle}
-use Rattle.of_source.specs.declared.place.Place.{Place}
 use Rattle.of_client.specs.Services.{Service, Child, FindDevice, GetProp, GetPropLen, InstanceToPackage, NextProp}
 use Rattle.of_client.specs.Services.{PackageToPath, Parent, Peer}
-use Rattle.of_calls.specs.Lines.{lines, number_of, place_at, word_at}
-use Rattle.of_calls.specs.declared.fault.CallFault.{CallFault}
-use Rattle.of_calls.specs.declared.fault.CallFault.TheVariants as fault
+use Rattle.of_calls.specs.Lines.{lines, place_at, word_at}
+use Rattle.of_calls.specs.Said.{all_said, ended, go_on, number_at}
+use Rattle.of_calls.specs.declared.fault.TextFault.{TextFault}
+use Rattle.of_calls.specs.declared.fault.TextFault.TheVariants as fault
 use Rattle.of_calls.specs.declared.service.HandleKind.{HandleKind}
 use Rattle.of_calls.specs.declared.service.HandleKind.TheVariants as handle
 use Rattle.of_calls.specs.declared.service.Kind.{Kind}
@@ -38,25 +37,6 @@ kind_of name =
 
 -- ---- what a service takes
 
--- what follows, unless there is a fault
-abbrev pub go_on : {A B : Type 0} → (A → Result B CallFault) → Result A CallFault → Result B CallFault
-go_on next (Ok a) = next a
-go_on next (Err f) = Err f
-
--- a number at a place, or its fault
-abbrev pub number_or : Place → Option Cell → Result Cell CallFault
-number_or p (Some x) = Ok x
-number_or p None = Err (fault.BadNumber p)
-
--- the number that the word behind so many says
-abbrev pub number_at : ℕ → ℕ → List ℕ → Result Cell CallFault
-number_at number n line = number_or (place_at number n line) (number_of (word_at n line))
-
--- a service, where the line ends behind so many words
-abbrev pub ended : ℕ → ℕ → List ℕ → Service → Result Service CallFault
-ended number n line s =
-    if nat_eq (length (word_at n line)) 0 then Ok s else Err (fault.TooMany (place_at number n line))
-
 -- the node with a handle
 abbrev pub node : Cell → Phandle
 node x = record { 0 = x }
@@ -70,7 +50,7 @@ abbrev pub name_before_room : List ℕ → List ℕ
 name_before_room line = if nat_eq (length (word_at 3 line)) 0 then [] else word_at 2 line
 
 -- what a service of the line with a number is asked with a handle; a name that is left out is empty
-unfoldable pub of_handle : HandleKind → Cell → ℕ → List ℕ → Result Service CallFault
+unfoldable pub of_handle : HandleKind → Cell → ℕ → List ℕ → Result Service TextFault
 of_handle handle.Child x number line = ended number 2 line (Child (node x))
 of_handle handle.Peer x number line = ended number 2 line (Peer (node x))
 of_handle handle.Parent x number line = ended number 2 line (Parent (node x))
@@ -84,55 +64,21 @@ of_handle handle.PackageToPath x number line =
     go_on (λ room. ended number 3 line (PackageToPath (node x) room.0)) (number_at number 2 line)
 
 -- what a service is asked; a path that is left out is empty
-unfoldable pub asked : Kind → ℕ → List ℕ → Result Service CallFault
+unfoldable pub asked : Kind → ℕ → List ℕ → Result Service TextFault
 asked kind.FindDevice number line = ended number 2 line (FindDevice (word_at 1 line))
 asked (kind.OfHandle k) number line = go_on (λ x. of_handle k x number line) (number_at number 1 line)
 
 -- ---- lines
 
--- a call, where there is one
-abbrev pub one : Result Service CallFault → Result (Option Service) CallFault
-one (Ok s) = Ok (Some s)
-one (Err f) = Err f
-
 -- what the service of a line is asked, or that there is none of its name
-abbrev pub asked_of : Option Kind → ℕ → List ℕ → Result (Option Service) CallFault
-asked_of (Some k) number line = one (asked k number line)
+abbrev pub asked_of : Option Kind → ℕ → List ℕ → Result Service TextFault
+asked_of (Some k) number line = asked k number line
 asked_of None number line = Err (fault.Unknown (place_at number 0 line))
 
--- the call of the line with a number; a line without words has none
-unfoldable pub call_in : ℕ → List ℕ → Result (Option Service) CallFault
-call_in number line =
-    if nat_eq (length (word_at 0 line)) 0 then Ok None else asked_of (kind_of (word_at 0 line)) number line
-
--- a call before others
-abbrev pub before_calls : Option Service → Result (List Service) CallFault → Result (List Service) CallFault
-before_calls None calls = calls
-before_calls (Some s) (Ok calls) = Ok (s ∷ calls)
-before_calls (Some s) (Err f) = Err f
-
--- the call of a line before those of the others: the first fault counts
-abbrev pub and_those :
-    Result (Option Service) CallFault → Result (List Service) CallFault → Result (List Service) CallFault
-and_those (Ok call) calls = before_calls call calls
-and_those (Err f) calls = Err f
-
--- the calls of lines, the first of which has this number
-unfoldable pub calls_of : ℕ → List (List ℕ) → Result (List Service) CallFault
-calls_of number [] = Ok []
-calls_of number (line ∷ more) = and_those (call_in number line) (calls_of (number + 1) more)
-
--- with the call of one more line behind them
-abbrev pub and_call : List Service → Result (Option Service) CallFault → Result (List Service) CallFault
-and_call calls (Ok None) = Ok calls
-and_call calls (Ok (Some s)) = Ok (calls ++ s ∷ [])
-and_call calls (Err f) = Err f
-
--- with the calls of the others behind them
-abbrev pub and_more : List Service → Result (List Service) CallFault → Result (List Service) CallFault
-and_more calls (Ok more) = Ok (calls ++ more)
-and_more calls (Err f) = Err f
+-- the call of the line with a number; a line without words names no service
+unfoldable pub call_in : ℕ → List ℕ → Result Service TextFault
+call_in number line = asked_of (kind_of (word_at 0 line)) number line
 
 -- the calls of a text, or the first of its words that fits nowhere
-abbrev pub parsed : List ℕ → Result (List Service) CallFault
-parsed text = calls_of 1 (lines text)
+abbrev pub parsed : List ℕ → Result (List Service) TextFault
+parsed text = all_said call_in 1 (lines text)

@@ -1,2 +1,4 @@
 pub mod Lines
+pub mod Said
 pub mod Calls
+pub mod Answers

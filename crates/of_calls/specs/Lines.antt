@@ -1,18 +1,21 @@
 -- The lines of a text, and the words of a line, by their order.
 use Rattle.std.specs.Prelude.{ℕ, zero, suc, ◌+◌, ◌-◌, ◌^◌, List, [], ◌∷◌, length, take, drop, take_while, Option}
-use Rattle.std.specs.Prelude.{Some, None}
-use Rattle.std.specs.Prelude.{not, nat_eq}
-use Rattle.std.specs.List.{slice_split}
+use Rattle.std.specs.Prelude.{if◌then◌else◌, ◌&&◌, not, nat_eq, nat_le, Bool}
 use Rattle.of_cells.specs.declared.cells.Cell.{Cell}
 use Rattle.of_format.specs.Reading.{cell_read, digits_read}
-use Rattle.of_source.specs.Scan.{is_blank, word_length}
 use Rattle.of_source.specs.declared.place.Place.{Place}
 
 -- ---- lines
 
--- the lines of a text: a byte 0x0A stands between two
+-- a byte before lines
+abbrev pub before_lines : ℕ → List (List ℕ) → List (List ℕ)
+before_lines b [] = (b ∷ []) ∷ []
+before_lines b (line ∷ more) = (b ∷ line) ∷ more
+
+-- the lines of a text: each ends with a byte 0x0A, which the last may lack
 abbrev pub lines : List ℕ → List (List ℕ)
-lines text = slice_split (λ b. nat_eq b 10) text
+lines [] = []
+lines (b ∷ text) = if nat_eq b 10 then [] ∷ lines text else before_lines b (lines text)
 
 -- how many bytes the first line of a text has
 abbrev pub line_length : List ℕ → ℕ
@@ -22,26 +25,19 @@ line_length text = length (take_while (λ b. not (nat_eq b 10)) text)
 abbrev pub first_line : List ℕ → List ℕ
 first_line text = take (line_length text) text
 
--- a text without its first byte, if it has one
-abbrev pub behind_byte : List ℕ → Option (List ℕ)
-behind_byte [] = None
-behind_byte (b ∷ text) = Some text
+-- the text behind the first byte 0x0A; empty where there is none
+abbrev pub left_behind : List ℕ → List ℕ
+left_behind text = drop 1 (drop (line_length text) text)
 
--- the text behind the first byte 0x0A, if there is one
-abbrev pub left_behind : List ℕ → Option (List ℕ)
-left_behind text = behind_byte (drop (line_length text) text)
+-- ---- the words of a line
 
--- the lines of a text that is left, if one is
-abbrev pub lines_left : Option (List ℕ) → List (List ℕ)
-lines_left None = []
-lines_left (Some text) = lines text
+-- bytes up to 0x20 separate words, but 0x0D is a byte of a word
+abbrev pub is_blank : ℕ → Bool
+is_blank b = nat_le b 0x20 && not (nat_eq b 0x0d)
 
--- how many bytes and lines are left at most
-abbrev pub size_left : Option (List ℕ) → ℕ
-size_left None = 0
-size_left (Some text) = 1 + length text
-
--- ---- the words of a line, between bytes up to 0x20
+-- how many bytes the word has that a text begins with
+abbrev pub word_length : List ℕ → ℕ
+word_length text = length (take_while (λ b. not (is_blank b)) text)
 
 -- how many blanks a text begins with
 abbrev pub blanks : List ℕ → ℕ

@@ -1,29 +1,14 @@
-ghost use Rattle.std.specs.Prelude.{◌≡◌, ◌⊎◌, Ok, Err, IfOk, IfErr, option_map};
+ghost use Rattle.std.specs.Prelude.{◌≡◌, ◌⊎◌, Ok, Err, IfOk, IfErr};
 ghost use Rattle.of_client.specs.Services.{service_of};
-ghost use Rattle.of_calls.specs.Calls.{asked, before_room, call_in, ended, name_before_room, of_handle};
+ghost use Rattle.of_calls.specs.Calls.{asked, before_room, call_in, name_before_room, of_handle};
 
-use crate::fault::CallFault;
+use crate::fault::TextFault;
 use crate::line::Line;
 use crate::service::{HandleKind, Kind, kind_of};
 use of_cells::Cell;
 use of_client::ClientCall;
 use of_nodes::Phandle;
 use std::alloc::Global;
-
-/// A call, where the line ends behind so many words.
-///
-/// TooMany where one more stands there.
-fn ended(line: Line<'_>, count: usize, call: ClientCall) -> Result<ClientCall, CallFault>
-    ensures ok { IfOk result (λ c. ended line.entry.number count line.entry.text.now (service_of call)
-        ≡ Ok (service_of c)) }
-    ensures err { IfErr result (λ f. ended line.entry.number count line.entry.text.now (service_of call) ≡ Err f) }
-{
-    if line.ends(count) {
-        Ok(call)
-    } else {
-        Err(CallFault::TooMany(line.place(count)))
-    }
-}
 
 /// How many words of `getprop` stand before the room: the name may be left out.
 fn before_room(line: Line<'_>) -> usize
@@ -46,67 +31,61 @@ fn of_handle(
     kind: HandleKind,
     handle: Cell,
     line: Line<'_>,
-) -> Result<ClientCall, CallFault>
+) -> Result<ClientCall, TextFault>
     ensures ok { IfOk result (λ c. of_handle kind handle line.entry.number line.entry.text.now ≡ Ok (service_of c)) }
-    ensures err { IfErr result (λ f. (f ≡ CallFault.NoMemory)
+    ensures err { IfErr result (λ f. (f ≡ TextFault.NoMemory)
         ⊎ (of_handle kind handle line.entry.number line.entry.text.now ≡ Err f)) }
 {
     match kind {
-        HandleKind::Child => ended(line, 2, ClientCall::Child(Phandle(handle))),
-        HandleKind::Peer => ended(line, 2, ClientCall::Peer(Phandle(handle))),
-        HandleKind::Parent => ended(line, 2, ClientCall::Parent(Phandle(handle))),
+        HandleKind::Child => line.ended(2, ClientCall::Child(Phandle(handle))),
+        HandleKind::Peer => line.ended(2, ClientCall::Peer(Phandle(handle))),
+        HandleKind::Parent => line.ended(2, ClientCall::Parent(Phandle(handle))),
         HandleKind::GetPropLen => {
             let name = Vec::from_slice(alloc, line.word(2))?;
-            ended(line, 3, ClientCall::GetPropLen(Phandle(handle), name))
+            line.ended(3, ClientCall::GetPropLen(Phandle(handle), name))
         }
         HandleKind::GetProp => {
             let name = Vec::from_slice(alloc, name_before_room(line))?;
             let room = line.number(before_room(line))?;
-            ended(line, 4, ClientCall::GetProp(Phandle(handle), name, room.0))
+            line.ended(4, ClientCall::GetProp(Phandle(handle), name, room.0))
         }
         HandleKind::NextProp => {
             let name = Vec::from_slice(alloc, line.word(2))?;
-            ended(line, 3, ClientCall::NextProp(Phandle(handle), name))
+            line.ended(3, ClientCall::NextProp(Phandle(handle), name))
         }
-        HandleKind::InstanceToPackage => ended(line, 2, ClientCall::InstanceToPackage(handle)),
+        HandleKind::InstanceToPackage => line.ended(2, ClientCall::InstanceToPackage(handle)),
         HandleKind::PackageToPath => {
             let room = line.number(2)?;
-            ended(line, 3, ClientCall::PackageToPath(Phandle(handle), room.0))
+            line.ended(3, ClientCall::PackageToPath(Phandle(handle), room.0))
         }
     }
 }
 
 /// What a service of a line is asked.
 #[tactic(auto, unfolding(crate::specs::Calls::asked))]
-fn asked(alloc: Global, kind: Kind, line: Line<'_>) -> Result<ClientCall, CallFault>
+fn asked(alloc: Global, kind: Kind, line: Line<'_>) -> Result<ClientCall, TextFault>
     ensures ok { IfOk result (λ c. asked kind line.entry.number line.entry.text.now ≡ Ok (service_of c)) }
-    ensures err { IfErr result (λ f. (f ≡ CallFault.NoMemory)
+    ensures err { IfErr result (λ f. (f ≡ TextFault.NoMemory)
         ⊎ (asked kind line.entry.number line.entry.text.now ≡ Err f)) }
 {
     match kind {
         Kind::FindDevice => {
             let path = Vec::from_slice(alloc, line.word(1))?;
-            ended(line, 2, ClientCall::FindDevice(path))
+            line.ended(2, ClientCall::FindDevice(path))
         }
         Kind::OfHandle(kind) => of_handle(alloc, kind, line.number(1)?, line),
     }
 }
 
-/// The call of a line; a line without words has none.
+/// The call of a line.
 #[tactic(auto, unfolding(crate::specs::Calls::call_in))]
-pub(crate) fn call_in(alloc: Global, line: Line<'_>) -> Result<Option<ClientCall>, CallFault>
-    ensures ok { IfOk result (λ c. call_in line.entry.number line.entry.text.now ≡ Ok (option_map service_of c)) }
-    ensures err { IfErr result (λ f. (f ≡ CallFault.NoMemory)
+pub(crate) fn call_in(alloc: Global, line: Line<'_>) -> Result<ClientCall, TextFault>
+    ensures ok { IfOk result (λ c. call_in line.entry.number line.entry.text.now ≡ Ok (service_of c)) }
+    ensures err { IfErr result (λ f. (f ≡ TextFault.NoMemory)
         ⊎ (call_in line.entry.number line.entry.text.now ≡ Err f)) }
 {
-    if line.ends(0) {
-        return Ok(None);
-    }
     match kind_of(line.word(0)) {
-        Some(kind) => match asked(alloc, kind, line) {
-            Ok(call) => Ok(Some(call)),
-            Err(fault) => Err(fault),
-        },
-        None => Err(CallFault::Unknown(line.place(0))),
+        Some(kind) => asked(alloc, kind, line),
+        None => Err(TextFault::Unknown(line.place(0))),
     }
 }

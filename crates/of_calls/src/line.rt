@@ -1,8 +1,9 @@
-ghost use Rattle.std.specs.Prelude.{◌≡◌, ◌≤◌, length, nat_eq};
-ghost use Rattle.of_source.specs.Scan.{is_blank, word_length};
-ghost use Rattle.of_calls.specs.Lines.{behind_word, blanks, from_word, number_of, rest_behind, word_in};
+ghost use Rattle.std.specs.Prelude.{◌≡◌, ◌≤◌, IfErr, IfOk, false, length, nat_eq, true};
+ghost use Rattle.std.specs.Str.{bytes_eq};
+ghost use Rattle.of_calls.specs.Lines.{behind_word, blanks, from_word, is_blank, number_of, rest_behind};
+ghost use Rattle.of_calls.specs.Lines.{word_in, word_length};
 
-use crate::fault::CallFault;
+use crate::fault::TextFault;
 use of_cells::Cell;
 use of_format::read_number;
 use of_source::Place;
@@ -16,11 +17,11 @@ pub struct Line<'a> {
     pub text: &'a [u8],
 }
 
-/// Whether a byte separates words.
+/// Whether a byte separates words: those up to a space do, but for carriage returns.
 fn is_blank(byte: u8) -> bool
     ensures { result ≡ is_blank byte }
 {
-    byte <= b' '
+    byte <= b' ' && byte != b'\r'
 }
 
 /// How many blanks a text begins with.
@@ -87,9 +88,16 @@ fn number_of(word: &[u8]) -> Option<Cell>
     read_number(word, 16)
 }
 
+/// Whether a word is spelt as a text.
+pub(crate) fn is_same(word: &[u8], text: &str) -> bool
+    ensures { result ≡ bytes_eq word.now text.now }
+{
+    word == text.as_bytes()
+}
+
 impl<'a> Line<'a> {
     ghost use Rattle.of_calls.specs.Lines.{place_at, word_at};
-    ghost use Rattle.of_calls.specs.Calls.{number_at};
+    ghost use Rattle.of_calls.specs.Said.{number_at};
 
     /// The word behind so many; empty where there is none.
     pub(crate) fn word(self, count: usize) -> &'a [u8]
@@ -117,12 +125,28 @@ impl<'a> Line<'a> {
     }
 
     /// The number that the word behind so many says.
-    pub(crate) fn number(self, count: usize) -> Result<Cell, CallFault>
+    pub(crate) fn number(self, count: usize) -> Result<Cell, TextFault>
         ensures { result ≡ number_at self.entry.number count self.entry.text.now }
     {
         match number_of(self.word(count)) {
             Some(number) => Ok(number),
-            None => Err(CallFault::BadNumber(self.place(count))),
+            None => Err(TextFault::BadNumber(self.place(count))),
+        }
+    }
+
+    /// What the line says, if it ends behind so many words.
+    ///
+    /// TooMany where one more stands there.
+    pub(crate) fn ended<T: Drop>(self, count: usize, said: T) -> Result<T, TextFault>
+        ensures ok { IfOk result (λ s. (s ≡ said)
+            × (nat_eq (length (word_at count self.entry.text.now)) 0 ≡ true)) }
+        ensures err { IfErr result (λ f. (nat_eq (length (word_at count self.entry.text.now)) 0 ≡ false)
+            × (f ≡ TextFault.TooMany (place_at self.entry.number count self.entry.text.now))) }
+    {
+        if self.ends(count) {
+            Ok(said)
+        } else {
+            Err(TextFault::TooMany(self.place(count)))
         }
     }
 }

@@ -1,6 +1,7 @@
 ghost use Rattle.std.specs.Prelude.{◌≡◌};
-ghost use Rattle.std.specs.Str.{bytes_eq};
 ghost use Rattle.of_calls.specs.Calls.{handle_kind_of, kind_of};
+
+use crate::line::is_same;
 
 /// A service, by its name alone (IEEE 1275-1994, 6.3.2.1 and 6.3.2.2).
 #[derive(Clone, Copy)]
@@ -30,13 +31,6 @@ pub enum HandleKind {
     InstanceToPackage,
     /// `package-to-path`
     PackageToPath,
-}
-
-/// Whether a name is spelt as a text.
-fn is_same(name: &[u8], text: &str) -> bool
-    ensures { result ≡ bytes_eq name.now text.now }
-{
-    name == text.as_bytes()
 }
 
 /// The service of a name.

@@ -1,11 +1,15 @@
-ghost use Rattle.std.specs.Prelude.{◌≡◌, ◌⊎◌, ◌≤◌, ◌<◌, length, Ok, Err, IfOk, IfErr, IfSome, OnOk, map, option_map};
+ghost use Rattle.std.specs.Prelude.{◌≡◌, ◌⊎◌, ◌≤◌, ◌<◌, length, Ok, Err, IfOk, IfErr, OnOk, map};
 ghost use Rattle.of_client.specs.Services.{service_of};
 ghost use Rattle.of_calls.specs.Lines.{first_line, left_behind, line_length};
-ghost use Rattle.of_calls.specs.Calls.{and_call, call_in, parsed};
+ghost use Rattle.of_calls.specs.Said.{and_next};
+ghost use Rattle.of_calls.specs.Calls.{call_in, parsed};
+ghost use Rattle.of_calls.specs.Answers.{answer_in, parsed_answers};
 
+use crate::answer::answer_in;
 use crate::call::call_in;
-use crate::fault::CallFault;
+use crate::fault::TextFault;
 use crate::line::Line;
+use of_asking::Answer;
 use of_client::ClientCall;
 use std::alloc::Global;
 
@@ -18,62 +22,104 @@ fn line_length(text: &[u8]) -> usize
 
 /// A text up to its first newline.
 fn first_line(text: &[u8]) -> &[u8]
-    ensures line { result.now ≡ first_line text.now }
-    ensures few { length result.now ≤ length text.now }
+    ensures { result.now ≡ first_line text.now }
 {
     &text[..line_length(text)]
 }
 
-/// What stands behind the first newline of a text; none where there is no newline.
-fn left_behind(text: &[u8]) -> Option<&[u8]>
-    ensures left { option_map (λ rest. rest.now) result ≡ left_behind text.now }
-    ensures few { IfSome result (λ rest. length rest.now < length text.now) }
+/// What stands behind the first newline of a text; empty where there is no newline.
+fn left_behind(text: &[u8]) -> &[u8]
+    ensures left { result.now ≡ left_behind text.now }
+    ensures few { 0 < length text.now → length result.now < length text.now }
 {
     match &text[line_length(text)..] {
-        [_, rest @ ..] => Some(rest),
-        [] => None,
+        [_, rest @ ..] => rest,
+        [] => &[],
     }
 }
 
-/// Appends the call of a line, if it has one.
-fn take_line(alloc: Global, line: Line<'_>, calls: &mut Vec<ClientCall>) -> Result<(), CallFault>
-    ensures ok { OnOk result (and_call (map service_of calls.old.items) (call_in line.entry.number line.entry.text.now)
+/// Appends the call of a line.
+fn take_call(alloc: Global, line: Line<'_>, calls: &mut Vec<ClientCall>) -> Result<(), TextFault>
+    ensures ok { OnOk result (and_next (map service_of calls.old.items) (call_in line.entry.number line.entry.text.now)
         ≡ Ok (map service_of calls.new.items)) }
-    ensures err { IfErr result (λ f. (f ≡ CallFault.NoMemory)
+    ensures err { IfErr result (λ f. (f ≡ TextFault.NoMemory)
         ⊎ (call_in line.entry.number line.entry.text.now ≡ Err f)) }
 {
-    match call_in(alloc, line)? {
-        Some(call) => match calls.push(call) {
-            Ok(()) => Ok(()),
-            Err(_) => Err(CallFault::NoMemory),
-        },
-        None => Ok(()),
+    let call = call_in(alloc, line)?;
+    match calls.push(call) {
+        Ok(()) => Ok(()),
+        Err(_) => Err(TextFault::NoMemory),
     }
 }
 
 /// The calls that a text says, a line for each: the name of a service and what it takes, with blanks between. Numbers
-/// have hexadecimal digits. A path or a name that is left out is empty, and a line without words is no call.
+/// have hexadecimal digits. A path or a name that is left out is empty. Each line ends with a newline, which the last
+/// may lack; a text without bytes has no line. A carriage return is a byte of a word.
 ///
-/// An error is for the first word that fits nowhere, or for memory.
+/// An error is for the first word that fits nowhere, or for memory: Unknown where a line names no service or has no
+/// word, BadNumber where a number can't be read or is missing, TooMany where a word stands behind the last that the
+/// service takes.
 #[tactic(auto, using(crate::proofs::Reading::none_read))]
-pub fn parse(alloc: Global, text: &[u8]) -> Result<Vec<ClientCall>, CallFault>
+pub fn parse(alloc: Global, text: &[u8]) -> Result<Vec<ClientCall>, TextFault>
     ensures ok { IfOk result (λ calls. parsed text.now ≡ Ok (map service_of calls.items)) }
-    ensures err { IfErr result (λ f. (f ≡ CallFault.NoMemory) ⊎ (parsed text.now ≡ Err f)) }
+    ensures err { IfErr result (λ f. (f ≡ TextFault.NoMemory) ⊎ (parsed text.now ≡ Err f)) }
 {
     let mut calls = Vec::new(alloc);
     let mut number = 1usize;
-    let mut left = Some(text);
-    while let Some(here) = left {
+    let mut left = text;
+    while left.len() > 0 {
         let line = Line {
             number,
-            text: first_line(here),
+            text: first_line(left),
         };
-        match take_line(alloc, line, &mut calls) {
+        match take_call(alloc, line, &mut calls) {
             Ok(()) => {}
             Err(fault) => return Err(fault),
         }
         number += 1;
-        left = left_behind(here);
+        left = left_behind(left);
     }
     Ok(calls)
+}
+
+/// Appends the answer of a line.
+fn take_answer(line: Line<'_>, answers: &mut Vec<Answer>) -> Result<(), TextFault>
+    ensures ok { OnOk result (and_next answers.old.items (answer_in line.entry.number line.entry.text.now)
+        ≡ Ok answers.new.items) }
+    ensures err { IfErr result (λ f. (f ≡ TextFault.NoMemory)
+        ⊎ (answer_in line.entry.number line.entry.text.now ≡ Err f)) }
+{
+    let answer = answer_in(line)?;
+    match answers.push(answer) {
+        Ok(()) => Ok(()),
+        Err(_) => Err(TextFault::NoMemory),
+    }
+}
+
+/// The answers that a text says, a line for each: `v` and a number in hexadecimal digits, up to ffffffff, `done`, or
+/// `fault`, with blanks between the words. The lines are those of `parse`.
+///
+/// An error is for the first word that fits nowhere, or for memory: Unknown where a line begins with another word or
+/// has none, BadNumber where the number can't be read or is missing, TooMany where a word stands behind these.
+#[tactic(auto, using(crate::proofs::Reading::none_read))]
+pub fn parse_answers(alloc: Global, text: &[u8]) -> Result<Vec<Answer>, TextFault>
+    ensures ok { IfOk result (λ answers. parsed_answers text.now ≡ Ok answers.items) }
+    ensures err { IfErr result (λ f. (f ≡ TextFault.NoMemory) ⊎ (parsed_answers text.now ≡ Err f)) }
+{
+    let mut answers = Vec::new(alloc);
+    let mut number = 1usize;
+    let mut left = text;
+    while left.len() > 0 {
+        let line = Line {
+            number,
+            text: first_line(left),
+        };
+        match take_answer(line, &mut answers) {
+            Ok(()) => {}
+            Err(fault) => return Err(fault),
+        }
+        number += 1;
+        left = left_behind(left);
+    }
+    Ok(answers)
 }

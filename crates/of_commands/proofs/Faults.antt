@@ -6,6 +6,7 @@ use Rattle.std.specs.Io.KnownBytes.{Appends, Keeps}
 use Rattle.of_commands.specs.declared.fault.Fault.{Fault}
 use Rattle.of_commands.specs.Files.{image_in, FaultsReading}
 use Rattle.of_commands.specs.declared.fault.Fault.TheVariants as fault
+use Rattle.of_asking.specs.declared.query.Answer.{Answer}
 use Rattle.of_stream.specs.declared.fault.StreamFault.{StreamFault}
 use Rattle.of_detok.specs.declared.notes.Extras.{Extras}
 use Rattle.of_compile.specs.Coding.{Coding}
@@ -73,14 +74,14 @@ fault_of_run file f (inl unwritten) = inl unwritten
 fault_of_run file f (inr none) = inr (inl (inr (inr (inl none))))
 
 -- what a run prints was printed, or a part of it
-pub run_printed : (known : Option (List ℕ)) (limit : ℕ) (m : MachineState Coding) (e : End)
-    (old new : Option (List ℕ)) (r : Result Status Fault) → IfSome known (λ file. RunsFile file limit m e)
+pub run_printed : (known : Option (List ℕ)) (answers : List Answer) (limit : ℕ) (m : MachineState Coding) (e : End)
+    (old new : Option (List ℕ)) (r : Result Status Fault) → IfSome known (λ file. RunsFile file answers limit m e)
     → IfOk r (λ s. (s ≡ end_status e) × Appends old new m.eval.board.console.text)
     → OnErr r (AppendsPart old new m.eval.board.console.text) → IfErr r (λ f. IsUnwritten f ⊎ (f ≡ fault.NoMemory))
-    → IfSome known (λ file. Prints file limit old new r)
-run_printed None limit m e old new r runs all part why = tt
-run_printed (Some file) limit m e old new (Ok s) runs all part why = (m, (e, runs, sym all.0), all.1)
-run_printed (Some file) limit m e old new (Err f) runs all part why =
+    → IfSome known (λ file. Prints file answers limit old new r)
+run_printed None answers limit m e old new r runs all part why = tt
+run_printed (Some file) answers limit m e old new (Ok s) runs all part why = (m, (e, runs, sym all.0), all.1)
+run_printed (Some file) answers limit m e old new (Err f) runs all part why =
     (inr (m, (e, runs), part), fault_of_run file f why)
 
 -- a write that failed is no bad start byte
@@ -98,6 +99,7 @@ unwritten_begins (fault.NoSource place g) unwritten = refl
 unwritten_begins (fault.OffsetTooLong place) unwritten = refl
 unwritten_begins (fault.NoImage g) unwritten = refl
 unwritten_begins (fault.NoCalls g) unwritten = refl
+unwritten_begins (fault.NoAnswers g) unwritten = refl
 unwritten_begins (fault.Unwritten code) unwritten = refl
 unwritten_begins fault.NoMemory unwritten = refl
 
@@ -125,6 +127,8 @@ fault_not_done (fault.BadDigit place byte) = refl
 fault_not_done fault.OddDigits = refl
 fault_not_done (fault.TooLong length) = refl
 fault_not_done (fault.Refused refusal.Busy) = refl
+fault_not_done (fault.Refused refusal.NotAsked) = refl
+fault_not_done (fault.Refused refusal.WrongAnswer) = refl
 fault_not_done (fault.Refused refusal.ImageTooLong) = refl
 fault_not_done (fault.Refused (refusal.BadStart f)) = refl
 fault_not_done (fault.Refused refusal.NoNode) = refl
@@ -135,6 +139,7 @@ fault_not_done (fault.NoImage (tok.OffsetTooLong at)) = refl
 fault_not_done (fault.NoImage tok.TooManyWords) = refl
 fault_not_done (fault.NoImage tok.ImageTooLong) = refl
 fault_not_done (fault.NoCalls f) = refl
+fault_not_done (fault.NoAnswers f) = refl
 fault_not_done (fault.Unwritten code) = refl
 
 -- a fault of the source that was read is one of the file

@@ -2,4 +2,5 @@ pub mod Answered
 pub mod Called
 pub mod Faults
 pub mod Reading
+pub mod Replies
 pub mod Written

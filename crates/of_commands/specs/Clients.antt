@@ -3,10 +3,11 @@ use Rattle.std.specs.Prelude.{◌≡◌, ◌≤◌, ◌⊎◌, ℕ, List, [], �
 use Rattle.std.specs.Int.{to_be_bytes, w32}
 use Rattle.std.specs.Io.KnownBytes.{Keeps, Appends}
 use Rattle.hex.specs.Hex.{encode_lower}
+use Rattle.of_asking.specs.declared.query.Answer.{Answer}
 use Rattle.of_client.specs.Services.{Reply, Service}
 use Rattle.of_calls.specs.Calls.{parsed}
-use Rattle.of_calls.specs.declared.fault.CallFault.{CallFault}
-use Rattle.of_calls.specs.declared.fault.CallFault.TheVariants as call
+use Rattle.of_calls.specs.declared.fault.TextFault.{TextFault}
+use Rattle.of_calls.specs.declared.fault.TextFault.TheVariants as word
 use Rattle.of_compile.specs.Coding.{Coding}
 use Rattle.of_machine.specs.States.{MachineState, served}
 use Rattle.of_machine.specs.declared.answers.End.{End}
@@ -44,24 +45,24 @@ client_text services m = m.eval.board.console.text ++ reply_lines (served_all m 
 
 -- what was printed of a run and of its replies to these questions, or of a part of it beside a fault
 abbrev pub PrintsCalls :
-    List Service → List ℕ → ℕ → Option (List ℕ) → Option (List ℕ) → Result Status Fault → Type 0
-PrintsCalls services file limit old new (Ok s) =
-    (m : MachineState Coding) × ((e : End) × RunsFile file limit m e × (end_status e ≡ s))
+    List Service → List ℕ → List Answer → ℕ → Option (List ℕ) → Option (List ℕ) → Result Status Fault → Type 0
+PrintsCalls services file answers limit old new (Ok s) =
+    (m : MachineState Coding) × ((e : End) × RunsFile file answers limit m e × (end_status e ≡ s))
     × Appends old new (client_text services m)
-PrintsCalls services file limit old new (Err f) =
+PrintsCalls services file answers limit old new (Err f) =
     (Keeps old new
-    ⊎ ((m : MachineState Coding) × ((e : End) × RunsFile file limit m e)
+    ⊎ ((m : MachineState Coding) × ((e : End) × RunsFile file answers limit m e)
     × AppendsPart old new (client_text services m)))
     × FaultsRun file f
 
 -- ---- how it ends
 
 -- the fault of a text that has no calls
-abbrev pub no_calls : CallFault → Fault
-no_calls (call.Unknown place) = fault.NoCalls (call.Unknown place)
-no_calls (call.BadNumber place) = fault.NoCalls (call.BadNumber place)
-no_calls (call.TooMany place) = fault.NoCalls (call.TooMany place)
-no_calls call.NoMemory = fault.NoMemory
+abbrev pub no_calls : TextFault → Fault
+no_calls (word.Unknown place) = fault.NoCalls (word.Unknown place)
+no_calls (word.BadNumber place) = fault.NoCalls (word.BadNumber place)
+no_calls (word.TooMany place) = fault.NoCalls (word.TooMany place)
+no_calls word.NoMemory = fault.NoMemory
 
 -- the faults of a file of calls: of a read, of its end, for memory, or the first of its text
 abbrev pub FaultsCalls : List ℕ → Fault → Type 0
@@ -69,18 +70,18 @@ FaultsCalls text f =
     IsUnread f
     ⊎ ((f ≡ fault.Endless) × (16777216 ≤ length text))
     ⊎ (f ≡ fault.NoMemory)
-    ⊎ ((c : CallFault) × (parsed text ≡ Err c) × (f ≡ no_calls c))
+    ⊎ ((c : TextFault) × (parsed text ≡ Err c) × (f ≡ no_calls c))
 
 -- the program ends with the status of what was printed, or of its fault, which was said
 abbrev pub AnswersCalls :
-    List Service → List ℕ → ℕ → Option (List ℕ) → Option (List ℕ) → (Fault → Type 0) → Status → Type 0
-AnswersCalls services file limit old new Said s =
-    (r : Result Status Fault) × (ended_with r ≡ s) × PrintsCalls services file limit old new r × IfErr r Said
+    List Service → List ℕ → List Answer → ℕ → Option (List ℕ) → Option (List ℕ) → (Fault → Type 0) → Status → Type 0
+AnswersCalls services file answers limit old new Said s =
+    (r : Result Status Fault) × (ended_with r ≡ s) × PrintsCalls services file answers limit old new r × IfErr r Said
 
 -- the same with the calls of a text, or nothing was printed, and a fault of the text was said
 abbrev pub AnswersClient :
-    List ℕ → List ℕ → ℕ → Option (List ℕ) → Option (List ℕ) → (Fault → Type 0) → Status → Type 0
-AnswersClient text file limit old new Said s =
+    List ℕ → List ℕ → List Answer → ℕ → Option (List ℕ) → Option (List ℕ) → (Fault → Type 0) → Status → Type 0
+AnswersClient text file answers limit old new Said s =
     ((f : Fault) × (status_of f ≡ s) × Keeps old new × FaultsCalls text f × Said f)
     ⊎ ((services : List Service) × (parsed text ≡ Ok services)
-    × AnswersCalls services file limit old new Said s)
+    × AnswersCalls services file answers limit old new Said s)

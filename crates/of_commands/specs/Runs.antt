@@ -13,8 +13,10 @@ use Rattle.of_machine.specs.declared.answers.Refusal.TheVariants as refusal
 use Rattle.of_compile.specs.Coding.{Coding}
 use Rattle.of_machine.specs.States.{MachineState, image_refusal, Refuses}
 use Rattle.of_machine.specs.Runs.{RunsTo}
-use Rattle.of_calls.specs.declared.fault.CallFault.{CallFault}
-use Rattle.of_calls.specs.declared.fault.CallFault.TheVariants as call
+use Rattle.of_asking.specs.declared.query.Answer.{Answer}
+use Rattle.of_calls.specs.Answers.{parsed_answers}
+use Rattle.of_calls.specs.declared.fault.TextFault.{TextFault}
+use Rattle.of_calls.specs.declared.fault.TextFault.TheVariants as word
 use Rattle.of_source.specs.declared.fault.SourceFault.{SourceFault}
 use Rattle.of_source.specs.declared.fault.SourceFault.TheVariants as source
 use Rattle.of_source.specs.declared.place.Place.{Place}
@@ -47,6 +49,8 @@ status_of (fault.BadDigit place byte) = status.Fault
 status_of fault.OddDigits = status.Fault
 status_of (fault.TooLong length) = status.Fault
 status_of (fault.Refused refusal.Busy) = status.Fault
+status_of (fault.Refused refusal.NotAsked) = status.Fault
+status_of (fault.Refused refusal.WrongAnswer) = status.Fault
 status_of (fault.Refused refusal.ImageTooLong) = status.Fault
 status_of (fault.Refused (refusal.BadStart f)) = status.Fault
 status_of (fault.Refused refusal.NoNode) = status.Fault
@@ -57,20 +61,22 @@ status_of (fault.NoImage (tok.OffsetTooLong at)) = status.Fault
 status_of (fault.NoImage tok.TooManyWords) = status.Fault
 status_of (fault.NoImage tok.ImageTooLong) = status.Fault
 status_of (fault.NoCalls f) = status.Fault
+status_of (fault.NoAnswers f) = status.Fault
 status_of (fault.Unwritten code) = status.Fault
 
--- the place in a text of calls that has a fault
-abbrev pub call_place_of : CallFault → Option Place
-call_place_of (call.Unknown place) = Some place
-call_place_of (call.BadNumber place) = Some place
-call_place_of (call.TooMany place) = Some place
-call_place_of call.NoMemory = None
+-- the place in a text of calls or of answers that has a fault
+abbrev pub text_place_of : TextFault → Option Place
+text_place_of (word.Unknown place) = Some place
+text_place_of (word.BadNumber place) = Some place
+text_place_of (word.TooMany place) = Some place
+text_place_of word.NoMemory = None
 
 -- the place in a text that has a fault
 abbrev pub source_place_of : Fault → Option Place
 source_place_of (fault.NoSource place f) = Some place
 source_place_of (fault.OffsetTooLong place) = Some place
-source_place_of (fault.NoCalls f) = call_place_of f
+source_place_of (fault.NoCalls f) = text_place_of f
+source_place_of (fault.NoAnswers f) = text_place_of f
 source_place_of _ = None
 
 -- the place of a position in a text
@@ -97,25 +103,26 @@ abbrev pub ended_with : Result Status Fault → Status
 ended_with (Ok s) = s
 ended_with (Err f) = status_of f
 
--- the run of the image that a file has
-abbrev pub RunsFile : List ℕ → ℕ → MachineState Coding → End → Type 0
-RunsFile file limit m e = (image : List ℕ) × (image_in file ≡ Ok image) × RunsTo image [] [] [] limit m e
+-- the run of the image that a file has, with these answers
+abbrev pub RunsFile : List ℕ → List Answer → ℕ → MachineState Coding → End → Type 0
+RunsFile file answers limit m e = (image : List ℕ) × (image_in file ≡ Ok image) × RunsTo image [] answers [] limit m e
 
 -- the status of a run's end
 abbrev pub end_status : End → Status
 end_status end.Done = status.Done
 end_status end.LimitReached = status.LimitReached
+end_status end.AnswersOut = status.AnswersOut
 
 -- the run of the file printed all its console bytes, and ended with this status
-abbrev pub PrintsRun : List ℕ → ℕ → Option (List ℕ) → Option (List ℕ) → Status → Type 0
-PrintsRun file limit old new s =
-    (m : MachineState Coding) × ((e : End) × RunsFile file limit m e × (end_status e ≡ s))
+abbrev pub PrintsRun : List ℕ → List Answer → ℕ → Option (List ℕ) → Option (List ℕ) → Status → Type 0
+PrintsRun file answers limit old new s =
+    (m : MachineState Coding) × ((e : End) × RunsFile file answers limit m e × (end_status e ≡ s))
     × Appends old new m.eval.board.console.text
 
 -- nothing was printed, or the first console bytes of the run
-abbrev pub PrintsPart : List ℕ → ℕ → Option (List ℕ) → Option (List ℕ) → Type 0
-PrintsPart file limit old new = Keeps old new
-    ⊎ ((m : MachineState Coding) × ((e : End) × RunsFile file limit m e)
+abbrev pub PrintsPart : List ℕ → List Answer → ℕ → Option (List ℕ) → Option (List ℕ) → Type 0
+PrintsPart file answers limit old new = Keeps old new
+    ⊎ ((m : MachineState Coding) × ((e : End) × RunsFile file answers limit m e)
     × AppendsPart old new m.eval.board.console.text)
 
 -- a write failed
@@ -140,9 +147,31 @@ FaultsRun file f =
     ⊎ ((image : List ℕ) × (image_in file ≡ Ok image) × IsRefusedFor image f)
 
 -- what was printed of the run, whose end has the status, or of a part of it beside a fault
-abbrev pub Prints : List ℕ → ℕ → Option (List ℕ) → Option (List ℕ) → Result Status Fault → Type 0
-Prints file limit old new (Ok s) = PrintsRun file limit old new s
-Prints file limit old new (Err f) = PrintsPart file limit old new × FaultsRun file f
+abbrev pub Prints :
+    List ℕ → List Answer → ℕ → Option (List ℕ) → Option (List ℕ) → Result Status Fault → Type 0
+Prints file answers limit old new (Ok s) = PrintsRun file answers limit old new s
+Prints file answers limit old new (Err f) = PrintsPart file answers limit old new × FaultsRun file f
+
+-- ---- answers of devices
+
+-- the fault of a text that has no answers
+abbrev pub no_answers : TextFault → Fault
+no_answers (word.Unknown place) = fault.NoAnswers (word.Unknown place)
+no_answers (word.BadNumber place) = fault.NoAnswers (word.BadNumber place)
+no_answers (word.TooMany place) = fault.NoAnswers (word.TooMany place)
+no_answers word.NoMemory = fault.NoMemory
+
+-- the faults of a file of answers: of a read, of its end, for memory, or the first of its text
+abbrev pub FaultsAnswers : List ℕ → Fault → Type 0
+FaultsAnswers file f =
+    IsUnread f
+    ⊎ ((f ≡ fault.Endless) × (16777216 ≤ length file))
+    ⊎ (f ≡ fault.NoMemory)
+    ⊎ ((t : TextFault) × (parsed_answers file ≡ Err t) × (f ≡ no_answers t))
+
+-- the status of a fault of a file of answers
+abbrev pub FaultsAnswersWith : List ℕ → Status → Type 0
+FaultsAnswersWith file s = (f : Fault) × (status_of f ≡ s) × FaultsAnswers file f
 
 -- ---- listings
 
@@ -221,30 +250,33 @@ Writes bytes old new _ = ⊥
 
 -- ---- requests
 
--- what was printed of the file, where this was asked for, or why it wasn't: of `client` the run alone
-abbrev pub Does : Asked → List ℕ → Option (List ℕ) → Option (List ℕ) → Result Status Fault → Type 0
-Does (a_run image limit explain) file old new r = Prints file limit old new r
-Does (client_calls image calls limit explain) file old new r = Prints file limit old new r
-Does (an_image source output) file old new r = Tokenizes file old new r
-Does (a_listing image extras partial) file old new r = Lists extras partial file old new r
+-- what was printed of the file, where this was asked for, with the answers of devices, or why it wasn't: of `client`
+-- the run alone
+abbrev pub Does :
+    Asked → List Answer → List ℕ → Option (List ℕ) → Option (List ℕ) → Result Status Fault → Type 0
+Does (a_run image path limit explain) answers file old new r = Prints file answers limit old new r
+Does (client_calls image calls path limit explain) answers file old new r = Prints file answers limit old new r
+Does (an_image source output) answers file old new r = Tokenizes file old new r
+Does (a_listing image extras partial) answers file old new r = Lists extras partial file old new r
 
 -- the status is one of what was done
 abbrev pub is_done : Status → Bool
 is_done status.Done = true
 is_done status.LimitReached = true
+is_done status.AnswersOut = true
 is_done status.Fault = false
 is_done status.Usage = false
 is_done status.NoMemory = false
 
 -- whether it is asked how a run ended
 abbrev pub is_explained : Asked → Bool
-is_explained (a_run image limit explain) = explain
-is_explained (client_calls image calls limit explain) = explain
+is_explained (a_run image path limit explain) = explain
+is_explained (client_calls image calls path limit explain) = explain
 is_explained (an_image source output) = false
 is_explained (a_listing image extras partial) = false
 
 -- the program ends with this status, that of what was done, or of a fault that was said
 abbrev pub Answers :
-    Asked → List ℕ → Option (List ℕ) → Option (List ℕ) → (Fault → Type 0) → Status → Type 0
-Answers a file old new Said s =
-    (r : Result Status Fault) × (ended_with r ≡ s) × Does a file old new r × IfErr r Said
+    Asked → List Answer → List ℕ → Option (List ℕ) → Option (List ℕ) → (Fault → Type 0) → Status → Type 0
+Answers a answers file old new Said s =
+    (r : Result Status Fault) × (ended_with r ≡ s) × Does a answers file old new r × IfErr r Said

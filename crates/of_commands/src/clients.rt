@@ -10,7 +10,7 @@ ghost use Rattle.of_commands.specs.Clients.{client_text, reply_line, reply_lines
 ghost use Rattle.of_commands.specs.Messages.{AppendsPart, SaysFault, bad_start_of};
 ghost use Rattle.of_commands.specs.Runs.{IsUnwritten, is_done};
 
-use crate::engine::{explain_end, run_file};
+use crate::engine::{Run, explain_end, run_file};
 use crate::fault::{Fault, no_calls};
 use crate::input::read_whole;
 use crate::messages::Messages;
@@ -26,14 +26,10 @@ use std::io::{Read, Write};
 /// What `client` was asked for.
 #[derive(Clone, Copy)]
 pub struct ClientRun<'a> {
-    /// The path of the image.
-    pub image: &'a str,
+    /// The run behind which the calls are answered.
+    pub run: Run<'a>,
     /// The path of the file of calls.
     pub calls: &'a str,
-    /// How many steps the run makes at most.
-    pub limit: u64,
-    /// Whether its end is explained on the error output.
-    pub explain: bool,
 }
 
 /// The calls of a file.
@@ -157,20 +153,21 @@ fn print_called<W: Write>(
 #[tactic(auto, using(crate::proofs::Faults::run_begins))]
 fn run_calls<R: Read, W: Write, E: Write>(
     alloc: Global,
-    run: &ClientRun<'_>,
+    run: Run<'_>,
     file: &mut R,
     calls: &[ClientCall],
     out: &mut W,
     errors: &mut Messages<E>,
 ) -> Result<Status, Fault>
     ensures printed { IfSome (R.remaining file.old) (λ bytes.
-        PrintsCalls (map service_of calls.now) bytes run.now.limit (W.contents out.old) (W.contents out.new) result) }
-    ensures silent { run.now.explain ≡ false → errors.new ≡ errors.old }
+        PrintsCalls (map service_of calls.now) bytes run.entry.answers.now run.entry.limit
+        (W.contents out.old) (W.contents out.new) result) }
+    ensures silent { run.entry.explain ≡ false → errors.new ≡ errors.old }
     ensures unsaid { IfErr result (λ f. is_some (bad_start_of f) ≡ true → errors.new ≡ errors.old) }
 {
-    match run_file(alloc, file, run.limit) {
+    match run_file(alloc, run, file) {
         Ok((image, mut machine, end)) => match print_called(alloc, &mut machine, calls, out) {
-            Ok(()) => explain_end(alloc, run.image, &image, &machine, end, run.explain, errors),
+            Ok(()) => explain_end(alloc, run, &image, &machine, end, errors),
             Err(fault) => Err(fault),
         },
         Err(fault) => Err(fault),
@@ -181,16 +178,17 @@ fn run_calls<R: Read, W: Write, E: Write>(
 #[tactic(auto, using(crate::proofs::Called::called_done, crate::proofs::Faults::fault_not_done))]
 fn answer_calls<R: Read, W: Write, E: Write>(
     alloc: Global,
-    run: &ClientRun<'_>,
+    run: Run<'_>,
     file: &mut R,
     calls: &[ClientCall],
     out: &mut W,
     errors: &mut Messages<E>,
 ) -> Status
     ensures answered { IfSome (R.remaining file.old) (λ bytes.
-        AnswersCalls (map service_of calls.now) bytes run.now.limit (W.contents out.old) (W.contents out.new)
+        AnswersCalls (map service_of calls.now) bytes run.entry.answers.now run.entry.limit
+        (W.contents out.old) (W.contents out.new)
         (λ f. SaysFault f (E.contents errors.old.out) (E.contents errors.new.out) errors.new.failed) result) }
-    ensures silent { is_done result ≡ true → run.now.explain ≡ false → errors.new ≡ errors.old }
+    ensures silent { is_done result ≡ true → run.entry.explain ≡ false → errors.new ≡ errors.old }
 {
     match run_calls(alloc, run, file, calls, out, errors) {
         Ok(status) => status,
@@ -202,25 +200,27 @@ fn answer_calls<R: Read, W: Write, E: Write>(
 /// run. What the run printed is printed, and then a line for each reply: its number in 8 hexadecimal digits, and
 /// behind a space its bytes, where it has some.
 ///
-/// The calls are read before the run begins. With a fault of their file or of the image nothing is printed. What is
-/// wrong is said on the error output, behind the path of the file that it is in; and how the run ended, where that is
-/// to be explained. Else nothing is said.
+/// The questions of the run to devices are answered by the answers that it is given, in order. The calls are read
+/// before the run begins. With a fault of their file or of the image nothing is printed. What is wrong is said on the
+/// error output, behind the path of the file that it is in; and how the run ended, where that is to be explained. Else
+/// nothing is said.
 #[tactic(auto, using(crate::proofs::Called::answers, crate::proofs::Faults::fault_not_done))]
 pub fn client<C: Read, R: Read, W: Write, E: Write>(
     alloc: Global,
-    run: &ClientRun<'_>,
+    asked: &ClientRun<'_>,
     calls: &mut C,
     image: &mut R,
     out: &mut W,
     errors: &mut Messages<E>,
 ) -> Status
     ensures answered { IfSome (C.remaining calls.old) (λ text. IfSome (R.remaining image.old) (λ bytes.
-        AnswersClient text bytes run.now.limit (W.contents out.old) (W.contents out.new)
+        AnswersClient text bytes asked.now.run.answers.now asked.now.run.limit
+        (W.contents out.old) (W.contents out.new)
         (λ f. SaysFault f (E.contents errors.old.out) (E.contents errors.new.out) errors.new.failed) result)) }
-    ensures silent { is_done result ≡ true → run.now.explain ≡ false → errors.new ≡ errors.old }
+    ensures silent { is_done result ≡ true → asked.now.run.explain ≡ false → errors.new ≡ errors.old }
 {
     match read_calls(alloc, calls) {
-        Ok(list) => answer_calls(alloc, run, image, &list, out, errors),
-        Err(fault) => report(run.calls, fault, errors),
+        Ok(list) => answer_calls(alloc, asked.run, image, &list, out, errors),
+        Err(fault) => report(asked.calls, fault, errors),
     }
 }

@@ -19,6 +19,7 @@ use crate::messages::Messages;
 use crate::output::{report, write_whole};
 use hex::encode;
 use of_arguments::{Request, Status};
+use of_asking::Answer;
 use of_detok::{Extras, partial_listing};
 use of_machine::{End, Refusal, ScriptMachine, run_script};
 use of_source::parse;
@@ -26,6 +27,19 @@ use of_stream::StreamFault;
 use of_tok::tokenize;
 use std::alloc::Global;
 use std::io::{Read, Write};
+
+/// What a run is asked for.
+#[derive(Clone, Copy)]
+pub struct Run<'a> {
+    /// The path of the image.
+    pub image: &'a str,
+    /// What devices answer, in the order of the questions.
+    pub answers: &'a [Answer],
+    /// How many steps the run makes at most.
+    pub limit: u64,
+    /// Whether its end is explained on the error output.
+    pub explain: bool,
+}
 
 /// The fault that a refusal of an image of so many bytes is.
 fn refused(length: usize, refusal: Refusal) -> Fault
@@ -37,12 +51,17 @@ fn refused(length: usize, refusal: Refusal) -> Fault
     }
 }
 
-/// Runs an image.
-fn run_image(alloc: Global, image: &[u8], limit: u64) -> Result<(ScriptMachine, End), Fault>
-    ensures ok { IfOk result (λ r. RunsTo image.now [] [] [] limit r.0 r.1) }
+/// Runs an image, with these answers.
+fn run_image(
+    alloc: Global,
+    image: &[u8],
+    answers: &[Answer],
+    limit: u64,
+) -> Result<(ScriptMachine, End), Fault>
+    ensures ok { IfOk result (λ r. RunsTo image.now [] answers.now [] limit r.0 r.1) }
     ensures err { IfErr result (IsRefusedFor image.now) }
 {
-    match run_script(alloc, image, &[], &[], &[], limit) {
+    match run_script(alloc, image, &[], answers, &[], limit) {
         Ok(run) => Ok(run),
         Err(refusal) => Err(refused(image.len(), refusal)),
     }
@@ -52,14 +71,15 @@ fn run_image(alloc: Global, image: &[u8], limit: u64) -> Result<(ScriptMachine, 
 #[tactic(auto, using(crate::proofs::Faults::run_unread, crate::proofs::Faults::run_refused))]
 pub(crate) fn run_file<R: Read>(
     alloc: Global,
+    run: Run<'_>,
     file: &mut R,
-    limit: u64,
 ) -> Result<(Vec<u8>, ScriptMachine, End), Fault>
-    ensures ok { IfOk result (λ r. IfSome (R.remaining file.old) (λ bytes. RunsFile bytes limit r.1 r.2)) }
+    ensures ok { IfOk result (λ r. IfSome (R.remaining file.old) (λ bytes.
+        RunsFile bytes run.entry.answers.now run.entry.limit r.1 r.2)) }
     ensures err { IfErr result (λ f. IfSome (R.remaining file.old) (λ bytes. FaultsRun bytes f)) }
 {
     let image = read_image(alloc, file)?;
-    match run_image(alloc, &image, limit) {
+    match run_image(alloc, &image, run.answers, run.limit) {
         Ok((machine, end)) => Ok((image, machine, end)),
         Err(fault) => Err(fault),
     }
@@ -72,25 +92,25 @@ fn end_status(end: End) -> Status
     match end {
         End::Done => Status::Done,
         End::LimitReached => Status::LimitReached,
+        End::AnswersOut => Status::AnswersOut,
     }
 }
 
 /// Says how a run ended, where that is to be explained.
 pub(crate) fn explain_end<E: Write>(
     alloc: Global,
-    path: &str,
+    run: Run<'_>,
     image: &[u8],
     machine: &ScriptMachine,
     end: End,
-    explain: bool,
     errors: &mut Messages<E>,
 ) -> Result<Status, Fault>
     ensures ok { IfOk result (λ s. s ≡ end_status end) }
     ensures err { IfErr result (λ f. f ≡ Fault.NoMemory) }
-    ensures silent { explain ≡ false → errors.new ≡ errors.old }
+    ensures silent { run.entry.explain ≡ false → errors.new ≡ errors.old }
 {
-    if explain {
-        say_end(alloc, path, image, machine, end, errors)?;
+    if run.explain {
+        say_end(alloc, run, image, machine, end, errors)?;
     }
     Ok(end_status(end))
 }
@@ -99,11 +119,10 @@ pub(crate) fn explain_end<E: Write>(
 #[tactic(auto, using(crate::proofs::Faults::all_are_part))]
 fn print_end<W: Write, E: Write>(
     alloc: Global,
-    path: &str,
+    run: Run<'_>,
     image: &[u8],
     machine: &ScriptMachine,
     end: End,
-    explain: bool,
     out: &mut W,
     errors: &mut Messages<E>,
 ) -> Result<Status, Fault>
@@ -112,10 +131,10 @@ fn print_end<W: Write, E: Write>(
     ensures err { OnErr result (AppendsPart (W.contents out.old) (W.contents out.new)
         machine.now.eval.board.console.text) }
     ensures fault { IfErr result (λ f. IsUnwritten f ⊎ (f ≡ Fault.NoMemory)) }
-    ensures silent { explain ≡ false → errors.new ≡ errors.old }
+    ensures silent { run.entry.explain ≡ false → errors.new ≡ errors.old }
 {
     write_whole(out, machine.console())?;
-    explain_end(alloc, path, image, machine, end, explain, errors)
+    explain_end(alloc, run, image, machine, end, errors)
 }
 
 /// Runs the image of a file for at most `limit` steps, prints what the run prints, explains how it ended, where that
@@ -124,24 +143,20 @@ fn print_end<W: Write, E: Write>(
 /// The file is the image as it stands where it begins with a start word, 0xF0 to 0xF3 or 0xFD, and
 /// else a text of hexadecimal digits. With a fault of the file nothing is printed.
 #[tactic(auto, using(crate::proofs::Faults::run_printed, crate::proofs::Faults::run_begins))]
-fn run<R: Read, W: Write, E: Write>(
+fn print_run<R: Read, W: Write, E: Write>(
     alloc: Global,
-    path: &str,
+    run: Run<'_>,
     file: &mut R,
-    limit: u64,
-    explain: bool,
     out: &mut W,
     errors: &mut Messages<E>,
 ) -> Result<Status, Fault>
     ensures printed { IfSome (R.remaining file.old) (λ bytes.
-        Prints bytes limit (W.contents out.old) (W.contents out.new) result) }
-    ensures silent { explain ≡ false → errors.new ≡ errors.old }
+        Prints bytes run.entry.answers.now run.entry.limit (W.contents out.old) (W.contents out.new) result) }
+    ensures silent { run.entry.explain ≡ false → errors.new ≡ errors.old }
     ensures unsaid { IfErr result (λ f. is_some (bad_start_of f) ≡ true → errors.new ≡ errors.old) }
 {
-    match run_file(alloc, file, limit) {
-        Ok((image, machine, end)) => {
-            print_end(alloc, path, &image, &machine, end, explain, out, errors)
-        }
+    match run_file(alloc, run, file) {
+        Ok((image, machine, end)) => print_end(alloc, run, &image, &machine, end, out, errors),
         Err(fault) => Err(fault),
     }
 }
@@ -316,12 +331,13 @@ fn tok<R: Read, W: Write>(alloc: Global, source: &mut R, out: &mut W) -> Result<
 fn perform<R: Read, W: Write, E: Write>(
     alloc: Global,
     request: Request<'_>,
+    answers: &[Answer],
     file: &mut R,
     out: &mut W,
     errors: &mut Messages<E>,
 ) -> Result<Status, Fault>
-    ensures done { IfSome (R.remaining file.old) (λ bytes. Does (asked request.entry) bytes (W.contents out.old)
-        (W.contents out.new) result) }
+    ensures done { IfSome (R.remaining file.old) (λ bytes. Does (asked request.entry) answers.now bytes
+        (W.contents out.old) (W.contents out.new) result) }
     ensures silent { is_explained (asked request.entry) ≡ false → errors.new ≡ errors.old }
     ensures unsaid { IfErr result (λ f. is_some (bad_start_of f) ≡ true → errors.new ≡ errors.old) }
 {
@@ -330,13 +346,30 @@ fn perform<R: Read, W: Write, E: Write>(
             image,
             limit,
             explain,
-        } => run(alloc, image, file, limit, explain, out, errors),
+            ..
+        } => {
+            let run = Run {
+                image,
+                answers,
+                limit,
+                explain,
+            };
+            print_run(alloc, run, file, out, errors)
+        }
         Request::Client {
             image,
             limit,
             explain,
             ..
-        } => run(alloc, image, file, limit, explain, out, errors),
+        } => {
+            let run = Run {
+                image,
+                answers,
+                limit,
+                explain,
+            };
+            print_run(alloc, run, file, out, errors)
+        }
         Request::Tok { .. } => tok(alloc, file, out),
         Request::Detok {
             extras,
@@ -356,7 +389,8 @@ fn path_of(request: Request<'_>) -> &str {
     }
 }
 
-/// Does what was asked for with the file at its path, and gives the status. Of `client` this is the run alone.
+/// Does what was asked for with the file at its path, and gives the status. Of `client` this is the run alone. The
+/// questions of a run to devices are answered by `answers`, in order.
 ///
 /// What is wrong is said on the error output, behind the path of the file; and how a run ended, where that is to be
 /// explained. Else nothing is said.
@@ -364,16 +398,17 @@ fn path_of(request: Request<'_>) -> &str {
 pub fn answer<R: Read, W: Write, E: Write>(
     alloc: Global,
     request: Request<'_>,
+    answers: &[Answer],
     file: &mut R,
     out: &mut W,
     errors: &mut Messages<E>,
 ) -> Status
-    ensures answered { IfSome (R.remaining file.old) (λ bytes. Answers (asked request.entry) bytes (W.contents out.old)
-        (W.contents out.new)
+    ensures answered { IfSome (R.remaining file.old) (λ bytes. Answers (asked request.entry) answers.now bytes
+        (W.contents out.old) (W.contents out.new)
         (λ f. SaysFault f (E.contents errors.old.out) (E.contents errors.new.out) errors.new.failed) result) }
     ensures silent { is_done result ≡ true → is_explained (asked request.entry) ≡ false → errors.new ≡ errors.old }
 {
-    match perform(alloc, request, file, out, errors) {
+    match perform(alloc, request, answers, file, out, errors) {
         Ok(status) => status,
         Err(fault) => report(path_of(request), fault, errors),
     }

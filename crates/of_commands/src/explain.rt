@@ -1,10 +1,12 @@
 //! How a run ended, in words on the error output.
 ghost use Rattle.std.specs.Prelude.{◌≡◌, IfErr};
 
+use crate::engine::Run;
 use crate::fault::Fault;
+use of_asking::Answer;
 use of_code::ListCode;
 use of_fcodes::{FCode, name_of};
-use of_machine::{End, Machine, ScriptMachine};
+use of_machine::{End, Machine, Progress, ScriptMachine};
 use std::alloc::Global;
 use std::io::{self, Write};
 
@@ -41,19 +43,41 @@ fn next_in(machine: &ScriptMachine) -> Next {
     }
 }
 
+/// Makes a step, where it asks with the first of these answers, and gives those that are left.
+fn step<'a>(machine: &mut ScriptMachine, answers: &'a [Answer]) -> Result<&'a [Answer], Fault>
+    ensures { IfErr result (λ f. f ≡ Fault.NoMemory) }
+{
+    match machine.step() {
+        Ok(Progress::Asks(_)) => {}
+        Ok(Progress::Done | Progress::Ended) => return Ok(answers),
+        Err(_) => return Err(Fault::NoMemory),
+    }
+    let Some((answer, left)) = answers.split_first() else {
+        return Ok(answers);
+    };
+    match machine.answer(*answer) {
+        Ok(()) => Ok(left),
+        Err(_) => Err(Fault::NoMemory),
+    }
+}
+
 /// Where a run is behind so many steps of an image, for which the machine is new.
-fn walk(machine: &mut ScriptMachine, image: &[u8], steps: u64) -> Result<Spot, Fault>
+fn walk(
+    machine: &mut ScriptMachine,
+    image: &[u8],
+    answers: &[Answer],
+    steps: u64,
+) -> Result<Spot, Fault>
     ensures { IfErr result (λ f. f ≡ Fault.NoMemory) }
 {
     if machine.load(image, "/slot").is_err() {
         return Err(Fault::NoMemory);
     }
     let mut last = None;
+    let mut left = answers;
     for _ in 0..steps {
         last = machine.next_token().or(last);
-        if machine.step().is_err() {
-            return Err(Fault::NoMemory);
-        }
+        left = step(machine, left)?;
     }
     Ok(Spot {
         token: machine.next_token().or(last),
@@ -63,11 +87,11 @@ fn walk(machine: &mut ScriptMachine, image: &[u8], steps: u64) -> Result<Spot, F
 }
 
 /// Where the run of an image is after so many steps.
-fn follow(alloc: Global, image: &[u8], steps: u64) -> Result<Spot, Fault>
+fn follow(alloc: Global, image: &[u8], answers: &[Answer], steps: u64) -> Result<Spot, Fault>
     ensures { IfErr result (λ f. f ≡ Fault.NoMemory) }
 {
     match Machine::new(alloc, ListCode::new(alloc)) {
-        Ok(mut machine) => walk(&mut machine, image, steps),
+        Ok(mut machine) => walk(&mut machine, image, answers, steps),
         Err(_) => Err(Fault::NoMemory),
     }
 }
@@ -108,7 +132,17 @@ fn say_stack<E: Write>(path: &str, machine: &ScriptMachine, errors: &mut E) -> i
     writeln!(errors)
 }
 
-/// Says how a run ended: at its limit, at the end of its image, or by a throw, whose text was printed last.
+/// What cut a run short, if anything did.
+fn cut_by(end: End) -> Option<&'static str> {
+    match end {
+        End::Done => None,
+        End::LimitReached => Some("limit reached"),
+        End::AnswersOut => Some("answers out"),
+    }
+}
+
+/// Says how a run ended: at its limit, at a question without an answer, at the end of its image, or by a throw, whose
+/// text was printed last.
 fn say_how<E: Write>(
     path: &str,
     spot: &Spot,
@@ -117,11 +151,8 @@ fn say_how<E: Write>(
     errors: &mut E,
 ) -> io::Result<()> {
     let steps = machine.steps();
-    if let End::LimitReached = end {
-        write!(
-            errors,
-            "ofw: {path}: limit reached after {steps} steps; next: "
-        )?;
+    if let Some(cut) = cut_by(end) {
+        write!(errors, "ofw: {path}: {cut} after {steps} steps; next: ")?;
         say_spot(spot, errors)?;
         return writeln!(errors);
     }
@@ -141,7 +172,7 @@ fn say_how<E: Write>(
 /// An error is for memory alone. What can't be written is left out.
 pub(crate) fn say_end<E: Write>(
     alloc: Global,
-    path: &str,
+    run: Run<'_>,
     image: &[u8],
     machine: &ScriptMachine,
     end: End,
@@ -150,12 +181,12 @@ pub(crate) fn say_end<E: Write>(
     ensures { IfErr result (λ f. f ≡ Fault.NoMemory) }
 {
     let made = match end {
-        End::LimitReached => machine.steps(),
+        End::LimitReached | End::AnswersOut => machine.steps(),
         End::Done => machine.steps().saturating_sub(1),
     };
-    let spot = follow(alloc, image, made)?;
-    if say_how(path, &spot, machine, end, errors).is_ok() {
-        let _ = say_stack(path, machine, errors);
+    let spot = follow(alloc, image, run.answers, made)?;
+    if say_how(run.image, &spot, machine, end, errors).is_ok() {
+        let _ = say_stack(run.image, machine, errors);
     }
     Ok(())
 }

@@ -1,10 +1,10 @@
 ghost use Rattle.std.specs.Prelude.{◌≡◌, option_map};
 ghost use Rattle.of_commands.specs.Messages.{start_byte_of};
 ghost use Rattle.of_commands.specs.Clients.{no_calls};
-ghost use Rattle.of_commands.specs.Runs.{call_place_of, no_image, no_source, place_at};
+ghost use Rattle.of_commands.specs.Runs.{no_answers, no_image, no_source, place_at, text_place_of};
 
 use of_arguments::Status;
-use of_calls::CallFault;
+use of_calls::TextFault;
 use of_machine::Refusal;
 use of_source::{Place, SourceFault, place_in};
 use of_stream::StreamFault;
@@ -62,7 +62,10 @@ pub enum Fault {
     NoImage(TokFault),
     /// A text has no calls.
     #[error(transparent)]
-    NoCalls(CallFault),
+    NoCalls(TextFault),
+    /// A text has no answers.
+    #[error(transparent)]
+    NoAnswers(TextFault),
     /// A write failed, with the system's number of the reason.
     #[error("the output can't be written")]
     Unwritten(Option<i32>),
@@ -128,28 +131,45 @@ pub(crate) fn no_image(text: &[u8], fault: TokFault) -> Fault
 }
 
 /// The fault of a text that has no calls.
-pub(crate) fn no_calls(fault: CallFault) -> Fault
+pub(crate) fn no_calls(fault: TextFault) -> Fault
     ensures { result ≡ no_calls fault }
 {
     match fault {
-        CallFault::Unknown(_) => Fault::NoCalls(fault),
-        CallFault::BadNumber(_) => Fault::NoCalls(fault),
-        CallFault::TooMany(_) => Fault::NoCalls(fault),
-        CallFault::NoMemory => Fault::NoMemory,
+        TextFault::Unknown(_) => Fault::NoCalls(fault),
+        TextFault::BadNumber(_) => Fault::NoCalls(fault),
+        TextFault::TooMany(_) => Fault::NoCalls(fault),
+        TextFault::NoMemory => Fault::NoMemory,
     }
 }
 
-/// The place in a text of calls that has this fault, and what is wrong there.
-fn call_place(fault: CallFault) -> Option<(Place, &'static str)>
-    ensures { option_map (λ found. found.0) result ≡ call_place_of fault }
+/// The fault of a text that has no answers.
+pub(crate) fn no_answers(fault: TextFault) -> Fault
+    ensures { result ≡ no_answers fault }
 {
     match fault {
-        CallFault::Unknown(place) => Some((place, "unknown service")),
-        CallFault::BadNumber(place) => {
+        TextFault::Unknown(_) => Fault::NoAnswers(fault),
+        TextFault::BadNumber(_) => Fault::NoAnswers(fault),
+        TextFault::TooMany(_) => Fault::NoAnswers(fault),
+        TextFault::NoMemory => Fault::NoMemory,
+    }
+}
+
+/// The place in a text of calls or of answers that has this fault, and what is wrong there: what is said of a first
+/// word that is unknown, and of a word too many, depends on the text.
+fn text_place(
+    fault: TextFault,
+    unknown: &'static str,
+    too_many: &'static str,
+) -> Option<(Place, &'static str)>
+    ensures { option_map (λ found. found.0) result ≡ text_place_of fault }
+{
+    match fault {
+        TextFault::Unknown(place) => Some((place, unknown)),
+        TextFault::BadNumber(place) => {
             Some((place, "bad number: hexadecimal digits up to ffffffff"))
         }
-        CallFault::TooMany(place) => Some((place, "more than the service takes")),
-        CallFault::NoMemory => None,
+        TextFault::TooMany(place) => Some((place, too_many)),
+        TextFault::NoMemory => None,
     }
 }
 
@@ -178,7 +198,12 @@ impl Fault {
                 place,
                 "offset too long: 16 bits hold -32768 to 32767, 8 bits -128 to 127",
             )),
-            Fault::NoCalls(fault) => call_place(fault),
+            Fault::NoCalls(fault) => {
+                text_place(fault, "unknown service", "more than the service takes")
+            }
+            Fault::NoAnswers(fault) => {
+                text_place(fault, "unknown answer", "more than the answer takes")
+            }
             _ => None,
         }
     }
@@ -199,6 +224,8 @@ impl Fault {
             Fault::OddDigits => Status::Fault,
             Fault::TooLong(_) => Status::Fault,
             Fault::Refused(Refusal::Busy) => Status::Fault,
+            Fault::Refused(Refusal::NotAsked) => Status::Fault,
+            Fault::Refused(Refusal::WrongAnswer) => Status::Fault,
             Fault::Refused(Refusal::ImageTooLong) => Status::Fault,
             Fault::Refused(Refusal::BadStart(_)) => Status::Fault,
             Fault::Refused(Refusal::NoNode) => Status::Fault,
@@ -207,6 +234,7 @@ impl Fault {
             Fault::OffsetTooLong(_) => Status::Fault,
             Fault::NoImage(_) => Status::Fault,
             Fault::NoCalls(_) => Status::Fault,
+            Fault::NoAnswers(_) => Status::Fault,
             Fault::Unwritten(_) => Status::Fault,
         }
     }

@@ -2,6 +2,7 @@
 #![tactic(auto)]
 
 mod clients;
+mod devices;
 mod engine;
 mod explain;
 mod fault;
@@ -12,7 +13,8 @@ mod part;
 mod place;
 
 pub use clients::{ClientRun, client};
-pub use engine::{answer, image, keep};
+pub use devices::answers;
+pub use engine::{Run, answer, image, keep};
 pub use fault::Fault;
 pub use messages::Messages;
 pub use output::report;

@@ -3,7 +3,8 @@
 
 use clap::Error;
 use of_arguments::{Request, Status, parse, status_of};
-use of_commands::{ClientRun, Fault, Messages};
+use of_asking::Answer;
+use of_commands::{ClientRun, Fault, Messages, Run};
 use std::fs::File;
 use std::io::Stderr;
 use std::process::ExitCode;
@@ -40,20 +41,31 @@ fn unopened(rt: &HostRuntime, path: &str, error: &io::Error) -> Status {
     report(rt, path, fault)
 }
 
-/// Opens both files of a client, runs the image and answers the calls.
-fn client(rt: &HostRuntime, run: &ClientRun) -> Status {
-    let mut calls = match File::open(rt, run.calls) {
-        Ok(file) => file,
-        Err(error) => return unopened(rt, run.calls, &error),
+/// The answers of the file at a path; none where there is no path.
+fn read_answers(rt: &HostRuntime, path: Option<&str>) -> Result<Vec<Answer>, Status> {
+    let Some(path) = path else {
+        return Ok(Vec::new(rt.alloc()));
     };
-    let mut image = match File::open(rt, run.image) {
+    match File::open(rt, path) {
+        Ok(mut file) => of_commands::answers(rt.alloc(), path, &mut file, &mut messages(rt)),
+        Err(error) => Err(unopened(rt, path, &error)),
+    }
+}
+
+/// Opens both files of a client, runs the image and answers the calls.
+fn client(rt: &HostRuntime, asked: &ClientRun) -> Status {
+    let mut calls = match File::open(rt, asked.calls) {
         Ok(file) => file,
-        Err(error) => return unopened(rt, run.image, &error),
+        Err(error) => return unopened(rt, asked.calls, &error),
+    };
+    let mut image = match File::open(rt, asked.run.image) {
+        Ok(file) => file,
+        Err(error) => return unopened(rt, asked.run.image, &error),
     };
     let (mut out, mut errors) = (rt.stdout(), messages(rt));
     of_commands::client(
         rt.alloc(),
-        run,
+        asked,
         &mut calls,
         &mut image,
         &mut out,
@@ -61,27 +73,8 @@ fn client(rt: &HostRuntime, run: &ClientRun) -> Status {
     )
 }
 
-/// Opens the file, and does with it what was asked for.
-fn answer(rt: &HostRuntime, request: Request) -> Status {
-    let path = match request {
-        Request::Client {
-            image,
-            calls,
-            limit,
-            explain,
-        } => {
-            let run = ClientRun {
-                image,
-                calls,
-                limit,
-                explain,
-            };
-            return client(rt, &run);
-        }
-        Request::Run { image, .. } => image,
-        Request::Tok { source, .. } => source,
-        Request::Detok { image, .. } => image,
-    };
+/// Opens the file at a path, and does with it what was asked for, with answers for a run.
+fn perform(rt: &HostRuntime, path: &str, request: Request, answers: &[Answer]) -> Status {
     let mut file = match File::open(rt, path) {
         Ok(file) => file,
         Err(error) => return unopened(rt, path, &error),
@@ -94,7 +87,44 @@ fn answer(rt: &HostRuntime, request: Request) -> Status {
         return keep(rt, source, &mut file, output);
     }
     let (mut out, mut errors) = (rt.stdout(), messages(rt));
-    of_commands::answer(rt.alloc(), request, &mut file, &mut out, &mut errors)
+    of_commands::answer(
+        rt.alloc(),
+        request,
+        answers,
+        &mut file,
+        &mut out,
+        &mut errors,
+    )
+}
+
+/// Does what was asked for, where the answers can be had.
+fn answer(rt: &HostRuntime, request: Request) -> Status {
+    match request {
+        Request::Run { image, answers, .. } => match read_answers(rt, answers) {
+            Ok(answers) => perform(rt, image, request, &answers),
+            Err(status) => status,
+        },
+        Request::Client {
+            image,
+            calls,
+            answers,
+            limit,
+            explain,
+        } => match read_answers(rt, answers) {
+            Ok(answers) => {
+                let run = Run {
+                    image,
+                    answers: &answers,
+                    limit,
+                    explain,
+                };
+                client(rt, &ClientRun { run, calls })
+            }
+            Err(status) => status,
+        },
+        Request::Tok { source, .. } => perform(rt, source, request, &[]),
+        Request::Detok { image, .. } => perform(rt, image, request, &[]),
+    }
 }
 
 /// The words of the command line.
