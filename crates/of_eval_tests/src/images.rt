@@ -5,8 +5,9 @@ use crate::running::{bytes_of, made_by, number_left, shown};
 use of_eval_laws::{
     catch_keeps, definitions_run, ends_go_back, frames_hold, images_are_readings, images_run,
     images_stand, items_go, loads_begin, memory_is_asked, mismatch_is_no_body, names_stay_home,
-    space_stays_sound, stack_leads_back, states_stay_placed, steps_agree, steps_throw_listed,
-    throw_takes, throws_settle, tokens_are_typed, tokens_go, words_throw_listed,
+    questions_settle, space_stays_sound, stack_leads_back, states_stay_placed, steps_agree,
+    steps_throw_listed, throw_takes, throws_settle, tokens_are_typed, tokens_go,
+    words_throw_listed,
 };
 use of_nodes::Phandle;
 use std::alloc::Global;
@@ -225,6 +226,7 @@ fn laws() {
     loads_begin();
     memory_is_asked();
     names_stay_home();
+    questions_settle();
     space_stays_sound();
     stack_leads_back();
     images_are_readings();

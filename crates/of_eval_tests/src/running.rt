@@ -1,24 +1,24 @@
 //! Images are run, and what they make is shown as text.
-ghost use Rattle.std.specs.Prelude.{◌≡◌, true};
-
 use hex::decode;
 use of_code::ListCode;
-use of_eval::{Eval, Pause};
+use of_eval::{Bar, Eval, Pause};
 use of_fcodes::FCode;
 use of_nodes::Phandle;
 use std::alloc::{AllocError, Global};
 use std::test::Fail;
 
-/// Makes so many steps at most, the first by itself, and answers how many were made.
-fn run(eval: &mut Eval<ListCode>, limit: u64) -> Result<u64, Fail>
-    requires ready { eval.old.flow.is_running ≡ true → eval.old.board.console.ready ≡ true }
-{
+/// Makes so many steps at most, the first by itself, and answers how many were made. It stops before one that asks.
+fn run(eval: &mut Eval<ListCode>, limit: u64) -> Result<u64, Fail> {
     if limit == 0 || !eval.is_running() {
         return Ok(0);
     }
-    eval.step()?;
+    match eval.step() {
+        Ok(()) => {}
+        Err(Bar::NoMemory) => return Err(AllocError.into()),
+        Err(Bar::Asks(_)) => return Ok(0),
+    }
     match eval.run(limit - 1) {
-        (_, Pause::NoMemory) => Err(AllocError.into()),
+        (_, Pause::Barred(Bar::NoMemory)) => Err(AllocError.into()),
         (made, _) => Ok(made + 1),
     }
 }

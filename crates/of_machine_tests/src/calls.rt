@@ -126,16 +126,25 @@ fn instances_of_loads(rt: HostRuntime) -> Result<(), Fail> {
     Ok(())
 }
 
+/// What a step does.
+fn made(progress: Progress) -> &'static str {
+    match progress {
+        Progress::Done => "step",
+        Progress::Asks(_) => "asks",
+        Progress::Ended => "none",
+    }
+}
+
 /// What a step of a machine does, and whether something runs then.
-fn one_step(machine: &mut ScriptMachine) -> Result<(Progress, bool), Fail> {
+fn one_step(machine: &mut ScriptMachine) -> Result<(&'static str, bool), Fail> {
     let progress = machine.step()?;
-    Ok((progress, machine.is_running()))
+    Ok((made(progress), machine.is_running()))
 }
 
 #[test]
 fn nothing_to_do(rt: HostRuntime) -> Result<(), Fail> {
     let (progress, is_running) = on_machine(rt.alloc(), one_step)?;
-    assert_eq!(rt; progress, Progress::Ended);
+    assert_eq!(rt; progress, "none");
     assert_eq!(rt; is_running, false);
     Ok(())
 }
@@ -163,10 +172,7 @@ fn push_state(text: &mut String, machine: &ScriptMachine) -> Result<(), Fail> {
 
 /// Appends what a step does.
 fn push_step(text: &mut String, machine: &mut ScriptMachine) -> Result<(), Fail> {
-    text.push_str(match machine.step()? {
-        Progress::Done => "; step; ",
-        Progress::Ended => "; none; ",
-    })?;
+    write!(text, "; {}; ", made(machine.step()?))?;
     Ok(())
 }
 
@@ -365,14 +371,17 @@ fn names_find_words_while_an_image_runs(rt: HostRuntime) -> Result<(), Fail> {
 #[test]
 fn texts(rt: HostRuntime) -> Result<(), Fail> {
     let texts = format!(in rt.alloc();
-        "{}, {}, {}, {}, {}",
+        "{}, {}, {}, {}, {}, {}, {}",
         Refusal::Busy,
+        Refusal::NotAsked,
+        Refusal::WrongAnswer,
         Refusal::ImageTooLong,
         BAD_START,
         Refusal::NoNode,
         Refusal::NoMemory
     )?;
-    let wanted = "busy, image too long, bad start byte ff, no such node, no memory";
+    let wanted =
+        "busy, not asked, wrong answer, image too long, bad start byte ff, no such node, no memory";
     assert_eq!(rt; texts.as_str(), wanted);
     Ok(())
 }

@@ -2,6 +2,8 @@
 #![tactic(auto)]
 
 #[cfg(test)]
+mod asking;
+#[cfg(test)]
 mod calls;
 #[cfg(test)]
 mod clients;
@@ -13,6 +15,8 @@ mod methods;
 mod opening;
 #[cfg(test)]
 mod places;
+#[cfg(test)]
+mod questions;
 #[cfg(test)]
 mod runs;
 #[cfg(test)]

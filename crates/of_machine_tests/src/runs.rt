@@ -9,6 +9,7 @@ fn mark(end: End) -> &'static str {
     match end {
         End::Done => " ",
         End::LimitReached => "+ ",
+        End::AnswersOut => "? ",
     }
 }
 

@@ -1,6 +1,7 @@
 //! Machines and texts that the tests share. The functions here have no contracts, so the proof of a test carries
 //! nothing of the machine's own, which are long.
 use hex::decode;
+use of_asking::Answer;
 use of_code::ListCode;
 use of_machine::{End, Machine, ScriptMachine, run_script};
 use std::alloc::Global;
@@ -76,7 +77,20 @@ pub(crate) fn after_run<T, F: FnOnce(&ScriptMachine, End) -> Result<T, Fail>>(
 ) -> Result<T, Fail>
     requires { F.IsAlwaysCallable see }
 {
-    let (machine, end) = run_script(alloc, image, &[], &[], &[], limit)?;
+    after_answers(alloc, image, &[], limit, see)
+}
+
+/// The same where questions are answered.
+pub(crate) fn after_answers<T, F: FnOnce(&ScriptMachine, End) -> Result<T, Fail>>(
+    alloc: Global,
+    image: &[u8],
+    answers: &[Answer],
+    limit: u64,
+    see: F,
+) -> Result<T, Fail>
+    requires { F.IsAlwaysCallable see }
+{
+    let (machine, end) = run_script(alloc, image, &[], answers, &[], limit)?;
     see(&machine, end)
 }
 

@@ -227,7 +227,7 @@ fn is_loaded(machine: &mut ScriptMachine, image: &[u8]) -> bool {
 }
 
 /// Loads an image for `/slot`, again where that is refused.
-fn load_in_turn(machine: &mut ScriptMachine, image: &[u8]) {
+pub(crate) fn load_in_turn(machine: &mut ScriptMachine, image: &[u8]) {
     for _ in 0..9 {
         if is_loaded(machine, image) {
             break;

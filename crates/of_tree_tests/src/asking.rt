@@ -262,6 +262,7 @@ fn shown(alloc: Global, board: &Board, ended: Result<(), Halt>) -> Result<String
     match ended {
         Ok(()) => left(alloc, board, Ok(())),
         Err(Halt::Thrown(fault)) => left(alloc, board, Err(Stop::Thrown(fault))),
+        Err(Halt::NoMemory) => left(alloc, board, Err(Stop::NoMemory)),
         Err(Halt::Asks(query)) => {
             let mut text = left(alloc, board, Ok(()))?;
             show_query(&mut text, query)?;

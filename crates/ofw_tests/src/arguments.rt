@@ -4,7 +4,7 @@ use std::alloc::Global;
 use std::test::Fail;
 
 /// Words of a command line, and behind `:` what they ask for, if anything: the image, for a client the calls, and for a
-/// run the limit.
+/// run the file of answers, if there is one, and the limit.
 const LINES: &str = "\
 ofw run a.hex:a.hex 1000000
 ofw run a.hex --limit 0:a.hex 0
@@ -16,6 +16,13 @@ ofw detok a.hex --names:a.hex names
 ofw detok --indent a.hex --partial:a.hex indents partial
 ofw detok a.hex --names --names:
 ofw run --explain a.hex --limit 5:a.hex 5 explained
+ofw run a.hex --answers a.answers:a.hex answers a.answers 1000000
+ofw run --answers a.answers a.hex --limit 5 --explain:a.hex answers a.answers 5 explained
+ofw run a.hex --answers:
+ofw run a.hex --answers a.answers --answers b.answers:
+ofw client a.hex --calls a.calls --answers a.answers:a.hex a.calls answers a.answers 1000000
+ofw tok a.fs --answers a.answers:
+ofw detok a.hex --answers a.answers:
 ofw run a.hex --names:
 ofw client a.hex --calls a.calls:a.hex a.calls 1000000
 ofw client --calls a.calls a.hex --limit 5 --explain:a.hex a.calls 5 explained
@@ -65,16 +72,18 @@ fn shown(alloc: Global, request: Request) -> Result<String, Fail> {
     match request {
         Request::Run {
             image,
+            answers,
             limit,
             explain,
-        } => shown_run(alloc, image, limit, flag(explain, " explained")),
+        } => shown_run(alloc, image, answers, limit, flag(explain, " explained")),
         Request::Client {
             image,
             calls,
+            answers,
             limit,
             explain,
         } => {
-            let run = shown_run(alloc, calls, limit, flag(explain, " explained"))?;
+            let run = shown_run(alloc, calls, answers, limit, flag(explain, " explained"))?;
             Ok(format!(in alloc; "{image} {run}")?)
         }
         Request::Tok { source, output } => shown_tok(alloc, source, output),
@@ -87,8 +96,17 @@ fn shown(alloc: Global, request: Request) -> Result<String, Fail> {
 }
 
 /// What a run asks for.
-fn shown_run(alloc: Global, image: &str, limit: u64, explained: &str) -> Result<String, Fail> {
-    Ok(format!(in alloc; "{image} {limit}{explained}")?)
+fn shown_run(
+    alloc: Global,
+    image: &str,
+    answers: Option<&str>,
+    limit: u64,
+    explained: &str,
+) -> Result<String, Fail> {
+    let Some(answers) = answers else {
+        return Ok(format!(in alloc; "{image} {limit}{explained}")?);
+    };
+    Ok(format!(in alloc; "{image} answers {answers} {limit}{explained}")?)
 }
 
 /// What the image of a source asks for.

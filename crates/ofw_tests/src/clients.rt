@@ -1,6 +1,7 @@
 use crate::doubles::{blank_screen, reader_of};
+use of_asking::Answer;
 use of_client::{names_are_met, values_are_got};
-use of_commands::{ClientRun, Messages, client};
+use of_commands::{ClientRun, Messages, Run, client};
 use std::alloc::Global;
 use std::process::Abort;
 use std::test::Fail;
@@ -10,12 +11,16 @@ const EMPTY: &str = "f10800000000000900";
 
 const FIVE: &str = "f108020a0000000da7a81e9d00";
 
-/// The calls of a client, the image, the read of the calls and the write that fail, the limit of steps, whether the end
-/// is explained, the number of the status, what goes out, and what is said.
+/// The image of a program that reads from a device and prints what it read.
+const BUS_READ: &str = "f108016300000011108000000002349d00";
+
+/// The calls of a client, the image, what devices answer, the read of the calls and the write that fail, the limit of
+/// steps, whether the end is explained, the number of the status, what goes out, and what is said.
 #[derive(Clone, Copy)]
 struct Case<'a> {
     calls: &'a str,
     image: &'a str,
+    answers: &'a [Answer],
     read: u32,
     write: u32,
     limit: u64,
@@ -36,6 +41,7 @@ fn whole<'a>(
     Case {
         calls,
         image,
+        answers: &[],
         read: 9999,
         write: 9999,
         limit: 99,
@@ -52,15 +58,19 @@ fn holds(rt: &impl Abort, alloc: Global, case: &Case<'_>) {
     let mut image = reader_of(case.image.as_bytes(), 9999);
     let mut out = blank_screen(alloc, case.write);
     let mut errors = blank_screen(alloc, 9999);
-    let run = ClientRun {
+    let run = Run {
         image: "a.hex",
-        calls: "a.calls",
+        answers: case.answers,
         limit: case.limit,
         explain: case.explain,
     };
+    let asked = ClientRun {
+        run,
+        calls: "a.calls",
+    };
     let status = client(
         alloc,
-        &run,
+        &asked,
         &mut calls,
         &mut image,
         &mut out,
@@ -118,7 +128,8 @@ const LINES: &str = "\
 finddevice /slot:d0000008
 finddevice:ffffffff
 finddevice /:d0000000
-  finddevice\t/slot \r:d0000008
+  finddevice\t/slot :d0000008
+finddevice /slot\r:ffffffff
 child D0000000:d0000004
 child 00000000d0000000:d0000004
 getproplen d0000008:ffffffff
@@ -145,6 +156,9 @@ child -1|1:7: bad number: hexadecimal digits up to ffffffff
 child 0x10|1:7: bad number: hexadecimal digits up to ffffffff
 child 100000000|1:7: bad number: hexadecimal digits up to ffffffff
 child d0000000 d0000004|1:16: more than the service takes
+finddevice / \r|1:14: more than the service takes
+child d0000000\r|1:7: bad number: hexadecimal digits up to ffffffff
+  |1:3: unknown service
 finddevice / /|1:14: more than the service takes
 getprop d0000008|1:17: bad number: hexadecimal digits up to ffffffff
 getprop d0000008 name|1:18: bad number: hexadecimal digits up to ffffffff
@@ -176,18 +190,25 @@ fn faults(rt: HostRuntime) -> Result<(), Fail> {
     Ok(())
 }
 
-/// The first fault of several lines counts; blank lines are lines, and no calls.
+/// The first fault of several lines counts; a line without words is one. An empty piece behind the last newline is no
+/// line.
 #[test]
 fn several_lines(rt: HostRuntime) {
-    let calls = "\nchild d0000000\n \t\npeer x\nzork\n";
-    let said = "ofw: a.calls:4:6: bad number: hexadecimal digits up to ffffffff\n";
+    let calls = "child d0000000\npeer x\nzork\n";
+    let said = "ofw: a.calls:2:6: bad number: hexadecimal digits up to ffffffff\n";
     holds(&rt, rt.alloc(), &whole(calls, FIVE, 1, "", said));
-    let calls = "\n\nfinddevice /slot\r\n\nfinddevice /\n";
-    holds(
-        &rt,
-        rt.alloc(),
-        &whole(calls, FIVE, 0, "5 d0000008\nd0000000\n", ""),
-    );
+    let calls = "child d0000000\n\npeer x\n";
+    let said = "ofw: a.calls:2:1: unknown service\n";
+    holds(&rt, rt.alloc(), &whole(calls, FIVE, 1, "", said));
+    let calls = "child d0000000\n \t\npeer 0\n";
+    let said = "ofw: a.calls:2:3: unknown service\n";
+    holds(&rt, rt.alloc(), &whole(calls, FIVE, 1, "", said));
+    let calls = "child d0000000\n\n";
+    let said = "ofw: a.calls:2:1: unknown service\n";
+    holds(&rt, rt.alloc(), &whole(calls, FIVE, 1, "", said));
+    let calls = "finddevice /slot\nfinddevice /\n";
+    let printed = "5 d0000008\nd0000000\n";
+    holds(&rt, rt.alloc(), &whole(calls, FIVE, 0, printed, ""));
 }
 
 /// The calls are made however the run ended, and its end can be explained.
@@ -205,6 +226,17 @@ fn ends(rt: HostRuntime) {
             ..done
         },
     );
+}
+
+/// The calls are made behind what devices answered, also where an answer is missing.
+#[test]
+fn answers_of_devices(rt: HostRuntime) {
+    let printed = "5 d0000004\n";
+    let read = whole("child d0000000\n", BUS_READ, 0, printed, "");
+    let answers = &[Answer::Value(5)];
+    holds(&rt, rt.alloc(), &Case { answers, ..read });
+    let out = whole("child d0000000\n", BUS_READ, 4, "d0000004\n", "");
+    holds(&rt, rt.alloc(), &out);
 }
 
 /// What is wrong is said with the path of the file that it is in, and the calls come first.

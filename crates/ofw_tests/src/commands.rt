@@ -26,7 +26,7 @@ fn code_of(
     }
     Ok(match parse(alloc, &line) {
         Ok(Some(request)) => {
-            answer(alloc, request, file, out, &mut Messages::new(errors)).code()
+            answer(alloc, request, &[], file, out, &mut Messages::new(errors)).code()
         }
         Ok(None) => Status::Usage.code(),
         Err(error) => status_of(&error).code(),

@@ -8,4 +8,6 @@ mod clients;
 #[cfg(test)]
 mod commands;
 #[cfg(test)]
+mod devices;
+#[cfg(test)]
 mod doubles;
