@@ -1,11 +1,13 @@
-//! Tests of the device tree, of property values, of instances, of the board, of the words over it and of those that
-//! ask the outside, by their public calls.
+//! Tests of the device tree, of property values, of instances, of the board, of the words over it, of those that ask
+//! the outside, and of devices, by their public calls.
 #![tactic(auto)]
 
 #[cfg(test)]
 mod active;
 #[cfg(test)]
 mod asking;
+#[cfg(test)]
+mod board;
 #[cfg(test)]
 mod calls;
 #[cfg(test)]
