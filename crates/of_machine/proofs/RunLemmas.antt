@@ -31,7 +31,9 @@ use Rattle.of_machine.specs.States.{moved, opened, question, served, slot, start
 use Rattle.of_machine.proofs.EventLemmas.{begun_flat, has_moved, made_is, made_quiet, made_runs}
 use Rattle.of_machine.proofs.FirstLemmas.{first_images}
 use Rattle.of_machine.specs.Runs.{AreLater, AreUpto, Due, Feed, HasGone, IsCalm, IsOut, IsOver, IsTold, RunsAgree}
-use Rattle.of_machine.specs.Runs.{RunsTo, States, after, asking, beginning, caught_up, fitting, next, next_answer}
+use Rattle.of_machine.specs.declared.feeder.Advance.TheVariants as advance
+use Rattle.of_machine.specs.Runs.{Advances, HasAdvanced, RunsTo, States, after, asking, beginning, caught_up, end_of}
+use Rattle.of_machine.specs.Runs.{fitting, next, next_answer}
 use Rattle.of_machine.specs.Runs.{settled, told, turned}
 
 -- ---- what is refused
@@ -119,6 +121,11 @@ same_waiting f g e =
     ap (λ (x : Feed Coding). x.machine.waiting) e
     ∙ ap (λ (m : MachineState Coding). m.waiting) (same_machine f.machine f.calls)
 
+pub same_asked : (f g : Feed Coding) → g ≡ settled f → g.machine.asked ≡ f.machine.asked
+same_asked f g e =
+    ap (λ (x : Feed Coding). x.machine.asked) e
+    ∙ ap (λ (m : MachineState Coding). m.asked) (same_machine f.machine f.calls)
+
 -- ---- runs over cells
 
 abbrev at : Feed Coding → State Coding → ℕ → Feed Coding
@@ -174,7 +181,7 @@ turns_made f (suc k) n s t none few upto h =
     (before_it n k f.calls upto) (omega (arith, few)) h
 
 -- turns and then others
-turns_joined : (n k : ℕ) (f : Feed Coding) → after flat_calls k (after flat_calls n f) ≡ after flat_calls (n + k) f
+pub turns_joined : (n k : ℕ) (f : Feed Coding) → after flat_calls k (after flat_calls n f) ≡ after flat_calls (n + k) f
 unfolding after
 turns_joined n zero f = let none : n + 0 ≡ n = omega arith in ap (λ k. after flat_calls k f) (sym none)
 turns_joined n (suc k) f =
@@ -267,99 +274,119 @@ opens m n q none s =
       s.2 ∙ ap (λ o. tried flat_calls o m) none ∙ ap (λ o. made_or_opened flat_calls o m) asks,
     )
 
+-- ---- an advance
+
 -- up to a client, or to the limit
 pub reaches : (f g new : Feed Coding) (m : MachineState Coding) (until : ℕ) → IsCalm f → HasMoved f.machine m
     → m.steps < 2 ^ 64 → m.steps ≡ until → AreUpto until f.calls → g ≡ record f { machine = m } → new ≡ settled g
-    → AreLater new.machine.steps new.calls → HasGone f new
+    → AreLater new.machine.steps new.calls → HasAdvanced f new × (new.machine.steps ≡ until)
 reaches f g new m until calm moves few at upto same e later =
     let made : new.machine.steps ≡ m.steps =
     same_steps g new e ∙ ap (λ (x : Feed Coding). x.machine.steps) same in (
-      omega (arith, moves.0, made),
-      ap (λ n. after flat_calls (n - f.machine.steps) f) made
-          ∙ went f g m calm moves few (subst (λ n. AreUpto n f.calls) (sym at) upto) same ∙ sym e,
       (
-        later,
-        same_waiting g new e ∙ ap (λ (x : Feed Coding). x.machine.waiting) same ∙ still_none f m calm moves,
+        (
+          omega (arith, moves.0, made),
+          ap (λ n. after flat_calls (n - f.machine.steps) f) made
+              ∙ went f g m calm moves few (subst (λ n. AreUpto n f.calls) (sym at) upto) same ∙ sym e,
+          (
+            later,
+            same_waiting g new e ∙ ap (λ (x : Feed Coding). x.machine.waiting) same ∙ still_none f m calm moves,
+          ),
+        ),
+        same_asked g new e ∙ ap (λ (x : Feed Coding). x.machine.asked) same ∙ moves.3,
+        ap (λ (x : Feed Coding). x.answers) e ∙ ap (λ (x : Feed Coding). x.answers) same,
       ),
+      made ∙ at,
     )
 
 -- steps that ask nothing, before a client that isn't reached
 goes : (f : Feed Coding) (m : MachineState Coding) (until : ℕ) → IsCalm f → HasMoved f.machine m → m.steps < 2 ^ 64
-    → m.steps < until → AreUpto until f.calls
-    → after flat_calls (m.steps - f.machine.steps) f ≡ record f { machine = m }
+    → m.steps < until → AreUpto until f.calls → HasAdvanced f (record f { machine = m })
 goes f m until calm moves few less upto =
-    let g : Feed Coding = record f { machine = m } in
-    went f g m calm moves few (fewer_upto m.steps until f.calls upto (omega (arith, less))) refl
-    ∙ rests g (later_than m.steps until f.calls upto less)
-
--- and then one that asks, with its answer
-pub asks_on : (f g new : Feed Coding) (m n : MachineState Coding) (q : Query) (until : ℕ) → IsCalm f
-    → HasMoved f.machine m → m.steps < 2 ^ 64 → m.steps < until → AreUpto until f.calls → Steps (Asks q) m n
-    → g ≡ record f { machine = n } → IsTold g new → HasGone f new × (new.machine.steps ≡ m.steps + 1)
-asks_on f g new m n q until calm moves few less upto asks same told_so =
-    let none : m.waiting ≡ None = still_none f m calm moves in
-    let f1 : Feed Coding = record f { machine = m } in
-    let so = opens m n q none asks in
-    let there : g ≡ asking q f1 = same ∙ ap (λ x. record f { machine = x }) so.1 in
-    let answer = told_so.0 in
-    let fit : fitting q f.answers ≡ Some answer =
-    ap (λ (x : Feed Coding). next_answer x.machine.waiting x.answers) (sym there) ∙ told_so.1 in
-    let turned_so : next flat_calls f1 ≡ new =
-    asks_then f1 q (Some answer) asks.0 none so.0 fit ∙ ap (told flat_calls (Some answer)) (sym there)
-    ∙ sym told_so.2 in
-    let with_it : Feed Coding =
-    record g { machine = answered flat_calls answer g.machine; answers = drop 1 g.answers } in
-    let made : new.machine.steps ≡ m.steps + 1 =
-    same_steps with_it new told_so.2 ∙ ap (λ (x : Feed Coding). x.machine.steps + 1) there in
-    let k : m.steps - f.machine.steps + 1 ≡ new.machine.steps - f.machine.steps = omega (arith, made, moves.0) in (
+    let g : Feed Coding = record f { machine = m } in (
       (
-        omega (arith, made, moves.0),
-        ap (λ x. after flat_calls x f) (sym k)
-            ∙ turn_behind f f1 new (m.steps - f.machine.steps) (goes f m until calm moves few less upto) turned_so,
-        told_so.3,
+        moves.0,
+        went f g m calm moves few (fewer_upto m.steps until f.calls upto (omega (arith, less))) refl
+            ∙ rests g (later_than m.steps until f.calls upto less),
+        (later_than m.steps until f.calls upto less, still_none f m calm moves),
       ),
-      made,
+      moves.3,
+      refl,
     )
 
--- or without one
-pub asks_out : (f g new : Feed Coding) (m n : MachineState Coding) (q : Query) (until limit : ℕ) → IsCalm f
+-- and then one that asks
+pub asks_behind : (f new : Feed Coding) (m n : MachineState Coding) (q : Query) (until limit : ℕ) → IsCalm f
     → HasMoved f.machine m → m.steps < 2 ^ 64 → m.steps < until → until ≤ limit → AreUpto until f.calls
-    → Steps (Asks q) m n → g ≡ record f { machine = n } → IsOut g new → IsOver limit f new
-asks_out f g new m n q until limit calm moves few less within upto asks same out =
-    let none : m.waiting ≡ None = still_none f m calm moves in
-    let f1 : Feed Coding = record f { machine = m } in
-    let so = opens m n q none asks in
-    let there : g ≡ asking q f1 = same ∙ ap (λ x. record f { machine = x }) so.1 in
-    let fit : fitting q f.answers ≡ None =
-    ap (λ (x : Feed Coding). next_answer x.machine.waiting x.answers) (sym there) ∙ out.0 in
-    let last : new ≡ asking q f1 = out.1 ∙ there in
-    let turned_so : next flat_calls f1 ≡ new = asks_then f1 q None asks.0 none so.0 fit ∙ sym last in
-    let made : new.machine.steps ≡ m.steps = ap (λ (x : Feed Coding). x.machine.steps) last in
-    let k : m.steps - f.machine.steps + 1 ≡ new.machine.steps - f.machine.steps + 1 = omega (arith, made, moves.0) in
-    inr (
-      omega (arith, made, moves.0),
-      omega (arith, made, less, within),
-      ap (λ (x : Feed Coding). is_some x.machine.waiting) last,
-      ap (λ x. after flat_calls x f) (sym k)
-          ∙ turn_behind f f1 new (m.steps - f.machine.steps) (goes f m until calm moves few less upto) turned_so,
+    → Steps (Asks q) m n → new ≡ record f { machine = n } → Advances limit (advance.Asks q) f new
+asks_behind f new m n q until limit calm moves few less within upto asks same =
+    let so = opens m n q (still_none f m calm moves) asks in (
+      record f { machine = m },
+      goes f m until calm moves few less upto,
+      omega (arith, less, within),
+      asks.0,
+      so.0,
+      same ∙ ap (λ x. record f { machine = x }) so.1,
     )
 
 -- or none that can be made
 pub stands : (f new : Feed Coding) (m n : MachineState Coding) (until limit : ℕ) → IsCalm f → HasMoved f.machine m
     → m.steps < 2 ^ 64 → m.steps < until → until ≤ limit → AreUpto until f.calls → Steps Ended m n
-    → new ≡ record f { machine = n } → IsOver limit f new
+    → new ≡ record f { machine = n } → Advances limit advance.Over f new
 stands f new m n until limit calm moves few less within upto ended same =
     let last : new ≡ record f { machine = m } = same ∙ ap (λ x. record f { machine = x }) ended.1 in
-    let made : new.machine.steps ≡ m.steps = ap (λ (x : Feed Coding). x.machine.steps) last in
-    inl (
-      (
-        omega (arith, made, moves.0),
-        ap (λ n. after flat_calls (n - f.machine.steps) f) made ∙ goes f m until calm moves few less upto
-            ∙ sym last,
-        subst IsCalm (sym last) (later_than m.steps until f.calls upto less, still_none f m calm moves),
-      ),
+    let made : new.machine.steps ≡ m.steps = ap (λ (x : Feed Coding). x.machine.steps) last in (
+      subst (λ x. HasAdvanced f x) (sym last) (goes f m until calm moves few less upto),
       omega (arith, made, less, within),
       inr (ap (λ (x : Feed Coding). can_step x.machine) last ∙ ended.0),
+    )
+
+-- a question with its answer
+pub told_on : (f g new : Feed Coding) (q : Query) (limit : ℕ) → Advances limit (advance.Asks q) f g → IsTold g new
+    → HasGone f new × (f.machine.steps < new.machine.steps) × (new.machine.steps ≤ limit)
+told_on f g new q limit asks told_so =
+    let h = asks.0 in
+    let gone : HasGone f h = asks.1.0 in
+    let answer = told_so.0 in
+    let fit : fitting q h.answers ≡ Some answer =
+    ap (λ (x : Feed Coding). next_answer x.machine.waiting x.answers) (sym asks.5) ∙ told_so.1 in
+    let turned_so : next flat_calls h ≡ new =
+    asks_then h q (Some answer) asks.3 gone.2.1 asks.4 fit ∙ ap (told flat_calls (Some answer)) (sym asks.5)
+    ∙ sym told_so.2 in
+    let with_it : Feed Coding =
+    record g { machine = answered flat_calls answer g.machine; answers = drop 1 g.answers } in
+    let made : new.machine.steps ≡ h.machine.steps + 1 =
+    same_steps with_it new told_so.2 ∙ ap (λ (x : Feed Coding). x.machine.steps + 1) asks.5 in
+    let k : h.machine.steps - f.machine.steps + 1 ≡ new.machine.steps - f.machine.steps =
+    omega (arith, made, gone.0) in (
+      (
+        omega (arith, made, gone.0),
+        ap (λ x. after flat_calls x f) (sym k)
+            ∙ turn_behind f h new (h.machine.steps - f.machine.steps) gone.1 turned_so,
+        told_so.3,
+      ),
+      omega (arith, made, gone.0),
+      omega (arith, made, asks.2),
+    )
+
+-- or without one
+pub out_on : (f g new : Feed Coding) (q : Query) (limit : ℕ) → Advances limit (advance.Asks q) f g → IsOut g new
+    → IsOver limit f new
+out_on f g new q limit asks out =
+    let h = asks.0 in
+    let gone : HasGone f h = asks.1.0 in
+    let fit : fitting q h.answers ≡ None =
+    ap (λ (x : Feed Coding). next_answer x.machine.waiting x.answers) (sym asks.5) ∙ out.0 in
+    let last : new ≡ asking q h = out.1 ∙ asks.5 in
+    let turned_so : next flat_calls h ≡ new = asks_then h q None asks.3 gone.2.1 asks.4 fit ∙ sym last in
+    let made : new.machine.steps ≡ h.machine.steps = ap (λ (x : Feed Coding). x.machine.steps) last in
+    let k : h.machine.steps - f.machine.steps + 1 ≡ new.machine.steps - f.machine.steps + 1 =
+    omega (arith, made, gone.0) in
+    inr (
+      omega (arith, made, gone.0),
+      omega (arith, made, asks.2),
+      ap (λ (x : Feed Coding). is_some x.machine.waiting) last,
+      ap (λ x. after flat_calls x f) (sym k)
+          ∙ turn_behind f h new (h.machine.steps - f.machine.steps) gone.1 turned_so,
     )
 
 -- so many steps can be made at least as were
@@ -574,11 +601,7 @@ runs_agree agree stay image lines answers calls n =
     ∙ ap (λ (g : Feed Coding). g.machine)
     (feeds_agree n (settled begun) agree stay (still_placed begun (stay.begun image slot first stay.first)))
 
--- a run as `run_script` makes it, and its end
-abbrev pub end_of : Option Query → Bool → End
-end_of (Some q) runs = AnswersOut
-end_of None runs = if runs then LimitReached else Done
-
+-- a run, and its end
 ends : (b : Bool) (image : List ℕ) (answers : List Answer) (calls : List Due) (limit : ℕ) (m : MachineState Coding)
     → is_running m ≡ b → m ≡ flat_machine (States image [] answers calls m.steps) → m.steps ≤ limit
     → limit < 2 ^ 64 → (m.steps ≡ limit) ⊎ (can_step m ≡ false) → m.waiting ≡ None

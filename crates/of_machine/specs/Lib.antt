@@ -1,4 +1,5 @@
 pub mod States
 pub mod Views
 pub mod Runs
+pub mod Racks
 pub mod Events

@@ -1,5 +1,6 @@
 -- Runs: a machine with what is still to be handed in to it, turn by turn.
-use Rattle.std.specs.Prelude.{◌≡◌, ◌⊎◌, ℕ, zero, suc, ◌+◌, ◌-◌, ◌≤◌, ◌<◌, nat_le, List, [], ◌∷◌, drop, true, false}
+use Rattle.std.specs.Prelude.{◌≡◌, ◌⊎◌, ℕ, zero, suc, ◌+◌, ◌-◌, ◌≤◌, ◌<◌, nat_le, List, [], ◌∷◌, drop}
+use Rattle.std.specs.Prelude.{Bool, true, false}
 use Rattle.std.specs.Prelude.{Option, Some, None, is_none, is_some, ◌&&◌, if◌then◌else◌}
 use Rattle.of_asking.specs.Questions.{fits}
 use Rattle.of_asking.specs.declared.query.Answer.{Answer}
@@ -13,6 +14,8 @@ use Rattle.of_client.specs.Services.{Service, service_of}
 use Rattle.of_client.specs.declared.calls.ClientCall.{ClientCall}
 use Rattle.of_machine.specs.declared.answers.End.{End}
 use Rattle.of_machine.specs.declared.answers.End.TheVariants.{AnswersOut, Done, LimitReached}
+use Rattle.of_machine.specs.declared.feeder.Advance.{Advance}
+use Rattle.of_machine.specs.declared.feeder.Advance.TheVariants.{Asks, Further, Over}
 use Rattle.of_machine.specs.States.{MachineState, answered, can_step, flat_machine, idle, is_running, loaded, moved}
 use Rattle.of_machine.specs.States.{opened, served, slot}
 
@@ -141,6 +144,27 @@ IsOver limit old new =
     ⊎ ((old.machine.steps ≤ new.machine.steps) × (new.machine.steps < limit)
     × (is_some new.machine.waiting ≡ true)
     × (after flat_calls (new.machine.steps - old.machine.steps + 1) old ≡ new))
+
+-- an advance of a run asked nothing
+abbrev pub HasAdvanced : Feed Coding → Feed Coding → Type 0
+HasAdvanced old new =
+    HasGone old new × (new.machine.asked ≡ old.machine.asked) × (new.answers ≡ old.answers)
+
+-- It went on, within the limit; or it did, and no more steps can be made; or so it did, and the next step asks.
+abbrev pub Advances : ℕ → Advance → Feed Coding → Feed Coding → Type 0
+Advances limit Further old new =
+    HasAdvanced old new × (old.machine.steps < new.machine.steps) × (new.machine.steps ≤ limit)
+Advances limit Over old new =
+    HasAdvanced old new × (new.machine.steps ≤ limit)
+    × ((new.machine.steps ≡ limit) ⊎ (can_step new.machine ≡ false))
+Advances limit (Asks q) old new =
+    (f : Feed Coding) × HasAdvanced old f × (f.machine.steps < limit) × (can_step f.machine ≡ true)
+    × (asked_by flat_calls f.machine.eval ≡ Some q) × (new ≡ asking q f)
+
+-- how a run ended, by the question that is open and whether something runs
+abbrev pub end_of : Option Query → Bool → End
+end_of (Some q) runs = AnswersOut
+end_of None runs = if runs then LimitReached else Done
 
 -- A run over the cells of definitions is the abstract machine's, laid out, after each number of turns.
 abbrev pub RunsAgree : Type 0

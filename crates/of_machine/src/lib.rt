@@ -2,11 +2,14 @@
 #![tactic(auto)]
 
 mod answers;
+mod feeder;
 mod laws;
 mod machine;
+mod racks;
 mod run;
 
 pub use answers::{End, Progress, Refusal};
 pub use laws::{calls_agree, runs_agree};
 pub use machine::{LONGEST_IMAGE, Machine};
+pub use racks::run_rack;
 pub use run::{ScriptMachine, run_script};

@@ -18,6 +18,8 @@ mod places;
 #[cfg(test)]
 mod questions;
 #[cfg(test)]
+mod racks;
+#[cfg(test)]
 mod runs;
 #[cfg(test)]
 mod shared;

@@ -373,7 +373,7 @@ fn push_left(text: &mut String, machine: &ScriptMachine, end: End) -> Result<(),
 }
 
 /// What a run leaves.
-fn left(alloc: Global, machine: &ScriptMachine, end: End) -> Result<String, Fail> {
+pub(crate) fn left(alloc: Global, machine: &ScriptMachine, end: End) -> Result<String, Fail> {
     let mut text = String::new(alloc);
     push_left(&mut text, machine, end)?;
     Ok(text)

@@ -1,5 +1,5 @@
 use Rattle.of_machine.proofs.RunLemmas.{gone_on, none_gone, over_behind}
-use Rattle.of_machine.proofs.run.Feeder.run.Goals as goal
+use Rattle.of_machine.proofs.feeder.Feeder.run.Goals as goal
 
 pub loop-init : goal.loop-init
 loop-init c = record { gone = none_gone c.args.self.now c.requires.calm; few = c.requires.few }

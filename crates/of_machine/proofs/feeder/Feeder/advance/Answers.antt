@@ -1,0 +1,127 @@
+use Rattle.std.proofs.Common.{rules, ◌≡◌, ◌≤◌, ◌<◌, ◌^◌, false, inl, ap, subst, refl, suc, arith}
+use Rattle.std.proofs.lemmas.Bool.{leb-false, leb-true}
+use Rattle.of_asking.specs.declared.query.Query.{Query}
+use Rattle.of_compile.specs.Coding.{Coding}
+use Rattle.of_eval.specs.State.{flat_calls}
+use Rattle.of_machine.specs.declared.answers.Progress.TheVariants.{Asks, Done, Ended}
+use Rattle.of_machine.specs.States.{HasMoved, Steps, goes_on}
+use Rattle.of_machine.specs.Runs.{AreUpto, Feed, IsCalm, settled}
+use Rattle.of_machine.proofs.RunLemmas.{asks_behind, not_made, reaches, rests_so, stands, until_after}
+use Rattle.of_machine.proofs.feeder.Feeder.advance.Goals as goal
+
+-- ---- up to a client, or to the limit
+
+pub returns-then-until-limit : goal.returns-then-until-limit
+returns-then-until-limit c =
+    let f = c.args.self.now in
+    let m = c.run.new.self in
+    let until = c.until-until.result in
+    let same : c.self.inside.machine ≡ f.machine = ap (λ (x : Feed Coding). x.machine) c.self.view_is in
+    let calm : IsCalm f = c.requires.calm in
+    let upto : AreUpto until f.calls = c.until-until.ensures.upto in
+    let ready : f.machine.steps ≤ until =
+    until_after f.machine.steps until c.args.limit c.requires.few c.until-until.ensures.few
+    (λ less. c.until-until.ensures.due less calm.0) in
+    let moves : HasMoved f.machine m = subst (λ x. HasMoved x m) same c.run.ensures.steps in
+    let some : m.steps ≤ until = search rules in
+    let few : m.steps < 2 ^ 64 = omega (arith, some, c.until-until.ensures.few, c.ranges.limit.fits) in
+    let g : Feed Coding = record f { machine = m } in
+    let new = c.serve.new.self in
+    let at : m.steps ≡ until = search rules in
+    let served : new ≡ settled g = search rules in
+    let there = reaches f g new m until calm moves few at upto refl served c.in_ok-serve.ensures.later in (
+      there.0,
+      omega (arith, there.1, c.until-until.ensures.due (leb-true (suc until) c.args.limit (search rules)) calm.0),
+      omega (arith, there.1, c.until-until.ensures.few),
+    )
+
+pub returns-else-until-limit : goal.returns-else-until-limit
+returns-else-until-limit c =
+    let f = c.args.self.now in
+    let m = c.run.new.self in
+    let until = c.until-until.result in
+    let same : c.self.inside.machine ≡ f.machine = ap (λ (x : Feed Coding). x.machine) c.self.view_is in
+    let calm : IsCalm f = c.requires.calm in
+    let upto : AreUpto until f.calls = c.until-until.ensures.upto in
+    let ready : f.machine.steps ≤ until =
+    until_after f.machine.steps until c.args.limit c.requires.few c.until-until.ensures.few
+    (λ less. c.until-until.ensures.due less calm.0) in
+    let moves : HasMoved f.machine m = subst (λ x. HasMoved x m) same c.run.ensures.steps in
+    let some : m.steps ≤ until = search rules in
+    let few : m.steps < 2 ^ 64 = omega (arith, some, c.until-until.ensures.few, c.ranges.limit.fits) in
+    let g : Feed Coding = record f { machine = m } in
+    let new = c.serve.new.self in
+    let at : m.steps ≡ until = search rules in
+    let served : new ≡ settled g = search rules in
+    let there = reaches f g new m until calm moves few at upto refl served c.in_ok-serve.ensures.later in
+    let all : until ≡ c.args.limit =
+    omega (arith, c.until-until.ensures.few, leb-false (suc until) c.args.limit (search rules)) in
+    (there.0, omega (arith, there.1, all), inl (omega (arith, there.1, all)))
+
+-- ---- up to a step that asks
+
+pub returns-in-Asks : goal.returns-in-Asks
+returns-in-Asks c =
+    let f = c.args.self.now in
+    let m = c.run.new.self in
+    let until = c.until-until.result in
+    let same : c.self.inside.machine ≡ f.machine = ap (λ (x : Feed Coding). x.machine) c.self.view_is in
+    let calm : IsCalm f = c.requires.calm in
+    let upto : AreUpto until f.calls = c.until-until.ensures.upto in
+    let ready : f.machine.steps ≤ until =
+    until_after f.machine.steps until c.args.limit c.requires.few c.until-until.ensures.few
+    (λ less. c.until-until.ensures.due less calm.0) in
+    let moves : HasMoved f.machine m = subst (λ x. HasMoved x m) same c.run.ensures.steps in
+    let some : m.steps ≤ until = search rules in
+    let few : m.steps < 2 ^ 64 = omega (arith, some, c.until-until.ensures.few, c.ranges.limit.fits) in
+    let n = c.step.new.self in
+    let apart : m.steps ≡ until → ⊥ = search rules in
+    let less : m.steps < until = omega (arith, some, apart) in
+    let q : Query = c.in-Asks.query in
+    let asks : Steps (Asks q) m n = search rules in
+    asks_behind f _ m n q until c.args.limit calm moves few less c.until-until.ensures.few upto asks
+    (ap (λ (x : Feed Coding). record x { machine = n }) c.self.view_is)
+
+-- ---- where none can be made
+
+pub returns-in-Ended : goal.returns-in-Ended
+returns-in-Ended c =
+    let f = c.args.self.now in
+    let m = c.run.new.self in
+    let until = c.until-until.result in
+    let same : c.self.inside.machine ≡ f.machine = ap (λ (x : Feed Coding). x.machine) c.self.view_is in
+    let calm : IsCalm f = c.requires.calm in
+    let upto : AreUpto until f.calls = c.until-until.ensures.upto in
+    let ready : f.machine.steps ≤ until =
+    until_after f.machine.steps until c.args.limit c.requires.few c.until-until.ensures.few
+    (λ less. c.until-until.ensures.due less calm.0) in
+    let moves : HasMoved f.machine m = subst (λ x. HasMoved x m) same c.run.ensures.steps in
+    let some : m.steps ≤ until = search rules in
+    let few : m.steps < 2 ^ 64 = omega (arith, some, c.until-until.ensures.few, c.ranges.limit.fits) in
+    let n = c.step.new.self in
+    let apart : m.steps ≡ until → ⊥ = search rules in
+    let less : m.steps < until = omega (arith, some, apart) in
+    let ended : Steps Ended m n = search rules in
+    stands f _ m n until c.args.limit calm moves few less c.until-until.ensures.few upto ended
+    (ap (λ (x : Feed Coding). record x { machine = n }) c.self.view_is)
+
+pub returns-in-Done : goal.returns-in-Done
+returns-in-Done c =
+    let f = c.args.self.now in
+    let m = c.run.new.self in
+    let until = c.until-until.result in
+    let same : c.self.inside.machine ≡ f.machine = ap (λ (x : Feed Coding). x.machine) c.self.view_is in
+    let calm : IsCalm f = c.requires.calm in
+    let upto : AreUpto until f.calls = c.until-until.ensures.upto in
+    let ready : f.machine.steps ≤ until =
+    until_after f.machine.steps until c.args.limit c.requires.few c.until-until.ensures.few
+    (λ less. c.until-until.ensures.due less calm.0) in
+    let moves : HasMoved f.machine m = subst (λ x. HasMoved x m) same c.run.ensures.steps in
+    let some : m.steps ≤ until = search rules in
+    let few : m.steps < 2 ^ 64 = omega (arith, some, c.until-until.ensures.few, c.ranges.limit.fits) in
+    let n = c.step.new.self in
+    let apart : m.steps ≡ until → ⊥ = search rules in
+    let less : m.steps < until = omega (arith, some, apart) in
+    let made : Steps Done m n = search rules in
+    let stays : goes_on flat_calls m ≡ false = rests_so m f.machine.steps until ready (search rules) less in
+    absurd (not_made m n stays made)

@@ -1,0 +1,57 @@
+use Rattle.std.proofs.Common.{rules, ◌≡◌, [], map, ap, subst, sym}
+use Rattle.of_compile.specs.Coding.{Coding}
+use Rattle.of_devices.specs.Racks.{Meant, told_all}
+use Rattle.of_machine.specs.Racks.{IsLeftWith, Rounds, answers_of}
+use Rattle.of_machine.specs.States.{MachineState, is_running}
+use Rattle.of_machine.specs.Runs.{Feed, RunsTo, due_of, end_of}
+use Rattle.of_machine.proofs.RackLemmas.{never_begun, on_err, run_ends_with, run_left, run_told}
+use Rattle.of_machine.proofs.racks.run_rack.Goals as goal
+
+-- ---- no memory
+
+pub returns-in_err-feeder-clause-left : goal.returns-in_err-feeder-clause-left
+returns-in_err-feeder-clause-left g c =
+    let f : _ → Meant = λ d. (goal.Device-dyn g (d.vtable, d.value)).meant d.value in
+    on_err _
+    (never_begun c.runs_agree.ensures c.args.image.now (map due_of c.args.calls.now) (map f c.args.rack.now.items))
+
+pub returns-in_default-clause-left : goal.returns-in_default-clause-left
+returns-in_default-clause-left g c =
+    let f : _ → Meant = λ d. (goal.Device-dyn g (d.vtable, d.value)).meant d.value in
+    let ds = map f c.args.rack.now.items in
+    let es = map f c.run_with.new.rack.items in
+    let start : Feed Coding = c.in_ok-feeder.feeder in
+    let left : IsLeftWith ds es start = search rules in
+    run_left c.runs_agree.ensures c.args.image.now (map due_of c.args.calls.now) ds es start
+    c.in_ok-feeder.ensures.begun left
+
+-- ---- a machine
+
+pub returns-clause-ok : goal.returns-clause-ok
+returns-clause-ok g c =
+    let f : _ → Meant = λ d. (goal.Device-dyn g (d.vtable, d.value)).meant d.value in
+    let ds = map f c.args.rack.now.items in
+    let es = map f c.run_with.new.rack.items in
+    let image = c.args.image.now in
+    let calls = map due_of c.args.calls.now in
+    let start : Feed Coding = c.in_ok-feeder.feeder in
+    let end : Feed Coding = c.run_with.new.feeder in
+    let same = ap (λ (x : Feed Coding). x.machine) c.feeder.view_is in
+    let ended = run_ends_with c.runs_agree.ensures image calls ds es c.args.limit start end
+    c.in_ok-feeder.ensures.begun c.ranges.limit.fits c.in_ok-feeder.ensures.none c.in-Ok.ensures.over in
+    subst (λ e. RunsTo image [] (answers_of ds c.feeder.inside.machine.asked) calls c.args.limit
+    c.feeder.inside.machine e)
+    (sym c.end_of-end.ensures)
+    (subst
+    (λ m. RunsTo image [] (answers_of ds m.asked) calls c.args.limit m (end_of m.waiting (is_running m)))
+    (sym same) ended)
+
+pub returns-clause-told : goal.returns-clause-told
+returns-clause-told g c =
+    let f : _ → Meant = λ d. (goal.Device-dyn g (d.vtable, d.value)).meant d.value in
+    let ds = map f c.args.rack.now.items in
+    let es = map f c.run_with.new.rack.items in
+    let same = ap (λ (x : Feed Coding). x.machine) c.feeder.view_is in
+    let told = run_told c.args.image.now (map due_of c.args.calls.now) ds es c.in_ok-feeder.feeder
+    c.run_with.new.feeder c.in_ok-feeder.ensures.begun c.in-Ok.ensures.over.0 in
+    subst (λ m. es ≡ told_all ds m.asked) (sym same) told

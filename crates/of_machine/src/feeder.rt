@@ -1,0 +1,174 @@
+ghost use Rattle.std.specs.Prelude.{◌≡◌, ◌<◌, ◌≤◌, IfOk, OnOk, None, is_some, true, false};
+ghost use Rattle.of_machine.specs.Runs.{Advances, AreLater, AreUpto, HasGone, IsCalm, IsOut, IsOver, IsTold, settled};
+ghost use Rattle.of_machine.specs.States.{answer_refusal, answered};
+ghost use Rattle.of_eval.specs.State.{flat_calls};
+
+use crate::answers::{Progress, Refusal};
+use crate::run::ScriptMachine;
+use of_asking::{Answer, Query};
+use of_client::ClientCall;
+use std::alloc::AllocError;
+use std::marker::Model;
+
+/// What an advance of a run came to.
+#[derive(Clone, Copy)]
+pub(crate) enum Advance {
+    /// Clients were answered behind its last step, and more can be made.
+    Further,
+    /// So many steps are made as are allowed, or none can be made.
+    Over,
+    /// The next step asks.
+    Asks(Query),
+}
+
+/// A run: its machine, and the answers and clients that are left.
+#[derive(Drop)]
+pub(crate) struct Feeder<'a> {
+    pub(crate) machine: ScriptMachine,
+    pub(crate) answers: &'a [Answer],
+    pub(crate) calls: &'a [(u64, ClientCall)],
+}
+
+// Clauses see a feed without lines, whose definitions are cells.
+impl<'a> Model for Feeder<'a> {
+    ghost use Rattle.std.specs.Prelude.{[], map};
+    ghost use Rattle.of_compile.specs.Coding.{Coding};
+    ghost use Rattle.of_machine.specs.Runs.{Feed, due_of};
+
+    ghost Value = { Feed Coding };
+
+    ghost view = { λ f. record {
+      machine = f.machine;
+      lines = [];
+      answers = f.answers.now;
+      calls = map due_of f.calls.now;
+    } };
+}
+
+impl<'a> Feeder<'a> {
+    /// Answers the clients that are to be answered now.
+    ///
+    /// An error is for memory alone.
+    pub(crate) fn serve(&mut self) -> Result<(), AllocError>
+        ensures served { OnOk result (self.new ≡ settled self.old) }
+        ensures later { OnOk result (AreLater self.new.machine.steps self.new.calls) }
+    {
+        while let Some(((due, call), rest)) = self.calls.split_first() {
+            if *due > self.machine.steps() {
+                return Ok(());
+            }
+            if self.machine.client(call).is_err() {
+                return Err(AllocError);
+            }
+            self.calls = rest;
+        }
+        Ok(())
+    }
+
+    /// How many steps can be made before a client is to be answered, at most `limit`.
+    fn until(&self, limit: u64) -> u64
+        ensures few { result ≤ limit }
+        ensures due { result < limit → AreLater self.now.machine.steps self.now.calls
+            → self.now.machine.steps < result }
+        ensures upto { AreUpto result self.now.calls }
+    {
+        match self.calls.first() {
+            Some((due, _)) => limit.min(*due),
+            None => limit,
+        }
+    }
+
+    /// Makes the step that asks with the next answer; answers whether there is one that fits.
+    ///
+    /// An error is for memory alone.
+    fn tell(&mut self) -> Result<bool, AllocError>
+        requires { is_some self.old.machine.waiting ≡ true }
+        ensures told { IfOk result (λ fits. fits ≡ true → IsTold self.old self.new) }
+        ensures out { IfOk result (λ fits. fits ≡ false → IsOut self.old self.new) }
+    {
+        let Some((answer, rest)) = self.answers.split_first() else {
+            return Ok(false);
+        };
+        match self.machine.answer(*answer) {
+            Ok(()) => {
+                self.answers = rest;
+                self.serve()?;
+                Ok(true)
+            }
+            Err(Refusal::NoMemory) => Err(AllocError),
+            Err(_) => Ok(false),
+        }
+    }
+
+    /// Makes the step that asks with an answer that fits.
+    ///
+    /// An error is for memory alone.
+    pub(crate) fn answer(&mut self, answer: Answer) -> Result<(), AllocError>
+        requires { answer_refusal self.old.machine.waiting answer ≡ None }
+        ensures told { OnOk result (self.new
+            ≡ settled (record self.old { machine = answered flat_calls answer self.old.machine })) }
+        ensures later { OnOk result (AreLater self.new.machine.steps self.new.calls) }
+    {
+        let Ok(()) = self.machine.answer(answer) else {
+            return Err(AllocError);
+        };
+        self.serve()
+    }
+
+    /// Makes steps up to one that asks, or up to one behind which clients are answered, at most until `limit` are made.
+    ///
+    /// An error is for memory alone; then no more was asked.
+    pub(crate) fn advance(&mut self, limit: u64) -> Result<Advance, AllocError>
+        requires few { self.old.machine.steps ≤ limit }
+        requires calm { IsCalm self.old }
+        ensures { IfOk result (λ a. Advances limit a self.old self.new) }
+    {
+        let until = self.until(limit);
+        self.machine.run(until - self.machine.steps())?;
+        if self.machine.steps() == until {
+            self.serve()?;
+            return Ok(if until < limit {
+                Advance::Further
+            } else {
+                Advance::Over
+            });
+        }
+        match self.machine.step()? {
+            Progress::Asks(query) => return Ok(Advance::Asks(query)),
+            Progress::Ended => return Ok(Advance::Over),
+            // `run` has made all steps that don't ask
+            Progress::Done => return Ok(Advance::Over),
+        }
+    }
+
+    /// Makes steps up to one that asks, and this with its answer, or up to one behind which clients are answered, at
+    /// most until `limit` are made; answers whether more can be made.
+    ///
+    /// An error is for memory alone.
+    fn round(&mut self, limit: u64) -> Result<bool, AllocError>
+        requires few { self.old.machine.steps ≤ limit }
+        requires calm { IsCalm self.old }
+        ensures gone { IfOk result (λ more. more ≡ true → HasGone self.old self.new) }
+        ensures more { IfOk result (λ more. more ≡ true → self.old.machine.steps < self.new.machine.steps) }
+        ensures few { IfOk result (λ more. more ≡ true → self.new.machine.steps ≤ limit) }
+        ensures over { IfOk result (λ more. more ≡ false → IsOver limit self.old self.new) }
+    {
+        match self.advance(limit)? {
+            Advance::Further => Ok(true),
+            Advance::Over => Ok(false),
+            Advance::Asks(_) => self.tell(),
+        }
+    }
+
+    /// Makes steps and answers clients until `limit` are made, or no more can be.
+    ///
+    /// An error is for memory alone.
+    pub(crate) fn run(&mut self, limit: u64) -> Result<(), AllocError>
+        requires few { self.old.machine.steps ≤ limit }
+        requires calm { IsCalm self.old }
+        ensures { OnOk result (IsOver limit self.old self.new) }
+    {
+        while self.round(limit)? {}
+        Ok(())
+    }
+}

@@ -1,0 +1,93 @@
+ghost use Rattle.std.specs.Prelude.{◌≡◌, ◌≤◌, [], IfOk, IfErr, OnOk, OnErr, None, is_some, map, false, true};
+ghost use Rattle.of_machine.specs.declared.answers.End.TheVariants.{AnswersOut};
+ghost use Rattle.of_machine.specs.States.{Refuses, image_refusal};
+ghost use Rattle.of_machine.specs.Racks.{IsLeft, IsLeftWith, Rounds, answers_of};
+ghost use Rattle.of_devices.specs.Racks.{told_all};
+ghost use Rattle.of_machine.specs.Runs.{IsCalm, RunsTo, due_of};
+
+use crate::answers::{End, Refusal};
+use crate::feeder::{Advance, Feeder};
+use crate::laws::runs_agree;
+use crate::run::{ScriptMachine, begin_run, end_of};
+use of_client::ClientCall;
+use of_devices::{Rack, ask};
+use std::alloc::{AllocError, Global};
+
+/// Makes steps up to one whose question the rack answers, or up to one behind which clients are answered, at most until
+/// `limit` are made; answers whether more can be made.
+///
+/// An error is for memory alone.
+fn round_with(feeder: &mut Feeder, rack: &mut Rack, limit: u64) -> Result<bool, AllocError>
+    requires few { feeder.old.machine.steps ≤ limit }
+    requires calm { IsCalm feeder.old }
+    requires none { feeder.old.answers ≡ [] }
+    ensures ok { IfOk result (λ more. Rounds limit more
+        (map (λ d. meant d) rack.old.items) (map (λ d. meant d) rack.new.items) feeder.old feeder.new) }
+    ensures left { OnErr result (IsLeftWith
+        (map (λ d. meant d) rack.old.items) (map (λ d. meant d) rack.new.items) feeder.old) }
+{
+    match feeder.advance(limit)? {
+        Advance::Further => Ok(true),
+        Advance::Over => Ok(false),
+        Advance::Asks(query) => {
+            let answer = ask(rack, query);
+            feeder.answer(answer)?;
+            Ok(true)
+        }
+    }
+}
+
+/// Makes steps, with the rack's answers to what they ask, and answers clients, until `limit` are made or no more can
+/// be.
+///
+/// An error is for memory alone.
+fn run_with(feeder: &mut Feeder, rack: &mut Rack, limit: u64) -> Result<(), AllocError>
+    requires few { feeder.old.machine.steps ≤ limit }
+    requires calm { IsCalm feeder.old }
+    requires none { feeder.old.answers ≡ [] }
+    ensures over { OnOk result (Rounds limit false
+        (map (λ d. meant d) rack.old.items) (map (λ d. meant d) rack.new.items) feeder.old feeder.new) }
+    ensures left { OnErr result (IsLeftWith
+        (map (λ d. meant d) rack.old.items) (map (λ d. meant d) rack.new.items) feeder.old) }
+{
+    while round_with(feeder, rack, limit)? {}
+    Ok(())
+}
+
+/// Runs an image for `/slot` on a new machine as `run_script` does, where the devices of a rack answer: the k-th answer
+/// is the rack's to the k-th question, behind those before.
+///
+/// The run ends Done or LimitReached, never AnswersOut, and then the devices have been asked what the machine's `asked`
+/// says. Refused are ImageTooLong over 256 KiB, then BadStart where the header can't be read, which change no device,
+/// and NoMemory, which gives no machine: the devices are then as the questions left them that were answered so far.
+pub fn run_rack(
+    alloc: Global,
+    image: &[u8],
+    lines: &[Vec<u8>],
+    rack: &mut Rack,
+    calls: &[(u64, ClientCall)],
+    limit: u64,
+) -> Result<(ScriptMachine, End), Refusal>
+    requires no_lines { lines.now ≡ [] }
+    ensures accepted { OnOk result (image_refusal image.now ≡ None) }
+    ensures ok { IfOk result
+        (λ r. RunsTo image.now [] (answers_of (map (λ d. meant d) rack.old.items) r.0.asked) (map due_of calls.now)
+        limit r.0 r.1) }
+    ensures told { IfOk result (λ r. map (λ d. meant d) rack.new.items
+        ≡ told_all (map (λ d. meant d) rack.old.items) r.0.asked) }
+    ensures never_out { IfOk result (λ r. r.1 ≡ AnswersOut → ⊥) }
+    ensures err { IfErr result (λ e. Refuses (image_refusal image.now) e) }
+    ensures unasked { is_some (image_refusal image.now) ≡ true
+        → map (λ d. meant d) rack.new.items ≡ map (λ d. meant d) rack.old.items }
+    ensures left { OnErr result (IsLeft image.now (map due_of calls.now)
+        (map (λ d. meant d) rack.old.items) (map (λ d. meant d) rack.new.items)) }
+{
+    let _ = &lines;
+    runs_agree();
+    let mut feeder = begin_run(alloc, image, &[], calls)?;
+    let Ok(()) = run_with(&mut feeder, rack, limit) else {
+        return Err(Refusal::NoMemory);
+    };
+    let end = end_of(&feeder.machine);
+    Ok((feeder.machine, end))
+}
