@@ -2,9 +2,10 @@
 use Rattle.std.proofs.Common.{◌≡◌, ◌∙◌, ℕ, suc, ◌+◌, ◌⊎◌, ◌<◌, ◌≤◌, inl, inr, arith, cond, length, take, drop, Bool}
 use Rattle.std.proofs.Common.{true, false, nat_eq, List, [], ◌∷◌, ◌++◌, Ok, Err, Result, refl, sym, ap, subst}
 use Rattle.std.proofs.Common.{append_assoc, append-nil}
+use Rattle.std.specs.List.{onto_first}
 use Rattle.of_calls.specs.declared.fault.TextFault.{TextFault}
 use Rattle.of_calls.specs.declared.fault.TextFault.TheVariants as fault
-use Rattle.of_calls.specs.Lines.{before_lines, first_line, left_behind, line_length, lines}
+use Rattle.of_calls.specs.Lines.{first_line, left_behind, line_length, lines}
 use Rattle.of_calls.specs.Said.{all_said, and_more, and_next, and_those}
 
 taken_longer : (k b : ℕ) (text : List ℕ) → length (take (1 + k) (b ∷ text)) ≡ suc (length (take k text))
@@ -30,8 +31,8 @@ lines_first b (c ∷ text) = go (nat_eq b 10) refl (lines_first c text)
         → lines (b ∷ c ∷ text) ≡ first_line (b ∷ c ∷ text) ∷ lines (left_behind (b ∷ c ∷ text))
     go true e rest = rw e refl
     go false e rest =
-        ap (λ (t : Bool). cond t ([] ∷ lines (c ∷ text)) (before_lines b (lines (c ∷ text)))) e
-        ∙ ap (before_lines b) rest
+        ap (λ (t : Bool). cond t ([] ∷ lines (c ∷ text)) (onto_first b (lines (c ∷ text)))) e
+        ∙ ap (onto_first b) rest
         ∙ sym (ap (λ n. take n (b ∷ c ∷ text) ∷ lines (drop 1 (drop n (b ∷ c ∷ text)))) (longer b (c ∷ text) e))
 
 module _ {A : Type 0} (say : ℕ → List ℕ → Result A TextFault) where

@@ -8,7 +8,7 @@ use Rattle.of_calls.specs.Said.{all_said, ended, go_on, number_at}
 use Rattle.of_calls.specs.declared.fault.TextFault.{TextFault}
 use Rattle.of_calls.specs.declared.fault.TextFault.TheVariants as fault
 
--- the answer of the line with a number; a line without words has none
+-- the answer of the line with a number; a line without words has the fault Unknown
 unfoldable pub answer_in : ℕ → List ℕ → Result Answer TextFault
 answer_in number line =
     if bytes_eq (word_at 0 line) (codes "v")

@@ -1,5 +1,5 @@
 -- The calls that a text says: a line has the name of a service, and what the service takes.
-use Rattle.std.specs.Prelude.{ℕ, List, [], length, codes, Option, Some, None, Result, Err, nat_eq, option_map}
+use Rattle.std.specs.Prelude.{ℕ, List, [], length, codes, Option, Some, None, Result, Ok, Err, nat_eq, option_map}
 use Rattle.std.specs.Prelude.{if◌then◌else◌}
 use Rattle.std.specs.Str.{bytes_eq}
 use Rattle.of_cells.specs.declared.cells.Cell.{Cell}
@@ -7,7 +7,7 @@ use Rattle.of_nodes.specs.declared.phandles.Phandle.{Phandle}
 use Rattle.of_client.specs.Services.{Service, Child, FindDevice, GetProp, GetPropLen, InstanceToPackage, NextProp}
 use Rattle.of_client.specs.Services.{PackageToPath, Parent, Peer}
 use Rattle.of_calls.specs.Lines.{lines, place_at, word_at}
-use Rattle.of_calls.specs.Said.{all_said, ended, go_on, number_at}
+use Rattle.of_calls.specs.Said.{all_said, ended, go_on, number_at, text_at}
 use Rattle.of_calls.specs.declared.fault.TextFault.{TextFault}
 use Rattle.of_calls.specs.declared.fault.TextFault.TheVariants as fault
 use Rattle.of_calls.specs.declared.service.HandleKind.{HandleKind}
@@ -46,26 +46,29 @@ abbrev pub before_room : List ℕ → ℕ
 before_room line = if nat_eq (length (word_at 3 line)) 0 then 2 else 3
 
 -- the name that `getprop` is given
-abbrev pub name_before_room : List ℕ → List ℕ
-name_before_room line = if nat_eq (length (word_at 3 line)) 0 then [] else word_at 2 line
+abbrev pub name_before_room : ℕ → List ℕ → Result (List ℕ) TextFault
+name_before_room number line = if nat_eq (length (word_at 3 line)) 0 then Ok [] else text_at number 2 line
 
 -- what a service of the line with a number is asked with a handle; a name that is left out is empty
 unfoldable pub of_handle : HandleKind → Cell → ℕ → List ℕ → Result Service TextFault
 of_handle handle.Child x number line = ended number 2 line (Child (node x))
 of_handle handle.Peer x number line = ended number 2 line (Peer (node x))
 of_handle handle.Parent x number line = ended number 2 line (Parent (node x))
-of_handle handle.GetPropLen x number line = ended number 3 line (GetPropLen (node x) (word_at 2 line))
+of_handle handle.GetPropLen x number line =
+    go_on (λ name. ended number 3 line (GetPropLen (node x) name)) (text_at number 2 line)
 of_handle handle.GetProp x number line =
-    go_on (λ room. ended number 4 line (GetProp (node x) (name_before_room line) room.0))
-    (number_at number (before_room line) line)
-of_handle handle.NextProp x number line = ended number 3 line (NextProp (node x) (word_at 2 line))
+    go_on (λ name. go_on (λ room. ended number 4 line (GetProp (node x) name room.0))
+    (number_at number (before_room line) line)) (name_before_room number line)
+of_handle handle.NextProp x number line =
+    go_on (λ name. ended number 3 line (NextProp (node x) name)) (text_at number 2 line)
 of_handle handle.InstanceToPackage x number line = ended number 2 line (InstanceToPackage x)
 of_handle handle.PackageToPath x number line =
     go_on (λ room. ended number 3 line (PackageToPath (node x) room.0)) (number_at number 2 line)
 
 -- what a service is asked; a path that is left out is empty
 unfoldable pub asked : Kind → ℕ → List ℕ → Result Service TextFault
-asked kind.FindDevice number line = ended number 2 line (FindDevice (word_at 1 line))
+asked kind.FindDevice number line =
+    go_on (λ path. ended number 2 line (FindDevice path)) (text_at number 1 line)
 asked (kind.OfHandle k) number line = go_on (λ x. of_handle k x number line) (number_at number 1 line)
 
 -- ---- lines

@@ -2,3 +2,4 @@ pub mod Lines
 pub mod Said
 pub mod Calls
 pub mod Answers
+pub mod Boards

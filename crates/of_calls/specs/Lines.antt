@@ -1,21 +1,17 @@
 -- The lines of a text, and the words of a line, by their order.
 use Rattle.std.specs.Prelude.{ℕ, zero, suc, ◌+◌, ◌-◌, ◌^◌, List, [], ◌∷◌, length, take, drop, take_while, Option}
 use Rattle.std.specs.Prelude.{if◌then◌else◌, ◌&&◌, not, nat_eq, nat_le, Bool}
+use Rattle.std.specs.List.{onto_first}
 use Rattle.of_cells.specs.declared.cells.Cell.{Cell}
 use Rattle.of_format.specs.Reading.{cell_read, digits_read}
 use Rattle.of_source.specs.declared.place.Place.{Place}
 
 -- ---- lines
 
--- a byte before lines
-abbrev pub before_lines : ℕ → List (List ℕ) → List (List ℕ)
-before_lines b [] = (b ∷ []) ∷ []
-before_lines b (line ∷ more) = (b ∷ line) ∷ more
-
 -- the lines of a text: each ends with a byte 0x0A, which the last may lack
 abbrev pub lines : List ℕ → List (List ℕ)
 lines [] = []
-lines (b ∷ text) = if nat_eq b 10 then [] ∷ lines text else before_lines b (lines text)
+lines (b ∷ text) = if nat_eq b 10 then [] ∷ lines text else onto_first b (lines text)
 
 -- how many bytes the first line of a text has
 abbrev pub line_length : List ℕ → ℕ

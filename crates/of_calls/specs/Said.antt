@@ -1,6 +1,7 @@
 -- What lines say: the first word that fits nowhere is the fault of all.
 use Rattle.std.specs.Prelude.{ℕ, ◌+◌, List, [], ◌∷◌, ◌++◌, length, Option, Some, None, Result, Ok, Err, nat_eq}
 use Rattle.std.specs.Prelude.{if◌then◌else◌}
+use Rattle.std.specs.List.{list_any}
 use Rattle.of_cells.specs.declared.cells.Cell.{Cell}
 use Rattle.of_source.specs.declared.place.Place.{Place}
 use Rattle.of_calls.specs.Lines.{number_of, place_at, word_at}
@@ -22,6 +23,12 @@ number_or p None = Err (fault.BadNumber p)
 -- the number that the word behind so many says
 abbrev pub number_at : ℕ → ℕ → List ℕ → Result Cell TextFault
 number_at number n line = number_or (place_at number n line) (number_of (word_at n line))
+
+-- the word behind so many, as a name or a path: a byte 0x0D stands in none
+abbrev pub text_at : ℕ → ℕ → List ℕ → Result (List ℕ) TextFault
+text_at number n line =
+    if list_any (λ b. nat_eq b 0x0d) (word_at n line) then Err (fault.Unknown (place_at number n line))
+    else Ok (word_at n line)
 
 -- what a line says, where it ends behind so many words
 abbrev pub ended : {A : Type 0} → ℕ → ℕ → List ℕ → A → Result A TextFault

@@ -18,10 +18,13 @@ fn before_room(line: Line<'_>) -> usize
 }
 
 /// The name that `getprop` is given.
-fn name_before_room<'a>(line: Line<'a>) -> &'a [u8]
-    ensures { result.now ≡ name_before_room line.entry.text.now }
+///
+/// Unknown where a carriage return stands in it.
+fn name_before_room<'a>(line: Line<'a>) -> Result<&'a [u8], TextFault>
+    ensures ok { IfOk result (λ n. name_before_room line.entry.number line.entry.text.now ≡ Ok n.now) }
+    ensures err { IfErr result (λ f. name_before_room line.entry.number line.entry.text.now ≡ Err f) }
 {
-    if line.ends(3) { &[] } else { line.word(2) }
+    if line.ends(3) { Ok(&[]) } else { line.text(2) }
 }
 
 /// What a service of a line is asked with a handle.
@@ -41,16 +44,16 @@ fn of_handle(
         HandleKind::Peer => line.ended(2, ClientCall::Peer(Phandle(handle))),
         HandleKind::Parent => line.ended(2, ClientCall::Parent(Phandle(handle))),
         HandleKind::GetPropLen => {
-            let name = Vec::from_slice(alloc, line.word(2))?;
+            let name = Vec::from_slice(alloc, line.text(2)?)?;
             line.ended(3, ClientCall::GetPropLen(Phandle(handle), name))
         }
         HandleKind::GetProp => {
-            let name = Vec::from_slice(alloc, name_before_room(line))?;
+            let name = Vec::from_slice(alloc, name_before_room(line)?)?;
             let room = line.number(before_room(line))?;
             line.ended(4, ClientCall::GetProp(Phandle(handle), name, room.0))
         }
         HandleKind::NextProp => {
-            let name = Vec::from_slice(alloc, line.word(2))?;
+            let name = Vec::from_slice(alloc, line.text(2)?)?;
             line.ended(3, ClientCall::NextProp(Phandle(handle), name))
         }
         HandleKind::InstanceToPackage => line.ended(2, ClientCall::InstanceToPackage(handle)),
@@ -70,7 +73,7 @@ fn asked(alloc: Global, kind: Kind, line: Line<'_>) -> Result<ClientCall, TextFa
 {
     match kind {
         Kind::FindDevice => {
-            let path = Vec::from_slice(alloc, line.word(1))?;
+            let path = Vec::from_slice(alloc, line.text(1)?)?;
             line.ended(2, ClientCall::FindDevice(path))
         }
         Kind::OfHandle(kind) => of_handle(alloc, kind, line.number(1)?, line),

@@ -2,14 +2,16 @@ use of_source::Place;
 use std::alloc::AllocError;
 use thiserror::Error;
 
-/// Why a text has no calls, or no answers: the first word that fits nowhere.
+/// Why a text has no calls, no answers or no devices: the first word that fits nowhere.
 #[derive(Clone, Copy, Debug, PartialEq, Eq, Error)]
 pub enum TextFault {
-    /// Here stands the first word of a line, or none, and it names no service, or no answer.
+    /// Here stands the first word of a line, or none, and it names no service, no answer or no device; or here stands a
+    /// name or a path with a carriage return in it.
     #[error("unknown word")]
     Unknown(Place),
 
-    /// Here a number stands that can't be read, or that no cell holds, or none where one is missing.
+    /// Here a number or bytes stand that can't be read or are too many, or that no cell holds, or none where some are
+    /// missing.
     #[error("bad number")]
     BadNumber(Place),
 

@@ -1,4 +1,5 @@
-ghost use Rattle.std.specs.Prelude.{◌≡◌, ◌≤◌, IfErr, IfOk, false, length, nat_eq, true};
+ghost use Rattle.std.specs.Prelude.{◌≡◌, ◌≤◌, Ok, Err, IfErr, IfOk, false, length, nat_eq, true};
+ghost use Rattle.std.specs.List.{list_any};
 ghost use Rattle.std.specs.Str.{bytes_eq};
 ghost use Rattle.of_calls.specs.Lines.{behind_word, blanks, from_word, is_blank, number_of, rest_behind};
 ghost use Rattle.of_calls.specs.Lines.{word_in, word_length};
@@ -95,9 +96,16 @@ pub(crate) fn is_same(word: &[u8], text: &str) -> bool
     word == text.as_bytes()
 }
 
+/// Whether a carriage return stands in a word.
+fn has_return(word: &[u8]) -> bool
+    ensures { result ≡ list_any (λ b. nat_eq b 0x0d) word.now }
+{
+    word.iter().any(|byte| *byte == b'\r')
+}
+
 impl<'a> Line<'a> {
     ghost use Rattle.of_calls.specs.Lines.{place_at, word_at};
-    ghost use Rattle.of_calls.specs.Said.{number_at};
+    ghost use Rattle.of_calls.specs.Said.{number_at, text_at};
 
     /// The word behind so many; empty where there is none.
     pub(crate) fn word(self, count: usize) -> &'a [u8]
@@ -131,6 +139,21 @@ impl<'a> Line<'a> {
         match number_of(self.word(count)) {
             Some(number) => Ok(number),
             None => Err(TextFault::BadNumber(self.place(count))),
+        }
+    }
+
+    /// The word behind so many, as a name or a path.
+    ///
+    /// Unknown where a carriage return stands in it.
+    pub(crate) fn text(self, count: usize) -> Result<&'a [u8], TextFault>
+        ensures ok { IfOk result (λ t. text_at self.entry.number count self.entry.text.now ≡ Ok t.now) }
+        ensures err { IfErr result (λ f. text_at self.entry.number count self.entry.text.now ≡ Err f) }
+    {
+        let word = self.word(count);
+        if has_return(word) {
+            Err(TextFault::Unknown(self.place(count)))
+        } else {
+            Ok(word)
         }
     }
 

@@ -4,13 +4,16 @@ ghost use Rattle.of_calls.specs.Lines.{first_line, left_behind, line_length};
 ghost use Rattle.of_calls.specs.Said.{and_next};
 ghost use Rattle.of_calls.specs.Calls.{call_in, parsed};
 ghost use Rattle.of_calls.specs.Answers.{answer_in, parsed_answers};
+ghost use Rattle.of_calls.specs.Boards.{parsed_board, part_in};
 
 use crate::answer::answer_in;
 use crate::call::call_in;
 use crate::fault::TextFault;
 use crate::line::Line;
+use crate::part::part_in;
 use of_asking::Answer;
 use of_client::ClientCall;
+use of_devices::Part;
 use std::alloc::Global;
 
 /// How many bytes the first line of a text has.
@@ -54,11 +57,11 @@ fn take_call(alloc: Global, line: Line<'_>, calls: &mut Vec<ClientCall>) -> Resu
 
 /// The calls that a text says, a line for each: the name of a service and what it takes, with blanks between. Numbers
 /// have hexadecimal digits. A path or a name that is left out is empty. Each line ends with a newline, which the last
-/// may lack; a text without bytes has no line. A carriage return is a byte of a word.
+/// may lack; a text without bytes has no line. A carriage return is a byte of a word, and no word has one.
 ///
 /// An error is for the first word that fits nowhere, or for memory: Unknown where a line names no service or has no
-/// word, BadNumber where a number can't be read or is missing, TooMany where a word stands behind the last that the
-/// service takes.
+/// word, and at a path or a name with a carriage return in it, BadNumber where a number can't be read or is missing,
+/// TooMany where a word stands behind the last that the service takes.
 #[tactic(auto, using(crate::proofs::Reading::none_read))]
 pub fn parse(alloc: Global, text: &[u8]) -> Result<Vec<ClientCall>, TextFault>
     ensures ok { IfOk result (λ calls. parsed text.now ≡ Ok (map service_of calls.items)) }
@@ -122,4 +125,48 @@ pub fn parse_answers(alloc: Global, text: &[u8]) -> Result<Vec<Answer>, TextFaul
         left = left_behind(left);
     }
     Ok(answers)
+}
+
+/// Appends the device of a line.
+fn take_part(alloc: Global, line: Line<'_>, parts: &mut Vec<Part>) -> Result<(), TextFault>
+    ensures ok { OnOk result (and_next parts.old.items (part_in line.entry.number line.entry.text.now)
+        ≡ Ok parts.new.items) }
+    ensures err { IfErr result (λ f. (f ≡ TextFault.NoMemory)
+        ⊎ (part_in line.entry.number line.entry.text.now ≡ Err f)) }
+{
+    let part = part_in(alloc, line)?;
+    match parts.push(part) {
+        Ok(()) => Ok(()),
+        Err(_) => Err(TextFault::NoMemory),
+    }
+}
+
+/// The devices that a text says, a line for each: `memory` with an address, a length and its first bytes, which may be
+/// left out, `fault` with an address and a length, `keys` with the keys that were typed, or `clock`. Addresses have
+/// hexadecimal digits, up to ffffffff, lengths too, up to 1000000, and bytes two each. The lines are those of `parse`.
+///
+/// An error is for the first word that fits nowhere, or for memory: Unknown where a line begins with another word or
+/// has none, BadNumber where an address, a length or bytes can't be read or are too many, or are missing where they
+/// may not be left out, TooMany where a word stands behind these.
+#[tactic(auto, using(crate::proofs::Reading::none_read))]
+pub fn parse_board(alloc: Global, text: &[u8]) -> Result<Vec<Part>, TextFault>
+    ensures ok { IfOk result (λ parts. parsed_board text.now ≡ Ok parts.items) }
+    ensures err { IfErr result (λ f. (f ≡ TextFault.NoMemory) ⊎ (parsed_board text.now ≡ Err f)) }
+{
+    let mut parts = Vec::new(alloc);
+    let mut number = 1usize;
+    let mut left = text;
+    while left.len() > 0 {
+        let line = Line {
+            number,
+            text: first_line(left),
+        };
+        match take_part(alloc, line, &mut parts) {
+            Ok(()) => {}
+            Err(fault) => return Err(fault),
+        }
+        number += 1;
+        left = left_behind(left);
+    }
+    Ok(parts)
 }
