@@ -18,8 +18,8 @@ use Rattle.clap.specs.declared.builder.value_parser.ValueParser.TheVariants as p
 use Rattle.clap.proofs.ValueTestLemmas.{Accepts-accepts, accepts-Accepts}
 use Rattle.of_arguments.specs.CommandLine.{LinesAsk, is_plain, AsksToRun, AsksToList, AsksForLimit, number_in}
 use Rattle.of_arguments.specs.CommandLine.{ofw_app, run_app, AsksToExplain, AsksWith, plain_extras, AsksToKeep}
-use Rattle.of_arguments.specs.CommandLine.{AsksForCalls, AsksToTokenize, AsksWithAnswers, client_app, detok_app}
-use Rattle.of_arguments.specs.CommandLine.{tok_app}
+use Rattle.of_arguments.specs.CommandLine.{AsksForCalls, AsksToTokenize, AsksWithAnswers, AsksWithBoard, client_app}
+use Rattle.of_arguments.specs.CommandLine.{detok_app, tok_app}
 
 -- ---- a word that begins with no hyphen is no option
 
@@ -91,6 +91,10 @@ with_image image = with_path (codes "image") (codes "limit") image
 with_run : Text → Held
 with_run image = with_path (codes "image") (codes "answers") image
 
+-- of a run behind its image and `--board`
+with_devices : Text → Held
+with_devices image = with_path (codes "image") (codes "board") image
+
 -- of a client behind its image and `--calls`
 with_client : Text → Held
 with_client image = with_path (codes "image") (codes "calls") image
@@ -138,6 +142,15 @@ answers_met image b rest e = word_is_plain run_shape.rules (option (codes "answe
 answers_pass : (image : Text) (b : ℕ) (rest : Text) → (b == 45) ≡ false
     → word_fault run_shape [] false (option (codes "answers")) (b ∷ rest) (with_run image) ≡ []
 answers_pass image b rest e = word_has_no_fault run_shape b rest (with_run image) e
+
+board_met : (image : Text) (b : ℕ) (rest : Text) → (b == 45) ≡ false
+    → word_met run_shape.rules [] false (option (codes "board")) 2 (b ∷ rest) (with_devices image)
+    ≡ plain_word run_shape.rules (option (codes "board")) (b ∷ rest) (with_devices image)
+board_met image b rest e = word_is_plain run_shape.rules (option (codes "board")) 2 b rest (with_devices image) e
+
+board_passes : (image : Text) (b : ℕ) (rest : Text) → (b == 45) ≡ false
+    → word_fault run_shape [] false (option (codes "board")) (b ∷ rest) (with_devices image) ≡ []
+board_passes image b rest e = word_has_no_fault run_shape b rest (with_devices image) e
 
 limit_passes : (image : Text) (b : ℕ) (rest : Text) → (b == 45) ≡ false
     → word_fault run_shape [] false (option (codes "limit")) (b ∷ rest) (with_image image) ≡ []
@@ -231,6 +244,19 @@ answered program b rest d name e f = (
   ) refl,
 )
 
+boarded : (program : Text) (b : ℕ) (rest : Text) (d : ℕ) (name : Text) → (b == 45) ≡ false → (d == 45) ≡ false
+    → AsksWithBoard program (b ∷ rest) (d ∷ name)
+unfolding clap_on_literals run_shape with_devices with_path
+boarded program b rest d name e f = (
+  rw (image_met run_shape b rest e, board_met (b ∷ rest) d name f) refl,
+  rw (
+    image_met run_shape b rest e,
+    board_met (b ∷ rest) d name f,
+    image_passes run_shape b rest e,
+    board_passes (b ∷ rest) d name f,
+  ) refl,
+)
+
 -- a number in the range of limits is one of 64 bits
 limit_read : (limit : Text) → is_unsigned_in 0 1000000000 limit ≡ true
     → number_in limit ≡ Some (digits_value 10 (without_leading_plus limit))
@@ -276,6 +302,7 @@ lines_ask program (b ∷ rest) e = (
   kept,
   called,
   with_answers,
+  with_board,
   limited,
 )
   where
@@ -290,6 +317,10 @@ lines_ask program (b ∷ rest) e = (
     with_answers : (answers : Text) → is_plain answers ≡ true → AsksWithAnswers program (b ∷ rest) answers
     with_answers [] f = absurd (true≢false (sym f))
     with_answers (d ∷ name) f = answered program b rest d name (hyphenless b e) (hyphenless d f)
+
+    with_board : (board : Text) → is_plain board ≡ true → AsksWithBoard program (b ∷ rest) board
+    with_board [] f = absurd (true≢false (sym f))
+    with_board (d ∷ name) f = boarded program b rest d name (hyphenless b e) (hyphenless d f)
 
     limited : (limit : Text) → is_plain limit ≡ true → is_unsigned_in 0 1000000000 limit ≡ true
         → AsksForLimit program (b ∷ rest) limit

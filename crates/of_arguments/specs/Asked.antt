@@ -3,18 +3,33 @@ use Rattle.std.specs.Prelude.{Bool, ℕ, List, Option}
 use Rattle.std.specs.Borrow.{Bor}
 use Rattle.std.specs.Option.{option_map}
 use Rattle.of_detok.specs.declared.notes.Extras.{Extras}
+use Rattle.of_arguments.specs.declared.request.Outside.{Outside}
+use Rattle.of_arguments.specs.declared.request.Outside.TheVariants as outside
 use Rattle.of_arguments.specs.declared.request.Request.{Request}
 use Rattle.of_arguments.specs.declared.request.Request.TheVariants as request
 
--- the run of the image at a path, with the answers of the file at another path, if there is one, for so many steps at
--- most, and whether its end is explained; the same, and then the calls of a client that a further file has; the image
--- of the source at a path, to be printed or to be written to a file; or the listing of the image at a path, with what
--- it says beyond names and operands, and whether it is printed up to what is wrong
+-- what is to answer the questions of a run: the standard board, the answers of the file at a path, or the devices of
+-- one
+pub data Outsiders : Type 0 where
+  standard : Outsiders
+  answers_of : List ℕ → Outsiders
+  board_of : List ℕ → Outsiders
+
+-- the run of the image at a path, with what answers its questions, for so many steps at most, and whether its end is
+-- explained; the same, and then the calls of a client that a further file has; the image of the source at a path, to be
+-- printed or to be written to a file; or the listing of the image at a path, with what it says beyond names and
+-- operands, and whether it is printed up to what is wrong
 pub data Asked : Type 0 where
-  a_run : List ℕ → Option (List ℕ) → ℕ → Bool → Asked
-  client_calls : List ℕ → List ℕ → Option (List ℕ) → ℕ → Bool → Asked
+  a_run : List ℕ → Outsiders → ℕ → Bool → Asked
+  client_calls : List ℕ → List ℕ → Outsiders → ℕ → Bool → Asked
   an_image : List ℕ → Option (List ℕ) → Asked
   a_listing : List ℕ → Extras → Bool → Asked
+
+-- what answers
+abbrev pub shown : Outside → Outsiders
+shown outside.Standard = standard
+shown (outside.Answers path) = answers_of path.now
+shown (outside.Board path) = board_of path.now
 
 -- the text of a path, if there is one
 abbrev pub path_of : Option (Bor (List ℕ)) → Option (List ℕ)
@@ -22,8 +37,7 @@ path_of path = option_map (λ text. text.now) path
 
 -- what a request asks for
 abbrev pub asked : Request → Asked
-asked (request.Run image answers limit explain) = a_run image.now (path_of answers) limit explain
-asked (request.Client image calls answers limit explain) =
-    client_calls image.now calls.now (path_of answers) limit explain
+asked (request.Run image o limit explain) = a_run image.now (shown o) limit explain
+asked (request.Client image calls o limit explain) = client_calls image.now calls.now (shown o) limit explain
 asked (request.Tok source output) = an_image source.now (path_of output)
 asked (request.Detok image extras partial) = a_listing image.now extras partial

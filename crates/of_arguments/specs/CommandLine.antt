@@ -12,7 +12,8 @@ use Rattle.clap.specs.declared.builder.command.Command.TheViews.{out-Command}
 use Rattle.clap.specs.declared.builder.action.ArgAction.TheVariants.{Set, SetTrue}
 use Rattle.clap.specs.declared.builder.value_parser.ValueParser.TheVariants as value
 use Rattle.of_detok.specs.declared.notes.Extras.{Extras}
-use Rattle.of_arguments.specs.Asked.{Asked, a_run, an_image, a_listing, client_calls}
+use Rattle.of_arguments.specs.Asked.{Asked, Outsiders, a_run, an_image, a_listing, answers_of, board_of}
+use Rattle.of_arguments.specs.Asked.{client_calls, standard}
 
 -- ---- the command line
 
@@ -49,21 +50,25 @@ flag_rule name = record (new_rule name) { long = Some name; action = Some SetTru
 abbrev pub answers_rule : Rule
 answers_rule = option_rule (codes "answers")
 
--- `run IMAGE [--answers FILE] [--limit N] [--explain]`
+-- `--board FILE`
+abbrev pub board_rule : Rule
+board_rule = option_rule (codes "board")
+
+-- `run IMAGE [--answers FILE | --board FILE] [--limit N] [--explain]`
 abbrev pub run_app : App
 run_app =
-    with_rule (with_rule (with_rule (with_rule (new_app (codes "run")) image_rule) answers_rule) limit_rule)
-    (flag_rule (codes "explain"))
+    with_rule (with_rule (with_rule (with_rule (with_rule (new_app (codes "run")) image_rule) answers_rule) board_rule)
+    limit_rule) (flag_rule (codes "explain"))
 
 -- `--calls FILE`
 abbrev pub calls_rule : Rule
 calls_rule = record (path_rule (codes "calls")) { long = Some (codes "calls") }
 
--- `client IMAGE --calls FILE [--answers FILE] [--limit N] [--explain]`
+-- `client IMAGE --calls FILE [--answers FILE | --board FILE] [--limit N] [--explain]`
 abbrev pub client_app : App
 client_app =
-    with_rule (with_rule (with_rule (with_rule (with_rule (new_app (codes "client")) image_rule) calls_rule)
-    answers_rule) limit_rule) (flag_rule (codes "explain"))
+    with_rule (with_rule (with_rule (with_rule (with_rule (with_rule (new_app (codes "client")) image_rule) calls_rule)
+    answers_rule) board_rule) limit_rule) (flag_rule (codes "explain"))
 
 -- `--output FILE`
 abbrev pub output_rule : Rule
@@ -121,21 +126,33 @@ has_flag name rows = is_true (first_of name rows)
 abbrev pub extras_in : List Row → Extras
 extras_in rows = record { names = has_flag (codes "names") rows; indents = has_flag (codes "indent") rows }
 
--- what `run` asks for with an image: a run with the answers of the file that is given, if one is
-abbrev pub run_asked : List Row → Text → Asked
+-- what is to answer the questions of a run, by the files of answers and of devices that are given: not both
+abbrev pub outside_of : Option Text → Option Text → Option Outsiders
+outside_of None None = Some standard
+outside_of (Some answers) None = Some (answers_of answers)
+outside_of None (Some board) = Some (board_of board)
+outside_of (Some answers) (Some board) = None
+
+abbrev pub outside_in : List Row → Option Outsiders
+outside_in rows = outside_of (first_of (codes "answers") rows) (first_of (codes "board") rows)
+
+-- what `run` asks for with an image
+abbrev pub run_asked : List Row → Text → Option Asked
 run_asked rows image =
-    a_run image (first_of (codes "answers") rows) (limit_in rows) (has_flag (codes "explain") rows)
+    option_map (λ o. a_run image o (limit_in rows) (has_flag (codes "explain") rows)) (outside_in rows)
 
 -- what `client` asks for with an image: the calls of the file that is given, behind such a run
 abbrev pub client_asked : List Row → Text → Option Asked
 client_asked rows image =
-    option_map (λ calls. client_calls image calls (first_of (codes "answers") rows) (limit_in rows)
-    (has_flag (codes "explain") rows)) (first_of (codes "calls") rows)
+    option_and_then
+    (λ calls. option_map (λ o. client_calls image calls o (limit_in rows) (has_flag (codes "explain") rows))
+    (outside_in rows))
+    (first_of (codes "calls") rows)
 
 -- what a subcommand of this name asks for with an image
 abbrev pub asked_as : Text → List Row → Text → Option Asked
 asked_as name rows image =
-    if bytes_eq name (codes "run") then Some (run_asked rows image)
+    if bytes_eq name (codes "run") then run_asked rows image
     else (if bytes_eq name (codes "client") then client_asked rows image
     else (if bytes_eq name (codes "detok")
     then Some (a_listing image (extras_in rows) (has_flag (codes "partial") rows)) else None))
@@ -168,28 +185,35 @@ Asks words what = (asks words ≡ Some what) × (fault_of ofw_app words ≡ [])
 
 -- a run of an image with no limit given
 abbrev pub AsksToRun : Text → Text → Type 0
-AsksToRun program image = Asks (program ∷ codes "run" ∷ image ∷ []) (a_run image None 1000000 false)
+AsksToRun program image = Asks (program ∷ codes "run" ∷ image ∷ []) (a_run image standard 1000000 false)
 
 -- a run with a limit given
 abbrev pub AsksForLimit : Text → Text → Text → Type 0
 AsksForLimit program image limit =
     Asks (program ∷ codes "run" ∷ image ∷ codes "--limit" ∷ limit ∷ [])
-    (a_run image None (digits_value 10 (without_leading_plus limit)) false)
+    (a_run image standard (digits_value 10 (without_leading_plus limit)) false)
 
 -- a run with the answers of a file
 abbrev pub AsksWithAnswers : Text → Text → Text → Type 0
 AsksWithAnswers program image answers =
-    Asks (program ∷ codes "run" ∷ image ∷ codes "--answers" ∷ answers ∷ []) (a_run image (Some answers) 1000000 false)
+    Asks (program ∷ codes "run" ∷ image ∷ codes "--answers" ∷ answers ∷ [])
+    (a_run image (answers_of answers) 1000000 false)
+
+-- a run on the board of a file
+abbrev pub AsksWithBoard : Text → Text → Text → Type 0
+AsksWithBoard program image board =
+    Asks (program ∷ codes "run" ∷ image ∷ codes "--board" ∷ board ∷ []) (a_run image (board_of board) 1000000 false)
 
 -- a run whose end is explained
 abbrev pub AsksToExplain : Text → Text → Type 0
 AsksToExplain program image =
-    Asks (program ∷ codes "run" ∷ image ∷ codes "--explain" ∷ []) (a_run image None 1000000 true)
+    Asks (program ∷ codes "run" ∷ image ∷ codes "--explain" ∷ []) (a_run image standard 1000000 true)
 
 -- a run, and then the calls of a file
 abbrev pub AsksForCalls : Text → Text → Text → Type 0
 AsksForCalls program image calls =
-    Asks (program ∷ codes "client" ∷ image ∷ codes "--calls" ∷ calls ∷ []) (client_calls image calls None 1000000 false)
+    Asks (program ∷ codes "client" ∷ image ∷ codes "--calls" ∷ calls ∷ [])
+    (client_calls image calls standard 1000000 false)
 
 -- a listing of an image
 abbrev pub AsksToList : Text → Text → Type 0
@@ -222,5 +246,6 @@ LinesAsk = (program image : Text) → is_plain image ≡ true → AsksToRun prog
     × ((output : Text) → is_plain output ≡ true → AsksToKeep program image output)
     × ((calls : Text) → is_plain calls ≡ true → AsksForCalls program image calls)
     × ((answers : Text) → is_plain answers ≡ true → AsksWithAnswers program image answers)
+    × ((board : Text) → is_plain board ≡ true → AsksWithBoard program image board)
     × ((limit : Text) → is_plain limit ≡ true → is_unsigned_in 0 1000000000 limit ≡ true
     → AsksForLimit program image limit)

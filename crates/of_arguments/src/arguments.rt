@@ -2,14 +2,15 @@ ghost use Rattle.std.specs.Prelude.{◌≡◌, IfOk, codes, false, map, option_m
 ghost use Rattle.clap.specs.Words.{App, fault_of, first_of, rule_of, FailsBy, found_of, rows_of, with_subcommand};
 ghost use Rattle.clap.specs.Values.{kind_of};
 ghost use Rattle.std.specs.String.{string_bytes};
-ghost use Rattle.of_arguments.specs.Asked.{asked};
+ghost use Rattle.of_arguments.specs.Asked.{asked, shown};
 ghost use Rattle.of_arguments.specs.Statuses.{unasked};
-ghost use Rattle.of_arguments.specs.CommandLine.{IsBuilt, answers_rule, asked_by, asks, calls_rule, client_app};
+ghost use Rattle.of_arguments.specs.CommandLine.{IsBuilt, answers_rule, asked_by, asks, board_rule, calls_rule};
+ghost use Rattle.of_arguments.specs.CommandLine.{client_app};
 ghost use Rattle.of_arguments.specs.CommandLine.{client_asked, detok_app, flag_rule, has_flag, image_rule};
-ghost use Rattle.of_arguments.specs.CommandLine.{is_true, limit_in, limit_rule, ofw_app, output_rule};
-ghost use Rattle.of_arguments.specs.CommandLine.{path_rule, run_app, source_rule, tok_app};
+ghost use Rattle.of_arguments.specs.CommandLine.{is_true, limit_in, limit_rule, ofw_app, outside_in, output_rule};
+ghost use Rattle.of_arguments.specs.CommandLine.{path_rule, run_app, run_asked, source_rule, tok_app};
 
-use crate::request::Request;
+use crate::request::{Outside, Request};
 use crate::status::Status;
 use clap::error::ErrorKind;
 use clap::{Arg, ArgAction, ArgMatches, Command, Error, value_parser};
@@ -23,8 +24,12 @@ const DEFAULT_LIMIT: u64 = 1_000_000;
 const RUN_HELP: &str = "\
 Example: ofw run card.rom --limit 5000 --explain
 
-The file is a ROM as it stands where it begins with f0 to f3 or fd, else hexadecimal digits. A line of the answers is
-`v NUMBER`, with hexadecimal digits, `done` or `fault`: the k-th line is for the k-th question to a device.
+The file is a ROM as it stands where it begins with f0 to f3 or fd, else hexadecimal digits. What the run asks of the
+outside (keys, registers of devices, time) is answered by a board: 4096 zero bytes of device memory at 80000000 and a
+clock. With --board it has the devices of a file, the first of which that knows a question answers it: a line is
+`memory ADDRESS LENGTH` or `memory ADDRESS LENGTH BYTES`, `fault ADDRESS LENGTH`, `keys BYTES` or `clock`, with
+hexadecimal digits. With --answers the k-th line of a file is for the k-th question: `v NUMBER`, with hexadecimal
+digits, `done` or `fault`.
 
 Status: 0 done, 1 fault of input or output, 2 usage, 3 limit reached, 4 answers out, 5 no memory";
 
@@ -32,9 +37,9 @@ Status: 0 done, 1 fault of input or output, 2 usage, 3 limit reached, 4 answers 
 const CLIENT_HELP: &str = "\
 Example: ofw client card.rom --calls card.calls
 
-The image and the answers are read as for run. A line of the calls is one of these, with numbers in hexadecimal digits:
-finddevice PATH, child PH, peer PH, parent PH, getproplen PH NAME, getprop PH NAME ROOM, nextprop PH NAME,
-instance-to-package IH, package-to-path PH ROOM.
+The image, the board and the answers are read as for run. A line of the calls is one of these, with numbers in
+hexadecimal digits: finddevice PATH, child PH, peer PH, parent PH, getproplen PH NAME, getprop PH NAME ROOM,
+nextprop PH NAME, instance-to-package IH, package-to-path PH ROOM.
 
 Status: 0 done, 1 fault of input or output, 2 usage, 3 limit reached, 4 answers out, 5 no memory";
 
@@ -92,7 +97,18 @@ fn answers_argument<'a>(alloc: Global) -> Arg<'a>
     Arg::new(alloc, "answers")
         .long("answers")
         .value_name("FILE")
-        .help("what devices answer")
+        .help("what is answered, one a line")
+        .action(ArgAction::Set)
+}
+
+/// `--board FILE`
+fn board_argument<'a>(alloc: Global) -> Arg<'a>
+    ensures { (rule_of result ≡ board_rule) × (result.global ≡ false) }
+{
+    Arg::new(alloc, "board")
+        .long("board")
+        .value_name("FILE")
+        .help("the devices of the board, one a line")
         .action(ArgAction::Set)
 }
 
@@ -129,7 +145,7 @@ fn flag<'a>(alloc: Global, name: &'a str, help: &'a str) -> Arg<'a>
         .action(ArgAction::SetTrue)
 }
 
-/// `ofw run IMAGE [--answers FILE] [--limit N] [--explain]`
+/// `ofw run IMAGE [--answers FILE | --board FILE] [--limit N] [--explain]`
 fn run_command<'a>(alloc: Global) -> Result<Command<'a>, AllocError>
     ensures { IfOk result (IsBuilt run_app) }
 {
@@ -138,6 +154,7 @@ fn run_command<'a>(alloc: Global) -> Result<Command<'a>, AllocError>
         .after_help(RUN_HELP)
         .arg(image_argument(alloc))?
         .arg(answers_argument(alloc))?
+        .arg(board_argument(alloc))?
         .arg(limit_argument(alloc))?
         .arg(flag(
             alloc,
@@ -146,7 +163,7 @@ fn run_command<'a>(alloc: Global) -> Result<Command<'a>, AllocError>
         ))
 }
 
-/// `ofw client IMAGE --calls FILE [--answers FILE] [--limit N] [--explain]`
+/// `ofw client IMAGE --calls FILE [--answers FILE | --board FILE] [--limit N] [--explain]`
 fn client_command<'a>(alloc: Global) -> Result<Command<'a>, AllocError>
     ensures { IfOk result (IsBuilt client_app) }
 {
@@ -156,6 +173,7 @@ fn client_command<'a>(alloc: Global) -> Result<Command<'a>, AllocError>
         .arg(image_argument(alloc))?
         .arg(calls_argument(alloc))?
         .arg(answers_argument(alloc))?
+        .arg(board_argument(alloc))?
         .arg(limit_argument(alloc))?
         .arg(flag(
             alloc,
@@ -255,6 +273,30 @@ fn has_flag(matches: &ArgMatches, name: &str) -> bool
     is_true(value(matches, name))
 }
 
+/// What is to answer the questions of a run; nothing, where both files are given.
+fn outside<'a>(matches: &ArgMatches<'a>) -> Option<Outside<'a>>
+    ensures { option_map shown result ≡ outside_in (rows_of (found_of matches.now)) }
+{
+    match (value(matches, "answers"), value(matches, "board")) {
+        (None, None) => Some(Outside::Standard),
+        (Some(path), None) => Some(Outside::Answers(path)),
+        (None, Some(path)) => Some(Outside::Board(path)),
+        (Some(_), Some(_)) => None,
+    }
+}
+
+/// What `run` asks for with an image.
+fn run_request<'a>(image: &'a str, matches: &ArgMatches<'a>) -> Option<Request<'a>>
+    ensures { option_map asked result ≡ run_asked (rows_of (found_of matches.now)) image.now }
+{
+    Some(Request::Run {
+        image,
+        outside: outside(matches)?,
+        limit: step_limit(matches),
+        explain: has_flag(matches, "explain"),
+    })
+}
+
 /// What `client` asks for with an image.
 fn client_request<'a>(image: &'a str, matches: &ArgMatches<'a>) -> Option<Request<'a>>
     ensures { option_map asked result ≡ client_asked (rows_of (found_of matches.now)) image.now }
@@ -262,7 +304,7 @@ fn client_request<'a>(image: &'a str, matches: &ArgMatches<'a>) -> Option<Reques
     Some(Request::Client {
         image,
         calls: value(matches, "calls")?,
-        answers: value(matches, "answers"),
+        outside: outside(matches)?,
         limit: step_limit(matches),
         explain: has_flag(matches, "explain"),
     })
@@ -280,12 +322,7 @@ fn request_of<'a>(name: &str, matches: &ArgMatches<'a>) -> Option<Request<'a>>
     }
     let image = value(matches, "image")?;
     match name {
-        "run" => Some(Request::Run {
-            image,
-            answers: value(matches, "answers"),
-            limit: step_limit(matches),
-            explain: has_flag(matches, "explain"),
-        }),
+        "run" => run_request(image, matches),
         "client" => client_request(image, matches),
         "detok" => Some(Request::Detok {
             image,
@@ -303,7 +340,7 @@ fn request_of<'a>(name: &str, matches: &ArgMatches<'a>) -> Option<Request<'a>>
 ///
 /// An error is a call for help or a fault of the words: another subcommand or option, a word too
 /// many, no image, no file of calls, a limit given twice or one that is no number from 0 to 1,000,000,000. `None`
-/// stands for a subcommand that asks for nothing, and all that the command line has ask.
+/// stands for a run with a file of answers and one of devices, of which one alone can answer.
 #[tactic(auto, using(crate::proofs::Requests::ofw_is_simple, crate::proofs::Requests::ofw_is_free))]
 pub fn parse<'a>(alloc: Global, words: &'a [String]) -> Result<Option<Request<'a>>, Error>
     ensures ok { IfOk result (λ request. option_map asked request ≡ asks (map string_bytes words.now)) }

@@ -1,5 +1,16 @@
 use of_detok::Extras;
 
+/// What answers the questions of a run.
+#[derive(Clone, Copy)]
+pub enum Outside<'a> {
+    /// The standard board: device memory and a clock.
+    Standard,
+    /// The answers of the file at a path, in order.
+    Answers(&'a str),
+    /// The devices of the file at a path.
+    Board(&'a str),
+}
+
 /// What the arguments ask for.
 #[derive(Clone, Copy)]
 pub enum Request<'a> {
@@ -7,8 +18,8 @@ pub enum Request<'a> {
     Run {
         /// The path of the image.
         image: &'a str,
-        /// The path of the file of what devices answer, where there is one.
-        answers: Option<&'a str>,
+        /// What answers its questions.
+        outside: Outside<'a>,
         /// How many steps the run makes at most.
         limit: u64,
         /// Whether its end is explained on the error output.
@@ -20,8 +31,8 @@ pub enum Request<'a> {
         image: &'a str,
         /// The path of the file of calls.
         calls: &'a str,
-        /// The path of the file of what devices answer, where there is one.
-        answers: Option<&'a str>,
+        /// What answers its questions.
+        outside: Outside<'a>,
         /// How many steps the run makes at most.
         limit: u64,
         /// Whether its end is explained on the error output.

@@ -3,7 +3,6 @@ use Rattle.std.proofs.Common.{◌≡◌, ◌⊎◌, ◌∙◌, ℕ, zero, suc, �
 use Rattle.std.proofs.Common.{arith, OnOk, OnErr, IfErr, Ok, Err, Result, inl, inr, refl, sym, ap, subst, length, take}
 use Rattle.std.specs.Io.KnownBytes.{Appends, Keeps}
 use Rattle.std.proofs.KnownBytes.{Appends-trans}
-use Rattle.of_asking.specs.declared.query.Answer.{Answer}
 use Rattle.of_client.specs.Services.{Service}
 use Rattle.of_calls.specs.Calls.{parsed}
 use Rattle.of_calls.specs.declared.fault.TextFault.{TextFault}
@@ -12,6 +11,7 @@ use Rattle.of_compile.specs.Coding.{Coding}
 use Rattle.of_machine.specs.States.{MachineState}
 use Rattle.of_machine.specs.declared.answers.End.{End}
 use Rattle.of_arguments.specs.declared.status.Status.{Status}
+use Rattle.of_commands.specs.declared.outside.Outside.{Outside}
 use Rattle.of_commands.specs.declared.fault.Fault.{Fault}
 use Rattle.of_commands.specs.declared.fault.Fault.TheVariants as fault
 use Rattle.of_commands.specs.Clients.{AnswersCalls, AnswersClient, FaultsCalls, PrintsCalls, client_text, no_calls}
@@ -81,66 +81,66 @@ fault_of_run file f (inl unwritten) = inl unwritten
 fault_of_run file f (inr none) = inr (inl (inr (inr (inl none))))
 
 -- there was no run
-pub called_unrun : (known : Option (List ℕ)) (services : List Service) (answers : List Answer) (limit : ℕ)
+pub called_unrun : (known : Option (List ℕ)) (services : List Service) (o : Outside) (limit : ℕ)
     (old new : Option (List ℕ)) (f : Fault) → Keeps old new → IfSome known (λ file. FaultsRun file f)
-    → IfSome known (λ file. PrintsCalls services file answers limit old new (Err f))
-called_unrun None services answers limit old new f kept why = tt
-called_unrun (Some file) services answers limit old new f kept why = (inl kept, why)
+    → IfSome known (λ file. PrintsCalls services file o limit old new (Err f))
+called_unrun None services o limit old new f kept why = tt
+called_unrun (Some file) services o limit old new f kept why = (inl kept, why)
 
 -- a part was printed
-pub called_part : (known : Option (List ℕ)) (services : List Service) (answers : List Answer) (limit : ℕ)
+pub called_part : (known : Option (List ℕ)) (services : List Service) (o : Outside) (limit : ℕ)
     (m : MachineState Coding) (e : End) (old new : Option (List ℕ)) (f : Fault)
-    → IfSome known (λ file. RunsFile file answers limit m e)
+    → IfSome known (λ file. RunsFile file o limit m e)
     → AppendsPart old new (client_text services m) → IsUnwritten f ⊎ (f ≡ fault.NoMemory)
-    → IfSome known (λ file. PrintsCalls services file answers limit old new (Err f))
-called_part None services answers limit m e old new f runs part why = tt
-called_part (Some file) services answers limit m e old new f runs part why =
+    → IfSome known (λ file. PrintsCalls services file o limit old new (Err f))
+called_part None services o limit m e old new f runs part why = tt
+called_part (Some file) services o limit m e old new f runs part why =
     (inr (m, (e, runs), part), fault_of_run file f why)
 
 -- all was printed
-pub called_all : (known : Option (List ℕ)) (services : List Service) (answers : List Answer) (limit : ℕ)
+pub called_all : (known : Option (List ℕ)) (services : List Service) (o : Outside) (limit : ℕ)
     (m : MachineState Coding) (e : End) (old new : Option (List ℕ)) (r : Result Status Fault)
-    → IfSome known (λ file. RunsFile file answers limit m e)
+    → IfSome known (λ file. RunsFile file o limit m e)
     → Appends old new (client_text services m) → IfOk r (λ s. s ≡ end_status e) → IfErr r (λ f. f ≡ fault.NoMemory)
-    → IfSome known (λ file. PrintsCalls services file answers limit old new r)
-called_all None services answers limit m e old new r runs all status why = tt
-called_all (Some file) services answers limit m e old new (Ok s) runs all status why = (m, (e, runs, sym status), all)
-called_all (Some file) services answers limit m e old new (Err f) runs all status why =
+    → IfSome known (λ file. PrintsCalls services file o limit old new r)
+called_all None services o limit m e old new r runs all status why = tt
+called_all (Some file) services o limit m e old new (Ok s) runs all status why = (m, (e, runs, sym status), all)
+called_all (Some file) services o limit m e old new (Err f) runs all status why =
     (inr (m, (e, runs), all_are_part old new _ all), fault_of_run file f (inr why))
 
 -- ---- answers
 
-pub called_done : (known : Option (List ℕ)) (services : List Service) (answers : List Answer) (limit : ℕ)
+pub called_done : (known : Option (List ℕ)) (services : List Service) (o : Outside) (limit : ℕ)
     (old new : Option (List ℕ)) (Said : Fault → Type 0) (s : Status)
-    → IfSome known (λ file. PrintsCalls services file answers limit old new (Ok s))
-    → IfSome known (λ file. AnswersCalls services file answers limit old new Said s)
-called_done None services answers limit old new Said s prints = tt
-called_done (Some file) services answers limit old new Said s prints = (Ok s, refl, prints, tt)
+    → IfSome known (λ file. PrintsCalls services file o limit old new (Ok s))
+    → IfSome known (λ file. AnswersCalls services file o limit old new Said s)
+called_done None services o limit old new Said s prints = tt
+called_done (Some file) services o limit old new Said s prints = (Ok s, refl, prints, tt)
 
-pub called_failed : (known : Option (List ℕ)) (services : List Service) (answers : List Answer) (limit : ℕ)
+pub called_failed : (known : Option (List ℕ)) (services : List Service) (o : Outside) (limit : ℕ)
     (old new : Option (List ℕ)) (Said : Fault → Type 0) (f : Fault) (s : Status)
-    → IfSome known (λ file. PrintsCalls services file answers limit old new (Err f)) → s ≡ status_of f → Said f
-    → IfSome known (λ file. AnswersCalls services file answers limit old new Said s)
-called_failed None services answers limit old new Said f s prints status said = tt
-called_failed (Some file) services answers limit old new Said f s prints status said =
+    → IfSome known (λ file. PrintsCalls services file o limit old new (Err f)) → s ≡ status_of f → Said f
+    → IfSome known (λ file. AnswersCalls services file o limit old new Said s)
+called_failed None services o limit old new Said f s prints status said = tt
+called_failed (Some file) services o limit old new Said f s prints status said =
     (Err f, sym status, prints, said)
 
-pub text_answered : (text known : Option (List ℕ)) (services : List Service) (answers : List Answer) (limit : ℕ)
+pub text_answered : (text known : Option (List ℕ)) (services : List Service) (o : Outside) (limit : ℕ)
     (old new : Option (List ℕ)) (Said : Fault → Type 0) (s : Status) → IfSome text (λ bytes. parsed bytes ≡ Ok services)
-    → IfSome known (λ file. AnswersCalls services file answers limit old new Said s)
-    → IfSome text (λ bytes. IfSome known (λ file. AnswersClient bytes file answers limit old new Said s))
-text_answered None known services answers limit old new Said s said ends = tt
-text_answered (Some bytes) None services answers limit old new Said s said ends = tt
-text_answered (Some bytes) (Some file) services answers limit old new Said s said ends =
+    → IfSome known (λ file. AnswersCalls services file o limit old new Said s)
+    → IfSome text (λ bytes. IfSome known (λ file. AnswersClient bytes file o limit old new Said s))
+text_answered None known services o limit old new Said s said ends = tt
+text_answered (Some bytes) None services o limit old new Said s said ends = tt
+text_answered (Some bytes) (Some file) services o limit old new Said s said ends =
     inr (services, said, ends)
 
-pub text_refused : (text known : Option (List ℕ)) (answers : List Answer) (limit : ℕ) (old new : Option (List ℕ))
+pub text_refused : (text known : Option (List ℕ)) (o : Outside) (limit : ℕ) (old new : Option (List ℕ))
     (Said : Fault → Type 0) (f : Fault) (s : Status) → Keeps old new
     → IfSome text (λ bytes. FaultsCalls bytes f) → s ≡ status_of f → Said f
-    → IfSome text (λ bytes. IfSome known (λ file. AnswersClient bytes file answers limit old new Said s))
-text_refused None known answers limit old new Said f s kept why status said = tt
-text_refused (Some bytes) None answers limit old new Said f s kept why status said = tt
-text_refused (Some bytes) (Some file) answers limit old new Said f s kept why status said =
+    → IfSome text (λ bytes. IfSome known (λ file. AnswersClient bytes file o limit old new Said s))
+text_refused None known o limit old new Said f s kept why status said = tt
+text_refused (Some bytes) None o limit old new Said f s kept why status said = tt
+text_refused (Some bytes) (Some file) o limit old new Said f s kept why status said =
     inl (f, sym status, kept, why, said)
 
 -- the answers of `client`

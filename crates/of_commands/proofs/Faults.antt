@@ -3,10 +3,10 @@ use Rattle.std.proofs.Common.{◌≡◌, ℕ, List, Option, Some, None, IfSome, 
 use Rattle.std.proofs.Common.{◌⊎◌, Bool, true, false, true≢false, ap, Result, OnErr, IfOk, IfErr, length}
 use Rattle.std.specs.Prelude.{is_some}
 use Rattle.std.specs.Io.KnownBytes.{Appends, Keeps}
+use Rattle.of_commands.specs.declared.outside.Outside.{Outside}
 use Rattle.of_commands.specs.declared.fault.Fault.{Fault}
 use Rattle.of_commands.specs.Files.{image_in, FaultsReading}
 use Rattle.of_commands.specs.declared.fault.Fault.TheVariants as fault
-use Rattle.of_asking.specs.declared.query.Answer.{Answer}
 use Rattle.of_stream.specs.declared.fault.StreamFault.{StreamFault}
 use Rattle.of_detok.specs.declared.notes.Extras.{Extras}
 use Rattle.of_compile.specs.Coding.{Coding}
@@ -28,11 +28,13 @@ pub run_unread : (known : Option (List ℕ)) (f : Fault) → IfSome known (λ fi
 run_unread (Some file) f fault = inr (inl fault)
 run_unread None f fault = fault
 
--- and so has one whose image the monitor refuses
+-- and so has one whose image the monitor refuses, or for which no memory is found
 pub run_refused : (known : Option (List ℕ)) (image : List ℕ) (f : Fault)
-    → IfSome known (λ file. image_in file ≡ Ok image) → IsRefusedFor image f → IfSome known (λ file. FaultsRun file f)
-run_refused (Some file) image f has refused = inr (inr (image, has, refused))
-run_refused None image f has refused = has
+    → IfSome known (λ file. image_in file ≡ Ok image) → IsRefusedFor image f ⊎ (f ≡ fault.NoMemory)
+    → IfSome known (λ file. FaultsRun file f)
+run_refused (Some file) image f has (inl refused) = inr (inr (image, has, refused))
+run_refused (Some file) image f has (inr none) = inr (inl (inr (inr (inl none))))
+run_refused None image f has why = tt
 
 -- no memory is a fault of reading
 pub no_memory_reading : (known : Option (List ℕ)) → IfSome known (λ file. FaultsReading file fault.NoMemory)
@@ -74,14 +76,14 @@ fault_of_run file f (inl unwritten) = inl unwritten
 fault_of_run file f (inr none) = inr (inl (inr (inr (inl none))))
 
 -- what a run prints was printed, or a part of it
-pub run_printed : (known : Option (List ℕ)) (answers : List Answer) (limit : ℕ) (m : MachineState Coding) (e : End)
-    (old new : Option (List ℕ)) (r : Result Status Fault) → IfSome known (λ file. RunsFile file answers limit m e)
+pub run_printed : (known : Option (List ℕ)) (o : Outside) (limit : ℕ) (m : MachineState Coding) (e : End)
+    (old new : Option (List ℕ)) (r : Result Status Fault) → IfSome known (λ file. RunsFile file o limit m e)
     → IfOk r (λ s. (s ≡ end_status e) × Appends old new m.eval.board.console.text)
     → OnErr r (AppendsPart old new m.eval.board.console.text) → IfErr r (λ f. IsUnwritten f ⊎ (f ≡ fault.NoMemory))
-    → IfSome known (λ file. Prints file answers limit old new r)
-run_printed None answers limit m e old new r runs all part why = tt
-run_printed (Some file) answers limit m e old new (Ok s) runs all part why = (m, (e, runs, sym all.0), all.1)
-run_printed (Some file) answers limit m e old new (Err f) runs all part why =
+    → IfSome known (λ file. Prints file o limit old new r)
+run_printed None o limit m e old new r runs all part why = tt
+run_printed (Some file) o limit m e old new (Ok s) runs all part why = (m, (e, runs, sym all.0), all.1)
+run_printed (Some file) o limit m e old new (Err f) runs all part why =
     (inr (m, (e, runs), part), fault_of_run file f why)
 
 -- a write that failed is no bad start byte
@@ -100,6 +102,8 @@ unwritten_begins (fault.OffsetTooLong place) unwritten = refl
 unwritten_begins (fault.NoImage g) unwritten = refl
 unwritten_begins (fault.NoCalls g) unwritten = refl
 unwritten_begins (fault.NoAnswers g) unwritten = refl
+unwritten_begins (fault.NoBoard g) unwritten = refl
+unwritten_begins fault.TwoOutsides unwritten = refl
 unwritten_begins (fault.Unwritten code) unwritten = refl
 unwritten_begins fault.NoMemory unwritten = refl
 
@@ -140,6 +144,8 @@ fault_not_done (fault.NoImage tok.TooManyWords) = refl
 fault_not_done (fault.NoImage tok.ImageTooLong) = refl
 fault_not_done (fault.NoCalls f) = refl
 fault_not_done (fault.NoAnswers f) = refl
+fault_not_done (fault.NoBoard f) = refl
+fault_not_done fault.TwoOutsides = refl
 fault_not_done (fault.Unwritten code) = refl
 
 -- a fault of the source that was read is one of the file

@@ -1,10 +1,12 @@
--- A file of answers that was read.
+-- A file of answers or of devices that was read.
 use Rattle.std.proofs.Common.{◌≡◌, ◌⊎◌, ◌∙◌, ℕ, List, Option, Some, None, IfSome, Ok, Err, inl, inr, refl, sym, ap}
 use Rattle.of_asking.specs.declared.query.Answer.{Answer}
 use Rattle.of_calls.specs.Answers.{parsed_answers}
 use Rattle.of_calls.specs.declared.fault.TextFault.{TextFault}
 use Rattle.of_calls.specs.declared.fault.TextFault.TheVariants as word
-use Rattle.of_commands.specs.Runs.{FaultsAnswers, no_answers}
+use Rattle.of_calls.specs.Boards.{parsed_board}
+use Rattle.of_devices.specs.declared.part.Part.{Part}
+use Rattle.of_commands.specs.Runs.{FaultsAnswers, FaultsBoard, no_answers, no_board}
 
 pub answers_read : (known : Option (List ℕ)) (text read : List ℕ) (answers : List Answer) → read ≡ text
     → IfSome known (λ bytes. text ≡ bytes) → parsed_answers read ≡ Ok answers
@@ -19,3 +21,17 @@ answers_refused None text read f same all why = tt
 answers_refused (Some bytes) text read f same all (inl none) = inr (inr (inl (ap no_answers none)))
 answers_refused (Some bytes) text read f same all (inr wrong) =
     inr (inr (inr (f, ap parsed_answers (sym all ∙ sym same) ∙ wrong, refl)))
+
+pub board_read : (known : Option (List ℕ)) (text read : List ℕ) (parts : List Part) → read ≡ text
+    → IfSome known (λ bytes. text ≡ bytes) → parsed_board read ≡ Ok parts
+    → IfSome known (λ bytes. parsed_board bytes ≡ Ok parts)
+board_read None text read parts same all said = tt
+board_read (Some bytes) text read parts same all said = ap parsed_board (sym all ∙ sym same) ∙ said
+
+pub board_refused : (known : Option (List ℕ)) (text read : List ℕ) (f : TextFault) → read ≡ text
+    → IfSome known (λ bytes. text ≡ bytes) → (f ≡ word.NoMemory) ⊎ (parsed_board read ≡ Err f)
+    → IfSome known (λ bytes. FaultsBoard bytes (no_board f))
+board_refused None text read f same all why = tt
+board_refused (Some bytes) text read f same all (inl none) = inr (inr (inl (ap no_board none)))
+board_refused (Some bytes) text read f same all (inr wrong) =
+    inr (inr (inr (f, ap parsed_board (sym all ∙ sym same) ∙ wrong, refl)))

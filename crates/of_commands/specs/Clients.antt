@@ -3,7 +3,6 @@ use Rattle.std.specs.Prelude.{◌≡◌, ◌≤◌, ◌⊎◌, ℕ, List, [], �
 use Rattle.std.specs.Int.{to_be_bytes, w32}
 use Rattle.std.specs.Io.KnownBytes.{Keeps, Appends}
 use Rattle.hex.specs.Hex.{encode_lower}
-use Rattle.of_asking.specs.declared.query.Answer.{Answer}
 use Rattle.of_client.specs.Services.{Reply, Service}
 use Rattle.of_calls.specs.Calls.{parsed}
 use Rattle.of_calls.specs.declared.fault.TextFault.{TextFault}
@@ -12,6 +11,7 @@ use Rattle.of_compile.specs.Coding.{Coding}
 use Rattle.of_machine.specs.States.{MachineState, served}
 use Rattle.of_machine.specs.declared.answers.End.{End}
 use Rattle.of_arguments.specs.declared.status.Status.{Status}
+use Rattle.of_commands.specs.declared.outside.Outside.{Outside}
 use Rattle.of_commands.specs.Files.{IsUnread}
 use Rattle.of_commands.specs.Messages.{AppendsPart}
 use Rattle.of_commands.specs.Runs.{FaultsRun, RunsFile, end_status, ended_with, status_of}
@@ -45,13 +45,13 @@ client_text services m = m.eval.board.console.text ++ reply_lines (served_all m 
 
 -- what was printed of a run and of its replies to these questions, or of a part of it beside a fault
 abbrev pub PrintsCalls :
-    List Service → List ℕ → List Answer → ℕ → Option (List ℕ) → Option (List ℕ) → Result Status Fault → Type 0
-PrintsCalls services file answers limit old new (Ok s) =
-    (m : MachineState Coding) × ((e : End) × RunsFile file answers limit m e × (end_status e ≡ s))
+    List Service → List ℕ → Outside → ℕ → Option (List ℕ) → Option (List ℕ) → Result Status Fault → Type 0
+PrintsCalls services file o limit old new (Ok s) =
+    (m : MachineState Coding) × ((e : End) × RunsFile file o limit m e × (end_status e ≡ s))
     × Appends old new (client_text services m)
-PrintsCalls services file answers limit old new (Err f) =
+PrintsCalls services file o limit old new (Err f) =
     (Keeps old new
-    ⊎ ((m : MachineState Coding) × ((e : End) × RunsFile file answers limit m e)
+    ⊎ ((m : MachineState Coding) × ((e : End) × RunsFile file o limit m e)
     × AppendsPart old new (client_text services m)))
     × FaultsRun file f
 
@@ -74,14 +74,14 @@ FaultsCalls text f =
 
 -- the program ends with the status of what was printed, or of its fault, which was said
 abbrev pub AnswersCalls :
-    List Service → List ℕ → List Answer → ℕ → Option (List ℕ) → Option (List ℕ) → (Fault → Type 0) → Status → Type 0
-AnswersCalls services file answers limit old new Said s =
-    (r : Result Status Fault) × (ended_with r ≡ s) × PrintsCalls services file answers limit old new r × IfErr r Said
+    List Service → List ℕ → Outside → ℕ → Option (List ℕ) → Option (List ℕ) → (Fault → Type 0) → Status → Type 0
+AnswersCalls services file o limit old new Said s =
+    (r : Result Status Fault) × (ended_with r ≡ s) × PrintsCalls services file o limit old new r × IfErr r Said
 
 -- the same with the calls of a text, or nothing was printed, and a fault of the text was said
 abbrev pub AnswersClient :
-    List ℕ → List ℕ → List Answer → ℕ → Option (List ℕ) → Option (List ℕ) → (Fault → Type 0) → Status → Type 0
-AnswersClient text file answers limit old new Said s =
+    List ℕ → List ℕ → Outside → ℕ → Option (List ℕ) → Option (List ℕ) → (Fault → Type 0) → Status → Type 0
+AnswersClient text file o limit old new Said s =
     ((f : Fault) × (status_of f ≡ s) × Keeps old new × FaultsCalls text f × Said f)
     ⊎ ((services : List Service) × (parsed text ≡ Ok services)
-    × AnswersCalls services file answers limit old new Said s)
+    × AnswersCalls services file o limit old new Said s)

@@ -13,8 +13,10 @@ use Rattle.of_machine.specs.declared.answers.Refusal.TheVariants as refusal
 use Rattle.of_compile.specs.Coding.{Coding}
 use Rattle.of_machine.specs.States.{MachineState, image_refusal, Refuses}
 use Rattle.of_machine.specs.Runs.{RunsTo}
-use Rattle.of_asking.specs.declared.query.Answer.{Answer}
+use Rattle.of_machine.specs.Racks.{answers_of}
+use Rattle.of_devices.specs.Parts.{board_meant}
 use Rattle.of_calls.specs.Answers.{parsed_answers}
+use Rattle.of_calls.specs.Boards.{parsed_board}
 use Rattle.of_calls.specs.declared.fault.TextFault.{TextFault}
 use Rattle.of_calls.specs.declared.fault.TextFault.TheVariants as word
 use Rattle.of_source.specs.declared.fault.SourceFault.{SourceFault}
@@ -31,6 +33,8 @@ use Rattle.of_tok.specs.Image.{IsRefused as HasNoImage}
 use Rattle.of_arguments.specs.Asked.{Asked, a_run, an_image, a_listing, client_calls}
 use Rattle.of_commands.specs.Files.{image_in, FaultsReading, IsUnread}
 use Rattle.of_commands.specs.Messages.{AppendsPart}
+use Rattle.of_commands.specs.declared.outside.Outside.{Outside}
+use Rattle.of_commands.specs.declared.outside.Outside.TheVariants as outside
 use Rattle.of_commands.specs.declared.fault.Fault.{Fault}
 use Rattle.of_commands.specs.declared.fault.Fault.TheVariants as fault
 use Rattle.of_arguments.specs.declared.status.Status.{Status}
@@ -62,9 +66,11 @@ status_of (fault.NoImage tok.TooManyWords) = status.Fault
 status_of (fault.NoImage tok.ImageTooLong) = status.Fault
 status_of (fault.NoCalls f) = status.Fault
 status_of (fault.NoAnswers f) = status.Fault
+status_of (fault.NoBoard f) = status.Fault
+status_of fault.TwoOutsides = status.Usage
 status_of (fault.Unwritten code) = status.Fault
 
--- the place in a text of calls or of answers that has a fault
+-- the place in a text of calls, of answers or of devices that has a fault
 abbrev pub text_place_of : TextFault → Option Place
 text_place_of (word.Unknown place) = Some place
 text_place_of (word.BadNumber place) = Some place
@@ -77,6 +83,7 @@ source_place_of (fault.NoSource place f) = Some place
 source_place_of (fault.OffsetTooLong place) = Some place
 source_place_of (fault.NoCalls f) = text_place_of f
 source_place_of (fault.NoAnswers f) = text_place_of f
+source_place_of (fault.NoBoard f) = text_place_of f
 source_place_of _ = None
 
 -- the place of a position in a text
@@ -103,9 +110,15 @@ abbrev pub ended_with : Result Status Fault → Status
 ended_with (Ok s) = s
 ended_with (Err f) = status_of f
 
--- the run of the image that a file has, with these answers
-abbrev pub RunsFile : List ℕ → List Answer → ℕ → MachineState Coding → End → Type 0
-RunsFile file answers limit m e = (image : List ℕ) × (image_in file ≡ Ok image) × RunsTo image [] answers [] limit m e
+-- The run of an image, for at most so many steps, whose questions are answered in order, or by the devices of a board.
+abbrev pub RunsOn : List ℕ → Outside → ℕ → MachineState Coding → End → Type 0
+RunsOn image (outside.Answers answers) limit m e = RunsTo image [] answers.now [] limit m e
+RunsOn image (outside.Board board) limit m e =
+    RunsTo image [] (answers_of (board_meant board.now ∷ []) m.asked) [] limit m e
+
+-- the run of the image that a file has
+abbrev pub RunsFile : List ℕ → Outside → ℕ → MachineState Coding → End → Type 0
+RunsFile file o limit m e = (image : List ℕ) × (image_in file ≡ Ok image) × RunsOn image o limit m e
 
 -- the status of a run's end
 abbrev pub end_status : End → Status
@@ -114,15 +127,15 @@ end_status end.LimitReached = status.LimitReached
 end_status end.AnswersOut = status.AnswersOut
 
 -- the run of the file printed all its console bytes, and ended with this status
-abbrev pub PrintsRun : List ℕ → List Answer → ℕ → Option (List ℕ) → Option (List ℕ) → Status → Type 0
-PrintsRun file answers limit old new s =
-    (m : MachineState Coding) × ((e : End) × RunsFile file answers limit m e × (end_status e ≡ s))
+abbrev pub PrintsRun : List ℕ → Outside → ℕ → Option (List ℕ) → Option (List ℕ) → Status → Type 0
+PrintsRun file o limit old new s =
+    (m : MachineState Coding) × ((e : End) × RunsFile file o limit m e × (end_status e ≡ s))
     × Appends old new m.eval.board.console.text
 
 -- nothing was printed, or the first console bytes of the run
-abbrev pub PrintsPart : List ℕ → List Answer → ℕ → Option (List ℕ) → Option (List ℕ) → Type 0
-PrintsPart file answers limit old new = Keeps old new
-    ⊎ ((m : MachineState Coding) × ((e : End) × RunsFile file answers limit m e)
+abbrev pub PrintsPart : List ℕ → Outside → ℕ → Option (List ℕ) → Option (List ℕ) → Type 0
+PrintsPart file o limit old new = Keeps old new
+    ⊎ ((m : MachineState Coding) × ((e : End) × RunsFile file o limit m e)
     × AppendsPart old new m.eval.board.console.text)
 
 -- a write failed
@@ -148,9 +161,9 @@ FaultsRun file f =
 
 -- what was printed of the run, whose end has the status, or of a part of it beside a fault
 abbrev pub Prints :
-    List ℕ → List Answer → ℕ → Option (List ℕ) → Option (List ℕ) → Result Status Fault → Type 0
-Prints file answers limit old new (Ok s) = PrintsRun file answers limit old new s
-Prints file answers limit old new (Err f) = PrintsPart file answers limit old new × FaultsRun file f
+    List ℕ → Outside → ℕ → Option (List ℕ) → Option (List ℕ) → Result Status Fault → Type 0
+Prints file o limit old new (Ok s) = PrintsRun file o limit old new s
+Prints file o limit old new (Err f) = PrintsPart file o limit old new × FaultsRun file f
 
 -- ---- answers of devices
 
@@ -172,6 +185,27 @@ FaultsAnswers file f =
 -- the status of a fault of a file of answers
 abbrev pub FaultsAnswersWith : List ℕ → Status → Type 0
 FaultsAnswersWith file s = (f : Fault) × (status_of f ≡ s) × FaultsAnswers file f
+
+-- ---- devices of a board
+
+-- the fault of a text that has no devices
+abbrev pub no_board : TextFault → Fault
+no_board (word.Unknown place) = fault.NoBoard (word.Unknown place)
+no_board (word.BadNumber place) = fault.NoBoard (word.BadNumber place)
+no_board (word.TooMany place) = fault.NoBoard (word.TooMany place)
+no_board word.NoMemory = fault.NoMemory
+
+-- the faults of a file of devices: of a read, of its end, for memory, or the first of its text
+abbrev pub FaultsBoard : List ℕ → Fault → Type 0
+FaultsBoard file f =
+    IsUnread f
+    ⊎ ((f ≡ fault.Endless) × (16777216 ≤ length file))
+    ⊎ (f ≡ fault.NoMemory)
+    ⊎ ((t : TextFault) × (parsed_board file ≡ Err t) × (f ≡ no_board t))
+
+-- the status of a fault of a file of devices
+abbrev pub FaultsBoardWith : List ℕ → Status → Type 0
+FaultsBoardWith file s = (f : Fault) × (status_of f ≡ s) × FaultsBoard file f
 
 -- ---- listings
 
@@ -250,14 +284,13 @@ Writes bytes old new _ = ⊥
 
 -- ---- requests
 
--- what was printed of the file, where this was asked for, with the answers of devices, or why it wasn't: of `client`
--- the run alone
+-- what was printed of the file, where this was asked for, or why it wasn't: of `client` the run alone
 abbrev pub Does :
-    Asked → List Answer → List ℕ → Option (List ℕ) → Option (List ℕ) → Result Status Fault → Type 0
-Does (a_run image path limit explain) answers file old new r = Prints file answers limit old new r
-Does (client_calls image calls path limit explain) answers file old new r = Prints file answers limit old new r
-Does (an_image source output) answers file old new r = Tokenizes file old new r
-Does (a_listing image extras partial) answers file old new r = Lists extras partial file old new r
+    Asked → Outside → List ℕ → Option (List ℕ) → Option (List ℕ) → Result Status Fault → Type 0
+Does (a_run image path limit explain) o file old new r = Prints file o limit old new r
+Does (client_calls image calls path limit explain) o file old new r = Prints file o limit old new r
+Does (an_image source output) o file old new r = Tokenizes file old new r
+Does (a_listing image extras partial) o file old new r = Lists extras partial file old new r
 
 -- the status is one of what was done
 abbrev pub is_done : Status → Bool
@@ -270,13 +303,13 @@ is_done status.NoMemory = false
 
 -- whether it is asked how a run ended
 abbrev pub is_explained : Asked → Bool
-is_explained (a_run image path limit explain) = explain
-is_explained (client_calls image calls path limit explain) = explain
+is_explained (a_run image o limit explain) = explain
+is_explained (client_calls image calls o limit explain) = explain
 is_explained (an_image source output) = false
 is_explained (a_listing image extras partial) = false
 
 -- the program ends with this status, that of what was done, or of a fault that was said
 abbrev pub Answers :
-    Asked → List Answer → List ℕ → Option (List ℕ) → Option (List ℕ) → (Fault → Type 0) → Status → Type 0
-Answers a answers file old new Said s =
-    (r : Result Status Fault) × (ended_with r ≡ s) × Does a answers file old new r × IfErr r Said
+    Asked → Outside → List ℕ → Option (List ℕ) → Option (List ℕ) → (Fault → Type 0) → Status → Type 0
+Answers a o file old new Said s =
+    (r : Result Status Fault) × (ended_with r ≡ s) × Does a o file old new r × IfErr r Said

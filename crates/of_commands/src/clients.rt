@@ -160,7 +160,7 @@ fn run_calls<R: Read, W: Write, E: Write>(
     errors: &mut Messages<E>,
 ) -> Result<Status, Fault>
     ensures printed { IfSome (R.remaining file.old) (λ bytes.
-        PrintsCalls (map service_of calls.now) bytes run.entry.answers.now run.entry.limit
+        PrintsCalls (map service_of calls.now) bytes run.entry.outside run.entry.limit
         (W.contents out.old) (W.contents out.new) result) }
     ensures silent { run.entry.explain ≡ false → errors.new ≡ errors.old }
     ensures unsaid { IfErr result (λ f. is_some (bad_start_of f) ≡ true → errors.new ≡ errors.old) }
@@ -185,7 +185,7 @@ fn answer_calls<R: Read, W: Write, E: Write>(
     errors: &mut Messages<E>,
 ) -> Status
     ensures answered { IfSome (R.remaining file.old) (λ bytes.
-        AnswersCalls (map service_of calls.now) bytes run.entry.answers.now run.entry.limit
+        AnswersCalls (map service_of calls.now) bytes run.entry.outside run.entry.limit
         (W.contents out.old) (W.contents out.new)
         (λ f. SaysFault f (E.contents errors.old.out) (E.contents errors.new.out) errors.new.failed) result) }
     ensures silent { is_done result ≡ true → run.entry.explain ≡ false → errors.new ≡ errors.old }
@@ -200,10 +200,9 @@ fn answer_calls<R: Read, W: Write, E: Write>(
 /// run. What the run printed is printed, and then a line for each reply: its number in 8 hexadecimal digits, and
 /// behind a space its bytes, where it has some.
 ///
-/// The questions of the run to devices are answered by the answers that it is given, in order. The calls are read
-/// before the run begins. With a fault of their file or of the image nothing is printed. What is wrong is said on the
-/// error output, behind the path of the file that it is in; and how the run ended, where that is to be explained. Else
-/// nothing is said.
+/// The questions of the run are answered by what it is given for that. The calls are read before the run begins. With
+/// a fault of their file or of the image nothing is printed. What is wrong is said on the error output, behind the path
+/// of the file that it is in; and how the run ended, where that is to be explained. Else nothing is said.
 #[tactic(auto, using(crate::proofs::Called::answers, crate::proofs::Faults::fault_not_done))]
 pub fn client<C: Read, R: Read, W: Write, E: Write>(
     alloc: Global,
@@ -214,7 +213,7 @@ pub fn client<C: Read, R: Read, W: Write, E: Write>(
     errors: &mut Messages<E>,
 ) -> Status
     ensures answered { IfSome (C.remaining calls.old) (λ text. IfSome (R.remaining image.old) (λ bytes.
-        AnswersClient text bytes asked.now.run.answers.now asked.now.run.limit
+        AnswersClient text bytes asked.now.run.outside asked.now.run.limit
         (W.contents out.old) (W.contents out.new)
         (λ f. SaysFault f (E.contents errors.old.out) (E.contents errors.new.out) errors.new.failed) result)) }
     ensures silent { is_done result ≡ true → asked.now.run.explain ≡ false → errors.new ≡ errors.old }

@@ -1,14 +1,16 @@
-ghost use Rattle.std.specs.Prelude.{◌≡◌, ◌⊎◌, [], Ok, None, IfOk, IfErr, IfSome, OnOk, OnErr};
+ghost use Rattle.std.specs.Prelude.{◌≡◌, ◌⊎◌, [], ◌∷◌, Ok, None, IfOk, IfErr, IfSome, OnOk, OnErr};
 ghost use Rattle.std.specs.Prelude.{is_some, true, false};
 ghost use Rattle.std.specs.Io.KnownBytes.{Appends};
 ghost use Rattle.std.specs.String.{string_bytes};
 ghost use Rattle.of_arguments.specs.Asked.{asked};
 ghost use Rattle.of_detok.specs.Listing.{listed_so_far};
+ghost use Rattle.of_devices.specs.Parts.{board_meant};
+ghost use Rattle.of_machine.specs.Racks.{answers_of};
 ghost use Rattle.of_machine.specs.Runs.{RunsTo};
 ghost use Rattle.of_commands.specs.Files.{FaultsReading};
 ghost use Rattle.of_commands.specs.Messages.{AppendsPart, SaysFault, bad_start_of};
 ghost use Rattle.of_commands.specs.Runs.{RunsFile, FaultsRun, Prints, IsRefusedFor, IsUnwritten, end_status};
-ghost use Rattle.of_commands.specs.Runs.{refused_as, ListsFile, ListsPart, Lists, shown_lines};
+ghost use Rattle.of_commands.specs.Runs.{refused_as, ListsFile, ListsPart, Lists, RunsOn, shown_lines};
 ghost use Rattle.of_commands.specs.Runs.{FaultsSource, FaultsSourceFile, FaultsWith, HasImage, Tokenizes};
 ghost use Rattle.of_commands.specs.Runs.{TokenizesFile, Writes, Does, Answers, is_done, is_explained};
 
@@ -17,11 +19,13 @@ use crate::fault::{Fault, no_image, no_source};
 use crate::input::{read_image, read_whole};
 use crate::messages::Messages;
 use crate::output::{report, write_whole};
+use crate::outside::Outside;
 use hex::encode;
 use of_arguments::{Request, Status};
 use of_asking::Answer;
 use of_detok::{Extras, partial_listing};
-use of_machine::{End, Refusal, ScriptMachine, run_script};
+use of_devices::{Board, Rack};
+use of_machine::{End, Refusal, ScriptMachine, run_rack, run_script};
 use of_source::parse;
 use of_stream::StreamFault;
 use of_tok::tokenize;
@@ -33,8 +37,8 @@ use std::io::{Read, Write};
 pub struct Run<'a> {
     /// The path of the image.
     pub image: &'a str,
-    /// What devices answer, in the order of the questions.
-    pub answers: &'a [Answer],
+    /// What answers its questions.
+    pub outside: Outside<'a>,
     /// How many steps the run makes at most.
     pub limit: u64,
     /// Whether its end is explained on the error output.
@@ -51,8 +55,8 @@ fn refused(length: usize, refusal: Refusal) -> Fault
     }
 }
 
-/// Runs an image, with these answers.
-fn run_image(
+/// Runs an image with answers in order.
+fn run_answers(
     alloc: Global,
     image: &[u8],
     answers: &[Answer],
@@ -67,6 +71,49 @@ fn run_image(
     }
 }
 
+/// Runs an image on a board that no run was made on.
+fn run_board(
+    alloc: Global,
+    image: &[u8],
+    board: Board,
+    limit: u64,
+) -> Result<(ScriptMachine, End), Fault>
+    ensures ok { IfOk result (λ r. RunsTo image.now [] (answers_of (board_meant board ∷ []) r.0.asked) []
+        limit r.0 r.1) }
+    ensures err { IfErr result (λ f. IsRefusedFor image.now f ⊎ (f ≡ Fault.NoMemory)) }
+{
+    let Ok(device) = Box::new(alloc, board) else {
+        return Err(Fault::NoMemory);
+    };
+    let mut rack: Rack = Vec::new(alloc);
+    let Ok(()) = rack.push(device) else {
+        return Err(Fault::NoMemory);
+    };
+    match run_rack(alloc, image, &[], &mut rack, &[], limit) {
+        Ok(run) => Ok(run),
+        Err(reason) => Err(refused(image.len(), reason)),
+    }
+}
+
+/// Runs an image; a board stays as it was.
+fn run_image(
+    alloc: Global,
+    image: &[u8],
+    outside: Outside<'_>,
+    limit: u64,
+) -> Result<(ScriptMachine, End), Fault>
+    ensures ok { IfOk result (λ r. RunsOn image.now outside.entry limit r.0 r.1) }
+    ensures err { IfErr result (λ f. IsRefusedFor image.now f ⊎ (f ≡ Fault.NoMemory)) }
+{
+    match outside {
+        Outside::Answers(answers) => run_answers(alloc, image, answers, limit),
+        Outside::Board(board) => match board.copy(alloc) {
+            Ok(board) => run_board(alloc, image, board, limit),
+            Err(_) => Err(Fault::NoMemory),
+        },
+    }
+}
+
 /// Runs the image of a file, and gives the image, too.
 #[tactic(auto, using(crate::proofs::Faults::run_unread, crate::proofs::Faults::run_refused))]
 pub(crate) fn run_file<R: Read>(
@@ -75,11 +122,11 @@ pub(crate) fn run_file<R: Read>(
     file: &mut R,
 ) -> Result<(Vec<u8>, ScriptMachine, End), Fault>
     ensures ok { IfOk result (λ r. IfSome (R.remaining file.old) (λ bytes.
-        RunsFile bytes run.entry.answers.now run.entry.limit r.1 r.2)) }
+        RunsFile bytes run.entry.outside run.entry.limit r.1 r.2)) }
     ensures err { IfErr result (λ f. IfSome (R.remaining file.old) (λ bytes. FaultsRun bytes f)) }
 {
     let image = read_image(alloc, file)?;
-    match run_image(alloc, &image, run.answers, run.limit) {
+    match run_image(alloc, &image, run.outside, run.limit) {
         Ok((machine, end)) => Ok((image, machine, end)),
         Err(fault) => Err(fault),
     }
@@ -151,7 +198,7 @@ fn print_run<R: Read, W: Write, E: Write>(
     errors: &mut Messages<E>,
 ) -> Result<Status, Fault>
     ensures printed { IfSome (R.remaining file.old) (λ bytes.
-        Prints bytes run.entry.answers.now run.entry.limit (W.contents out.old) (W.contents out.new) result) }
+        Prints bytes run.entry.outside run.entry.limit (W.contents out.old) (W.contents out.new) result) }
     ensures silent { run.entry.explain ≡ false → errors.new ≡ errors.old }
     ensures unsaid { IfErr result (λ f. is_some (bad_start_of f) ≡ true → errors.new ≡ errors.old) }
 {
@@ -331,12 +378,12 @@ fn tok<R: Read, W: Write>(alloc: Global, source: &mut R, out: &mut W) -> Result<
 fn perform<R: Read, W: Write, E: Write>(
     alloc: Global,
     request: Request<'_>,
-    answers: &[Answer],
+    outside: Outside<'_>,
     file: &mut R,
     out: &mut W,
     errors: &mut Messages<E>,
 ) -> Result<Status, Fault>
-    ensures done { IfSome (R.remaining file.old) (λ bytes. Does (asked request.entry) answers.now bytes
+    ensures done { IfSome (R.remaining file.old) (λ bytes. Does (asked request.entry) outside.entry bytes
         (W.contents out.old) (W.contents out.new) result) }
     ensures silent { is_explained (asked request.entry) ≡ false → errors.new ≡ errors.old }
     ensures unsaid { IfErr result (λ f. is_some (bad_start_of f) ≡ true → errors.new ≡ errors.old) }
@@ -350,7 +397,7 @@ fn perform<R: Read, W: Write, E: Write>(
         } => {
             let run = Run {
                 image,
-                answers,
+                outside,
                 limit,
                 explain,
             };
@@ -364,7 +411,7 @@ fn perform<R: Read, W: Write, E: Write>(
         } => {
             let run = Run {
                 image,
-                answers,
+                outside,
                 limit,
                 explain,
             };
@@ -390,7 +437,7 @@ fn path_of(request: Request<'_>) -> &str {
 }
 
 /// Does what was asked for with the file at its path, and gives the status. Of `client` this is the run alone. The
-/// questions of a run to devices are answered by `answers`, in order.
+/// questions of a run are answered by `outside`.
 ///
 /// What is wrong is said on the error output, behind the path of the file; and how a run ended, where that is to be
 /// explained. Else nothing is said.
@@ -398,17 +445,17 @@ fn path_of(request: Request<'_>) -> &str {
 pub fn answer<R: Read, W: Write, E: Write>(
     alloc: Global,
     request: Request<'_>,
-    answers: &[Answer],
+    outside: Outside<'_>,
     file: &mut R,
     out: &mut W,
     errors: &mut Messages<E>,
 ) -> Status
-    ensures answered { IfSome (R.remaining file.old) (λ bytes. Answers (asked request.entry) answers.now bytes
+    ensures answered { IfSome (R.remaining file.old) (λ bytes. Answers (asked request.entry) outside.entry bytes
         (W.contents out.old) (W.contents out.new)
         (λ f. SaysFault f (E.contents errors.old.out) (E.contents errors.new.out) errors.new.failed) result) }
     ensures silent { is_done result ≡ true → is_explained (asked request.entry) ≡ false → errors.new ≡ errors.old }
 {
-    match perform(alloc, request, answers, file, out, errors) {
+    match perform(alloc, request, outside, file, out, errors) {
         Ok(status) => status,
         Err(fault) => report(path_of(request), fault, errors),
     }

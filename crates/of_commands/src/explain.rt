@@ -3,8 +3,10 @@ ghost use Rattle.std.specs.Prelude.{◌≡◌, IfErr};
 
 use crate::engine::Run;
 use crate::fault::Fault;
-use of_asking::Answer;
+use crate::outside::Outside;
+use of_asking::{Answer, Query};
 use of_code::ListCode;
+use of_devices::{Board, Device};
 use of_fcodes::{FCode, name_of};
 use of_machine::{End, Machine, Progress, ScriptMachine};
 use std::alloc::Global;
@@ -43,20 +45,44 @@ fn next_in(machine: &ScriptMachine) -> Next {
     }
 }
 
-/// Makes a step, where it asks with the first of these answers, and gives those that are left.
-fn step<'a>(machine: &mut ScriptMachine, answers: &'a [Answer]) -> Result<&'a [Answer], Fault>
+/// What answers the questions of a run that is made again.
+#[derive(Drop)]
+enum Again<'a> {
+    /// The answers that are left.
+    Answers(&'a [Answer]),
+    /// A board.
+    Board(Board),
+}
+
+impl<'a> Again<'a> {
+    /// The next answer, if there is one.
+    fn answer(&mut self, query: Query) -> Option<Answer> {
+        match self {
+            Again::Answers(answers) => {
+                let (answer, left) = answers.split_first()?;
+                let answer = *answer;
+                *answers = left;
+                Some(answer)
+            }
+            Again::Board(board) => Some(board.answer(query)),
+        }
+    }
+}
+
+/// Makes a step, where it asks with its answer, if there is one.
+fn step(machine: &mut ScriptMachine, again: &mut Again<'_>) -> Result<(), Fault>
     ensures { IfErr result (λ f. f ≡ Fault.NoMemory) }
 {
-    match machine.step() {
-        Ok(Progress::Asks(_)) => {}
-        Ok(Progress::Done | Progress::Ended) => return Ok(answers),
+    let query = match machine.step() {
+        Ok(Progress::Asks(query)) => query,
+        Ok(Progress::Done | Progress::Ended) => return Ok(()),
         Err(_) => return Err(Fault::NoMemory),
-    }
-    let Some((answer, left)) = answers.split_first() else {
-        return Ok(answers);
     };
-    match machine.answer(*answer) {
-        Ok(()) => Ok(left),
+    let Some(answer) = again.answer(query) else {
+        return Ok(());
+    };
+    match machine.answer(answer) {
+        Ok(()) => Ok(()),
         Err(_) => Err(Fault::NoMemory),
     }
 }
@@ -65,7 +91,7 @@ fn step<'a>(machine: &mut ScriptMachine, answers: &'a [Answer]) -> Result<&'a [A
 fn walk(
     machine: &mut ScriptMachine,
     image: &[u8],
-    answers: &[Answer],
+    mut again: Again<'_>,
     steps: u64,
 ) -> Result<Spot, Fault>
     ensures { IfErr result (λ f. f ≡ Fault.NoMemory) }
@@ -74,10 +100,9 @@ fn walk(
         return Err(Fault::NoMemory);
     }
     let mut last = None;
-    let mut left = answers;
     for _ in 0..steps {
         last = machine.next_token().or(last);
-        left = step(machine, left)?;
+        step(machine, &mut again)?;
     }
     Ok(Spot {
         token: machine.next_token().or(last),
@@ -86,12 +111,26 @@ fn walk(
     })
 }
 
-/// Where the run of an image is after so many steps.
-fn follow(alloc: Global, image: &[u8], answers: &[Answer], steps: u64) -> Result<Spot, Fault>
+/// What answers the questions of a run, when it is made again.
+fn made_again<'a>(alloc: Global, outside: Outside<'a>) -> Result<Again<'a>, Fault>
     ensures { IfErr result (λ f. f ≡ Fault.NoMemory) }
 {
+    match outside {
+        Outside::Answers(answers) => Ok(Again::Answers(answers)),
+        Outside::Board(board) => match board.copy(alloc) {
+            Ok(board) => Ok(Again::Board(board)),
+            Err(_) => Err(Fault::NoMemory),
+        },
+    }
+}
+
+/// Where the run of an image is after so many steps.
+fn follow(alloc: Global, image: &[u8], outside: Outside<'_>, steps: u64) -> Result<Spot, Fault>
+    ensures { IfErr result (λ f. f ≡ Fault.NoMemory) }
+{
+    let again = made_again(alloc, outside)?;
     match Machine::new(alloc, ListCode::new(alloc)) {
-        Ok(mut machine) => walk(&mut machine, image, answers, steps),
+        Ok(mut machine) => walk(&mut machine, image, again, steps),
         Err(_) => Err(Fault::NoMemory),
     }
 }
@@ -184,7 +223,7 @@ pub(crate) fn say_end<E: Write>(
         End::LimitReached | End::AnswersOut => machine.steps(),
         End::Done => machine.steps().saturating_sub(1),
     };
-    let spot = follow(alloc, image, run.answers, made)?;
+    let spot = follow(alloc, image, run.outside, made)?;
     if say_how(run.image, &spot, machine, end, errors).is_ok() {
         let _ = say_stack(run.image, machine, errors);
     }

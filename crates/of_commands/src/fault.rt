@@ -1,7 +1,7 @@
 ghost use Rattle.std.specs.Prelude.{◌≡◌, option_map};
 ghost use Rattle.of_commands.specs.Messages.{start_byte_of};
 ghost use Rattle.of_commands.specs.Clients.{no_calls};
-ghost use Rattle.of_commands.specs.Runs.{no_answers, no_image, no_source, place_at, text_place_of};
+ghost use Rattle.of_commands.specs.Runs.{no_answers, no_board, no_image, no_source, place_at, text_place_of};
 
 use of_arguments::Status;
 use of_calls::TextFault;
@@ -66,6 +66,12 @@ pub enum Fault {
     /// A text has no answers.
     #[error(transparent)]
     NoAnswers(TextFault),
+    /// A text has no devices.
+    #[error(transparent)]
+    NoBoard(TextFault),
+    /// A file of answers and one of devices are given.
+    #[error("--answers and --board exclude each other")]
+    TwoOutsides,
     /// A write failed, with the system's number of the reason.
     #[error("the output can't be written")]
     Unwritten(Option<i32>),
@@ -154,8 +160,20 @@ pub(crate) fn no_answers(fault: TextFault) -> Fault
     }
 }
 
-/// The place in a text of calls or of answers that has this fault, and what is wrong there: what is said of a first
-/// word that is unknown, and of a word too many, depends on the text.
+/// The fault of a text that has no devices.
+pub(crate) fn no_board(fault: TextFault) -> Fault
+    ensures { result ≡ no_board fault }
+{
+    match fault {
+        TextFault::Unknown(_) => Fault::NoBoard(fault),
+        TextFault::BadNumber(_) => Fault::NoBoard(fault),
+        TextFault::TooMany(_) => Fault::NoBoard(fault),
+        TextFault::NoMemory => Fault::NoMemory,
+    }
+}
+
+/// The place in a text of calls, of answers or of devices that has this fault, and what is wrong there: what is said of
+/// a first word that is unknown, and of a word too many, depends on the text.
 fn text_place(
     fault: TextFault,
     unknown: &'static str,
@@ -204,6 +222,9 @@ impl Fault {
             Fault::NoAnswers(fault) => {
                 text_place(fault, "unknown answer", "more than the answer takes")
             }
+            Fault::NoBoard(fault) => {
+                text_place(fault, "unknown device", "more than the device takes")
+            }
             _ => None,
         }
     }
@@ -235,6 +256,8 @@ impl Fault {
             Fault::NoImage(_) => Status::Fault,
             Fault::NoCalls(_) => Status::Fault,
             Fault::NoAnswers(_) => Status::Fault,
+            Fault::NoBoard(_) => Status::Fault,
+            Fault::TwoOutsides => Status::Usage,
             Fault::Unwritten(_) => Status::Fault,
         }
     }

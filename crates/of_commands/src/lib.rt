@@ -9,12 +9,14 @@ mod fault;
 mod input;
 mod messages;
 mod output;
+mod outside;
 mod part;
 mod place;
 
 pub use clients::{ClientRun, client};
-pub use devices::answers;
+pub use devices::{answers, board};
 pub use engine::{Run, answer, image, keep};
 pub use fault::Fault;
 pub use messages::Messages;
 pub use output::report;
+pub use outside::Outside;

@@ -2,9 +2,10 @@
 #![tactic(auto)]
 
 use clap::Error;
-use of_arguments::{Request, Status, parse, status_of};
+use of_arguments::{Outside as Asked, Request, Status, parse, status_of};
 use of_asking::Answer;
-use of_commands::{ClientRun, Fault, Messages, Run};
+use of_commands::{ClientRun, Fault, Messages, Outside, Run};
+use of_devices::{Board, standard_board};
 use std::fs::File;
 use std::io::Stderr;
 use std::process::ExitCode;
@@ -41,14 +42,54 @@ fn unopened(rt: &HostRuntime, path: &str, error: &io::Error) -> Status {
     report(rt, path, fault)
 }
 
-/// The answers of the file at a path; none where there is no path.
-fn read_answers(rt: &HostRuntime, path: Option<&str>) -> Result<Vec<Answer>, Status> {
-    let Some(path) = path else {
-        return Ok(Vec::new(rt.alloc()));
-    };
+/// What answers the questions of a run, read whole.
+#[derive(Drop)]
+enum Source {
+    /// Answers, in order.
+    Answers(Vec<Answer>),
+    /// The devices of a board.
+    Board(Board),
+}
+
+/// The answers of the file at a path.
+fn read_answers(rt: &HostRuntime, path: &str) -> Result<Source, Status> {
     match File::open(rt, path) {
-        Ok(mut file) => of_commands::answers(rt.alloc(), path, &mut file, &mut messages(rt)),
+        Ok(mut file) => {
+            let answers = of_commands::answers(rt.alloc(), path, &mut file, &mut messages(rt))?;
+            Ok(Source::Answers(answers))
+        }
         Err(error) => Err(unopened(rt, path, &error)),
+    }
+}
+
+/// The board of the file at a path.
+fn read_board(rt: &HostRuntime, path: &str) -> Result<Source, Status> {
+    match File::open(rt, path) {
+        Ok(mut file) => {
+            let parts = of_commands::board(rt.alloc(), path, &mut file, &mut messages(rt))?;
+            Ok(Source::Board(Board { parts }))
+        }
+        Err(error) => Err(unopened(rt, path, &error)),
+    }
+}
+
+/// What answers the questions of a run, or the status of what is wrong with its file.
+fn read_outside(rt: &HostRuntime, asked: Asked) -> Result<Source, Status> {
+    match asked {
+        Asked::Standard => match standard_board(rt.alloc()) {
+            Ok(parts) => Ok(Source::Board(Board { parts })),
+            Err(_) => Err(report(rt, "", Fault::NoMemory)),
+        },
+        Asked::Answers(path) => read_answers(rt, path),
+        Asked::Board(path) => read_board(rt, path),
+    }
+}
+
+/// The same, for the commands.
+fn lend(source: &Source) -> Outside<'_> {
+    match source {
+        Source::Answers(answers) => Outside::Answers(answers),
+        Source::Board(board) => Outside::Board(board),
     }
 }
 
@@ -73,8 +114,27 @@ fn client(rt: &HostRuntime, asked: &ClientRun) -> Status {
     )
 }
 
-/// Opens the file at a path, and does with it what was asked for, with answers for a run.
-fn perform(rt: &HostRuntime, path: &str, request: Request, answers: &[Answer]) -> Status {
+/// Runs an image, and answers the calls of a file.
+fn call<'a>(
+    rt: &HostRuntime,
+    image: &'a str,
+    calls: &'a str,
+    source: &'a Source,
+    limit: u64,
+    explain: bool,
+) -> Status {
+    let outside = lend(source);
+    let run = Run {
+        image,
+        outside,
+        limit,
+        explain,
+    };
+    client(rt, &ClientRun { run, calls })
+}
+
+/// Opens the file at a path, and does with it what was asked for.
+fn perform(rt: &HostRuntime, path: &str, request: Request, outside: Outside) -> Status {
     let mut file = match File::open(rt, path) {
         Ok(file) => file,
         Err(error) => return unopened(rt, path, &error),
@@ -90,40 +150,32 @@ fn perform(rt: &HostRuntime, path: &str, request: Request, answers: &[Answer]) -
     of_commands::answer(
         rt.alloc(),
         request,
-        answers,
+        outside,
         &mut file,
         &mut out,
         &mut errors,
     )
 }
 
-/// Does what was asked for, where the answers can be had.
+/// Does what was asked for, where what answers the questions of a run can be had.
 fn answer(rt: &HostRuntime, request: Request) -> Status {
     match request {
-        Request::Run { image, answers, .. } => match read_answers(rt, answers) {
-            Ok(answers) => perform(rt, image, request, &answers),
+        Request::Run { image, outside, .. } => match read_outside(rt, outside) {
+            Ok(source) => perform(rt, image, request, lend(&source)),
             Err(status) => status,
         },
         Request::Client {
             image,
             calls,
-            answers,
+            outside,
             limit,
             explain,
-        } => match read_answers(rt, answers) {
-            Ok(answers) => {
-                let run = Run {
-                    image,
-                    answers: &answers,
-                    limit,
-                    explain,
-                };
-                client(rt, &ClientRun { run, calls })
-            }
+        } => match read_outside(rt, outside) {
+            Ok(source) => call(rt, image, calls, &source, limit, explain),
             Err(status) => status,
         },
-        Request::Tok { source, .. } => perform(rt, source, request, &[]),
-        Request::Detok { image, .. } => perform(rt, image, request, &[]),
+        Request::Tok { source, .. } => perform(rt, source, request, Outside::Answers(&[])),
+        Request::Detok { image, .. } => perform(rt, image, request, Outside::Answers(&[])),
     }
 }
 
@@ -163,7 +215,7 @@ fn answer_nothing(rt: &HostRuntime, error: &Error) -> Status {
 fn obey(rt: &HostRuntime, words: &[String]) -> Status {
     match parse(rt.alloc(), words) {
         Ok(Some(request)) => answer(rt, request),
-        Ok(None) => Status::Usage,
+        Ok(None) => report(rt, "", Fault::TwoOutsides),
         Err(error) => answer_nothing(rt, &error),
     }
 }

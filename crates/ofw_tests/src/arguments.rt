@@ -1,4 +1,4 @@
-use of_arguments::{Request, lines_ask, parse, status_of};
+use of_arguments::{Outside, Request, lines_ask, parse, status_of};
 use of_detok::Extras;
 use std::alloc::Global;
 use std::test::Fail;
@@ -19,6 +19,14 @@ ofw run --explain a.hex --limit 5:a.hex 5 explained
 ofw run a.hex --answers a.answers:a.hex answers a.answers 1000000
 ofw run --answers a.answers a.hex --limit 5 --explain:a.hex answers a.answers 5 explained
 ofw run a.hex --answers:
+ofw run a.hex --board a.board:a.hex board a.board 1000000
+ofw run --explain --board a.board a.hex --limit 5:a.hex board a.board 5 explained
+ofw run a.hex --board:
+ofw run a.hex --board a.board --board b.board:
+ofw run a.hex --board a.board --answers a.answers:
+ofw client a.hex --calls a.calls --board a.board:a.hex a.calls board a.board 1000000
+ofw client a.hex --calls a.calls --board a.board --answers a.answers:
+ofw tok a.fs --board a.board:
 ofw run a.hex --answers a.answers --answers b.answers:
 ofw client a.hex --calls a.calls --answers a.answers:a.hex a.calls answers a.answers 1000000
 ofw tok a.fs --answers a.answers:
@@ -72,18 +80,18 @@ fn shown(alloc: Global, request: Request) -> Result<String, Fail> {
     match request {
         Request::Run {
             image,
-            answers,
+            outside,
             limit,
             explain,
-        } => shown_run(alloc, image, answers, limit, flag(explain, " explained")),
+        } => shown_run(alloc, image, outside, limit, flag(explain, " explained")),
         Request::Client {
             image,
             calls,
-            answers,
+            outside,
             limit,
             explain,
         } => {
-            let run = shown_run(alloc, calls, answers, limit, flag(explain, " explained"))?;
+            let run = shown_run(alloc, calls, outside, limit, flag(explain, " explained"))?;
             Ok(format!(in alloc; "{image} {run}")?)
         }
         Request::Tok { source, output } => shown_tok(alloc, source, output),
@@ -99,14 +107,15 @@ fn shown(alloc: Global, request: Request) -> Result<String, Fail> {
 fn shown_run(
     alloc: Global,
     image: &str,
-    answers: Option<&str>,
+    outside: Outside,
     limit: u64,
     explained: &str,
 ) -> Result<String, Fail> {
-    let Some(answers) = answers else {
-        return Ok(format!(in alloc; "{image} {limit}{explained}")?);
-    };
-    Ok(format!(in alloc; "{image} answers {answers} {limit}{explained}")?)
+    Ok(match outside {
+        Outside::Standard => format!(in alloc; "{image} {limit}{explained}")?,
+        Outside::Answers(path) => format!(in alloc; "{image} answers {path} {limit}{explained}")?,
+        Outside::Board(path) => format!(in alloc; "{image} board {path} {limit}{explained}")?,
+    })
 }
 
 /// What the image of a source asks for.

@@ -1,7 +1,7 @@
 use crate::doubles::{blank_screen, reader_of};
 use of_asking::Answer;
 use of_client::{names_are_met, values_are_got};
-use of_commands::{ClientRun, Messages, Run, client};
+use of_commands::{ClientRun, Messages, Outside, Run, client};
 use std::alloc::Global;
 use std::process::Abort;
 use std::test::Fail;
@@ -20,7 +20,7 @@ const BUS_READ: &str = "f108016300000011108000000002349d00";
 struct Case<'a> {
     calls: &'a str,
     image: &'a str,
-    answers: &'a [Answer],
+    outside: Outside<'a>,
     read: u32,
     write: u32,
     limit: u64,
@@ -41,7 +41,7 @@ fn whole<'a>(
     Case {
         calls,
         image,
-        answers: &[],
+        outside: Outside::Answers(&[]),
         read: 9999,
         write: 9999,
         limit: 99,
@@ -60,7 +60,7 @@ fn holds(rt: &impl Abort, alloc: Global, case: &Case<'_>) {
     let mut errors = blank_screen(alloc, 9999);
     let run = Run {
         image: "a.hex",
-        answers: case.answers,
+        outside: case.outside,
         limit: case.limit,
         explain: case.explain,
     };
@@ -129,7 +129,6 @@ finddevice /slot:d0000008
 finddevice:ffffffff
 finddevice /:d0000000
   finddevice\t/slot :d0000008
-finddevice /slot\r:ffffffff
 child D0000000:d0000004
 child 00000000d0000000:d0000004
 getproplen d0000008:ffffffff
@@ -157,6 +156,12 @@ child 0x10|1:7: bad number: hexadecimal digits up to ffffffff
 child 100000000|1:7: bad number: hexadecimal digits up to ffffffff
 child d0000000 d0000004|1:16: more than the service takes
 finddevice / \r|1:14: more than the service takes
+finddevice /slot\r|1:12: unknown service
+finddevice \r /|1:12: unknown service
+getproplen d0000008 na\rme|1:21: unknown service
+getprop d0000008 name\r 4|1:18: unknown service
+getprop d0000008 3\r|1:18: bad number: hexadecimal digits up to ffffffff
+nextprop d0000008 \r|1:19: unknown service
 child d0000000\r|1:7: bad number: hexadecimal digits up to ffffffff
   |1:3: unknown service
 finddevice / /|1:14: more than the service takes
@@ -233,8 +238,8 @@ fn ends(rt: HostRuntime) {
 fn answers_of_devices(rt: HostRuntime) {
     let printed = "5 d0000004\n";
     let read = whole("child d0000000\n", BUS_READ, 0, printed, "");
-    let answers = &[Answer::Value(5)];
-    holds(&rt, rt.alloc(), &Case { answers, ..read });
+    let outside = Outside::Answers(&[Answer::Value(5)]);
+    holds(&rt, rt.alloc(), &Case { outside, ..read });
     let out = whole("child d0000000\n", BUS_READ, 4, "d0000004\n", "");
     holds(&rt, rt.alloc(), &out);
 }

@@ -1,6 +1,6 @@
 use crate::doubles::{Endless, Screen, blank_screen, reader_of};
 use of_arguments::{Status, parse, status_of};
-use of_commands::{Fault, Messages, answer, image, keep, report};
+use of_commands::{Fault, Messages, Outside, answer, image, keep, report};
 use of_stream::StreamFault;
 use std::alloc::Global;
 use std::io::Read;
@@ -26,7 +26,15 @@ fn code_of(
     }
     Ok(match parse(alloc, &line) {
         Ok(Some(request)) => {
-            answer(alloc, request, &[], file, out, &mut Messages::new(errors)).code()
+            answer(
+                alloc,
+                request,
+                Outside::Answers(&[]),
+                file,
+                out,
+                &mut Messages::new(errors),
+            )
+            .code()
         }
         Ok(None) => Status::Usage.code(),
         Err(error) => status_of(&error).code(),

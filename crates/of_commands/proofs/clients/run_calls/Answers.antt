@@ -5,6 +5,6 @@ use Rattle.of_commands.proofs.clients.run_calls.Goals as goal
 
 pub returns-in-Ok-print_called-clause-printed : goal.returns-in-Ok-print_called-clause-printed
 returns-in-Ok-print_called-clause-printed g c =
-    called_all (g.R.Read.remaining c.args.file.now) (map service_of c.args.calls.now) c.args.run.answers.now
+    called_all (g.R.Read.remaining c.args.file.now) (map service_of c.args.calls.now) c.args.run.outside
     c.args.run.limit _ c.in-Ok.end _ _ c.explain_end.result c.in-Ok.ensures.ok c.in-Ok-print_called.ensures.ok
     c.explain_end.ensures.ok c.explain_end.ensures.err
