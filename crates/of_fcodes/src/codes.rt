@@ -1,10 +1,12 @@
-ghost use Rattle.std.specs.Prelude.{◌≡◌, map};
+ghost use Rattle.std.specs.Prelude.{◌≡◌, map, slice_get};
 ghost use Rattle.std.specs.Option.{option_copied, option_map, option_map_or};
 ghost use Rattle.std.specs.Str.{str_eq_ignore_ascii_case};
-ghost use Rattle.of_fcodes.specs.Rows.{rows};
+ghost use Rattle.of_fcodes.specs.Rows.{Row, rows};
+ghost use Rattle.of_fcodes.specs.Index.{found_among};
 ghost use Rattle.of_fcodes.specs.Lookup.{row_placed, row_numbered, word_numbered, operand_numbered, name_numbered};
-ghost use Rattle.of_fcodes.specs.Lookup.{number_in, number_named, row_shown};
+ghost use Rattle.of_fcodes.specs.Lookup.{number_named, row_shown};
 
+use crate::index::{ROW_ORDER, ROW_STARTS, places_of};
 use crate::operand::Operand;
 use crate::table::{PLACES, ROWS, Row};
 use crate::words::Word;
@@ -84,25 +86,36 @@ pub fn is_same_name(name: &[u8], other: &[u8]) -> bool
     name.eq_ignore_ascii_case(other)
 }
 
-/// The number of the row that bears a name, whatever the case of its letters.
-fn number_in(mut rows: &[Row], name: &[u8]) -> Option<u16>
-    ensures { result ≡ number_in (map row_shown rows.entry.now) name.now }
+/// The row at a place, if there is one.
+#[inline]
+fn row_placed_at(rows: &[Row], place: usize) -> Option<&Row>
+    ensures { option_map row_shown (option_copied result) ≡ slice_get (map row_shown rows.now) place }
 {
-    while let [row, rest @ ..] = rows {
-        if is_same_name(row.1.as_bytes(), name) {
-            return Some(row.0);
-        }
-        rows = rest;
-    }
-    None
+    rows.get(place)
 }
 
-/// The FCode of a name, whatever the case of its ASCII letters, if it is listed.
+/// The number of the first row at these places that bears a name, whatever the case of its letters.
+fn number_among(places: &[u16], name: &[u8]) -> Option<u16>
+    ensures { result ≡ found_among (λ (r : Row). r.name) (λ r. r.number) (map (slice_get rows) places.now) name.now }
+{
+    match places {
+        [] => None,
+        [place, rest @ ..] => {
+            if let Some(row) = row_placed_at(table(), usize::from(*place)) {
+                if is_same_name(row.1.as_bytes(), name) {
+                    return Some(row.0);
+                }
+            }
+            number_among(rest, name)
+        }
+    }
+}
+
+/// The FCode of a name, whatever the case of its ASCII letters, if it is listed, in constant time.
+#[tactic(auto, using(crate::proofs::IndexLemmas::rows_hashed))]
 pub fn fcode_of(name: &[u8]) -> Option<FCode>
     ensures { option_map (λ code. code.0) result ≡ number_named name.now }
 {
-    match number_in(table(), name) {
-        Some(number) => Some(FCode(number)),
-        None => None,
-    }
+    let number = number_among(places_of(&ROW_ORDER, &ROW_STARTS, name), name)?;
+    Some(FCode(number))
 }

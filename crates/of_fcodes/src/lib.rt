@@ -6,6 +6,7 @@
 mod class;
 mod codes;
 mod console_words;
+mod index;
 mod laws;
 mod list;
 mod operand;

@@ -2,12 +2,14 @@
 ghost use Rattle.std.specs.Prelude.{◌≡◌, ◌<◌, map, slice_get};
 ghost use Rattle.std.specs.Option.{option_copied, option_map};
 ghost use Rattle.of_fcodes.specs.Numbers.{number_of, primitive_number};
-ghost use Rattle.of_fcodes.specs.Words.{words};
-ghost use Rattle.of_fcodes.specs.Finding.{class_of, name_written, word_in, word_with_name, word_with_xt, word_shown};
+ghost use Rattle.of_fcodes.specs.Words.{Written, words};
+ghost use Rattle.of_fcodes.specs.Index.{found_among};
+ghost use Rattle.of_fcodes.specs.Finding.{class_of, name_written, word_with_name, word_with_xt, word_shown};
 ghost use Rattle.of_fcodes.specs.Finding.{xt_of};
 
 use crate::class::Class;
 use crate::codes::is_same_name;
+use crate::index::{WORD_ORDER, WORD_STARTS, places_of};
 use crate::list::{WORDS, WrittenWord};
 use crate::words::{PrimitiveWord, Word};
 
@@ -132,24 +134,28 @@ pub fn word_with_xt(xt: u32) -> Option<Word>
     }
 }
 
-/// The word of a list that bears a name, whatever the case of its letters.
-fn word_in(list: &[WrittenWord], name: &[u8]) -> Option<Word>
-    ensures { result ≡ word_in (map word_shown list.now) name.now }
+/// The first of the written words at these places that bears a name, whatever the case of its letters.
+fn word_among(places: &[u16], name: &[u8]) -> Option<Word>
+    ensures { result ≡ found_among (λ (r : Written). r.name) (λ r. r.word) (map (slice_get words) places.now)
+        name.now }
 {
-    match list {
+    match places {
         [] => None,
-        [row, rest @ ..] => {
-            if is_same_name(row.0.as_bytes(), name) {
-                return Some(row.1);
+        [place, rest @ ..] => {
+            if let Some(row) = row_at(list(), usize::from(*place)) {
+                if is_same_name(row.0.as_bytes(), name) {
+                    return Some(row.1);
+                }
             }
-            word_in(rest, name)
+            word_among(rest, name)
         }
     }
 }
 
-/// The written word of a name, whatever the case of its letters, if there is one.
+/// The written word of a name, whatever the case of its letters, if there is one, in constant time.
+#[tactic(auto, using(crate::proofs::IndexLemmas::words_hashed))]
 pub fn word_with_name(name: &[u8]) -> Option<Word>
     ensures { result ≡ word_with_name name.now }
 {
-    word_in(list(), name)
+    word_among(places_of(&WORD_ORDER, &WORD_STARTS, name), name)
 }
