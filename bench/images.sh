@@ -12,6 +12,9 @@ image() { printf 'f108000000000000\n%s 00\n' "$2" >"$folder/$1"; }
 # NAME: the instructions of a run of the image
 image_instructions() { instructions run "$folder/$1"; }
 
+# NAME LIMIT: the instructions of a run of the image, which its limit ends
+limited() { instructions run "$folder/$1" --limit "$2"; }
+
 # NAME DEFINITIONS CALL FORWARD BACK: the instructions of one turn of : loops  0 do CALL loop ;
 turn() {
     for turns in 00000400 00000800; do

@@ -4,17 +4,9 @@
 # The image and the start of the process are subtracted: instructions are those between two limits of steps.
 # usage: bench/programs.sh [STEPS]
 set -euo pipefail
-top=$(cd "$(dirname "${BASH_SOURCE[0]}")/.." && pwd)
 steps=${1:-200000000}
-folder=$(mktemp -d)
-trap 'rm -rf "$folder"' EXIT
-"$top/ofw" run "$top/examples/empty-program.hex"
-program=$top/crates/ofw/out/ofw
-
+source "$(dirname "${BASH_SOURCE[0]}")/images.sh"
 source "$top/bench/timing.sh"
-
-# NAME TOKENS: an image of these tokens
-image() { printf 'f108000000000000\n%s 00\n' "$2" >"$folder/$1"; }
 
 # : nest  0 swap 0 do  100 0 do char+ loop  loop drop ;  7fffffff nest
 image nest 'b50800 b7 a5 49 a5 17 0012 10 00000100 a5 17 0006 62 15 fffe 15 fff2 46 c2 10 7fffffff 0800'
@@ -31,20 +23,13 @@ b50803 b7 a5 17 0008 0802 46 15 fffc c2 10 7fffffff 0803'
 # 7fffffff, and then 1 - for ever
 image countdown '10 7fffffff a6 1f 13 fffd'
 
-# NAME LIMIT: the instructions of a run, which its limit ends
-instructions() {
-    { valgrind --tool=callgrind --callgrind-out-file=/dev/null \
-        "$program" run "$folder/$1" --limit "$2" 2>&1 >/dev/null || test $? -eq 3; } |
-        sed -n 's/.*Collected : \([0-9]*\).*/\1/p'
-}
-
 # NAME: thousands of steps a second, the best of 3 runs
 rate() {
     echo $((steps / ($(fastest 3 "$program" run "$folder/$1" --limit "$steps") / 1000000 + 1)))
 }
 
 for name in nest fib sieve countdown; do
-    cost=$((($(instructions "$name" 600000) - $(instructions "$name" 200000)) / 40000))
+    cost=$((($(limited "$name" 600000) - $(limited "$name" 200000)) / 40000))
     speed=$(rate "$name")
     echo "$name: $((cost / 10)).$((cost % 10)) instructions a step, $((speed / 1000)) million steps a second"
 done

@@ -4,16 +4,8 @@
 # steps around it, as callgrind counts them.
 # usage: bench/questions.sh
 set -euo pipefail
-top=$(cd "$(dirname "${BASH_SOURCE[0]}")/.." && pwd)
-folder=$(mktemp -d)
-trap 'rm -rf "$folder"' EXIT
-"$top/ofw" run "$top/examples/empty-program.hex"
-program=$top/crates/ofw/out/ofw
-
+source "$(dirname "${BASH_SOURCE[0]}")/images.sh"
 source "$top/bench/timing.sh"
-
-# NAME TOKENS: an image of these tokens
-image() { printf 'f108000000000000\n%s 00\n' "$2" >"$folder/$1"; }
 
 # get-msecs drop for ever: one of 3 steps asks
 image time '0125 46 13 fffc'
@@ -21,20 +13,13 @@ image time '0125 46 13 fffc'
 image read '10 80000000 0234 46 13 fff7'
 image write '10 00000005 10 80000000 0235 13 fff3'
 
-# NAME LIMIT: the instructions of a run, which its limit ends
-instructions() {
-    { valgrind --tool=callgrind --callgrind-out-file=/dev/null \
-        "$program" run "$folder/$1" --limit "$2" 2>&1 >/dev/null || test $? -eq 3; } |
-        sed -n 's/.*Collected : \([0-9]*\).*/\1/p'
-}
-
 # NAME STEPS: figures of an image that asks once in so many steps
 figures() {
     for questions in 2500000 5000000 10000000; do
         took=$(fastest 3 "$program" run "$folder/$1" --limit $((questions * $2)))
         echo "$1: $questions questions in $((took / 1000000)) ms, $((took / questions)) ns each"
     done
-    cost=$(($(instructions "$1" $((30000 * $2))) - $(instructions "$1" $((10000 * $2)))))
+    cost=$(($(limited "$1" $((30000 * $2))) - $(limited "$1" $((10000 * $2)))))
     echo "$1: $((cost / 20000)) instructions a question, with $(($2 - 1)) steps around it"
 }
 
