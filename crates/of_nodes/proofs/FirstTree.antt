@@ -38,30 +38,43 @@ packages = codes "packages" ++ 0 ∷ []
 abbrev pub slot : List ℕ
 slot = codes "slot" ++ 0 ∷ []
 
-first_refused : (m : DataSpace) (e : NodeFault) → named_child [] m 0 board ≡ Err e → first_tree m ≡ Err e
+pub first_refused : (m : DataSpace) (e : NodeFault) → named_child [] m 0 board ≡ Err e → first_tree m ≡ Err e
 first_refused m e h =
     ap (λ (r : Result (List Node × DataSpace) NodeFault). then_child (then_child r packages) slot) h
+
+-- what the two behind the root come to
+pub rest_is :
+    (m m1 : DataSpace) (ns : List Node) (r : Result (List Node × DataSpace) NodeFault)
+    → named_child [] m 0 board ≡ Ok (ns, m1) → then_child (named_child ns m1 0 packages) slot ≡ r
+    → first_tree m ≡ r
+rest_is m m1 ns r f h =
+    ap (λ (r : Result (List Node × DataSpace) NodeFault). then_child (then_child r packages) slot) f ∙ h
+
+pub packages_refused :
+    (m : DataSpace) (ns : List Node) (e : NodeFault) → named_child ns m 0 packages ≡ Err e
+    → then_child (named_child ns m 0 packages) slot ≡ Err e
+packages_refused m ns e h = ap (λ (r : Result (List Node × DataSpace) NodeFault). then_child r slot) h
+
+pub slot_is :
+    (m m2 : DataSpace) (ns ns2 : List Node) (r : Result (List Node × DataSpace) NodeFault)
+    → named_child ns m 0 packages ≡ Ok (ns2, m2) → named_child ns2 m2 0 slot ≡ r
+    → then_child (named_child ns m 0 packages) slot ≡ r
+slot_is m m2 ns ns2 r g h = ap (λ (r : Result (List Node × DataSpace) NodeFault). then_child r slot) g ∙ h
+
+pub ruleset thens = (packages_refused, slot_is)
+
+pub ruleset first_thens = (first_refused, rest_is)
 
 second_refused :
     (m m1 : DataSpace) (ns : List Node) (e : NodeFault) → named_child [] m 0 board ≡ Ok (ns, m1)
     → named_child ns m1 0 packages ≡ Err e → first_tree m ≡ Err e
-second_refused m m1 ns e f h =
-    ap (λ (r : Result (List Node × DataSpace) NodeFault). then_child (then_child r packages) slot) f
-    ∙ ap (λ (r : Result (List Node × DataSpace) NodeFault). then_child r slot) h
+second_refused m m1 ns e f h = rest_is m m1 ns (Err e) f (packages_refused m1 ns e h)
 
 third_is :
     (m m1 m2 : DataSpace) (ns ns2 : List Node) (r : Result (List Node × DataSpace) NodeFault)
     → named_child [] m 0 board ≡ Ok (ns, m1) → named_child ns m1 0 packages ≡ Ok (ns2, m2)
     → named_child ns2 m2 0 slot ≡ r → first_tree m ≡ r
-third_is m m1 m2 ns ns2 r f g h =
-    ap (λ (r : Result (List Node × DataSpace) NodeFault). then_child (then_child r packages) slot) f
-    ∙ (ap (λ (r : Result (List Node × DataSpace) NodeFault). then_child r slot) g ∙ h)
-
-pub all_made :
-    (m m1 m2 m3 : DataSpace) (ns ns2 ns3 : List Node) → named_child [] m 0 board ≡ Ok (ns, m1)
-    → named_child ns m1 0 packages ≡ Ok (ns2, m2) → named_child ns2 m2 0 slot ≡ Ok (ns3, m3)
-    → first_tree m ≡ Ok (ns3, m3)
-all_made m m1 m2 m3 ns ns2 ns3 f g h = third_is m m1 m2 ns ns2 (Ok (ns3, m3)) f g h
+third_is m m1 m2 ns ns2 r f g h = rest_is m m1 ns r f (slot_is m1 m2 ns ns2 r g h)
 
 -- ---- room for a name
 
@@ -138,7 +151,7 @@ names_fit m e l h =
     let b = fitting [] m board (omega arith) in
     let p = fitting b.nodes b.after packages (omega (arith, b.ends)) in
     let s = fitting p.nodes p.after slot (omega (arith, b.ends, p.ends)) in
-    let done = all_made m b.after p.after s.after b.nodes p.nodes s.nodes b.made p.made s.made in
+    let done = third_is m b.after p.after b.nodes p.nodes (Ok (s.nodes, s.after)) b.made p.made s.made in
     never (first_tree m) (s.nodes, s.after) e done h
 
 third_full : (m : DataSpace) (b : IsMade [] m board) (p : IsMade b.nodes b.after packages) → property_room m < 37
@@ -165,20 +178,4 @@ first_full false m l e = first_refused m PropertyFull (full [] m board (is_more 
 pub names_full : (m : DataSpace) → property_room m < 37 → first_tree m ≡ Err PropertyFull
 names_full m l = first_full (nat_le (end_with m board) property_limit) m l refl
 
--- ---- a refusal behind the test of the room
-
-pub first_never : (m : DataSpace) (e : NodeFault) → 37 ≤ property_room m → named_child [] m 0 board ≡ Err e → ⊥
-first_never m e l h = names_fit m e l (first_refused m e h)
-
-pub second_never :
-    (m m1 : DataSpace) (ns : List Node) (e : NodeFault) → 37 ≤ property_room m
-    → named_child [] m 0 board ≡ Ok (ns, m1) → named_child ns m1 0 packages ≡ Err e → ⊥
-second_never m m1 ns e l f h = names_fit m e l (second_refused m m1 ns e f h)
-
-pub third_never :
-    (m m1 m2 : DataSpace) (ns ns2 : List Node) (e : NodeFault) → 37 ≤ property_room m
-    → named_child [] m 0 board ≡ Ok (ns, m1) → named_child ns m1 0 packages ≡ Ok (ns2, m2)
-    → named_child ns2 m2 0 slot ≡ Err e → ⊥
-third_never m m1 m2 ns ns2 e l f g h = names_fit m e l (third_is m m1 m2 ns ns2 (Err e) f g h)
-
-pub ruleset firsts = (names_full, first_never, second_never, third_never, all_made)
+pub ruleset refusals = (names_full, names_fit)

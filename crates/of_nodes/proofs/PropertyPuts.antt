@@ -1,10 +1,9 @@
 -- Values that were put into the property region, and those that stand before them.
-use Rattle.std.proofs.Common.{◌≡◌, ℕ, zero, suc, ◌+◌, ◌/◌, ◌%◌, ◌<◌, ◌≤◌, ◌≢◌, nat_le, nat_lt, eqb, not, Bool}
+use Rattle.std.proofs.Common.{◌≡◌, ℕ, zero, suc, ◌+◌, ◌/◌, ◌%◌, ◌<◌, ◌≤◌, nat_le, nat_lt, not, Bool}
 use Rattle.std.proofs.Math.Nat.{mod-one}
 use Rattle.std.proofs.Common.{true, false, List, length, take, drop, Option, Some, None, Result, Ok, Err}
 use Rattle.std.proofs.Common.{refl, ap, sym, ◌∙◌, inl, inr, arith, if◌then◌else◌}
 use Rattle.std.proofs.lemmas.Bool.{cases_eq, leb-true, lt-ltb, ne_eqb}
-use Rattle.std.proofs.lemmas.Bool.Decides.{nat_tests}
 use Rattle.std.proofs.lemmas.List.{places, same_lists}
 use Rattle.of_memory.specs.Access.{all_from, are_readable, read_bytes, read_fault}
 use Rattle.of_memory.specs.DataSpace.{DataSpace, bytes_from, is_readable, splice, written}

@@ -35,12 +35,15 @@ pub(crate) fn node_name<'a>(memory: &'a Memory, node: &Node) -> &'a [u8]
     }
 }
 
+/// The most cells that an address has.
+const MOST_CELLS: u32 = 4;
+
 /// How many cells an address has by a number: 1 to 4, else 2.
 fn cells_by(count: u32) -> usize
     ensures value { result ≡ cells_by count }
     ensures few { result ≤ 4 }
 {
-    if 1 <= count && count <= 4 {
+    if 1 <= count && count <= MOST_CELLS {
         count as usize
     } else {
         2

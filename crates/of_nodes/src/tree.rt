@@ -1,4 +1,5 @@
-ghost use Rattle.std.specs.Prelude.{◌≡◌, ◌<◌, ◌≤◌, ◌+◌, ◌-◌, ◌⊎◌, List, max, length, drop, take, nat_le, codes};
+ghost use Rattle.std.specs.Prelude.{◌≡◌, ◌<◌, ◌≤◌, ◌+◌, ◌-◌, ◌⊎◌, ◌∷◌, ◌++◌, [], List, max, length, drop};
+ghost use Rattle.std.specs.Prelude.{take, nat_le, codes};
 ghost use Rattle.std.specs.Prelude.{option_map};
 ghost use Rattle.std.specs.Prelude.{Ok, Err, IfErr, IfOk, IfSome, MatchResult, OnErr, OnOk, vec_capacity, vec_len};
 ghost use Rattle.std.specs.Option.{option_or};
@@ -7,7 +8,7 @@ ghost use Rattle.of_nodes.specs.Nodes.{AreNodes, AreRooted, after_found, behind_
 ghost use Rattle.of_nodes.specs.Nodes.{first_tree, method_added, method_found};
 ghost use Rattle.of_nodes.specs.Nodes.{method_placed, method_taken_back, most_nodes, named_child, next_found};
 ghost use Rattle.of_nodes.specs.Nodes.{node_added, node_at, number_of, parent_found, peer_found, property_deleted};
-ghost use Rattle.of_nodes.specs.Nodes.{property_found, property_placed, tree_property_set};
+ghost use Rattle.of_nodes.specs.Nodes.{property_found, property_placed, then_child, tree_property_set};
 ghost use Rattle.of_cells.specs.Outcomes.{Answers, MayAnswer, MayBecome};
 ghost use Rattle.of_nodes.specs.Outcomes.{IsForMemory};
 ghost use Rattle.of_nodes.specs.Paths.{cells_found, component_found, path_found};
@@ -158,28 +159,97 @@ fn push_named(
     Ok(())
 }
 
+/// Places for the names of the first three nodes, taken before anything changes.
+#[derive(Drop)]
+struct FirstNames {
+    root: Place,
+    packages: Place,
+    slot: Place,
+}
+
+impl FirstNames {
+    /// Places for the property `name`, three times; NoMemory.
+    fn new(alloc: Global) -> Result<FirstNames, NodeFault>
+        ensures root { IfOk result (λ p. p.root ≡ codes "name") }
+        ensures packages { IfOk result (λ p. p.packages ≡ codes "name") }
+        ensures slot { IfOk result (λ p. p.slot ≡ codes "name") }
+        ensures refused { IfErr result (λ e. e ≡ NodeFault.NoMemory) }
+    {
+        let root = Place::new(alloc, b"name")?;
+        let packages = Place::new(alloc, b"name")?;
+        let slot = Place::new(alloc, b"name")?;
+        Ok(FirstNames {
+            root,
+            packages,
+            slot,
+        })
+    }
+}
+
+/// Makes `/packages` and `/slot`, for which there is room.
+#[tactic(auto, using(crate::proofs::FirstTree::thens))]
+fn push_packages(
+    nodes: &mut Vec<Node>,
+    alloc: Global,
+    memory: &mut Memory,
+    packages: Place,
+    slot: Place,
+) -> Result<(), NodeFault>
+    requires room { vec_len nodes.old + 1 < vec_capacity nodes.old }
+    requires packages { packages ≡ codes "name" }
+    requires slot { slot ≡ codes "name" }
+    requires rooted { AreRooted 0 nodes.old.items }
+    ensures made { let first = named_child nodes.old.items memory.old 0 (codes "packages" ++ 0 ∷ []) in
+        OnOk result (then_child first (codes "slot" ++ 0 ∷ []) ≡ Ok (nodes.new.items, memory.new)) }
+    ensures refused { let first = named_child nodes.old.items memory.old 0 (codes "packages" ++ 0 ∷ []) in
+        IfErr result (λ e. then_child first (codes "slot" ++ 0 ∷ []) ≡ Err e) }
+    ensures still_rooted { OnOk result (AreRooted 0 nodes.new.items) }
+    ensures len { OnOk result (vec_len nodes.new ≡ vec_len nodes.old + 2) }
+{
+    push_named(nodes, alloc, memory, packages, b"packages\0")?;
+    push_named(nodes, alloc, memory, slot, b"slot\0")?;
+    Ok(())
+}
+
+/// Makes the first three nodes, for which there is room.
+#[tactic(auto, using(crate::proofs::FirstTree::first_thens))]
+fn push_first(
+    nodes: &mut Vec<Node>,
+    alloc: Global,
+    memory: &mut Memory,
+    names: FirstNames,
+) -> Result<(), NodeFault>
+    requires room { vec_len nodes.old + 2 < vec_capacity nodes.old }
+    requires none { nodes.old.items ≡ [] }
+    requires root { names.root ≡ codes "name" }
+    requires packages { names.packages ≡ codes "name" }
+    requires slot { names.slot ≡ codes "name" }
+    ensures made { OnOk result (first_tree memory.old ≡ Ok (nodes.new.items, memory.new)) }
+    ensures refused { IfErr result (λ e. first_tree memory.old ≡ Err e) }
+    ensures nodes { OnOk result (AreNodes nodes.new.items) }
+{
+    push_named(nodes, alloc, memory, names.root, b"board\0")?;
+    push_packages(nodes, alloc, memory, names.packages, names.slot)
+}
+
 impl Tree {
     /// The tree at first: `/`, which has the name `board`, and its children `/packages` and `/slot`.
     ///
     /// PropertyFull, if the names don't fit into the property region; or NoMemory. Then nothing changes, in
     /// memory either.
-    #[tactic(auto, using(crate::proofs::FirstTree::firsts))]
+    #[tactic(auto, using(crate::proofs::FirstTree::refusals))]
     pub fn new(alloc: Global, memory: &mut Memory) -> Result<Tree, NodeFault>
         ensures made { IfOk result (λ t. first_tree memory.old ≡ Ok (t, memory.new)) }
         ensures refused { IfErr result (λ e. (e ≡ NodeFault.NoMemory) ⊎ (first_tree memory.old ≡ Err e)) }
         ensures unchanged { OnErr result (memory.new ≡ memory.old) }
     {
         let mut nodes = Vec::with_capacity(alloc, 3)?;
-        let root = Place::new(alloc, b"name")?;
-        let packages = Place::new(alloc, b"name")?;
-        let slot = Place::new(alloc, b"name")?;
+        let names = FirstNames::new(alloc)?;
         if memory.property_room() < FIRST_NAMES {
             return Err(NodeFault::PropertyFull);
         }
         // There is room, so none is refused.
-        push_named(&mut nodes, alloc, memory, root, b"board\0")?;
-        push_named(&mut nodes, alloc, memory, packages, b"packages\0")?;
-        push_named(&mut nodes, alloc, memory, slot, b"slot\0")?;
+        push_first(&mut nodes, alloc, memory, names)?;
         Ok(Tree { nodes, alloc })
     }
 

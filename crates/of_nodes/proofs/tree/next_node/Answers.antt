@@ -3,3 +3,6 @@ use Rattle.of_nodes.proofs.tree.next_node.Goals as goal
 
 pub returns-in-Some-clause-value : goal.returns-in-Some-clause-value
 returns-in-Some-clause-value c = search rules
+
+pub returns-in-None-clause-value : goal.returns-in-None-clause-value
+returns-in-None-clause-value c = search rules

@@ -3,3 +3,6 @@ use Rattle.of_nodes.proofs.tree.Tree.peer.Goals as goal
 
 pub returns-in-Some : goal.returns-in-Some
 returns-in-Some c = search rules
+
+pub returns-in-None : goal.returns-in-None
+returns-in-None c = search rules
