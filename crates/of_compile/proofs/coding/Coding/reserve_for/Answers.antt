@@ -2,5 +2,5 @@
 use Rattle.std.proofs.Common.{rules}
 use Rattle.of_compile.proofs.coding.Coding.reserve_for.Goals as goal
 
-pub returns-clause-refused : goal.returns-clause-refused
-returns-clause-refused g c = search rules
+pub returns-clause-ready : goal.returns-clause-ready
+returns-clause-ready g c = search rules

@@ -1,0 +1,9 @@
+-- The goals at which wrong bodies are refused.
+use Rattle.std.proofs.Common.{rules}
+use Rattle.of_compile.proofs.words.Words.awaited.Goals as goal
+
+pub returns-then-self : goal.returns-then-self
+returns-then-self c = search rules
+
+pub returns-else-self : goal.returns-else-self
+returns-else-self c = search rules
