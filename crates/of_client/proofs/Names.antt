@@ -14,7 +14,8 @@ use Rattle.of_nodes.specs.PropertyLaw.{PropertiesAreFound, names_found}
 use Rattle.of_nodes.specs.Properties.{same_name, value_in, value_next}
 use Rattle.of_nodes.specs.Stored.{AreStored, StoredStays}
 use Rattle.of_client.specs.Laws.{NamesAreMet}
-use Rattle.of_client.specs.Services.{Reply, behind_name, bytes_read, name_bytes, number}
+use Rattle.of_client.specs.Services.{Reply, behind_name, name_bytes, number}
+use Rattle.of_nodes.specs.Properties.{bytes_read}
 
 same_ok : (xs ys : List (List ℕ)) → ◌≡◌ {A = Result (List (List ℕ)) NodeFault} (Ok xs) (Ok ys) → xs ≡ ys
 same_ok xs ys e = cc

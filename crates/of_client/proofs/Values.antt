@@ -19,7 +19,8 @@ use Rattle.of_nodes.specs.declared.tree.Node.{Node}
 use Rattle.of_nodes.specs.Nodes.{property_found, tree_property_set}
 use Rattle.of_nodes.specs.PropertyLaw.{Holds, PropertiesAreFound}
 use Rattle.of_client.specs.Laws.{ValuesAreGot}
-use Rattle.of_client.specs.Services.{Reply, bytes_of, bytes_read, number, value_bytes, value_length}
+use Rattle.of_nodes.specs.Properties.{bytes_at, bytes_read}
+use Rattle.of_client.specs.Services.{Reply, number, value_bytes, value_length}
 
 -- ---- a range that was read
 
@@ -74,7 +75,7 @@ part_of : RangesArePlaced → PropertiesAreFound → (m after : DataSpace) (ns n
 part_of g l m after ns nodes ph name value room s sound e =
     let set = l.set m after ns nodes ph name value s e in
     ap (value_bytes after room) set.found
-    ∙ ap (λ (k : Cell). (k, take room (bytes_of after set.property.value)))
+    ∙ ap (λ (k : Cell). (k, take room (bytes_at after set.property.value)))
     (as_long g after set.property.value value sound set.value_bytes)
     ∙ ap (λ r. (cell (length value), take room (bytes_read r))) set.value_bytes
 

@@ -3,17 +3,15 @@ use Rattle.std.specs.Prelude.{ℕ, ◌-◌, ◌^◌, nat_eq, Bool, true, false, 
 use Rattle.std.specs.Prelude.{Result, Ok, Err, if◌then◌else◌}
 use Rattle.of_cells.specs.Numbers.{cell}
 use Rattle.of_cells.specs.declared.cells.Cell.{Cell}
-use Rattle.of_memory.specs.Access.{read_bytes}
 use Rattle.of_memory.specs.DataSpace.{DataSpace}
-use Rattle.of_memory.specs.declared.fault.MemFault.{MemFault}
 use Rattle.of_nodes.specs.declared.fault.NodeFault.{NodeFault}
 use Rattle.of_nodes.specs.declared.phandles.Phandle.{Phandle}
 use Rattle.of_nodes.specs.declared.properties.Property.{Property}
-use Rattle.of_nodes.specs.declared.properties.Span.{Span}
 use Rattle.of_nodes.specs.declared.tree.Node.{Node}
 use Rattle.of_nodes.specs.Lookup.{found}
 use Rattle.of_nodes.specs.Nodes.{child_found, next_found, parent_found, peer_found, phandle_of, property_found}
 use Rattle.of_nodes.specs.Paths.{path_found}
+use Rattle.of_nodes.specs.Properties.{bytes_at}
 use Rattle.of_ihandles.specs.Instances.{package_of}
 use Rattle.of_ihandles.specs.Table.{InstanceTable}
 use Rattle.of_ihandles.specs.declared.instance_fault.InstanceFault.{InstanceFault}
@@ -51,14 +49,6 @@ package_handle (Err fault) = missing
 
 -- ---- properties
 
--- the bytes that a property has in the data space; what can't be read has none
-abbrev pub bytes_read : Result (List ℕ) MemFault → List ℕ
-bytes_read (Ok bytes) = bytes
-bytes_read (Err fault) = []
-
-abbrev pub bytes_of : DataSpace → Span → List ℕ
-bytes_of m s = bytes_read (read_bytes m s.address.0 s.length.0)
-
 -- `getproplen`: how many bytes the value has
 abbrev pub value_length : Result (Option Property) NodeFault → Reply
 value_length (Ok (Some p)) = (p.value.length, [])
@@ -67,13 +57,13 @@ value_length (Err fault) = missing
 
 -- `getprop`: how many bytes the value has, and the first of them, as many as there is room for
 abbrev pub value_bytes : DataSpace → ℕ → Result (Option Property) NodeFault → Reply
-value_bytes m room (Ok (Some p)) = (p.value.length, take room (bytes_of m p.value))
+value_bytes m room (Ok (Some p)) = (p.value.length, take room (bytes_at m p.value))
 value_bytes m room (Ok None) = missing
 value_bytes m room (Err fault) = missing
 
 -- 1 and a name, or 0 behind the last
 abbrev pub name_bytes : DataSpace → Result (Option Property) NodeFault → Reply
-name_bytes m (Ok (Some p)) = (cell 1, bytes_of m p.name)
+name_bytes m (Ok (Some p)) = (cell 1, bytes_at m p.name)
 name_bytes m (Ok None) = number 0
 name_bytes m (Err fault) = missing
 

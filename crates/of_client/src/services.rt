@@ -1,5 +1,5 @@
 ghost use Rattle.std.specs.Prelude.{◌≡◌, [], true, nat_eq, take, length, IfOk, OnErr};
-ghost use Rattle.of_client.specs.Services.{bytes_of, found_handle, handle, has_bytes, name_bytes, next_name};
+ghost use Rattle.of_client.specs.Services.{found_handle, handle, has_bytes, name_bytes, next_name};
 ghost use Rattle.of_client.specs.Services.{package_handle, path_bytes, relative, reply_to, service_of, value_bytes};
 ghost use Rattle.of_client.specs.Services.{value_length};
 ghost use Rattle.of_nodes.specs.Paths.{path_found};
@@ -8,7 +8,7 @@ use crate::calls::{ClientCall, ClientReply};
 use of_cells::Cell;
 use of_ihandles::{InstanceFault, Instances};
 use of_memory::Memory;
-use of_nodes::{NodeFault, Phandle, Property, Span, Tree};
+use of_nodes::{NodeFault, Phandle, Property, Tree};
 use std::alloc::{AllocError, Global};
 
 /// What a bad handle, an unknown path, property or previous name is answered.
@@ -81,16 +81,6 @@ fn first(bytes: &[u8], room: u32) -> &[u8]
     &bytes[..bytes.len().min(room as usize)]
 }
 
-/// The bytes at a place in the data space.
-fn bytes_of<'a>(memory: &'a Memory, span: Span) -> &'a [u8]
-    ensures { result.now ≡ bytes_of memory.now span }
-{
-    match memory.slice(span.address, span.length) {
-        Ok(bytes) => bytes,
-        Err(_) => &[],
-    }
-}
-
 /// `getproplen`
 fn value_length(found: Result<Option<Property>, NodeFault>) -> Cell
     ensures { (result, []) ≡ value_length found }
@@ -112,7 +102,7 @@ fn value_bytes(
 {
     match found {
         Ok(Some(property)) => {
-            let bytes = first(bytes_of(memory, property.value), room);
+            let bytes = first(property.value.bytes(memory), room);
             with_bytes(alloc, property.value.length, bytes)
         }
         _ => Ok(bare(alloc, MISSING)),
@@ -128,7 +118,7 @@ fn name_bytes(
     ensures { IfOk result (λ r. (r.number, r.bytes.items) ≡ name_bytes memory.now next) }
 {
     match next {
-        Ok(Some(property)) => with_bytes(alloc, Cell(1), bytes_of(memory, property.name)),
+        Ok(Some(property)) => with_bytes(alloc, Cell(1), property.name.bytes(memory)),
         Ok(None) => Ok(bare(alloc, Cell(0))),
         Err(_) => Ok(bare(alloc, MISSING)),
     }

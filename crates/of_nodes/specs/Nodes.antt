@@ -100,6 +100,10 @@ next_found ns ph name = by_phandle ns ph (λ i. Ok (value_next (properties_in ns
 abbrev pub property_placed : List Node → Phandle → ℕ → Result (Option Property) NodeFault
 property_placed ns ph place = by_phandle ns ph (λ i. Ok (value_at (properties_in ns i) place))
 
+-- how many there are
+abbrev pub properties_counted : List Node → Phandle → Result ℕ NodeFault
+properties_counted ns ph = by_phandle ns ph (λ i. Ok (length (properties_in ns i)))
+
 -- the nodes with what was set at node i
 abbrev pub set_in :
     List Node → ℕ → Result (List (List ℕ × Property) × DataSpace) NodeFault → Result (List Node × DataSpace) NodeFault

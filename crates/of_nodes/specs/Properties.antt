@@ -3,6 +3,7 @@ use Rattle.std.specs.Prelude.{ℕ, zero, suc, ◌==◌, Bool, List, [], ◌∷�
 use Rattle.std.specs.Prelude.{if◌then◌else◌, nat_eq}
 use Rattle.std.specs.Cmp.Lexicographic.{pointwise}
 use Rattle.std.specs.Global.{Vec}
+use Rattle.of_memory.specs.Access.{read_bytes}
 use Rattle.of_memory.specs.DataSpace.{DataSpace}
 use Rattle.of_memory.specs.Growth.{named_put, property_put}
 use Rattle.of_memory.specs.declared.fault.MemFault.{MemFault}
@@ -33,6 +34,15 @@ replaced (e ∷ es) name v = if same_name name e.0 then (e.0, v) ∷ es else e �
 abbrev pub value_in : {V : Type 0} → List (List ℕ × V) → List ℕ → Option V
 value_in [] name = None
 value_in (e ∷ es) name = if same_name name e.0 then Some e.1 else value_in es name
+
+-- the bytes that were read, or none
+abbrev pub bytes_read : Result (List ℕ) MemFault → List ℕ
+bytes_read (Ok bytes) = bytes
+bytes_read (Err fault) = []
+
+-- the bytes that lie at a span; none where they can't be read
+abbrev pub bytes_at : DataSpace → Span → List ℕ
+bytes_at m s = bytes_read (read_bytes m s.address.0 s.length.0)
 
 -- n bytes from an address on
 abbrev pub span : ℕ → ℕ → Span

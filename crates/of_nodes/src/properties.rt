@@ -2,7 +2,7 @@ ghost use Rattle.std.specs.Prelude.{◌≡◌, ◌<◌, [], ◌+◌, ◌^◌, le
 ghost use Rattle.std.specs.Prelude.{MatchOption};
 ghost use Rattle.indexmap.specs.IndexMap.{spare};
 ghost use Rattle.of_memory.specs.Growth.{property_put};
-ghost use Rattle.of_nodes.specs.Properties.{named, property_set, stored, value_at, value_behind, value_in};
+ghost use Rattle.of_nodes.specs.Properties.{bytes_at, named, property_set, stored, value_at, value_behind, value_in};
 ghost use Rattle.of_nodes.specs.Properties.{value_next, with_entry, with_value, without};
 ghost use Rattle.of_cells.specs.Outcomes.{Answers, MayBecome};
 ghost use Rattle.of_nodes.specs.Outcomes.{IsForMemory};
@@ -21,6 +21,18 @@ pub struct Span {
     pub address: Cell,
     /// How many bytes there are.
     pub length: Cell,
+}
+
+impl Span {
+    /// The bytes of the data space that lie there; none where they can't be read.
+    pub fn bytes(self, memory: &Memory) -> &[u8]
+        ensures { result.now ≡ bytes_at memory.now self }
+    {
+        match memory.slice(self.address, self.length) {
+            Ok(bytes) => bytes,
+            Err(_) => &[],
+        }
+    }
 }
 
 /// A property: where its name lies, and where its value does.
@@ -161,6 +173,13 @@ impl Properties {
         Properties {
             entries: IndexMap::new(alloc),
         }
+    }
+
+    /// How many properties there are.
+    pub(crate) fn count(&self) -> usize
+        ensures { result ≡ length self.now }
+    {
+        self.entries.len()
     }
 
     /// The property of the name, if there is one.

@@ -8,7 +8,8 @@ ghost use Rattle.of_nodes.specs.Nodes.{AreNodes, AreRooted, after_found, behind_
 ghost use Rattle.of_nodes.specs.Nodes.{first_tree, method_added, method_found};
 ghost use Rattle.of_nodes.specs.Nodes.{method_placed, method_taken_back, most_nodes, named_child, next_found};
 ghost use Rattle.of_nodes.specs.Nodes.{node_added, node_at, number_of, parent_found, peer_found, property_deleted};
-ghost use Rattle.of_nodes.specs.Nodes.{property_found, property_placed, then_child, tree_property_set};
+ghost use Rattle.of_nodes.specs.Nodes.{properties_counted, property_found, property_placed, then_child};
+ghost use Rattle.of_nodes.specs.Nodes.{tree_property_set};
 ghost use Rattle.of_cells.specs.Outcomes.{Answers, MayAnswer, MayBecome};
 ghost use Rattle.of_nodes.specs.Outcomes.{IsForMemory};
 ghost use Rattle.of_nodes.specs.Paths.{cells_found, component_found, path_found};
@@ -267,6 +268,14 @@ impl Tree {
         }
     }
 
+    /// How many nodes there are: the first three at least and at most 1,024, each made after the one above it.
+    pub fn node_count(&self) -> usize
+        ensures count { result ≡ length self.now }
+        ensures nodes { AreNodes self.now }
+    {
+        self.nodes.as_slice().len()
+    }
+
     /// The node above a node; the root has none.
     ///
     /// NoNode, if there is no such node.
@@ -377,6 +386,16 @@ impl Tree {
     {
         let number = self.number_of(node)?;
         Ok(node_at(&self.nodes, number).properties.next(name))
+    }
+
+    /// How many properties a node has.
+    ///
+    /// NoNode, if there is no such node.
+    pub fn property_count(&self, node: Phandle) -> Result<usize, NodeFault>
+        ensures { result ≡ properties_counted self.now node }
+    {
+        let number = self.number_of(node)?;
+        Ok(node_at(&self.nodes, number).properties.count())
     }
 
     /// The property at a place in the order of a node, the first at 0, if it has so many.

@@ -170,14 +170,17 @@ fn property_of(tree: &Tree, call: &Call<'_>) -> Result<Option<Property>, NodeFau
     }
 }
 
-/// How many cells an address below a node has.
+/// How many cells an address below a node has, or how many properties it has.
 fn shown_count(
     alloc: Global,
     tree: &Tree,
     memory: &Memory,
-    node: Phandle,
+    call: &Call<'_>,
 ) -> Result<String, NodeFault> {
-    let count = tree.address_cells(memory, node)?;
+    let count = match call.call {
+        "address_cells" => tree.address_cells(memory, call.node())?,
+        _ => tree.property_count(call.node())?,
+    };
     Ok(format!(in alloc; "{count}")?)
 }
 
@@ -190,7 +193,7 @@ fn had(alloc: Global, tree: &Tree, memory: &Memory, call: &Call<'_>) -> Result<S
         }
         "method" => Ok(shown_xt(alloc, tree.method(node, call.name)?)?),
         "method_at" => Ok(shown_method(alloc, tree.method_at(node, call.place())?)?),
-        "address_cells" => shown_count(alloc, tree, memory, node),
+        "address_cells" | "property_count" => shown_count(alloc, tree, memory, call),
         "byte" => Ok(shown_byte(alloc, memory, node.0)?),
         "component_of" | "path_of" => named(alloc, tree, memory, call),
         _ => Ok(shown_node(alloc, led_to(tree, memory, call)?)?),

@@ -55,9 +55,12 @@ next_property d000000c reg = -
 property_at d000000c 0 = 200038 3 20003c 4
 property_at d000000c 1 = -
 property_at d0000010 0 = no such node
+property_count d000000c = 1
+property_count d0000010 = no such node
 delete_property d000000c reg = done
 property d000000c reg = -
 property_at d000000c 0 = -
+property_count d000000c = 0
 ";
 
 /// A node that is taken back is none, and its phandle is that of the next.
