@@ -9,7 +9,8 @@ use Rattle.of_stream.specs.declared.stream.OffsetSize.TheVariants as size
 use Rattle.of_source.specs.declared.fault.SourceFault.{SourceFault}
 use Rattle.of_source.specs.Items.{Source}
 use Rattle.of_source.specs.Nest.{IsNested}
-use Rattle.of_source.specs.Scan.{Rest, rest_at, left_of, start_of, next_word, Found, plain_string, line_end, last_place}
+use Rattle.of_scan.specs.Scan.{Rest, rest_at, left_of, start_of, next_word, Found, plain_string, line_end}
+use Rattle.of_source.specs.Places.{last_place}
 use Rattle.of_source.specs.Steps.{State, Step, Goes, Ends, Fails, beginning, next_step}
 use Rattle.of_source.specs.Parsing.{Beyond, Word, Nothing, Bad, is_word, skipped_comment, beyond_word, beyond, trailed}
 use Rattle.of_source.specs.Parsing.{stepped, words, begun, misplaced, parsed}
@@ -17,8 +18,8 @@ use Rattle.of_source.specs.Phrases.{Spelled, Beginning, Ending, Known, taken, wr
 use Rattle.of_source.specs.Phrases.{all_written, version_word, text_of, moved, behind, all_behind, place_behind}
 use Rattle.of_source.specs.Phrases.{nothing_known, begun_with, items_in}
 use Rattle.of_source.specs.Phrases as phrase
-use Rattle.of_source.specs.Written.{IsWord, AreBlanks, EndsWord, IsRemark, AreRemarks, IsBegun, IsSaid}
-use Rattle.of_source.specs.Written.{AreSaid, EndsLine}
+use Rattle.of_scan.specs.Words.{IsWord, AreBlanks, EndsWord, EndsLine}
+use Rattle.of_source.specs.Written.{IsRemark, AreRemarks, IsBegun, IsSaid, AreSaid}
 use Rattle.of_source.specs.Faults.{HasWord}
 use Rattle.of_source.specs.Accepted.{IsWritten, AcceptedIsWritten}
 use Rattle.of_source.proofs.Kept.{Inv, Kept, kept, parsed_nested}

@@ -30,8 +30,8 @@ use Rattle.of_source.specs.Phrases.{behind}
 use Rattle.of_source.specs.Phrases.{each_written, end_written, items_in, items_of, moved, taken, text_of, written}
 use Rattle.of_source.specs.Phrases as phrase
 use Rattle.of_source.specs.Shapes.{Shape, nothing, floor_of, is_even, closing, opens, pushed, run, shape_of, when}
-use Rattle.of_source.specs.Written.{AreBlanks, AreSaid, EndsWord, IsBegun}
-use Rattle.of_source.specs.Written.{IsPlaced, IsSaid, IsWord}
+use Rattle.of_scan.specs.Words.{AreBlanks, EndsWord, IsWord}
+use Rattle.of_source.specs.Written.{AreSaid, IsBegun, IsPlaced, IsSaid}
 use Rattle.of_source.proofs.FaultsBack.{opened_first, opened_runs}
 use Rattle.of_source.proofs.FollowedLemmas.{said_on, begun_on}
 use Rattle.of_source.proofs.Kept.{run-append}

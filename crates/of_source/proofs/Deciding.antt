@@ -7,8 +7,9 @@ use Rattle.of_stream.specs.declared.stream.OffsetSize.{OffsetSize}
 use Rattle.of_stream.specs.declared.stream.OffsetSize.TheVariants as size
 use Rattle.of_source.specs.declared.fault.SourceFault.{SourceFault}
 use Rattle.of_source.specs.Items.{Source}
-use Rattle.of_source.specs.Scan.{Rest, rest_at, left_of, start_of, at_word, word_at, next_word, Found, plain_string}
-use Rattle.of_source.specs.Scan.{line_end, last_place}
+use Rattle.of_scan.specs.Scan.{Rest, rest_at, left_of, start_of, at_word, word_at, next_word, Found, plain_string}
+use Rattle.of_scan.specs.Scan.{line_end}
+use Rattle.of_source.specs.Places.{last_place}
 use Rattle.of_source.specs.Steps.{State, Step, Goes, Ends, Fails, ended, next_step}
 use Rattle.of_source.specs.Parsing.{Beyond, Word, Nothing, Bad}
 use Rattle.of_source.specs.Steps.{beginning}

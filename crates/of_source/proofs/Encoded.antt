@@ -32,7 +32,7 @@ use Rattle.of_source.specs.Effects.{known_with, recursion}
 use Rattle.of_source.specs.Phrases as phrase
 use Rattle.of_source.specs.Shapes.{Shape, nothing, around_of, around_part, closing, is_even, opens, pushed, run, when}
 use Rattle.of_source.specs.Steps.{code_named, named_code, number_token, string_items}
-use Rattle.of_source.specs.Strings.{pieces_bytes}
+use Rattle.of_scan.specs.Strings.{pieces_bytes}
 use Rattle.of_source.specs.Written.{AreSaid, IsKeyword, IsPlaced, own_of}
 use Rattle.of_source.proofs.AcceptedLemmas.{accepted_written}
 use Rattle.of_source.proofs.RunLemmas.{nested_runs, earlier_runs, later_run}

@@ -9,7 +9,8 @@ use Rattle.of_source.specs.declared.fault.SourceFault.TheVariants.{Unclosed, Unk
 use Rattle.of_source.specs.Items.{Source}
 use Rattle.of_source.specs.Nesting.{Nesting, nothing_open}
 use Rattle.of_source.specs.Radix.{base_of}
-use Rattle.of_source.specs.Scan.{Rest, rest_at, last_place}
+use Rattle.of_scan.specs.Scan.{Rest, rest_at}
+use Rattle.of_source.specs.Places.{last_place}
 use Rattle.of_source.specs.Steps.{State, Step, Goes, Ends, Fails, beginning, ended, next_step}
 use Rattle.of_source.specs.Parsing.{Beyond, Word, Nothing, Bad, is_word, beyond, trailed, stepped, words, begun}
 use Rattle.of_source.specs.Parsing.{misplaced, parsed}

@@ -15,18 +15,19 @@ use Rattle.of_source.specs.declared.fault.SourceFault.TheVariants.{Unclosed, Unk
 use Rattle.of_source.specs.declared.keyword.Definer.{Definer}
 use Rattle.of_source.specs.declared.keyword.Keyword.{Keyword}
 use Rattle.of_source.specs.declared.keyword.Keyword.TheVariants as keyword
-use Rattle.of_source.specs.declared.number.Number.{Number}
-use Rattle.of_source.specs.declared.number.Number.TheVariants.{Value, OutOfRange, NoNumber}
+use Rattle.of_scan.specs.declared.numbers.Number.{Number}
+use Rattle.of_scan.specs.declared.numbers.Number.TheVariants.{Value, OutOfRange, NoNumber}
 use Rattle.of_source.specs.Keywords.{keyword_named}
 use Rattle.of_source.specs.Names.{own_in}
-use Rattle.of_source.specs.Numbers.{number_in}
+use Rattle.of_scan.specs.Numbers.{number_in}
 use Rattle.of_source.specs.Radix.{base_of}
 use Rattle.of_source.specs.Items.{Source}
 use Rattle.of_source.specs.Nesting.{Nesting, nothing_open}
 use Rattle.of_source.specs.Nesting.{opened_if, in_definition}
 use Rattle.of_source.specs.Nesting.{is_straight, is_closed, first_open}
 use Rattle.of_source.specs.Shapes.{nothing, run, shape_of}
-use Rattle.of_source.specs.Scan.{Rest, rest_at, start_of, next_word, last_place, Found, plain_string}
+use Rattle.of_scan.specs.Scan.{Rest, rest_at, start_of, next_word, Found, plain_string}
+use Rattle.of_source.specs.Places.{last_place}
 use Rattle.of_source.specs.Steps.{State, Step, Goes, Ends, Fails, beginning, ended, with_next, with_name, name_found}
 use Rattle.of_source.specs.Steps.{with_string, with_code, effect_step, number_or_bad, comment_step, code_named}
 use Rattle.of_source.specs.Steps.{opening, keyword_step, number_word_step, ordinary_step, word_step}
@@ -38,8 +39,8 @@ use Rattle.of_source.specs.Phrases.{Phrase, Spelled, Beginning, Known, written, 
 use Rattle.of_source.specs.Phrases.{items_of, moved, behind, all_behind, place_behind, begun_with}
 use Rattle.of_source.specs.Effects.{effect_of, making_of}
 use Rattle.of_source.specs.Phrases as phrase
-use Rattle.of_source.specs.Written.{AreBlanks, own_of, IsKeyword, IsSaid, AreRemarks}
-use Rattle.of_source.specs.Written.{IsBegun}
+use Rattle.of_scan.specs.Words.{AreBlanks}
+use Rattle.of_source.specs.Written.{own_of, IsKeyword, IsSaid, AreRemarks, IsBegun}
 use Rattle.of_source.specs.Faults.{opened, all_opened, HasWord, TakesWord}
 use Rattle.of_source.specs.Faults.{string_behind, IsWrong, no_opener, left_open, no_word, no_name, no_digits}
 use Rattle.of_source.specs.Faults.{bad_digits, long_name, long_string, no_end, no_code, not_outside, not_inside}

@@ -6,8 +6,9 @@ use Rattle.of_stream.specs.declared.stream.OffsetSize.{OffsetSize}
 use Rattle.of_source.specs.Faults.{AllSaid}
 use Rattle.of_source.specs.Phrases.{Phrase, Spelled, Beginning, Known, behind, each_written, moved, taken, written}
 use Rattle.of_source.specs.Phrases as phrase
-use Rattle.of_source.specs.Scan.{Found, before_found, byte_before, byte_of, group, is_blank, pairs}
-use Rattle.of_source.specs.Written.{AreRemarks, EndsLine, EndsWord, IsBegun, IsFollowed, IsRemark, IsSaid}
+use Rattle.of_scan.specs.Scan.{Found, before_found, byte_before, byte_of, group, is_blank, pairs}
+use Rattle.of_scan.specs.Words.{EndsLine, EndsWord}
+use Rattle.of_source.specs.Written.{AreRemarks, IsBegun, IsFollowed, IsRemark, IsSaid}
 
 -- ---- a group that isn't there
 

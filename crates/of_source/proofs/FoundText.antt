@@ -6,12 +6,12 @@ use Rattle.std.specs.List.{All}
 use Rattle.std.proofs.lemmas.Bool.Decides.{nat_tests}
 use Rattle.std.proofs.lemmas.List.Elements.{All-nil, All-cons}
 use Rattle.of_format.specs.Digits.{digit_value}
-use Rattle.of_source.specs.Scan.{Rest, rest_at, left_of, is_blank, at_word, word_at, Found, byte_before, up_to}
-use Rattle.of_source.specs.Scan.{byte_of, before_found, pairs, group, bytes_before, grouped, and_grouped}
-use Rattle.of_source.specs.Scan.{quoted, quoted_string, plain_string, line_end}
-use Rattle.of_source.specs.Strings.{Digits, Byte, Blank, Piece, digits_written, digits_bytes, pieces_written}
-use Rattle.of_source.specs.Strings.{pieces_bytes, IsWithin, AreDigits, ArePieces}
-use Rattle.of_source.specs.Written.{IsWord, AreBlanks, EndsWord, EndsLine}
+use Rattle.of_scan.specs.Scan.{Rest, rest_at, left_of, is_blank, at_word, word_at, Found, byte_before, up_to, byte_of}
+use Rattle.of_scan.specs.Scan.{before_found, pairs, group, bytes_before, grouped, and_grouped, quoted, quoted_string}
+use Rattle.of_scan.specs.Scan.{plain_string, line_end}
+use Rattle.of_scan.specs.Strings.{Digits, Byte, Blank, Piece, digits_written, digits_bytes, pieces_written}
+use Rattle.of_scan.specs.Strings.{pieces_bytes, IsWithin, AreDigits, ArePieces}
+use Rattle.of_scan.specs.Words.{IsWord, AreBlanks, EndsWord, EndsLine}
 use Rattle.of_source.proofs.ReadingBack.{ends_part, word_there, one_on, left_behind, pieces_append}
 
 -- ---- bytes

@@ -10,15 +10,16 @@ use Rattle.of_stream.specs.Decoding.{Token}
 use Rattle.of_source.specs.declared.nesting.Part.{Part}
 use Rattle.of_source.specs.declared.nesting.Part.TheVariants as part
 use Rattle.of_source.specs.declared.nesting.Frame.{Frame}
-use Rattle.of_source.specs.declared.number.Number.{Number}
-use Rattle.of_source.specs.declared.number.Number.TheVariants.{Value, OutOfRange, NoNumber}
+use Rattle.of_scan.specs.declared.numbers.Number.{Number}
+use Rattle.of_scan.specs.declared.numbers.Number.TheVariants.{Value, OutOfRange, NoNumber}
 use Rattle.of_source.specs.declared.fault.SourceFault.{SourceFault}
 use Rattle.of_source.specs.declared.keyword.Keyword.{Keyword}
 use Rattle.of_source.specs.declared.keyword.Keyword.TheVariants as keyword
 use Rattle.of_source.specs.declared.keyword.Quote.{Quote}
 use Rattle.of_source.specs.declared.keyword.Quote.TheVariants as quote
-use Rattle.of_source.specs.Scan.{Rest, Found, rest_at, left_of, last_place, next_word, plain_string}
-use Rattle.of_source.specs.Numbers.{number_in}
+use Rattle.of_scan.specs.Scan.{Rest, Found, rest_at, left_of, next_word, plain_string}
+use Rattle.of_source.specs.Places.{last_place}
+use Rattle.of_scan.specs.Numbers.{number_in}
 use Rattle.of_source.specs.Radix.{base_of}
 use Rattle.of_source.specs.Keywords.{keyword_named, ordinary_named}
 use Rattle.of_source.specs.Items.{Item, Made, Source, call, string, naming, bare, own_code}

@@ -16,10 +16,10 @@ use Rattle.of_source.specs.declared.keyword.Lone.{Lone}
 use Rattle.of_source.specs.declared.keyword.Lone.TheVariants as lone
 use Rattle.of_source.specs.declared.keyword.Quote.TheVariants as quote
 use Rattle.of_source.specs.declared.keyword.Radix.{Radix}
-use Rattle.of_source.specs.declared.number.Number.TheVariants.{Value}
+use Rattle.of_scan.specs.declared.numbers.Number.TheVariants.{Value}
 use Rattle.of_source.specs.Keywords.{keyword_named, ordinary_named}
 use Rattle.of_source.specs.Names.{Own, own_in}
-use Rattle.of_source.specs.Numbers.{number_in}
+use Rattle.of_scan.specs.Numbers.{number_in}
 use Rattle.of_source.specs.Radix.{base_of}
 use Rattle.of_source.specs.Items.{Item, call, string, naming, making, bare, own_code}
 use Rattle.of_source.specs.Items as item
@@ -27,7 +27,7 @@ use Rattle.of_source.specs.Nesting.{Nesting}
 use Rattle.of_source.specs.Nesting.{in_definition}
 use Rattle.of_source.specs.Nesting.{is_straight}
 use Rattle.of_source.specs.Shapes.{Shape, nothing, run, shape_of}
-use Rattle.of_source.specs.Scan.{Rest, rest_at, left_of, start_of, next_word, Found, group}
+use Rattle.of_scan.specs.Scan.{Rest, rest_at, left_of, start_of, next_word, Found, group}
 use Rattle.of_source.specs.Steps.{State, Step, Goes, giving, reading_on, with_next}
 use Rattle.of_source.specs.Steps.{with_name, name_found, with_string, with_code, ended, effect_step}
 use Rattle.of_source.specs.Steps.{may_stand, string_items}
@@ -36,9 +36,9 @@ use Rattle.of_source.specs.Steps.{keyword_step, number_word_step, ordinary_step,
 use Rattle.of_source.specs.Phrases.{Phrase, Spelled, Known, taken, written, items_of, behind}
 use Rattle.of_source.specs.Effects.{effect_of}
 use Rattle.of_source.specs.Phrases as phrase
-use Rattle.of_source.specs.Strings.{Piece, pieces_bytes, IsWithin, ArePieces}
-use Rattle.of_source.specs.Written.{IsWord, AreBlanks, EndsLine, IsName, LeaveOpen, IsStraight, own_of}
-use Rattle.of_source.specs.Written.{IsKeyword, IsPlaced, IsFollowed}
+use Rattle.of_scan.specs.Strings.{Piece, pieces_bytes, IsWithin, ArePieces}
+use Rattle.of_scan.specs.Words.{IsWord, AreBlanks, EndsLine}
+use Rattle.of_source.specs.Written.{IsName, LeaveOpen, IsStraight, own_of, IsKeyword, IsPlaced, IsFollowed}
 use Rattle.of_source.proofs.ReadingBack.{Parts, ends_part, word_behind, left_behind, line_left, plain_behind}
 use Rattle.of_source.proofs.ReadingBack.{plain_there, quoted_behind}
 use Rattle.of_source.proofs.Opening.{MayStand, then_goes, else_goes, back_goes, repeat_goes, semicolon_goes, loop_goes}

@@ -29,7 +29,7 @@ use Rattle.of_source.specs.Phrases.{Phrase, Spelled, Ending, Known, all_behind, 
 use Rattle.of_source.specs.Phrases as phrase
 use Rattle.of_source.specs.Plain.{AcceptedIsPlain, ArePlain, IsPlain, is_kind, is_plain_code}
 use Rattle.of_source.specs.Steps.{number_token}
-use Rattle.of_source.specs.Strings.{pieces_bytes}
+use Rattle.of_scan.specs.Strings.{pieces_bytes}
 use Rattle.of_source.specs.Written.{AreSaid, IsKeyword, IsPlaced, IsStraight, LeaveOpen}
 use Rattle.of_source.proofs.AcceptedLemmas.{accepted_written}
 use Rattle.of_source.proofs.Tables.{all_pass, each_keyword, named_ordinary}

@@ -6,7 +6,7 @@ use Rattle.of_source.specs.declared.fault.SourceFault.TheVariants.{Unclosed, Unk
 use Rattle.of_source.specs.declared.keyword.Quote.TheVariants as quote
 use Rattle.of_source.specs.Items as item
 use Rattle.of_source.specs.Items.{string, bare}
-use Rattle.of_source.specs.Scan.{Found, left_of, plain_string}
+use Rattle.of_scan.specs.Scan.{Found, left_of, plain_string}
 use Rattle.of_source.specs.Steps.{State, Step, Goes, Ends, Fails, Steps, giving, reading_on, with_string, text_step}
 
 -- `."` prints behind the string of `s"`

@@ -9,15 +9,14 @@ use Rattle.std.proofs.lemmas.List.{length-append}
 use Rattle.std.proofs.lemmas.List.Sums.{take_while-cons}
 use Rattle.std.proofs.lemmas.List.Elements.{All-head, All-tail}
 use Rattle.of_format.specs.Digits.{digit_value}
-use Rattle.of_source.specs.Scan.{Rest, rest_at, left_of, is_blank, at_word, start_of, word_length, word_at, next_word}
-use Rattle.of_source.specs.Scan.{byte_before, up_to, behind_blank, byte_of, pairs, group, bytes_before, grouped}
-use Rattle.of_source.specs.Scan.{and_grouped, quoted, quoted_string, plain_string, line_end}
-use Rattle.of_source.specs.Strings.{Digits, Byte, Blank, Piece, digits_written, digits_bytes, pieces_written}
-use Rattle.of_source.specs.Strings.{pieces_bytes, IsWithin, AreDigits, ArePieces}
+use Rattle.of_scan.specs.Scan.{Rest, rest_at, left_of, is_blank, at_word, start_of, word_length, word_at, next_word}
+use Rattle.of_scan.specs.Scan.{byte_before, up_to, behind_blank, byte_of, pairs, group, bytes_before, grouped}
+use Rattle.of_scan.specs.Scan.{and_grouped, quoted, quoted_string, plain_string, line_end}
+use Rattle.of_scan.specs.Strings.{Digits, Byte, Blank, Piece, digits_written, digits_bytes, pieces_written}
+use Rattle.of_scan.specs.Strings.{pieces_bytes, IsWithin, AreDigits, ArePieces}
 use Rattle.of_source.specs.Steps.{string_found}
 use Rattle.of_source.specs.Phrases.{quote_if}
-use Rattle.of_source.specs.Written.{IsWord, AreBlanks, EndsWord, EndsLine}
-use Rattle.of_source.proofs.Scanning.{passed}
+use Rattle.of_scan.specs.Words.{IsWord, AreBlanks, EndsWord, EndsLine}
 
 -- a text that ends the word before it
 abbrev pub Parts : List ℕ → Type 0
@@ -141,6 +140,11 @@ ends_part (b ∷ text) h = blank_is b h
 
 same_byte : (b : ℕ) → nat_eq b b ≡ true
 same_byte b = grind (arith, nat_tests)
+
+-- a byte that ends nothing
+passed : (end b : ℕ) (text : List ℕ) → (b ≡ end → ⊥) → (b ≡ 10 → ⊥)
+    → up_to end (b ∷ text) ≡ byte_before b (up_to end text)
+passed end b text n m = grind (arith, nat_tests)
 
 -- bytes up to the one that ends them
 pub all_up_to : (end : ℕ) (bytes more : List ℕ) → IsWithin end bytes

@@ -22,11 +22,11 @@ use Rattle.of_source.specs.declared.keyword.Radix.{Radix}
 use Rattle.of_source.specs.declared.nesting.Frame.{Frame}
 use Rattle.of_source.specs.declared.nesting.Part.{Part}
 use Rattle.of_source.specs.declared.nesting.Part.TheVariants as part
-use Rattle.of_source.specs.declared.number.Number.{Number}
-use Rattle.of_source.specs.declared.number.Number.TheVariants.{Value, OutOfRange, NoNumber}
+use Rattle.of_scan.specs.declared.numbers.Number.{Number}
+use Rattle.of_scan.specs.declared.numbers.Number.TheVariants.{Value, OutOfRange, NoNumber}
 use Rattle.of_source.specs.Keywords.{keyword_named, ordinary_named}
 use Rattle.of_source.specs.Names.{Own, own_in}
-use Rattle.of_source.specs.Numbers.{number_in}
+use Rattle.of_scan.specs.Numbers.{number_in}
 use Rattle.of_source.specs.Radix.{base_of}
 use Rattle.of_source.specs.Items.{Item, call, string, naming, bare, own_code}
 use Rattle.of_source.specs.Items as item
@@ -36,8 +36,8 @@ use Rattle.std.specs.Prelude.{not}
 use Rattle.of_source.specs.Nesting.{in_definition}
 use Rattle.of_source.specs.Nesting.{all_definitions, is_straight, is_closed}
 use Rattle.of_source.specs.Shapes.{shape_of}
-use Rattle.of_source.specs.Scan.{Rest, rest_at, left_of, start_of, next_word, Found, plain_string, quoted_string}
-use Rattle.of_source.specs.Scan.{line_end}
+use Rattle.of_scan.specs.Scan.{Rest, rest_at, left_of, start_of, next_word, Found, plain_string, quoted_string}
+use Rattle.of_scan.specs.Scan.{line_end}
 use Rattle.of_source.specs.Steps.{State, Step, Goes, Ends, Fails, giving, opening, reading_on, at_next}
 use Rattle.of_source.specs.Steps.{with_next, with_name, name_found, with_string, with_code, effect_step, may_stand}
 use Rattle.of_source.specs.Steps.{string_items}
@@ -47,8 +47,8 @@ use Rattle.of_source.specs.Steps.{word_step, next_step, ended}
 use Rattle.of_source.specs.Phrases.{Phrase, Spelled, Known, taken, written, items_of, learned, moved, behind}
 use Rattle.of_source.specs.Effects.{effect_of}
 use Rattle.of_source.specs.Phrases as phrase
-use Rattle.of_source.specs.Written.{IsWord, AreBlanks, EndsWord, IsStraight, own_of, IsKeyword, IsPlaced}
-use Rattle.of_source.specs.Written.{IsFollowed, IsSaid}
+use Rattle.of_scan.specs.Words.{IsWord, AreBlanks, EndsWord}
+use Rattle.of_source.specs.Written.{IsStraight, own_of, IsKeyword, IsPlaced, IsFollowed, IsSaid}
 use Rattle.of_source.specs.Faults.{opened, HasWord, IsWrong, no_opener, left_open, no_word}
 use Rattle.of_source.specs.Faults.{no_name}
 use Rattle.of_source.specs.Faults.{no_digits, bad_digits, long_name, long_string, no_end, no_code, not_outside}

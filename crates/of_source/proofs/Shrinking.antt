@@ -9,18 +9,18 @@ use Rattle.of_source.specs.declared.keyword.Keyword.{Keyword}
 use Rattle.of_source.specs.declared.keyword.Keyword.TheVariants as keyword
 use Rattle.of_source.specs.declared.keyword.Quote.{Quote}
 use Rattle.of_source.specs.declared.keyword.Quote.TheVariants as quote
-use Rattle.of_source.specs.declared.number.Number.{Number}
-use Rattle.of_source.specs.declared.number.Number.TheVariants.{Value, OutOfRange, NoNumber}
+use Rattle.of_scan.specs.declared.numbers.Number.{Number}
+use Rattle.of_scan.specs.declared.numbers.Number.TheVariants.{Value, OutOfRange, NoNumber}
 use Rattle.of_cells.specs.declared.cells.Cell.{Cell}
 use Rattle.of_format.specs.Digits.{digit_value}
 use Rattle.of_source.specs.Keywords.{keyword_named, ordinary_named}
 use Rattle.of_source.specs.Names.{own_in}
 use Rattle.of_source.specs.Nesting.{Nesting, in_definition, is_closed}
-use Rattle.of_source.specs.Numbers.{number_in}
+use Rattle.of_scan.specs.Numbers.{number_in}
 use Rattle.of_source.specs.Radix.{base_of}
-use Rattle.of_source.specs.Scan.{Rest, rest_at, left_of, is_blank, at_word, word_length, next_word, Found}
-use Rattle.of_source.specs.Scan.{byte_before, up_to, behind_blank, byte_of, before_found, pairs, group, bytes_before}
-use Rattle.of_source.specs.Scan.{grouped, and_grouped, quoted, quoted_string, plain_string, line_end}
+use Rattle.of_scan.specs.Scan.{Rest, rest_at, left_of, is_blank, at_word, word_length, next_word, Found, byte_before}
+use Rattle.of_scan.specs.Scan.{up_to, behind_blank, byte_of, before_found, pairs, group, bytes_before, grouped}
+use Rattle.of_scan.specs.Scan.{and_grouped, quoted, quoted_string, plain_string, line_end}
 use Rattle.of_source.specs.Steps.{State, Step, Goes, Ends, Fails, opening, reading_on, at_next, with_next}
 use Rattle.of_source.specs.Steps.{with_name}
 use Rattle.of_source.specs.Steps.{name_found, with_string, number_or_bad, number_word_step}

@@ -6,7 +6,8 @@ use Rattle.of_stream.specs.declared.stream.OffsetSize.{OffsetSize}
 use Rattle.of_stream.specs.declared.stream.OffsetSize.TheVariants as size
 use Rattle.of_source.specs.declared.fault.SourceFault.{SourceFault}
 use Rattle.of_source.specs.declared.fault.SourceFault.TheVariants.{Unclosed, Unknown, BadNumber, TooLong, NoMemory}
-use Rattle.of_source.specs.Scan.{Rest, Found, rest_at, left_of, start_of, next_word, plain_string, line_end, last_place}
+use Rattle.of_scan.specs.Scan.{Rest, Found, rest_at, left_of, start_of, next_word, plain_string, line_end}
+use Rattle.of_source.specs.Places.{last_place}
 use Rattle.of_source.specs.Items.{Source}
 use Rattle.of_source.specs.Steps.{State, Goes, Ends, Fails, Steps}
 use Rattle.of_source.specs.Parsing.{Beyond, beyond, skipped_comment, is_word}

@@ -10,7 +10,8 @@ use Rattle.of_stream.specs.declared.stream.OffsetSize.TheVariants as size
 use Rattle.of_source.specs.declared.keyword.Keyword.TheVariants as keyword
 use Rattle.of_source.specs.Nesting.{Nesting, nothing_open, is_closed}
 use Rattle.of_source.specs.Shapes.{Shape, nothing, run, shape_of}
-use Rattle.of_source.specs.Scan.{Rest, rest_at, left_of, start_of, next_word, last_place}
+use Rattle.of_scan.specs.Scan.{Rest, rest_at, left_of, start_of, next_word}
+use Rattle.of_source.specs.Places.{last_place}
 use Rattle.of_source.specs.Steps.{Ends, beginning, at_next, with_next, ended, word_step, next_step}
 use Rattle.of_source.specs.Parsing.{Beyond, Word, Nothing, is_word, skipped_comment, beyond_word, beyond, trailed}
 use Rattle.of_source.specs.Parsing.{parsed}
@@ -19,8 +20,9 @@ use Rattle.of_source.specs.Phrases.{Phrase, Spelled, Beginning, Ending, Known, b
 use Rattle.of_source.specs.Phrases.{written, each_written, end_written, all_written, version_word, text_of, items_of}
 use Rattle.of_source.specs.Phrases.{behind, all_behind, items_in}
 use Rattle.of_source.specs.Phrases as phrase
-use Rattle.of_source.specs.Written.{IsWord, AreBlanks, IsFollowed, IsSaid, IsComment, IsRemark, AreRemarks, IsBegun}
-use Rattle.of_source.specs.Written.{IsEnded, AreSaid, WrittenIsParsed}
+use Rattle.of_scan.specs.Words.{IsWord, AreBlanks}
+use Rattle.of_source.specs.Written.{IsFollowed, IsSaid, IsComment, IsRemark, AreRemarks, IsBegun, IsEnded, AreSaid}
+use Rattle.of_source.specs.Written.{WrittenIsParsed}
 use Rattle.of_source.proofs.Deciding.{first_word_decides, decided-version1, decided-version2}
 use Rattle.of_source.proofs.Kept.{Kept, kept}
 use Rattle.of_source.proofs.RunLemmas.{nested_runs, earlier_runs, later_run}

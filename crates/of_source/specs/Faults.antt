@@ -14,21 +14,23 @@ use Rattle.of_source.specs.declared.keyword.Lone.{Lone}
 use Rattle.of_source.specs.declared.keyword.Lone.TheVariants as lone
 use Rattle.of_source.specs.declared.keyword.Quote.{Quote}
 use Rattle.of_source.specs.declared.keyword.Radix.{Radix}
-use Rattle.of_source.specs.declared.number.Number.TheVariants.{Value, OutOfRange, NoNumber}
+use Rattle.of_scan.specs.declared.numbers.Number.TheVariants.{Value, OutOfRange, NoNumber}
 use Rattle.of_source.specs.Keywords.{keyword_named, ordinary_named}
 use Rattle.of_source.specs.Names.{own_in}
-use Rattle.of_source.specs.Numbers.{number_in}
+use Rattle.of_scan.specs.Numbers.{number_in}
 use Rattle.of_source.specs.Radix.{base_of}
 use Rattle.of_source.specs.Nesting.{Nesting, nothing_open, opened_if, in_definition, is_straight, is_closed}
 use Rattle.of_source.specs.Nesting.{first_open}
 use Rattle.of_source.specs.Effects.{effect_of, making_of}
-use Rattle.of_source.specs.Scan.{Rest, rest_at, last_place, Found, plain_string}
+use Rattle.of_scan.specs.Scan.{Rest, rest_at, Found, plain_string}
+use Rattle.of_source.specs.Places.{last_place}
 use Rattle.of_source.specs.Steps.{code_named, string_found}
 use Rattle.of_source.specs.Parsing.{is_word, misplaced, parsed}
 use Rattle.of_source.specs.Phrases.{Phrase, Spelled, Beginning, Known, each_written, moved, behind, all_behind}
 use Rattle.of_source.specs.Phrases.{place_behind, begun_with}
 use Rattle.of_source.specs.Phrases as phrase
-use Rattle.of_source.specs.Written.{IsWord, AreBlanks, EndsWord, IsSaid, AreRemarks, IsBegun}
+use Rattle.of_scan.specs.Words.{IsWord, AreBlanks, EndsWord}
+use Rattle.of_source.specs.Written.{IsSaid, AreRemarks, IsBegun}
 
 -- ---- what is open
 

@@ -4,7 +4,8 @@ use Rattle.of_stream.specs.declared.stream.OffsetSize.{OffsetSize}
 use Rattle.of_stream.specs.declared.stream.OffsetSize.TheVariants as size
 use Rattle.of_source.specs.declared.fault.SourceFault.{SourceFault}
 use Rattle.of_source.specs.Items.{Source}
-use Rattle.of_source.specs.Scan.{Rest, rest_at, last_place}
+use Rattle.of_scan.specs.Scan.{Rest, rest_at}
+use Rattle.of_source.specs.Places.{last_place}
 use Rattle.of_source.specs.Steps.{State, Step, Goes, Ends, Fails, next_step, beginning}
 use Rattle.of_source.specs.Parsing.{Word, beyond, is_word}
 use Rattle.of_source.specs.Parsing.{trailed}

@@ -11,11 +11,11 @@ use Rattle.of_source.specs.declared.keyword.Keyword.TheVariants as keyword
 use Rattle.of_source.specs.Radix.{base_of}
 use Rattle.of_source.specs.declared.source.Beyond.{Beyond as HeldBeyond}
 use Rattle.of_source.specs.declared.source.Beyond.TheVariants as held
-use Rattle.of_source.specs.Scan.{Rest, rest_at, left_of, start_of, next_word, last_place, Found}
-use Rattle.of_source.specs.Scan.{plain_string, line_end}
-use Rattle.of_source.specs.declared.number.Number.{Number}
-use Rattle.of_source.specs.declared.number.Number.TheVariants.{Value, OutOfRange, NoNumber}
-use Rattle.of_source.specs.Numbers.{number_in}
+use Rattle.of_scan.specs.Scan.{Rest, rest_at, left_of, start_of, next_word, Found, plain_string, line_end}
+use Rattle.of_source.specs.Places.{last_place}
+use Rattle.of_scan.specs.declared.numbers.Number.{Number}
+use Rattle.of_scan.specs.declared.numbers.Number.TheVariants.{Value, OutOfRange, NoNumber}
+use Rattle.of_scan.specs.Numbers.{number_in}
 use Rattle.of_source.specs.Keywords.{keyword_named}
 use Rattle.of_source.specs.Items.{Source}
 use Rattle.of_source.specs.Nesting.{nothing_open}

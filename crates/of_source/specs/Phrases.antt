@@ -13,7 +13,7 @@ use Rattle.of_source.specs.Effects.{effect_of, making_of, Setting, first_setting
 use Rattle.of_source.specs.Items.{Item, Made, own_code, call, string, naming, bare}
 use Rattle.of_source.specs.Items as item
 use Rattle.of_source.specs.Steps.{number_items, string_items}
-use Rattle.of_source.specs.Strings.{Piece, pieces_written, pieces_bytes}
+use Rattle.of_scan.specs.Strings.{Piece, pieces_written, pieces_bytes}
 
 -- a word with all that it takes from the text
 pub data Phrase : Type 0 where

@@ -14,10 +14,10 @@ use Rattle.of_source.specs.declared.keyword.Lone.{Lone}
 use Rattle.of_source.specs.declared.keyword.Radix.{Radix}
 use Rattle.of_source.specs.Radix.{base_of}
 use Rattle.of_source.specs.Names.{Own, own_in}
-use Rattle.of_source.specs.Scan.{Rest, left_of, start_of, next_word, Found, quoted_string, plain_string, line_end}
-use Rattle.of_source.specs.declared.number.Number.{Number}
-use Rattle.of_source.specs.declared.number.Number.TheVariants.{Value, OutOfRange, NoNumber}
-use Rattle.of_source.specs.Numbers.{number_in}
+use Rattle.of_scan.specs.Scan.{Rest, left_of, start_of, next_word, Found, quoted_string, plain_string, line_end}
+use Rattle.of_scan.specs.declared.numbers.Number.{Number}
+use Rattle.of_scan.specs.declared.numbers.Number.TheVariants.{Value, OutOfRange, NoNumber}
+use Rattle.of_scan.specs.Numbers.{number_in}
 use Rattle.of_source.specs.Keywords.{keyword_named, ordinary_named}
 use Rattle.of_source.specs.Items.{Item, Made, Source, own_code, call, literal, string, naming, bare}
 use Rattle.of_source.specs.Items as item

@@ -1,5 +1,5 @@
 -- Which phrases can be written: what must hold of each where it stands.
-use Rattle.std.specs.Prelude.{◌≡◌, ◌≢◌, ℕ, ◌<◌, ◌≤◌, true, List, [], ◌∷◌, ◌++◌, length, codes, Option, Some}
+use Rattle.std.specs.Prelude.{◌≡◌, ◌≢◌, ℕ, ◌≤◌, true, List, [], ◌∷◌, ◌++◌, length, codes, Option, Some}
 use Rattle.std.specs.Prelude.{None, Ok}
 use Rattle.std.specs.List.{All, list_all}
 use Rattle.of_stream.specs.declared.stream.OffsetSize.{OffsetSize}
@@ -9,10 +9,10 @@ use Rattle.of_source.specs.declared.keyword.Keyword.TheVariants as keyword
 use Rattle.of_source.specs.declared.keyword.Lone.TheVariants as lone
 use Rattle.of_source.specs.declared.nesting.Part.{Part}
 use Rattle.of_source.specs.declared.nesting.Part.TheVariants as part
-use Rattle.of_source.specs.declared.number.Number.TheVariants.{Value}
+use Rattle.of_scan.specs.declared.numbers.Number.TheVariants.{Value}
 use Rattle.of_source.specs.Keywords.{keyword_named, ordinary_named}
 use Rattle.of_source.specs.Names.{Own, own_in}
-use Rattle.of_source.specs.Numbers.{number_in}
+use Rattle.of_scan.specs.Numbers.{number_in}
 use Rattle.of_source.specs.Radix.{base_of}
 use Rattle.of_source.specs.Items.{Item}
 use Rattle.of_source.specs.Nest.{IsNested}
@@ -20,24 +20,12 @@ use Rattle.of_source.specs.Nesting.{is_same}
 use Rattle.of_source.specs.Shapes.{Shape, nothing, run}
 use Rattle.of_source.specs.Steps.{code_named}
 use Rattle.of_source.specs.Parsing.{is_word, parsed}
-use Rattle.of_source.specs.Scan.{group}
-use Rattle.of_source.specs.Strings.{IsWithin, ArePieces, pieces_bytes}
+use Rattle.of_scan.specs.Scan.{group}
+use Rattle.of_scan.specs.Words.{IsWord, AreBlanks, EndsWord, EndsLine}
+use Rattle.of_scan.specs.Strings.{IsWithin, ArePieces, pieces_bytes}
 use Rattle.of_source.specs.Phrases.{Phrase, Spelled, Beginning, Ending, Known, begun_with, quote_if, taken, moved}
 use Rattle.of_source.specs.Phrases.{behind, items_in, version_word, each_written, all_written, text_of}
 use Rattle.of_source.specs.Phrases as phrase
-
--- one byte or more, and none of them a blank
-abbrev pub IsWord : List ℕ → Type 0
-IsWord word = (0 < length word) × All (λ b. 0x20 < b) word
-
--- bytes that separate words
-abbrev pub AreBlanks : List ℕ → Type 0
-AreBlanks bytes = All (λ b. b ≤ 0x20) bytes
-
--- a text that ends the word before it: it begins with a blank, or there is none
-abbrev pub EndsWord : List ℕ → Type 0
-EndsWord [] = Unit {0}
-EndsWord (b ∷ text) = b ≤ 0x20
 
 -- a word that a definition can be named by
 abbrev pub IsName : List ℕ → Type 0
@@ -94,11 +82,6 @@ IsPlaced k word (phrase.Defining w blanks name) = AreBlanks blanks × IsName nam
 IsPlaced k word (phrase.Alone lone.Recurse) = (d : Own) × (k.setting.open_one ≡ Some d)
 IsPlaced k word (phrase.Alone lone.Offset16) = LeaveOpen k.items IsStraight
 IsPlaced k word _ = Unit {0}
-
--- a text that begins with the end of a line, or has no bytes
-abbrev pub EndsLine : List ℕ → Type 0
-EndsLine [] = Unit {0}
-EndsLine (b ∷ text) = b ≡ 10
 
 -- what a phrase asks of the text that follows it: a word that it takes ends there, a comment up to the end of the line
 -- is followed by that, and a string of `"` by no group

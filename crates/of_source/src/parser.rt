@@ -11,11 +11,10 @@ use crate::item::{Item, Name, Plain};
 use crate::keyword::{Definer, Keyword, Lone, Maker, Quote, Radix};
 use crate::names::{Names, Own};
 use crate::nesting::Nesting;
-use crate::number::{Number, number_in};
-use crate::scan::Rest;
 use crate::words::{keyword_named, ordinary_named};
 use of_cells::Cell;
 use of_fcodes::FCode;
+use of_scan::{Number, Rest, number_in};
 use std::alloc::{AllocError, Global};
 use std::marker::Model;
 

@@ -1,7 +1,7 @@
 ghost use Rattle.std.specs.Prelude.{◌≡◌, ◌+◌, ◌<◌, ◌≤◌, ◌^◌, length, Ok, IfOk, IfErr};
-ghost use Rattle.of_source.specs.Numbers.{number_in};
+ghost use Rattle.of_scan.specs.Numbers.{number_in};
 ghost use Rattle.of_source.specs.Radix.{base_of};
-ghost use Rattle.of_source.specs.Scan.{last_place};
+ghost use Rattle.of_source.specs.Places.{last_place};
 ghost use Rattle.of_source.specs.Parsing.{beyond, beyond_shown, misplaced, misplaced_number, is_closer, words, trailed};
 ghost use Rattle.of_source.specs.Parsing.{parsed, IsRefused};
 
@@ -9,10 +9,9 @@ use crate::fault::SourceFault;
 use crate::item::Item;
 use crate::keyword::{Keyword, Lone, Radix};
 use crate::names::is_same_name;
-use crate::number::{Number, number_in};
 use crate::parser::Parser;
-use crate::scan::{Rest, Word};
 use crate::words::keyword_named;
+use of_scan::{Number, Rest, Word, number_in};
 use of_stream::OffsetSize;
 use std::alloc::Global;
 use std::marker::Model;

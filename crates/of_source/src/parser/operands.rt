@@ -11,10 +11,10 @@ use super::Parser;
 use crate::fault::SourceFault;
 use crate::item::{Item, Name, Plain};
 use crate::keyword::Radix;
-use crate::number::{Number, number_in};
 use crate::words::ordinary_named;
 use of_cells::Cell;
 use of_fcodes::FCode;
+use of_scan::{Number, number_in};
 use std::alloc::AllocError;
 
 impl Parser<'_> {

@@ -1,0 +1,2 @@
+mod Scanning
+mod Words

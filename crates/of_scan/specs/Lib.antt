@@ -1,0 +1,5 @@
+pub mod Scan
+pub mod Numbers
+pub mod Words
+pub mod Strings
+pub mod Laws

@@ -1,0 +1,10 @@
+//! What every reader of Forth text shares: the words and strings of a text, and what a word says as a number.
+#![tactic(auto)]
+
+mod laws;
+mod numbers;
+mod scan;
+
+pub use laws::words_are_read;
+pub use numbers::{Number, number_in};
+pub use scan::{Rest, Word};
