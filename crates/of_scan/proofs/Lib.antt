@@ -1,2 +1,3 @@
 mod Scanning
-mod Words
+mod WordLemmas
+mod StringLemmas

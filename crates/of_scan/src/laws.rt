@@ -1,10 +1,17 @@
 // A function without parameters does nothing: its contract is a law.
 
-ghost use Rattle.of_scan.specs.Laws.{WordsAreRead};
+ghost use Rattle.of_scan.specs.Laws.{StringsAreRead, WordsAreRead};
 
-/// A text of blanks and a word, which ends at a blank or at the end of the text, gives that word, with the position of
-/// its first byte, and what follows it is left; a text of blanks alone gives none.
-#[tactic(auto, using(crate::proofs::Words::words_are_read))]
+/// A text of blanks and a word, which ends at a blank or at the end of the text, gives that word, with the position
+/// of its first byte, and what follows it is left; a text of blanks alone gives none.
+#[tactic(auto, using(crate::proofs::WordLemmas::words_are_read))]
 pub fn words_are_read()
     ensures { WordsAreRead }
+{}
+
+/// A string or a comment begins behind one byte and goes on up to the first that ends it, all on one line, and what
+/// follows that is left; nothing else is one.
+#[tactic(auto, using(crate::proofs::StringLemmas::strings_are_read))]
+pub fn strings_are_read()
+    ensures { StringsAreRead }
 {}

@@ -5,6 +5,6 @@ mod laws;
 mod numbers;
 mod scan;
 
-pub use laws::words_are_read;
+pub use laws::{strings_are_read, words_are_read};
 pub use numbers::{Number, number_in};
 pub use scan::{Rest, Word};

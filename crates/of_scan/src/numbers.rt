@@ -48,9 +48,9 @@ fn are_digits(text: &[u8], base: u32) -> bool
 
 /// What a word says as a number in this base (Forth 2012, 3.4.1.3).
 ///
-/// A number is `-` or nothing, and one digit or more: 0 to 9, and then the letters from A or a on. A cell holds 0 to
-/// 2^32 - 1, and down to -2^31, which is the cell of its two's complement. NoNumber is for every other word: one without
-/// digits, with `+`, with a point, or with a byte that is no digit in this base.
+/// A number is `-` or nothing, and one digit or more: 0 to 9, and then the letters from A or a on. A cell holds those
+/// from -2^31 to 2^32 - 1, a negative one as its two's complement. NoNumber is for every other word: one without
+/// digits, with `+`, with a point, or with another byte that is no digit in this base.
 #[tactic(auto, unfolding(crate::specs::Numbers::number_in))]
 pub fn number_in(word: &[u8], base: u32) -> Number
     requires least { 2 ≤ base }

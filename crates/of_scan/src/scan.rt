@@ -2,7 +2,7 @@ ghost use Rattle.of_scan.specs.Scan.{is_blank, word_length, bytes_found, up_to, 
 ghost use Rattle.of_scan.specs.Scan.{pairs, bytes_before, group, quoted_string};
 ghost use Rattle.of_format.specs.Digits.{digit_value};
 ghost use Rattle.std.specs.Prelude.{◌≡◌, ℕ, List, false, if◌then◌else◌, ◌+◌, ◌<◌, ◌≤◌, ◌^◌, [], length, take, drop};
-ghost use Rattle.std.specs.Prelude.{take_while, not, option_map, Option, Some, None, IfSome, IfNone, IfOk, OnOk, OnErr};
+ghost use Rattle.std.specs.Prelude.{take_while, not, option_map, Option, Some, None, IfSome, IfNone, IfOk, OnErr};
 
 use of_format::digit;
 use std::alloc::{AllocError, Global};
@@ -19,9 +19,9 @@ pub struct Word<'a> {
 
 /// What is left of a text, and its position: how many bytes of the text stand before it.
 ///
-/// Blanks part words: a space and every byte below it, the ends of lines among them (Forth 2012, 3.4.1.1). A string or a
-/// comment begins behind the one blank that ends the word before it, and ends on the line on which it begins; a line ends
-/// at a byte 0x0A. A call that finds no end leaves everything as it was.
+/// Blanks part words: a space and every byte below it, the ends of lines among them (Forth 2012, 3.4.1.1). A string
+/// or a comment begins behind the one blank that ends the word before it, and ends on the line on which it begins; a
+/// line ends at a byte 0x0A. A call that finds no end leaves everything as it was.
 #[derive(Drop)]
 pub struct Rest<'a> {
     text: &'a [u8],
@@ -97,8 +97,8 @@ impl<'a> Rest<'a> {
 
     /// Past the blanks and the word behind them, which it gives, with the position of its first byte.
     ///
-    /// The word goes on up to a blank or up to the end of the text; that blank is left. None where blanks alone are left,
-    /// and nothing is left then.
+    /// The word goes on up to a blank or up to the end of the text; that blank is left. None where blanks alone are
+    /// left, and nothing is left then.
     pub fn word(&mut self) -> Option<Word<'a>>
         ensures some { IfSome result (λ word. next_word self.old ≡ Some (word.bytes.now, self.new)) }
         ensures at { IfSome result (λ word. word.at ≡ start_of self.old) }
@@ -120,8 +120,8 @@ impl<'a> Rest<'a> {
 
     /// Past the string up to this byte, and past the byte; the string is what stands between the blank and the byte.
     ///
-    /// None where the byte isn't on the line, as where a line ends in the place of the blank; nothing has changed then.
-    /// Up to 0x0A the string is the rest of the line.
+    /// None where the byte isn't on the line, as where a line ends in the place of the blank; nothing has changed
+    /// then. Up to 0x0A the string is the rest of the line.
     pub fn string(&mut self, end: u8) -> Option<&'a [u8]>
         ensures some { IfSome result (λ bytes. plain_string end self.old.text ≡ Some (bytes.now, self.new.text)) }
         ensures left { IfSome result (λ _. self.new ≡ left_of self.old self.new.text) }
@@ -158,9 +158,9 @@ impl<'a> Rest<'a> {
 
     /// Past the string of a word `"`, and past the `"` that ends it; the string is the bytes behind the blank.
     ///
-    /// A `"` with `(` directly behind it doesn't end the string: what follows up to `)` is pairs of hexadecimal digits,
-    /// with blanks between pairs or none, and gives a byte for each pair (IEEE 1275-1994, 7.3.1). Where that is anything
-    /// else, or has no `)` on the line, the string ends at that `"`, and the `(` is left.
+    /// A `"` with `(` directly behind it doesn't end the string: what follows up to `)` is pairs of hexadecimal
+    /// digits, with blanks between pairs or none, and gives a byte for each pair (IEEE 1275-1994, 7.3.1). Where that is
+    /// anything else, or has no `)` on the line, the string ends at that `"`, and the `(` is left.
     ///
     /// None where there is no end on the line. An error is for memory. Nothing has changed in either case.
     pub fn quoted_string(&mut self, alloc: Global) -> Result<Option<Vec<u8>>, AllocError>

@@ -10,4 +10,6 @@ mod format;
 #[cfg(test)]
 mod prims;
 #[cfg(test)]
+mod scan;
+#[cfg(test)]
 mod stream;

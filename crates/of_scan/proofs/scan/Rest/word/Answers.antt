@@ -1,6 +1,6 @@
 use Rattle.std.proofs.Common.{sym, ap, ◌∙◌, rules}
 use Rattle.of_scan.specs.Scan.{Rest, word_length}
-use Rattle.of_scan.proofs.Words.{nothing_left}
+use Rattle.of_scan.proofs.WordLemmas.{nothing_left}
 use Rattle.of_scan.proofs.scan.Rest.word.Goals as goal
 
 pub returns-then-length-eq0-clause-end : goal.returns-then-length-eq0-clause-end

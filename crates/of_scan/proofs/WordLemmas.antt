@@ -1,5 +1,5 @@
 -- The words of a text, behind their blanks.
-use Rattle.std.proofs.Common.{◌≡◌, ℕ, zero, suc, ◌+◌, ◌<◌, ◌≤◌, Bool, true, false, not, List, [], ◌∷◌, ◌++◌, length}
+use Rattle.std.proofs.Common.{◌≡◌, ℕ, ◌+◌, ◌<◌, ◌≤◌, Bool, true, false, not, List, [], ◌∷◌, ◌++◌, length}
 use Rattle.std.proofs.Common.{take, drop, take_while, Option, Some, None, nat_eq, refl, ap, ◌∙◌, arith}
 use Rattle.std.proofs.Common.{if◌then◌else◌}
 use Rattle.std.specs.List.{All}
@@ -7,7 +7,7 @@ use Rattle.std.proofs.Math.Seq.{take-append_seam, drop-append_seam}
 use Rattle.std.proofs.lemmas.Bool.Decides.{nat_tests}
 use Rattle.std.proofs.lemmas.List.Sums.{take_while-cons}
 use Rattle.std.proofs.lemmas.List.Elements.{All-head, All-tail}
-use Rattle.of_scan.specs.Scan.{Rest, rest_at, is_blank, at_word, start_of, word_length, word_at, next_word}
+use Rattle.of_scan.specs.Scan.{Rest, rest_at, is_blank, at_word, word_length, word_at, next_word}
 use Rattle.of_scan.specs.Words.{IsWord, AreBlanks, EndsWord}
 use Rattle.of_scan.specs.Laws.{WordsAreRead}
 
