@@ -187,19 +187,20 @@ goes_on_with ds es hs f g h before behind =
       behind.4,
     )
 
-pub left_behind : (ds es hs : List Meant) (f g : Feed Coding) → HasGoneWith ds es f g → IsLeftWith es hs g
-    → IsLeftWith ds hs f
-left_behind ds es hs f g before left =
+pub left_behind : (limit : ℕ) (ds es hs : List Meant) (f g : Feed Coding) → HasGoneWith ds es f g
+    → IsLeftWith limit es hs g → IsLeftWith limit ds hs f
+left_behind limit ds es hs f g before left =
     let ps = before.0 in
     let n = left.0 in
-    let qs = left.1 in
+    let qs = left.2 in
     let k = g.machine.steps - f.machine.steps in
     let all : g.machine.steps ≡ f.machine.steps + k = omega (arith, before.3.0) in (
       k + n,
+      omega (arith, all, left.1),
       ps ++ qs,
-      left.2 ∙ ap (λ x. told_all x qs) before.1 ∙ sym (told_joined ds ps qs),
+      left.3 ∙ ap (λ x. told_all x qs) before.1 ∙ sym (told_joined ds ps qs),
       ap (λ (x : Feed Coding). x.machine.asked) (joined ds es f g ps qs k n before.1 before.3.1 all before.4)
-          ∙ left.3 ∙ ap (λ x. x ++ qs) before.2 ∙ append_assoc f.machine.asked ps qs,
+          ∙ left.4 ∙ ap (λ x. x ++ qs) before.2 ∙ append_assoc f.machine.asked ps qs,
     )
 
 -- ---- a round
@@ -210,10 +211,11 @@ on_err (Ok x) p = tt
 on_err (Err e) p = p
 
 -- no memory was found before a question
-pub left_alone : (ds : List Meant) (f : Feed Coding) → f.answers ≡ [] → IsLeftWith ds ds f
+pub left_alone : (limit : ℕ) (ds : List Meant) (f : Feed Coding) → f.machine.steps ≤ limit → IsLeftWith limit ds ds f
 unfolding after
-left_alone ds f none = (
+left_alone limit ds f few = (
   0,
+  omega (arith, few),
   [],
   sym (untold ds),
   sym (append-nil f.machine.asked),
@@ -293,7 +295,7 @@ answered_with ds f g new q limit x none asks gives fit same later =
 -- the question was answered, and no memory was found behind it
 pub left_asked : (ds : List Meant) (f g : Feed Coding) (q : Query) (limit : ℕ) (x : Answer) → f.answers ≡ []
     → Advances limit (advance.Asks q) f g → x ≡ rack_answer ds q → fits q x ≡ true
-    → IsLeftWith ds (rack_told ds q) f
+    → IsLeftWith limit ds (rack_told ds q) f
 left_asked ds f g q limit x none asks gives fit =
     let h = asks.0 in
     let start : Feed Coding = with_answers h (x ∷ []) in
@@ -307,8 +309,9 @@ left_asked ds f g q limit x none asks gives fit =
     let step : after flat_calls 1 (with_answers h (answers_of ds (q ∷ []))) ≡ settled with_it =
     ap (λ xs. after flat_calls 1 (with_answers h xs)) (one_answer ds q ∙ ap (λ y. y ∷ []) (sym gives))
     ∙ turn_behind start start (settled with_it) 0 (after_none start) turn in
-    left_behind ds ds (rack_told ds q) f h (goes_alone ds f h none asks.1) (
+    left_behind limit ds ds (rack_told ds q) f h (goes_alone ds f h none asks.1) (
       1,
+      omega (arith, asks.2),
       q ∷ [],
       sym (one_told ds q),
       ap (λ (y : Feed Coding). y.machine.asked) step ∙ same_asked with_it (settled with_it) refl,
@@ -345,25 +348,33 @@ none_asked : (image : List ℕ) (calls : List Due) (start : Feed Coding)
     → start ≡ beginning (flat_of no_definitions) image [] [] calls → start.machine.asked ≡ []
 none_asked image calls start e = same_asked (begun image calls) start e
 
-pub run_left : RunsAgree → (image : List ℕ) (calls : List Due) (ds es : List Meant) (start : Feed Coding)
-    → start ≡ beginning (flat_of no_definitions) image [] [] calls → IsLeftWith ds es start → IsLeft image calls ds es
-run_left agree image calls ds es start e left =
+none_made : (image : List ℕ) (calls : List Due) (start : Feed Coding)
+    → start ≡ beginning (flat_of no_definitions) image [] [] calls → start.machine.steps ≡ 0
+none_made image calls start e = same_steps (begun image calls) start e
+
+pub run_left : RunsAgree → (image : List ℕ) (calls : List Due) (limit : ℕ) (ds es : List Meant) (start : Feed Coding)
+    → start ≡ beginning (flat_of no_definitions) image [] [] calls → IsLeftWith limit ds es start
+    → IsLeft image calls limit ds es
+run_left agree image calls limit ds es start e left =
     let n = left.0 in
-    let qs = left.1 in
+    let qs = left.2 in
     let answers = answers_of ds qs in
     let nothing : start.machine.asked ++ qs ≡ qs = ap (λ xs. xs ++ qs) (none_asked image calls start e) in (
       n,
+      omega (arith, left.1, none_made image calls start e),
       qs,
-      left.2,
-      sym nothing ∙ sym left.3
+      left.3,
+      sym nothing ∙ sym left.4
           ∙ ap (λ x. (after flat_calls n x).machine.asked) (begins image calls start answers e)
           ∙ ap (λ (m : MachineState Coding). m.asked) (agree image [] answers calls n),
     )
 
-pub never_begun : RunsAgree → (image : List ℕ) (calls : List Due) (ds : List Meant) → IsLeft image calls ds ds
-never_begun agree image calls ds =
+pub never_begun : RunsAgree → (image : List ℕ) (calls : List Due) (limit : ℕ) (ds : List Meant)
+    → IsLeft image calls limit ds ds
+never_begun agree image calls limit ds =
     let start = beginning (flat_of no_definitions) image [] [] calls in
-    run_left agree image calls ds ds start refl (left_alone ds start refl)
+    let few : start.machine.steps ≤ limit = omega (arith, none_made image calls start refl) in
+    run_left agree image calls limit ds ds start refl (left_alone limit ds start few)
 
 -- the questions that were asked are all of the machine's
 asked_all : (image : List ℕ) (calls : List Due) (ds es : List Meant) (start f : Feed Coding)

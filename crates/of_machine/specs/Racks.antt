@@ -1,5 +1,5 @@
 -- Runs whose questions a rack of devices answers.
-use Rattle.std.specs.Prelude.{◌≡◌, ◌⊎◌, ℕ, ◌<◌, ◌≤◌, List, [], ◌∷◌, ◌++◌, Bool, true, false}
+use Rattle.std.specs.Prelude.{◌≡◌, ◌⊎◌, ℕ, ◌+◌, ◌<◌, ◌≤◌, List, [], ◌∷◌, ◌++◌, Bool, true, false}
 use Rattle.of_asking.specs.declared.query.Answer.{Answer}
 use Rattle.of_asking.specs.declared.query.Query.{Query}
 use Rattle.of_devices.specs.Racks.{Meant, rack_answer, rack_told, told_all}
@@ -14,10 +14,10 @@ answers_of ds [] = []
 answers_of ds (q ∷ qs) = rack_answer ds q ∷ answers_of (rack_told ds q) qs
 
 -- A run for which no memory is found leaves a rack as the questions do that the abstract machine has asked after some
--- number of steps.
-abbrev pub IsLeft : List ℕ → List Due → List Meant → List Meant → Type 0
-IsLeft image calls old new =
-    (n : ℕ) × (qs : List Query) × (new ≡ told_all old qs)
+-- number of steps within the limit.
+abbrev pub IsLeft : List ℕ → List Due → ℕ → List Meant → List Meant → Type 0
+IsLeft image calls limit old new =
+    (n : ℕ) × (n ≤ limit) × (qs : List Query) × (new ≡ told_all old qs)
     × (qs ≡ (States image [] (answers_of old qs) calls n).asked)
 
 -- ---- runs over cells, as they are made
@@ -36,8 +36,8 @@ Rounds limit false ds es old new =
     HasGoneWith ds es old new × (new.machine.steps ≤ limit)
     × ((new.machine.steps ≡ limit) ⊎ (can_step new.machine ≡ false))
 
--- No memory was found on its way.
-abbrev pub IsLeftWith : List Meant → List Meant → Feed Coding → Type 0
-IsLeftWith ds es old =
-    (n : ℕ) × (qs : List Query) × (es ≡ told_all ds qs)
+-- No memory was found on its way, within the limit.
+abbrev pub IsLeftWith : ℕ → List Meant → List Meant → Feed Coding → Type 0
+IsLeftWith limit ds es old =
+    (n : ℕ) × (old.machine.steps + n ≤ limit) × (qs : List Query) × (es ≡ told_all ds qs)
     × ((after flat_calls n (record old { answers = answers_of ds qs })).machine.asked ≡ old.machine.asked ++ qs)

@@ -23,7 +23,7 @@ fn round_with(feeder: &mut Feeder, rack: &mut Rack, limit: u64) -> Result<bool, 
     requires none { feeder.old.answers ≡ [] }
     ensures ok { IfOk result (λ more. Rounds limit more
         (map (λ d. meant d) rack.old.items) (map (λ d. meant d) rack.new.items) feeder.old feeder.new) }
-    ensures left { OnErr result (IsLeftWith
+    ensures left { OnErr result (IsLeftWith limit
         (map (λ d. meant d) rack.old.items) (map (λ d. meant d) rack.new.items) feeder.old) }
 {
     match feeder.advance(limit)? {
@@ -47,7 +47,7 @@ fn run_with(feeder: &mut Feeder, rack: &mut Rack, limit: u64) -> Result<(), Allo
     requires none { feeder.old.answers ≡ [] }
     ensures over { OnOk result (Rounds limit false
         (map (λ d. meant d) rack.old.items) (map (λ d. meant d) rack.new.items) feeder.old feeder.new) }
-    ensures left { OnErr result (IsLeftWith
+    ensures left { OnErr result (IsLeftWith limit
         (map (λ d. meant d) rack.old.items) (map (λ d. meant d) rack.new.items) feeder.old) }
 {
     while round_with(feeder, rack, limit)? {}
@@ -79,7 +79,7 @@ pub fn run_rack(
     ensures err { IfErr result (λ e. Refuses (image_refusal image.now) e) }
     ensures unasked { is_some (image_refusal image.now) ≡ true
         → map (λ d. meant d) rack.new.items ≡ map (λ d. meant d) rack.old.items }
-    ensures left { OnErr result (IsLeft image.now (map due_of calls.now)
+    ensures left { OnErr result (IsLeft image.now (map due_of calls.now) limit
         (map (λ d. meant d) rack.old.items) (map (λ d. meant d) rack.new.items)) }
 {
     let _ = &lines;

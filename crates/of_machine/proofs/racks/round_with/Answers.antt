@@ -27,7 +27,7 @@ returns-in-Over-clause-ok g c =
 pub returns-in_err-advance-clause-left : goal.returns-in_err-advance-clause-left
 returns-in_err-advance-clause-left g c =
     let f : _ → Meant = λ d. (goal.Device-dyn g (d.vtable, d.value)).meant d.value in
-    on_err _ (left_alone (map f c.args.rack.now.items) c.args.feeder.now c.requires.none)
+    on_err _ (left_alone c.args.limit (map f c.args.rack.now.items) c.args.feeder.now c.requires.few)
 
 -- ---- a question
 
@@ -54,4 +54,4 @@ returns-in_err-answer-in-Asks-clause-left g c =
     let asks : Advances c.args.limit (Asks q) c.args.feeder.now c.advance.new.self = search rules in
     let left = left_asked ds c.args.feeder.now c.advance.new.self q c.args.limit x c.requires.none asks
     c.ask-answer.ensures.answer c.ask-answer.ensures.fits in
-    on_err _ (subst (λ es. IsLeftWith ds es c.args.feeder.now) (sym c.ask-answer.ensures.told) left)
+    on_err _ (subst (λ es. IsLeftWith c.args.limit ds es c.args.feeder.now) (sym c.ask-answer.ensures.told) left)

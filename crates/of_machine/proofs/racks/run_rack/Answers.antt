@@ -13,7 +13,8 @@ pub returns-in_err-feeder-clause-left : goal.returns-in_err-feeder-clause-left
 returns-in_err-feeder-clause-left g c =
     let f : _ → Meant = λ d. (goal.Device-dyn g (d.vtable, d.value)).meant d.value in
     on_err _
-    (never_begun c.runs_agree.ensures c.args.image.now (map due_of c.args.calls.now) (map f c.args.rack.now.items))
+    (never_begun c.runs_agree.ensures c.args.image.now (map due_of c.args.calls.now) c.args.limit
+    (map f c.args.rack.now.items))
 
 pub returns-in_default-clause-left : goal.returns-in_default-clause-left
 returns-in_default-clause-left g c =
@@ -21,8 +22,8 @@ returns-in_default-clause-left g c =
     let ds = map f c.args.rack.now.items in
     let es = map f c.run_with.new.rack.items in
     let start : Feed Coding = c.in_ok-feeder.feeder in
-    let left : IsLeftWith ds es start = search rules in
-    run_left c.runs_agree.ensures c.args.image.now (map due_of c.args.calls.now) ds es start
+    let left : IsLeftWith c.args.limit ds es start = search rules in
+    run_left c.runs_agree.ensures c.args.image.now (map due_of c.args.calls.now) c.args.limit ds es start
     c.in_ok-feeder.ensures.begun left
 
 -- ---- a machine
