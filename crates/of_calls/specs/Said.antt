@@ -27,7 +27,7 @@ number_at number n line = number_or (place_at number n line) (number_of (word_at
 -- the word behind so many, as a name or a path: a byte 0x0D stands in none
 abbrev pub text_at : ℕ → ℕ → List ℕ → Result (List ℕ) TextFault
 text_at number n line =
-    if list_any (λ b. nat_eq b 0x0d) (word_at n line) then Err (fault.Unknown (place_at number n line))
+    if list_any (λ b. nat_eq b 0x0d) (word_at n line) then Err (fault.BadName (place_at number n line))
     else Ok (word_at n line)
 
 -- what a line says, where it ends behind so many words

@@ -19,7 +19,7 @@ fn before_room(line: Line<'_>) -> usize
 
 /// The name that `getprop` is given.
 ///
-/// Unknown where a carriage return stands in it.
+/// BadName where a carriage return stands in it.
 fn name_before_room<'a>(line: Line<'a>) -> Result<&'a [u8], TextFault>
     ensures ok { IfOk result (λ n. name_before_room line.entry.number line.entry.text.now ≡ Ok n.now) }
     ensures err { IfErr result (λ f. name_before_room line.entry.number line.entry.text.now ≡ Err f) }

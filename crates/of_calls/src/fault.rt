@@ -5,10 +5,13 @@ use thiserror::Error;
 /// Why a text has no calls, no answers or no devices: the first word that fits nowhere.
 #[derive(Clone, Copy, Debug, PartialEq, Eq, Error)]
 pub enum TextFault {
-    /// Here stands the first word of a line, or none, and it names no service, no answer or no device; or here stands a
-    /// name or a path with a carriage return in it.
+    /// Here stands the first word of a line, or none, and it names no service, no answer or no device.
     #[error("unknown word")]
     Unknown(Place),
+
+    /// Here stands a name or a path with a carriage return in it.
+    #[error("bad name")]
+    BadName(Place),
 
     /// Here a number or bytes stand that can't be read or are too many, or that no cell holds, or none where some are
     /// missing.

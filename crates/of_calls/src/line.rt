@@ -144,14 +144,14 @@ impl<'a> Line<'a> {
 
     /// The word behind so many, as a name or a path.
     ///
-    /// Unknown where a carriage return stands in it.
+    /// BadName where a carriage return stands in it.
     pub(crate) fn text(self, count: usize) -> Result<&'a [u8], TextFault>
         ensures ok { IfOk result (λ t. text_at self.entry.number count self.entry.text.now ≡ Ok t.now) }
         ensures err { IfErr result (λ f. text_at self.entry.number count self.entry.text.now ≡ Err f) }
     {
         let word = self.word(count);
         if has_return(word) {
-            Err(TextFault::Unknown(self.place(count)))
+            Err(TextFault::BadName(self.place(count)))
         } else {
             Ok(word)
         }

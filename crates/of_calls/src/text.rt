@@ -60,8 +60,8 @@ fn take_call(alloc: Global, line: Line<'_>, calls: &mut Vec<ClientCall>) -> Resu
 /// may lack; a text without bytes has no line. A carriage return is a byte of a word, and no word has one.
 ///
 /// An error is for the first word that fits nowhere, or for memory: Unknown where a line names no service or has no
-/// word, and at a path or a name with a carriage return in it, BadNumber where a number can't be read or is missing,
-/// TooMany where a word stands behind the last that the service takes.
+/// word, BadName at a path or a name with a carriage return in it, BadNumber where a number can't be read or is
+/// missing, TooMany where a word stands behind the last that the service takes.
 #[tactic(auto, using(crate::proofs::Reading::none_read))]
 pub fn parse(alloc: Global, text: &[u8]) -> Result<Vec<ClientCall>, TextFault>
     ensures ok { IfOk result (λ calls. parsed text.now ≡ Ok (map service_of calls.items)) }

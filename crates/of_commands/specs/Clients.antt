@@ -60,6 +60,7 @@ PrintsCalls services file o limit old new (Err f) =
 -- the fault of a text that has no calls
 abbrev pub no_calls : TextFault → Fault
 no_calls (word.Unknown place) = fault.NoCalls (word.Unknown place)
+no_calls (word.BadName place) = fault.NoCalls (word.BadName place)
 no_calls (word.BadNumber place) = fault.NoCalls (word.BadNumber place)
 no_calls (word.TooMany place) = fault.NoCalls (word.TooMany place)
 no_calls word.NoMemory = fault.NoMemory

@@ -73,6 +73,7 @@ status_of (fault.Unwritten code) = status.Fault
 -- the place in a text of calls, of answers or of devices that has a fault
 abbrev pub text_place_of : TextFault → Option Place
 text_place_of (word.Unknown place) = Some place
+text_place_of (word.BadName place) = Some place
 text_place_of (word.BadNumber place) = Some place
 text_place_of (word.TooMany place) = Some place
 text_place_of word.NoMemory = None
@@ -170,6 +171,7 @@ Prints file o limit old new (Err f) = PrintsPart file o limit old new × FaultsR
 -- the fault of a text that has no answers
 abbrev pub no_answers : TextFault → Fault
 no_answers (word.Unknown place) = fault.NoAnswers (word.Unknown place)
+no_answers (word.BadName place) = fault.NoAnswers (word.BadName place)
 no_answers (word.BadNumber place) = fault.NoAnswers (word.BadNumber place)
 no_answers (word.TooMany place) = fault.NoAnswers (word.TooMany place)
 no_answers word.NoMemory = fault.NoMemory
@@ -191,6 +193,7 @@ FaultsAnswersWith file s = (f : Fault) × (status_of f ≡ s) × FaultsAnswers f
 -- the fault of a text that has no devices
 abbrev pub no_board : TextFault → Fault
 no_board (word.Unknown place) = fault.NoBoard (word.Unknown place)
+no_board (word.BadName place) = fault.NoBoard (word.BadName place)
 no_board (word.BadNumber place) = fault.NoBoard (word.BadNumber place)
 no_board (word.TooMany place) = fault.NoBoard (word.TooMany place)
 no_board word.NoMemory = fault.NoMemory

@@ -142,6 +142,7 @@ pub(crate) fn no_calls(fault: TextFault) -> Fault
 {
     match fault {
         TextFault::Unknown(_) => Fault::NoCalls(fault),
+        TextFault::BadName(_) => Fault::NoCalls(fault),
         TextFault::BadNumber(_) => Fault::NoCalls(fault),
         TextFault::TooMany(_) => Fault::NoCalls(fault),
         TextFault::NoMemory => Fault::NoMemory,
@@ -154,6 +155,7 @@ pub(crate) fn no_answers(fault: TextFault) -> Fault
 {
     match fault {
         TextFault::Unknown(_) => Fault::NoAnswers(fault),
+        TextFault::BadName(_) => Fault::NoAnswers(fault),
         TextFault::BadNumber(_) => Fault::NoAnswers(fault),
         TextFault::TooMany(_) => Fault::NoAnswers(fault),
         TextFault::NoMemory => Fault::NoMemory,
@@ -166,6 +168,7 @@ pub(crate) fn no_board(fault: TextFault) -> Fault
 {
     match fault {
         TextFault::Unknown(_) => Fault::NoBoard(fault),
+        TextFault::BadName(_) => Fault::NoBoard(fault),
         TextFault::BadNumber(_) => Fault::NoBoard(fault),
         TextFault::TooMany(_) => Fault::NoBoard(fault),
         TextFault::NoMemory => Fault::NoMemory,
@@ -183,6 +186,7 @@ fn text_place(
 {
     match fault {
         TextFault::Unknown(place) => Some((place, unknown)),
+        TextFault::BadName(place) => Some((place, "bad name: a carriage return stands in it")),
         TextFault::BadNumber(place) => {
             Some((place, "bad number: hexadecimal digits up to ffffffff"))
         }

@@ -114,6 +114,7 @@ fn answers(alloc: Global, parts: Vec<Part>) -> Result<String, Fail> {
 fn shown(alloc: Global, fault: TextFault) -> Result<String, AllocError> {
     let (place, name) = match fault {
         TextFault::Unknown(place) => (place, "unknown"),
+        TextFault::BadName(place) => (place, "name"),
         TextFault::BadNumber(place) => (place, "number"),
         TextFault::TooMany(place) => (place, "many"),
         TextFault::NoMemory => return String::from_str(alloc, "no memory"),

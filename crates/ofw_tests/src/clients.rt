@@ -156,12 +156,12 @@ child 0x10|1:7: bad number: hexadecimal digits up to ffffffff
 child 100000000|1:7: bad number: hexadecimal digits up to ffffffff
 child d0000000 d0000004|1:16: more than the service takes
 finddevice / \r|1:14: more than the service takes
-finddevice /slot\r|1:12: unknown service
-finddevice \r /|1:12: unknown service
-getproplen d0000008 na\rme|1:21: unknown service
-getprop d0000008 name\r 4|1:18: unknown service
+finddevice /slot\r|1:12: bad name: a carriage return stands in it
+finddevice \r /|1:12: bad name: a carriage return stands in it
+getproplen d0000008 na\rme|1:21: bad name: a carriage return stands in it
+getprop d0000008 name\r 4|1:18: bad name: a carriage return stands in it
 getprop d0000008 3\r|1:18: bad number: hexadecimal digits up to ffffffff
-nextprop d0000008 \r|1:19: unknown service
+nextprop d0000008 \r|1:19: bad name: a carriage return stands in it
 child d0000000\r|1:7: bad number: hexadecimal digits up to ffffffff
   |1:3: unknown service
 finddevice / /|1:14: more than the service takes
