@@ -1,5 +1,5 @@
 //! Tests of the device tree, of property values, of instances, of the board, of the words over it, of those that ask
-//! the outside, and of devices, by their public calls.
+//! the outside, of devices, and of what the console prints of the tree, by their public calls.
 #![tactic(auto)]
 
 #[cfg(test)]
@@ -28,5 +28,7 @@ mod ordinary;
 mod properties;
 #[cfg(test)]
 mod running;
+#[cfg(test)]
+mod shown;
 #[cfg(test)]
 mod words;

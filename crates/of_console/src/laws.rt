@@ -1,0 +1,15 @@
+// A law has no parameters and does nothing: its contract is the law.
+
+ghost use Rattle.of_console.specs.Laws.{PropertiesAreListed, ValuesAreShown};
+
+/// A text stands between quotes as it is, and any other value in digits that read back as its bytes.
+#[tactic(auto, using(crate::proofs::Shown::values_are_shown))]
+pub fn values_are_shown()
+    ensures { ValuesAreShown }
+{}
+
+/// The properties of a node stand in their order, a line for each, under the names that they were set by.
+#[tactic(auto, using(crate::proofs::Named::properties_are_listed))]
+pub fn properties_are_listed()
+    ensures { PropertiesAreListed }
+{}
