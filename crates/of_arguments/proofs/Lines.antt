@@ -5,6 +5,8 @@ use Rattle.std.specs.Str.Parse.{digits_value, without_leading_plus}
 use Rattle.std.specs.Str.{bytes_eq}
 use Rattle.std.specs.Option.{option_map_or}
 use Rattle.clap.specs.Faults.{other_fault, flag_word_fault, bundle_fault, word_fault}
+use Rattle.clap.specs.Kinds.{or_else}
+use Rattle.clap.specs.Words.{Kinds}
 use Rattle.clap.specs.Simple.{Shape, built_leaf, inherited}
 use Rattle.clap.specs.Lexer.{long_of, short_of}
 use Rattle.clap.specs.Walk.{word_met, option, Rule, Waiting, Held, trailing, Text, plain_word, subcommand_or_other}
@@ -18,7 +20,8 @@ use Rattle.clap.specs.declared.builder.value_parser.ValueParser.TheVariants as p
 use Rattle.clap.proofs.ValueTestLemmas.{Accepts-accepts, accepts-Accepts}
 use Rattle.of_arguments.specs.CommandLine.{LinesAsk, is_plain, AsksToRun, AsksToList, AsksForLimit, number_in}
 use Rattle.of_arguments.specs.CommandLine.{ofw_app, run_app, AsksToExplain, AsksWith, plain_extras, AsksToKeep}
-use Rattle.of_arguments.specs.CommandLine.{AsksForCalls, AsksToTokenize, AsksWithAnswers, AsksWithBoard, client_app}
+use Rattle.of_arguments.specs.CommandLine.{AsksForCalls, AsksForTree, AsksToTokenize, AsksWithAnswers, AsksWithBoard}
+use Rattle.of_arguments.specs.CommandLine.{client_app}
 use Rattle.of_arguments.specs.CommandLine.{detok_app, tok_app}
 
 -- ---- a word that begins with no hyphen is no option
@@ -171,10 +174,23 @@ lists program b rest e = (
       refl,
 )
 
+-- behind an image and a flag nothing else can be wrong
+image_alone : (k : Kinds) → k ≡ [] → or_else (or_else (or_else (or_else k []) []) []) [] ≡ []
+image_alone k e = ap (λ (x : Kinds). or_else (or_else (or_else (or_else x []) []) []) []) e
+
 explained : (program : Text) (b : ℕ) (rest : Text) → (b == 45) ≡ false → AsksToExplain program (b ∷ rest)
 unfolding clap_on_literals run_shape
-explained program b rest e =
-    (rw (image_met run_shape b rest e) refl, rw (image_met run_shape b rest e, image_passes run_shape b rest e) refl)
+explained program b rest e = (
+  rw (image_met run_shape b rest e) refl,
+  rw (image_met run_shape b rest e) (image_alone _ (image_passes run_shape b rest e)),
+)
+
+treed : (program : Text) (b : ℕ) (rest : Text) → (b == 45) ≡ false → AsksForTree program (b ∷ rest)
+unfolding clap_on_literals run_shape
+treed program b rest e = (
+  rw (image_met run_shape b rest e) refl,
+  rw (image_met run_shape b rest e) (image_alone _ (image_passes run_shape b rest e)),
+)
 
 with_names : (program : Text) (b : ℕ) (rest : Text) → (b == 45) ≡ false
     → AsksWith program (b ∷ rest) (codes "--names") (record { names = true; indents = false }) false
@@ -294,6 +310,7 @@ lines_ask program (b ∷ rest) e = (
   lists program b rest (hyphenless b e),
   tokenizes program b rest (hyphenless b e),
   explained program b rest (hyphenless b e),
+  treed program b rest (hyphenless b e),
   (
     with_names program b rest (hyphenless b e),
     with_indents program b rest (hyphenless b e),

@@ -54,11 +54,11 @@ answers_rule = option_rule (codes "answers")
 abbrev pub board_rule : Rule
 board_rule = option_rule (codes "board")
 
--- `run IMAGE [--answers FILE | --board FILE] [--limit N] [--explain]`
+-- `run IMAGE [--answers FILE | --board FILE] [--limit N] [--tree] [--explain]`
 abbrev pub run_app : App
 run_app =
-    with_rule (with_rule (with_rule (with_rule (with_rule (new_app (codes "run")) image_rule) answers_rule) board_rule)
-    limit_rule) (flag_rule (codes "explain"))
+    with_rule (with_rule (with_rule (with_rule (with_rule (with_rule (new_app (codes "run")) image_rule) answers_rule)
+    board_rule) limit_rule) (flag_rule (codes "tree"))) (flag_rule (codes "explain"))
 
 -- `--calls FILE`
 abbrev pub calls_rule : Rule
@@ -139,7 +139,9 @@ outside_in rows = outside_of (first_of (codes "answers") rows) (first_of (codes 
 -- what `run` asks for with an image
 abbrev pub run_asked : List Row → Text → Option Asked
 run_asked rows image =
-    option_map (λ o. a_run image o (limit_in rows) (has_flag (codes "explain") rows)) (outside_in rows)
+    option_map
+    (λ o. a_run image o (limit_in rows) (has_flag (codes "tree") rows) (has_flag (codes "explain") rows))
+    (outside_in rows)
 
 -- what `client` asks for with an image: the calls of the file that is given, behind such a run
 abbrev pub client_asked : List Row → Text → Option Asked
@@ -185,29 +187,35 @@ Asks words what = (asks words ≡ Some what) × (fault_of ofw_app words ≡ [])
 
 -- a run of an image with no limit given
 abbrev pub AsksToRun : Text → Text → Type 0
-AsksToRun program image = Asks (program ∷ codes "run" ∷ image ∷ []) (a_run image standard 1000000 false)
+AsksToRun program image = Asks (program ∷ codes "run" ∷ image ∷ []) (a_run image standard 1000000 false false)
 
 -- a run with a limit given
 abbrev pub AsksForLimit : Text → Text → Text → Type 0
 AsksForLimit program image limit =
     Asks (program ∷ codes "run" ∷ image ∷ codes "--limit" ∷ limit ∷ [])
-    (a_run image standard (digits_value 10 (without_leading_plus limit)) false)
+    (a_run image standard (digits_value 10 (without_leading_plus limit)) false false)
 
 -- a run with the answers of a file
 abbrev pub AsksWithAnswers : Text → Text → Text → Type 0
 AsksWithAnswers program image answers =
     Asks (program ∷ codes "run" ∷ image ∷ codes "--answers" ∷ answers ∷ [])
-    (a_run image (answers_of answers) 1000000 false)
+    (a_run image (answers_of answers) 1000000 false false)
 
 -- a run on the board of a file
 abbrev pub AsksWithBoard : Text → Text → Text → Type 0
 AsksWithBoard program image board =
-    Asks (program ∷ codes "run" ∷ image ∷ codes "--board" ∷ board ∷ []) (a_run image (board_of board) 1000000 false)
+    Asks (program ∷ codes "run" ∷ image ∷ codes "--board" ∷ board ∷ [])
+    (a_run image (board_of board) 1000000 false false)
 
 -- a run whose end is explained
 abbrev pub AsksToExplain : Text → Text → Type 0
 AsksToExplain program image =
-    Asks (program ∷ codes "run" ∷ image ∷ codes "--explain" ∷ []) (a_run image standard 1000000 true)
+    Asks (program ∷ codes "run" ∷ image ∷ codes "--explain" ∷ []) (a_run image standard 1000000 false true)
+
+-- a run behind which the device tree is printed
+abbrev pub AsksForTree : Text → Text → Type 0
+AsksForTree program image =
+    Asks (program ∷ codes "run" ∷ image ∷ codes "--tree" ∷ []) (a_run image standard 1000000 true false)
 
 -- a run, and then the calls of a file
 abbrev pub AsksForCalls : Text → Text → Text → Type 0
@@ -242,7 +250,7 @@ AsksToKeep program source output =
 -- what the lines of the usage text ask for
 abbrev pub LinesAsk : Type 0
 LinesAsk = (program image : Text) → is_plain image ≡ true → AsksToRun program image × AsksToList program image
-    × AsksToTokenize program image × AsksToExplain program image × AsksForMore program image
+    × AsksToTokenize program image × AsksToExplain program image × AsksForTree program image × AsksForMore program image
     × ((output : Text) → is_plain output ≡ true → AsksToKeep program image output)
     × ((calls : Text) → is_plain calls ≡ true → AsksForCalls program image calls)
     × ((answers : Text) → is_plain answers ≡ true → AsksWithAnswers program image answers)

@@ -29,7 +29,8 @@ outside (keys, registers of devices, time) is answered by a board: 4096 zero byt
 clock. With --board it has the devices of a file, the first of which that knows a question answers it: a line is
 `memory ADDRESS LENGTH` or `memory ADDRESS LENGTH BYTES`, `fault ADDRESS LENGTH`, `keys BYTES` or `clock`, with
 hexadecimal digits. With --answers the k-th line of a file is for the k-th question: `v NUMBER`, with hexadecimal
-digits, `done` or `fault`.
+digits, `done` or `fault`. With --tree each node's path is printed then, and its properties behind it, as text or in
+hexadecimal digits.
 
 Status: 0 done, 1 fault of input or output, 2 usage, 3 limit reached, 4 answers out, 5 no memory";
 
@@ -145,7 +146,7 @@ fn flag<'a>(alloc: Global, name: &'a str, help: &'a str) -> Arg<'a>
         .action(ArgAction::SetTrue)
 }
 
-/// `ofw run IMAGE [--answers FILE | --board FILE] [--limit N] [--explain]`
+/// `ofw run IMAGE [--answers FILE | --board FILE] [--limit N] [--tree] [--explain]`
 fn run_command<'a>(alloc: Global) -> Result<Command<'a>, AllocError>
     ensures { IfOk result (IsBuilt run_app) }
 {
@@ -156,6 +157,11 @@ fn run_command<'a>(alloc: Global) -> Result<Command<'a>, AllocError>
         .arg(answers_argument(alloc))?
         .arg(board_argument(alloc))?
         .arg(limit_argument(alloc))?
+        .arg(flag(
+            alloc,
+            "tree",
+            "prints the device tree behind what the run prints",
+        ))?
         .arg(flag(
             alloc,
             "explain",
@@ -293,6 +299,7 @@ fn run_request<'a>(image: &'a str, matches: &ArgMatches<'a>) -> Option<Request<'
         image,
         outside: outside(matches)?,
         limit: step_limit(matches),
+        tree: has_flag(matches, "tree"),
         explain: has_flag(matches, "explain"),
     })
 }

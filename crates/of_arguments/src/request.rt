@@ -22,6 +22,8 @@ pub enum Request<'a> {
         outside: Outside<'a>,
         /// How many steps the run makes at most.
         limit: u64,
+        /// Whether the device tree is printed behind what the run prints.
+        tree: bool,
         /// Whether its end is explained on the error output.
         explain: bool,
     },

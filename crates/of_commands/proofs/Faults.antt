@@ -19,6 +19,7 @@ use Rattle.of_machine.specs.declared.answers.Refusal.TheVariants as refusal
 use Rattle.of_tok.specs.declared.fault.TokFault.TheVariants as tok
 use Rattle.of_commands.specs.Messages.{AppendsPart, bad_start_of}
 use Rattle.of_commands.specs.Runs.{IsUnwritten, Lists, ListsFile, ListsPart, Prints, RunsFile, end_status}
+use Rattle.of_commands.specs.Trees.{run_text}
 use Rattle.of_commands.specs.Runs.{FaultsSource, FaultsSourceFile, FaultsRun, IsRefusedFor, Tokenizes}
 use Rattle.of_commands.specs.Runs.{is_done, status_of}
 
@@ -76,14 +77,14 @@ fault_of_run file f (inl unwritten) = inl unwritten
 fault_of_run file f (inr none) = inr (inl (inr (inr (inl none))))
 
 -- what a run prints was printed, or a part of it
-pub run_printed : (known : Option (List ℕ)) (o : Outside) (limit : ℕ) (m : MachineState Coding) (e : End)
-    (old new : Option (List ℕ)) (r : Result Status Fault) → IfSome known (λ file. RunsFile file o limit m e)
-    → IfOk r (λ s. (s ≡ end_status e) × Appends old new m.eval.board.console.text)
-    → OnErr r (AppendsPart old new m.eval.board.console.text) → IfErr r (λ f. IsUnwritten f ⊎ (f ≡ fault.NoMemory))
-    → IfSome known (λ file. Prints file o limit old new r)
-run_printed None o limit m e old new r runs all part why = tt
-run_printed (Some file) o limit m e old new (Ok s) runs all part why = (m, (e, runs, sym all.0), all.1)
-run_printed (Some file) o limit m e old new (Err f) runs all part why =
+pub run_printed : (listed : Bool) (known : Option (List ℕ)) (o : Outside) (limit : ℕ) (m : MachineState Coding)
+    (e : End) (old new : Option (List ℕ)) (r : Result Status Fault) → IfSome known (λ file. RunsFile file o limit m e)
+    → IfOk r (λ s. (s ≡ end_status e) × Appends old new (run_text listed m))
+    → OnErr r (AppendsPart old new (run_text listed m)) → IfErr r (λ f. IsUnwritten f ⊎ (f ≡ fault.NoMemory))
+    → IfSome known (λ file. Prints listed file o limit old new r)
+run_printed listed None o limit m e old new r runs all part why = tt
+run_printed listed (Some file) o limit m e old new (Ok s) runs all part why = (m, (e, runs, sym all.0), all.1)
+run_printed listed (Some file) o limit m e old new (Err f) runs all part why =
     (inr (m, (e, runs), part), fault_of_run file f why)
 
 -- a write that failed is no bad start byte

@@ -2,3 +2,4 @@ pub mod Clients
 pub mod Files
 pub mod Messages
 pub mod Runs
+pub mod Trees

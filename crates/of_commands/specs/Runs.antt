@@ -33,6 +33,7 @@ use Rattle.of_tok.specs.Image.{IsRefused as HasNoImage}
 use Rattle.of_arguments.specs.Asked.{Asked, a_run, an_image, a_listing, client_calls}
 use Rattle.of_commands.specs.Files.{image_in, FaultsReading, IsUnread}
 use Rattle.of_commands.specs.Messages.{AppendsPart}
+use Rattle.of_commands.specs.Trees.{run_text}
 use Rattle.of_commands.specs.declared.outside.Outside.{Outside}
 use Rattle.of_commands.specs.declared.outside.Outside.TheVariants as outside
 use Rattle.of_commands.specs.declared.fault.Fault.{Fault}
@@ -127,17 +128,16 @@ end_status end.Done = status.Done
 end_status end.LimitReached = status.LimitReached
 end_status end.AnswersOut = status.AnswersOut
 
--- the run of the file printed all its console bytes, and ended with this status
-abbrev pub PrintsRun : List ℕ → Outside → ℕ → Option (List ℕ) → Option (List ℕ) → Status → Type 0
-PrintsRun file o limit old new s =
+-- the text of the run of the file was printed, and it ended with this status
+abbrev pub PrintsRun : Bool → List ℕ → Outside → ℕ → Option (List ℕ) → Option (List ℕ) → Status → Type 0
+PrintsRun tree file o limit old new s =
     (m : MachineState Coding) × ((e : End) × RunsFile file o limit m e × (end_status e ≡ s))
-    × Appends old new m.eval.board.console.text
+    × Appends old new (run_text tree m)
 
--- nothing was printed, or the first console bytes of the run
-abbrev pub PrintsPart : List ℕ → Outside → ℕ → Option (List ℕ) → Option (List ℕ) → Type 0
-PrintsPart file o limit old new = Keeps old new
-    ⊎ ((m : MachineState Coding) × ((e : End) × RunsFile file o limit m e)
-    × AppendsPart old new m.eval.board.console.text)
+-- nothing was printed, or the first bytes of the text of the run
+abbrev pub PrintsPart : Bool → List ℕ → Outside → ℕ → Option (List ℕ) → Option (List ℕ) → Type 0
+PrintsPart tree file o limit old new = Keeps old new
+    ⊎ ((m : MachineState Coding) × ((e : End) × RunsFile file o limit m e) × AppendsPart old new (run_text tree m))
 
 -- a write failed
 abbrev pub IsUnwritten : Fault → Type 0
@@ -162,9 +162,9 @@ FaultsRun file f =
 
 -- what was printed of the run, whose end has the status, or of a part of it beside a fault
 abbrev pub Prints :
-    List ℕ → Outside → ℕ → Option (List ℕ) → Option (List ℕ) → Result Status Fault → Type 0
-Prints file o limit old new (Ok s) = PrintsRun file o limit old new s
-Prints file o limit old new (Err f) = PrintsPart file o limit old new × FaultsRun file f
+    Bool → List ℕ → Outside → ℕ → Option (List ℕ) → Option (List ℕ) → Result Status Fault → Type 0
+Prints tree file o limit old new (Ok s) = PrintsRun tree file o limit old new s
+Prints tree file o limit old new (Err f) = PrintsPart tree file o limit old new × FaultsRun file f
 
 -- ---- answers of devices
 
@@ -290,8 +290,8 @@ Writes bytes old new _ = ⊥
 -- what was printed of the file, where this was asked for, or why it wasn't: of `client` the run alone
 abbrev pub Does :
     Asked → Outside → List ℕ → Option (List ℕ) → Option (List ℕ) → Result Status Fault → Type 0
-Does (a_run image path limit explain) o file old new r = Prints file o limit old new r
-Does (client_calls image calls path limit explain) o file old new r = Prints file o limit old new r
+Does (a_run image path limit tree explain) o file old new r = Prints tree file o limit old new r
+Does (client_calls image calls path limit explain) o file old new r = Prints false file o limit old new r
 Does (an_image source output) o file old new r = Tokenizes file old new r
 Does (a_listing image extras partial) o file old new r = Lists extras partial file old new r
 
@@ -306,7 +306,7 @@ is_done status.NoMemory = false
 
 -- whether it is asked how a run ended
 abbrev pub is_explained : Asked → Bool
-is_explained (a_run image o limit explain) = explain
+is_explained (a_run image o limit _ explain) = explain
 is_explained (client_calls image calls o limit explain) = explain
 is_explained (an_image source output) = false
 is_explained (a_listing image extras partial) = false

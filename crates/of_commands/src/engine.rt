@@ -9,6 +9,7 @@ ghost use Rattle.of_machine.specs.Racks.{answers_of};
 ghost use Rattle.of_machine.specs.Runs.{RunsTo};
 ghost use Rattle.of_commands.specs.Files.{FaultsReading};
 ghost use Rattle.of_commands.specs.Messages.{AppendsPart, SaysFault, bad_start_of};
+ghost use Rattle.of_commands.specs.Trees.{run_text};
 ghost use Rattle.of_commands.specs.Runs.{RunsFile, FaultsRun, Prints, IsRefusedFor, IsUnwritten, end_status};
 ghost use Rattle.of_commands.specs.Runs.{refused_as, ListsFile, ListsPart, Lists, RunsOn, shown_lines};
 ghost use Rattle.of_commands.specs.Runs.{FaultsSource, FaultsSourceFile, FaultsWith, HasImage, Tokenizes};
@@ -20,6 +21,7 @@ use crate::input::{read_image, read_whole};
 use crate::messages::Messages;
 use crate::output::{report, write_whole};
 use crate::outside::Outside;
+use crate::trees::print_text;
 use hex::encode;
 use of_arguments::{Request, Status};
 use of_asking::Answer;
@@ -41,6 +43,8 @@ pub struct Run<'a> {
     pub outside: Outside<'a>,
     /// How many steps the run makes at most.
     pub limit: u64,
+    /// Whether the device tree is printed behind what the run prints.
+    pub tree: bool,
     /// Whether its end is explained on the error output.
     pub explain: bool,
 }
@@ -162,7 +166,8 @@ pub(crate) fn explain_end<E: Write>(
     Ok(end_status(end))
 }
 
-/// Prints what a run printed, and then says how it ended, where that is to be explained.
+/// Prints what a run printed, and the device tree, where that is asked for, and then says how it ended, where that is
+/// to be explained.
 #[tactic(auto, using(crate::proofs::Faults::all_are_part))]
 fn print_end<W: Write, E: Write>(
     alloc: Global,
@@ -174,18 +179,18 @@ fn print_end<W: Write, E: Write>(
     errors: &mut Messages<E>,
 ) -> Result<Status, Fault>
     ensures ok { IfOk result (λ s. (s ≡ end_status end) × Appends (W.contents out.old) (W.contents out.new)
-        machine.now.eval.board.console.text) }
+        (run_text run.entry.tree machine.now)) }
     ensures err { OnErr result (AppendsPart (W.contents out.old) (W.contents out.new)
-        machine.now.eval.board.console.text) }
+        (run_text run.entry.tree machine.now)) }
     ensures fault { IfErr result (λ f. IsUnwritten f ⊎ (f ≡ Fault.NoMemory)) }
     ensures silent { run.entry.explain ≡ false → errors.new ≡ errors.old }
 {
-    write_whole(out, machine.console())?;
+    print_text(alloc, run.tree, machine, out)?;
     explain_end(alloc, run, image, machine, end, errors)
 }
 
-/// Runs the image of a file for at most `limit` steps, prints what the run prints, explains how it ended, where that
-/// is asked for, and gives the status.
+/// Runs the image of a file for at most `limit` steps, prints what the run prints, and the device tree, where that is
+/// asked for, explains how it ended, likewise, and gives the status.
 ///
 /// The file is the image as it stands where it begins with a start word, 0xF0 to 0xF3 or 0xFD, and
 /// else a text of hexadecimal digits. With a fault of the file nothing is printed.
@@ -198,7 +203,8 @@ fn print_run<R: Read, W: Write, E: Write>(
     errors: &mut Messages<E>,
 ) -> Result<Status, Fault>
     ensures printed { IfSome (R.remaining file.old) (λ bytes.
-        Prints bytes run.entry.outside run.entry.limit (W.contents out.old) (W.contents out.new) result) }
+        Prints run.entry.tree bytes run.entry.outside run.entry.limit
+        (W.contents out.old) (W.contents out.new) result) }
     ensures silent { run.entry.explain ≡ false → errors.new ≡ errors.old }
     ensures unsaid { IfErr result (λ f. is_some (bad_start_of f) ≡ true → errors.new ≡ errors.old) }
 {
@@ -392,6 +398,7 @@ fn perform<R: Read, W: Write, E: Write>(
         Request::Run {
             image,
             limit,
+            tree,
             explain,
             ..
         } => {
@@ -399,6 +406,7 @@ fn perform<R: Read, W: Write, E: Write>(
                 image,
                 outside,
                 limit,
+                tree,
                 explain,
             };
             print_run(alloc, run, file, out, errors)
@@ -413,6 +421,7 @@ fn perform<R: Read, W: Write, E: Write>(
                 image,
                 outside,
                 limit,
+                tree: false,
                 explain,
             };
             print_run(alloc, run, file, out, errors)

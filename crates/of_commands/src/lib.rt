@@ -12,6 +12,7 @@ mod output;
 mod outside;
 mod part;
 mod place;
+mod trees;
 
 pub use clients::{ClientRun, client};
 pub use devices::{answers, board};

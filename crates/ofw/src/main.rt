@@ -128,6 +128,7 @@ fn call<'a>(
         image,
         outside,
         limit,
+        tree: false,
         explain,
     };
     client(rt, &ClientRun { run, calls })

@@ -16,6 +16,10 @@ ofw detok a.hex --names:a.hex names
 ofw detok --indent a.hex --partial:a.hex indents partial
 ofw detok a.hex --names --names:
 ofw run --explain a.hex --limit 5:a.hex 5 explained
+ofw run --tree a.hex:a.hex 1000000 tree
+ofw run a.hex --explain --limit 5 --tree:a.hex 5 explained tree
+ofw run a.hex --tree --tree:
+ofw client a.hex --calls a.calls --tree:
 ofw run a.hex --answers a.answers:a.hex answers a.answers 1000000
 ofw run --answers a.answers a.hex --limit 5 --explain:a.hex answers a.answers 5 explained
 ofw run a.hex --answers:
@@ -82,8 +86,12 @@ fn shown(alloc: Global, request: Request) -> Result<String, Fail> {
             image,
             outside,
             limit,
+            tree,
             explain,
-        } => shown_run(alloc, image, outside, limit, flag(explain, " explained")),
+        } => {
+            let run = shown_run(alloc, image, outside, limit, flag(explain, " explained"))?;
+            Ok(format!(in alloc; "{run}{}", flag(tree, " tree"))?)
+        }
         Request::Client {
             image,
             calls,

@@ -62,6 +62,7 @@ fn holds(rt: &impl Abort, alloc: Global, case: &Case<'_>) {
         image: "a.hex",
         outside: case.outside,
         limit: case.limit,
+        tree: false,
         explain: case.explain,
     };
     let asked = ClientRun {

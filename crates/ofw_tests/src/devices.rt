@@ -30,6 +30,7 @@ fn run_on<E: Write>(
         image: "a.hex",
         outside: Asked::Standard,
         limit: 99,
+        tree: false,
         explain,
     };
     answer(alloc, request, outside, &mut image, out, errors)

@@ -13,3 +13,5 @@ mod commands;
 mod devices;
 #[cfg(test)]
 mod doubles;
+#[cfg(test)]
+mod trees;

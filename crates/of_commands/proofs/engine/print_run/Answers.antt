@@ -3,5 +3,6 @@ use Rattle.of_commands.proofs.engine.print_run.Goals as goal
 
 pub returns-in-Ok-clause-printed : goal.returns-in-Ok-clause-printed
 returns-in-Ok-clause-printed g c =
-    run_printed (g.R.Read.remaining c.args.file.now) c.args.run.outside c.args.run.limit _ c.in-Ok.end _ _
+    run_printed c.args.run.tree (g.R.Read.remaining c.args.file.now) c.args.run.outside c.args.run.limit _
+    c.in-Ok.end _ _
     c.print_end.result c.in-Ok.ensures.ok c.print_end.ensures.ok c.print_end.ensures.err c.print_end.ensures.fault
