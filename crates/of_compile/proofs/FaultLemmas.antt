@@ -10,7 +10,7 @@ use Rattle.of_memory.specs.Growth.{aligned}
 use Rattle.of_dict.specs.Words.{capacity, longest_name}
 use Rattle.of_compile.specs.Words.{WordsState, is_own_code, name_fault, number_faults}
 use Rattle.of_compile.specs.declared.defining.DefiningWord.{DefiningWord}
-use Rattle.of_compile.specs.Defining.{Making, defining_entry, has_no_bytes, made_by}
+use Rattle.of_compile.specs.Defining.{Making, defining_entry, has_no_bytes, made_by, naming_entry}
 
 -- no fault, or one that stands behind t in the order or beside it
 abbrev pub IsLate : Throw → Option Throw → Type 0
@@ -178,3 +178,80 @@ pub entry_short : (d : DefiningWord) (start : ℕ) (g : Making)
     → defining_entry d start g ≡ Err stack_underflow
 entry_short d start g e p none =
     rw (none, e, p, short (nat_le capacity (length g.words.dictionary)) false) refl
+
+-- ---- defining words of a text
+
+underflow_empty : nat_le (rank stack_underflow.0) (rank empty_name.0) ≡ true
+unfolding rank later_rank
+underflow_empty = refl
+
+underflow_long : nat_le (rank stack_underflow.0) (rank long_name.0) ≡ true
+unfolding rank later_rank
+underflow_long = refl
+
+empty_overflow : nat_le (rank empty_name.0) (rank dictionary_overflow.0) ≡ true
+unfolding rank later_rank
+empty_overflow = refl
+
+long_overflow : nat_le (rank long_name.0) (rank dictionary_overflow.0) ≡ true
+unfolding rank later_rank
+long_overflow = refl
+
+text_short : (e l : Bool) → IsLate stack_underflow (if e then Some empty_name else fault_if l long_name)
+text_short true l = underflow_empty
+text_short false l = late_if stack_underflow long_name l underflow_long
+
+name_short : (name : List ℕ) → IsLate stack_underflow (name_fault (Some name))
+name_short name = text_short (nat_eq (length name) 0) (nat_lt longest_name (length name))
+
+naming_nested : (u a b : Bool) (name : List ℕ)
+    → counting (Some compiler_nesting ∷ fault_if u stack_underflow ∷ name_fault (Some name)
+    ∷ fault_if a dictionary_overflow ∷ fault_if b dictionary_overflow ∷ []) ≡ Some compiler_nesting
+naming_nested u a b name =
+    let late = late_counted compiler_nesting (name_fault (Some name)) (full a b) (name_late (Some name))
+    (full_late compiler_nesting a b nesting_overflow) in
+    counted_first compiler_nesting (counted (fault_if u stack_underflow) (counted (name_fault (Some name)) (full a b)))
+    (late_counted compiler_nesting (fault_if u stack_underflow) (counted (name_fault (Some name)) (full a b))
+    (late_if compiler_nesting stack_underflow u nesting_underflow) late)
+
+naming_short : (a b : Bool) (name : List ℕ)
+    → counting (Some stack_underflow ∷ name_fault (Some name)
+    ∷ fault_if a dictionary_overflow ∷ fault_if b dictionary_overflow ∷ []) ≡ Some stack_underflow
+naming_short a b name =
+    counted_first stack_underflow (counted (name_fault (Some name)) (full a b))
+    (late_counted stack_underflow (name_fault (Some name)) (full a b) (name_short name)
+    (full_late stack_underflow a b underflow_overflow))
+
+text_bad : (e l a b : Bool) (t : Throw) → (if e then Some empty_name else fault_if l long_name) ≡ Some t
+    → counted (if e then Some empty_name else fault_if l long_name) (full a b) ≡ Some t
+text_bad true l a b t h = counted_first empty_name (full a b) (full_late empty_name a b empty_overflow) ∙ h
+text_bad false true a b t h = counted_first long_name (full a b) (full_late long_name a b long_overflow) ∙ h
+text_bad false false a b t h = cc
+
+-- -29 where a definition is open
+pub naming_open : (d : DefiningWord) (name : List ℕ) (start : ℕ) (g : Making) → is_some g.words.defining ≡ true
+    → naming_entry d name start g ≡ Err compiler_nesting
+naming_open d name start g e =
+    let x = made_by d start (aligned g.memory.here) g.stack in
+    rw (e, naming_nested (is_none x) (nat_le capacity (length g.words.dictionary)) (has_no_bytes g.memory x) name) refl
+
+-- else -4
+pub naming_lacks : (d : DefiningWord) (name : List ℕ) (start : ℕ) (g : Making) → is_some g.words.defining ≡ false
+    → made_by d start (aligned g.memory.here) g.stack ≡ None
+    → naming_entry d name start g ≡ Err stack_underflow
+naming_lacks d name start g e none =
+    rw (none, e, naming_short (nat_le capacity (length g.words.dictionary)) false name) refl
+
+-- else what the name is refused for
+pub naming_misnamed : (d : DefiningWord) (name : List ℕ) (start : ℕ) (g : Making) (t : Throw)
+    → is_some g.words.defining ≡ false
+    → is_none (made_by d start (aligned g.memory.here) g.stack) ≡ false
+    → name_fault (Some name) ≡ Some t → naming_entry d name start g ≡ Err t
+naming_misnamed d name start g t e made h =
+    let x = made_by d start (aligned g.memory.here) g.stack in
+    rw (
+      e,
+      made,
+      text_bad (nat_eq (length name) 0) (nat_lt longest_name (length name))
+          (nat_le capacity (length g.words.dictionary)) (has_no_bytes g.memory x) t h,
+    ) refl

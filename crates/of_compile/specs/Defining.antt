@@ -16,7 +16,7 @@ use Rattle.of_dict.specs.declared.word.Kind.{Kind}
 use Rattle.of_dict.specs.declared.word.Kind.TheVariants as kind
 use Rattle.of_dict.specs.Words.{capacity, xt_of}
 use Rattle.of_dict.specs.Calls.{changed, made, removed}
-use Rattle.of_compile.specs.Words.{WordsState}
+use Rattle.of_compile.specs.Words.{WordsState, name_fault}
 use Rattle.of_compile.specs.declared.words.Pending.{Pending}
 use Rattle.of_compile.specs.declared.defining.DefiningWord.{DefiningWord}
 use Rattle.of_compile.specs.declared.defining.DefiningWord.TheVariants as word
@@ -108,6 +108,37 @@ defined d x g = unless (counting (defining_faults g x)) (word_made d g g.words.p
 
 abbrev pub defining_entry : DefiningWord → ℕ → Making → Result Making Throw
 defining_entry d start g = defined d (made_by d start (aligned g.memory.here) g.stack) g
+
+-- ---- a word that a text names, which neither needs nor takes a pending number
+
+-- the faults of a defining word of a text, in their order
+abbrev pub naming_faults : List ℕ → Making → Option Made → List (Option Throw)
+naming_faults name g x =
+    fault_if (is_some g.words.defining) compiler_nesting
+    ∷ fault_if (is_none x) stack_underflow
+    ∷ name_fault (Some name)
+    ∷ fault_if (nat_le capacity (length g.words.dictionary)) dictionary_overflow
+    ∷ fault_if (has_no_bytes g.memory x) dictionary_overflow
+    ∷ []
+
+-- the words with one more, of this name, which is open or not
+abbrev pub with_named : DefiningWord → Kind → List ℕ → WordsState → WordsState
+with_named d k name w = record w {
+  dictionary = w.dictionary ++ Some (record (made (Some name) k) { hidden = opens d }) ∷ [];
+  defining = opened_in (opens d) (length w.dictionary);
+}
+
+-- what a word that is made leaves; without the cells that it takes none is made
+abbrev pub named_made : DefiningWord → List ℕ → Making → Option Made → Making
+named_made d name g (Some x) = making (with_named d x.kind name g.words) x.stack (with_zeros g.memory x.bytes)
+named_made d name g None = g
+
+-- what a defining word of a text leaves, or throws
+abbrev pub named : DefiningWord → List ℕ → Option Made → Making → Result Making Throw
+named d name x g = unless (counting (naming_faults name g x)) (named_made d name g x)
+
+abbrev pub naming_entry : DefiningWord → List ℕ → ℕ → Making → Result Making Throw
+naming_entry d name start g = named d name (made_by d start (aligned g.memory.here) g.stack) g
 
 -- ---- the end of a definition
 

@@ -8,12 +8,11 @@ ghost use Rattle.of_code.specs.Code.{end_of};
 ghost use Rattle.of_memory.specs.Growth.{aligned};
 ghost use Rattle.of_dict.specs.Words.{capacity};
 ghost use Rattle.of_compile.specs.Defining.{abandoned, closed, defining_entry, hidden_word, made_by, making};
-ghost use Rattle.of_compile.specs.Defining.{may_define};
-ghost use Rattle.of_compile.specs.Defining.{opens};
+ghost use Rattle.of_compile.specs.Defining.{may_define, naming_entry, opens, with_named};
 ghost use Rattle.of_compile.specs.Products.{made_of, with_pending};
-ghost use Rattle.of_compile.specs.Words.{name_pending, named_at, named_next};
+ghost use Rattle.of_compile.specs.Words.{name_fault, name_pending, named_at, named_next};
 
-use crate::words::Words;
+use crate::words::{Words, name_fault};
 use of_cells::Cell;
 use of_code::{CodeStore, Place};
 use of_dict::{CAPACITY, Kind, Name, OwnWord};
@@ -176,6 +175,63 @@ impl Words {
         self.add(word, product.kind)?;
         product.settle(stack);
         let _ = memory.allot_zeros(product.bytes);
+        Ok(())
+    }
+
+    /// Defines a word of this name, as a defining word of a text does, which neither needs nor takes a pending number
+    /// (Forth 2012, 6.1.0450, 6.1.0950; IEEE 1275-1994, annex A). A definition's code begins at the end of the code.
+    /// `here` is moved up to a multiple of 4 first.
+    ///
+    /// -29 while a definition is open, -4 where the word takes more cells than there are, -16 for a name without bytes,
+    /// -19 for one of more than 31, -8 where 8,192 words were made or the data region has no room. A stop for memory
+    /// comes only where none of these does. A stop changes nothing.
+    pub fn define_named<C: CodeStore>(
+        &mut self,
+        word: DefiningWord,
+        name: &[u8],
+        code: &C,
+        stack: &mut DataStack,
+        memory: &mut Memory,
+    ) -> Result<(), Stop>
+        ensures made { let old = making self.old stack.old memory.old in
+            let entry = naming_entry word name.now (end_of (C.code code.now)).cell old in
+            Makes (is_ok entry) entry old (making self.new stack.new memory.new) result }
+    {
+        if self.defining.is_some() {
+            return Err(Stop::Thrown(Throw::COMPILER_NESTING));
+        }
+        let product = match word.product(code.end(), next_address(memory), stack) {
+            Ok(product) => product,
+            Err(fault) => return Err(Stop::Thrown(fault)),
+        };
+        if let Some(fault) = name_fault(Some(name)) {
+            return Err(Stop::Thrown(fault));
+        }
+        if self.dictionary.made() >= CAPACITY || memory.check_zeros(product.bytes).is_err() {
+            return Err(Stop::Thrown(Throw::DICTIONARY_OVERFLOW));
+        }
+        self.add_named(word, name, product.kind)?;
+        product.settle(stack);
+        let _ = memory.allot_zeros(product.bytes);
+        Ok(())
+    }
+
+    /// Adds a word of a name. A refusal is one of memory.
+    #[tactic(auto, using(crate::proofs::WordsLemmas::newest_pushed, crate::proofs::WordsLemmas::changed_pushed))]
+    fn add_named(&mut self, word: DefiningWord, name: &[u8], kind: Kind) -> Result<(), AllocError>
+        requires closed { self.old.defining ≡ None }
+        requires room { length self.old.dictionary < capacity }
+        requires fit { name_fault (Some name.now) ≡ None }
+        ensures ok { IfOk result (λ _. self.new ≡ with_named word kind name.now self.old) }
+        ensures err { OnErr result (self.new ≡ self.old) }
+    {
+        let Ok(number) = self.dictionary.add(Some(name), kind) else {
+            return Err(AllocError);
+        };
+        if word.opens() {
+            self.dictionary.hide(number);
+            self.defining = Some(number);
+        }
         Ok(())
     }
 

@@ -6,7 +6,7 @@ ghost use Rattle.of_compile.specs.Tokens.{called};
 ghost use Rattle.std.specs.Option.{option_map};
 ghost use Rattle.of_cells.specs.Outcomes.{Becomes};
 ghost use Rattle.of_fcodes.specs.Tokens.{entry_in};
-ghost use Rattle.of_dict.specs.Words.{capacity, kind_in, newest_below, word_at};
+ghost use Rattle.of_dict.specs.Words.{capacity, is_immediate_in, kind_in, newest_below, word_at};
 ghost use Rattle.of_compile.specs.Words.{is_word, own_number, own_word};
 ghost use Rattle.of_compile.specs.DictionaryWords.{behavior_entry, behavior_of, body_of, created_at, from_body_entry};
 ghost use Rattle.of_compile.specs.DictionaryWords.{get_token_entry, immediate_entry, is_body, set_token_entry};
@@ -36,6 +36,18 @@ fn kind_at(words: &Dict, xt: Cell) -> Option<Kind>
     ensures { result ≡ kind_in (own_word words.now xt.0) }
 {
     words.kind_of(OwnWord::with_xt(xt)?)
+}
+
+/// Whether the own word of an execution token is executed while compiling, too.
+#[inline(always)]
+#[tactic(auto, using(crate::proofs::WordsLemmas::own_is, crate::proofs::WordsLemmas::own_none))]
+fn is_immediate_at(words: &Dict, xt: Cell) -> bool
+    ensures { result ≡ is_immediate_in (own_word words.now xt.0) }
+{
+    match OwnWord::with_xt(xt) {
+        Some(word) => words.is_immediate(word),
+        None => false,
+    }
 }
 
 /// Whether a number is the execution token of a word, written or own.
@@ -129,6 +141,14 @@ impl Words {
         ensures { result ≡ kind_in (own_word self.now.dictionary xt.0) }
     {
         kind_at(&self.dictionary, xt)
+    }
+
+    /// Whether the own word of an execution token is executed while compiling, too (Forth 2012, 6.1.1710).
+    #[inline]
+    pub fn is_immediate_at(&self, xt: Cell) -> bool
+        ensures { result ≡ is_immediate_in (own_word self.now.dictionary xt.0) }
+    {
+        is_immediate_at(&self.dictionary, xt)
     }
 
     /// Whether a number is the execution token of a word, written or own.

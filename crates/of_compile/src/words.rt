@@ -35,7 +35,7 @@ pub enum TokenMaker<'a> {
     External(&'a [u8]),
 }
 
-/// The words that images define. Only `new` and `define` take memory.
+/// The words that images and texts define. Only `new` and the calls that define take memory.
 #[derive(Drop)]
 pub struct Words {
     pub(crate) dictionary: Dict,
@@ -100,7 +100,7 @@ pub(crate) fn is_own_code(code: u32) -> bool
 }
 
 /// What a name is refused for that a word is to bear.
-fn name_fault(name: Option<&[u8]>) -> Option<Throw>
+pub(crate) fn name_fault(name: Option<&[u8]>) -> Option<Throw>
     ensures { result ≡ name_fault (option_copied name.entry) }
 {
     match name {
