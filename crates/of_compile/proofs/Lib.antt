@@ -18,3 +18,4 @@ mod SlotFaults
 mod WordsLemmas
 mod LifeLemmas
 mod Endings
+mod NameLemmas

@@ -16,7 +16,7 @@ set-push : {A : Type 0} (xs : List A) (y z : A) → slice_set (xs ++ y ∷ []) (
 set-push [] y z = refl
 set-push (x ∷ xs) y z = ap (λ l. x ∷ l) (set-push xs y z)
 
-at-push : {A : Type 0} (xs : List A) (y d : A) → slice_index_or (xs ++ y ∷ []) (length xs) d ≡ y
+pub at-push : {A : Type 0} (xs : List A) (y d : A) → slice_index_or (xs ++ y ∷ []) (length xs) d ≡ y
 at-push [] y d = refl
 at-push (x ∷ xs) y d = at-push xs y d
 

@@ -14,3 +14,4 @@ pub mod Products
 pub mod DictionaryWords
 pub mod Definitions
 pub mod LifeLaw
+pub mod NamesLaw

@@ -2,6 +2,7 @@
 ghost use Rattle.of_compile.specs.StructuredLaw.{StructuresAreFlat};
 ghost use Rattle.of_compile.specs.Law.{CompilesReading};
 ghost use Rattle.of_compile.specs.LifeLaw.{DefinitionsComeAndGo};
+ghost use Rattle.of_compile.specs.NamesLaw.{WordsGetTheirNames};
 ghost use Rattle.of_compile.specs.PlacesLaw.{PlacesAreNumbered};
 ghost use Rattle.of_compile.specs.RunsLaw.{RunsByStructure};
 
@@ -59,4 +60,13 @@ pub fn definitions_come_and_go()
 {
     changes_are_found();
     table_is_map();
+}
+
+/// A defining word of a text throws -29 in a definition, else -4 where the stack has too few cells, else -16 or -19 for
+/// its name, else -8 for want of room. Else it makes one word, the newest, which has the name, and is hidden exactly
+/// where it opens a definition; the older words, the token table and the pending number are as they were.
+pub fn words_get_their_names()
+    ensures { WordsGetTheirNames }
+{
+    changes_are_found();
 }

@@ -20,7 +20,7 @@ pub use definitions::{abandon_definition, compile_call, end_definition};
 pub use element::{Element, PlainItem};
 pub use laws::{
     compiles_reading, definitions_come_and_go, places_are_numbered, runs_by_structure,
-    structures_are_flat,
+    structures_are_flat, words_get_their_names,
 };
 pub use tokens::{CompiledOperand, called, text_elements, token_element};
 pub use words::{Pending, TokenMaker, Words};
