@@ -6,7 +6,7 @@ use of_cells::Cell;
 use of_code::{CodeStore, Item, ListCode, Place};
 use of_compile::{
     Coding, Element, PlainItem, compiles_reading, definitions_come_and_go, places_are_numbered,
-    runs_by_structure, structures_are_flat,
+    runs_by_structure, structures_are_flat, words_get_their_names,
 };
 use of_stacks::Throw;
 use std::alloc::Global;
@@ -494,4 +494,5 @@ fn laws() {
     definitions_come_and_go();
     places_are_numbered();
     runs_by_structure();
+    words_get_their_names();
 }

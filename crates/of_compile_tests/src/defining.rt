@@ -16,7 +16,7 @@ use std::test::Fail;
 
 /// What the words of a line work on.
 #[derive(Drop)]
-struct Bench {
+pub(crate) struct Bench {
     words: Words,
     coding: Coding<ListCode>,
     stack: DataStack,
@@ -24,7 +24,7 @@ struct Bench {
 }
 
 impl Bench {
-    fn new(alloc: Global) -> Result<Bench, AllocError> {
+    pub(crate) fn new(alloc: Global) -> Result<Bench, AllocError> {
         Ok(Bench {
             words: Words::new(alloc)?,
             coding: Coding::new(ListCode::new(alloc)),
@@ -95,18 +95,10 @@ impl Bench {
         }
     }
 
-    /// A defining word.
+    /// A defining word of an image.
     fn defining(&mut self, word: &str) -> Result<(), Stop> {
-        let defining = match word {
-            "colon" => DefiningWord::Colon,
-            "value" => DefiningWord::Value,
-            "constant" => DefiningWord::Constant,
-            "variable" => DefiningWord::Variable,
-            "create" => DefiningWord::Create,
-            "defer" => DefiningWord::Defer,
-            "buffer" => DefiningWord::Buffer,
-            "field" => DefiningWord::Field,
-            _ => return self.parted(word),
+        let Some(defining) = defining_word(word) else {
+            return self.parted(word);
         };
         self.words.define(
             defining,
@@ -116,8 +108,22 @@ impl Bench {
         )
     }
 
-    /// A word with an FCode or a name behind it: `new:800`, `external:801:abc`, `to:800`, `find:abc`, `flag:abc`,
-    /// `kind:800`.
+    /// A defining word of a text.
+    fn naming(&mut self, word: &str, name: &[u8]) -> Result<(), Stop> {
+        let Some(defining) = defining_word(word) else {
+            return Ok(());
+        };
+        self.words.define_named(
+            defining,
+            name,
+            self.coding.code(),
+            &mut self.stack,
+            &mut self.memory,
+        )
+    }
+
+    /// A word with an FCode, a name or a word behind it: `new:800`, `external:801:abc`, `to:800`, `find:abc`,
+    /// `flag:abc`, `kind:800`, `does:abc`, `text:constant:abc`.
     fn parted(&mut self, word: &str) -> Result<(), Stop> {
         let mut parts = word.split(':');
         let kind = parts.next().unwrap_or("");
@@ -137,6 +143,8 @@ impl Bench {
             ),
             "to" => Ok(self.words.store(xt, &mut self.stack)?),
             "kind" => self.push_kind(xt),
+            "does" => self.push_kind(self.found(text)),
+            "text" => self.naming(text, name),
             "word" => Ok(self.stack.try_push(Cell::flag(self.words.is_word(xt)))?),
             "hide" => {
                 if let Some(word) = self.words.dictionary().find(text.as_bytes()) {
@@ -159,9 +167,15 @@ impl Bench {
             "opened" => xt_of(self.words.named_open().map(|word| word.0)),
             "next" => xt_of(self.words.named_next().map(|word| word.0)),
             "may" => Cell::flag(self.words.may_define()),
-            "find" => xt_of(self.words.dictionary().find(text.as_bytes())),
+            "find" => self.found(text),
+            "now" => Cell::flag(self.words.is_immediate_at(self.found(text))),
             _ => self.flag_of(text),
         }
+    }
+
+    /// The execution token of the word of a name, or 0.
+    fn found(&self, name: &str) -> Cell {
+        xt_of(self.words.dictionary().find(name.as_bytes()))
     }
 
     /// Pushes what the own word of an execution token keeps, and the number of its kind.
@@ -195,6 +209,21 @@ impl Bench {
             Some(word) => Cell::flag(self.words.dictionary().is_immediate(word)),
             None => Cell(0),
         }
+    }
+}
+
+/// The defining word of a name.
+fn defining_word(name: &str) -> Option<DefiningWord> {
+    match name {
+        "colon" => Some(DefiningWord::Colon),
+        "value" => Some(DefiningWord::Value),
+        "constant" => Some(DefiningWord::Constant),
+        "variable" => Some(DefiningWord::Variable),
+        "create" => Some(DefiningWord::Create),
+        "defer" => Some(DefiningWord::Defer),
+        "buffer" => Some(DefiningWord::Buffer),
+        "field" => Some(DefiningWord::Field),
+        _ => None,
     }
 }
 
@@ -308,7 +337,7 @@ fn leaves(stack: &DataStack, text: &str) -> bool {
 }
 
 /// Whether a line's words leave or throw what stands behind them.
-fn holds(bench: &mut Bench, line: &str) -> bool {
+pub(crate) fn holds(bench: &mut Bench, line: &str) -> bool {
     let Some((words, expected)) = line.split_once(" -> ") else {
         return false;
     };

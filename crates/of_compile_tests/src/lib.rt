@@ -5,3 +5,5 @@
 mod compiling;
 #[cfg(test)]
 mod defining;
+#[cfg(test)]
+mod naming;
