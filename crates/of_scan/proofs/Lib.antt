@@ -1,3 +1,4 @@
 mod Scanning
+mod PartLemmas
 mod WordLemmas
 mod StringLemmas

@@ -1,5 +1,7 @@
 -- What holds of the words and strings of every text.
-use Rattle.std.specs.Prelude.{◌≡◌, ◌≢◌, ℕ, ◌+◌, List, ◌∷◌, ◌++◌, length, Some, None}
+use Rattle.std.specs.Prelude.{◌≡◌, ◌≢◌, ℕ, ◌+◌, List, [], ◌∷◌, ◌++◌, length, Some, None}
+use Rattle.std.specs.List.{All}
+use Rattle.of_scan.specs.Parts.{part_to}
 use Rattle.of_scan.specs.Scan.{Found, rest_at, start_of, next_word, plain_string}
 use Rattle.of_scan.specs.Strings.{IsWithin}
 use Rattle.of_scan.specs.Words.{IsWord, AreBlanks, EndsWord}
@@ -26,3 +28,10 @@ pub record StringsAreRead : Type 0 where
   pub there : (end b : ℕ) (bytes more : List ℕ) → b ≢ 10 → IsWithin end bytes
       → plain_string end (b ∷ (bytes ++ end ∷ more)) ≡ Some (bytes, more)
   pub found : (end : ℕ) (text : List ℕ) → end ≢ 10 → IsFoundIn end text (plain_string end text)
+
+-- A string that no line ends goes up to the first byte that ends it, and what follows that is left; a text without that
+-- byte is the string. Each text is one of these two.
+pub record PartsAreRead : Type 0 where
+  pub there : (end : ℕ) (bytes more : List ℕ) → All (λ b. b ≢ end) bytes
+      → part_to end (bytes ++ end ∷ more) ≡ (bytes, more)
+  pub unended : (end : ℕ) (bytes : List ℕ) → All (λ b. b ≢ end) bytes → part_to end bytes ≡ (bytes, [])

@@ -2,4 +2,5 @@ pub mod Scan
 pub mod Numbers
 pub mod Words
 pub mod Strings
+pub mod Parts
 pub mod Laws

@@ -1,6 +1,6 @@
 // A function without parameters does nothing: its contract is a law.
 
-ghost use Rattle.of_scan.specs.Laws.{StringsAreRead, WordsAreRead};
+ghost use Rattle.of_scan.specs.Laws.{PartsAreRead, StringsAreRead, WordsAreRead};
 
 /// A text of blanks and a word, which ends at a blank or at the end of the text, gives that word, with the position
 /// of its first byte, and what follows it is left; a text of blanks alone gives none.
@@ -14,4 +14,11 @@ pub fn words_are_read()
 #[tactic(auto, using(crate::proofs::StringLemmas::strings_are_read))]
 pub fn strings_are_read()
     ensures { StringsAreRead }
+{}
+
+/// A string that no line ends goes up to the first byte that ends it, and what follows that is left; a text without
+/// that byte is the whole string.
+#[tactic(auto, using(crate::proofs::PartLemmas::parts_are_read))]
+pub fn parts_are_read()
+    ensures { PartsAreRead }
 {}

@@ -3,8 +3,9 @@
 
 mod laws;
 mod numbers;
+mod parts;
 mod scan;
 
-pub use laws::{strings_are_read, words_are_read};
+pub use laws::{parts_are_read, strings_are_read, words_are_read};
 pub use numbers::{Number, number_in};
 pub use scan::{Rest, Word};

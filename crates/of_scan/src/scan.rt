@@ -24,8 +24,8 @@ pub struct Word<'a> {
 /// line ends at a byte 0x0A. A call that finds no end leaves everything as it was.
 #[derive(Drop)]
 pub struct Rest<'a> {
-    text: &'a [u8],
-    at: usize,
+    pub(crate) text: &'a [u8],
+    pub(crate) at: usize,
 }
 
 // Clauses see the position and the bytes.
@@ -42,7 +42,7 @@ impl<'a> Model for Rest<'a> {
 
 /// Whether a byte separates words.
 #[inline]
-fn is_blank(byte: u8) -> bool
+pub(crate) fn is_blank(byte: u8) -> bool
     ensures { result ≡ is_blank byte }
 {
     byte <= b' '
@@ -74,7 +74,7 @@ impl<'a> Rest<'a> {
     }
 
     /// Past the bytes before these, which are the last that are left.
-    fn leave(&mut self, text: &'a [u8])
+    pub(crate) fn leave(&mut self, text: &'a [u8])
         requires { length text.now ≤ length self.old.text }
         ensures { self.new ≡ left_of self.old text.now }
     {
@@ -222,7 +222,7 @@ fn line_end(mut text: &[u8]) -> &[u8]
 }
 
 /// The byte that two digits say.
-fn byte_of(high: u8, low: u8) -> Option<u8>
+pub(crate) fn byte_of(high: u8, low: u8) -> Option<u8>
     ensures { result ≡ byte_of (digit_value 16 high) (digit_value 16 low) }
 {
     let high = digit(u32::from(high), 16)?;

@@ -1,12 +1,13 @@
 use of_cells::Cell;
-use of_scan::{Number, Rest, Word, number_in, strings_are_read, words_are_read};
+use of_scan::{Number, Rest, Word, number_in, parts_are_read, strings_are_read, words_are_read};
 use std::alloc::Global;
 use std::process::Abort;
 use std::test::Fail;
 
 /// A call, a text, what the call gives, the position behind it, and the next word with its position then, or `none`.
 ///
-/// The calls: a word, a string up to a quote, a comment, the rest of a line, and the string of a word `"`. In texts
+/// The calls: a word, a string up to a quote, a comment, the rest of a line, and the string of a word `"`; and, for
+/// texts whose strings no line ends, a part up to a quote and the string of a word `"`, both behind one byte. In texts
 /// `~` is the end of a line, `^` a tab and `@` a zero byte.
 const READ: &str = r#"w||none|0|none
 w|~ ^@|none|4|none
@@ -43,7 +44,31 @@ q| no end|none|0|no 1
 q| no~end"|none|0|no 1
 q| a"(41)b|none|0|a"(41)b 1
 q|~a"|none|0|a" 1
+p| hello" swap|hello|7|swap 8
+p| hello|hello|6|none
+p| a~b"x|a~b|5|x 5
+p|~a"x|a|3|x 3
+p|"||1|none
+p|||0|none
+g| a"(41 42)b" x|done|12|x 13
+g| "(41~42)"|done|10|none
+g| "(41"(42)" x|done|2|(41"(42)" 2
+g| "(4)" x|done|2|(4)" 2
+g| "(4g)" x|done|2|(4g)" 2
+g| "()"(4A)"(4b)x|done|15|none
+g| no end|done|7|none
+g|"a" x|done|3|x 4
+g||done|0|none
 "#;
+
+/// A text, a position, and the next word behind it with its own, or `none`.
+const POSITIONS: &str = "\
+dup swap|0|dup 0
+dup swap|1|up 1
+dup swap|3|swap 4
+dup swap|8|none
+dup swap|9|none
+";
 
 /// A base, a word, and the cell that it says in hexadecimal, `range` where no cell holds it, or `none`.
 const NUMBERS: &str = "\
@@ -110,6 +135,15 @@ fn given(alloc: Global, call: &str, rest: &mut Rest<'_>) -> Result<Vec<u8>, Fail
             rest.skip_line();
             Ok(b"done".to_vec(alloc)?)
         }
+        "p" => {
+            rest.skip_byte();
+            Ok(rest.part(b'"').to_vec(alloc)?)
+        }
+        "g" => {
+            rest.skip_byte();
+            rest.skip_quoted();
+            Ok(b"done".to_vec(alloc)?)
+        }
         _ => match rest.quoted_string(alloc)? {
             Some(bytes) => Ok(bytes),
             None => Ok(b"none".to_vec(alloc)?),
@@ -143,6 +177,30 @@ fn words_and_strings(rt: HostRuntime) -> Result<(), Fail> {
     }
     words_are_read();
     strings_are_read();
+    parts_are_read();
+    Ok(())
+}
+
+/// Reads behind a position.
+fn behind(rt: &impl Abort, alloc: Global, line: &str) -> Result<(), Fail> {
+    let fields: Vec<&str> = line.split('|').collect(alloc)?;
+    let [text, at, next] = fields.as_slice() else {
+        return Err(Fail::new("a line of another form"));
+    };
+    let mut rest = Rest::behind(text.as_bytes(), at.parse()?);
+    assert_eq!(rt;
+        word_shown(alloc, rest.word())?,
+        text_of(alloc, next)?,
+        "{line}"
+    );
+    Ok(())
+}
+
+#[test]
+fn positions(rt: HostRuntime) -> Result<(), Fail> {
+    for line in POSITIONS.lines() {
+        behind(&rt, rt.alloc(), line)?;
+    }
     Ok(())
 }
 

@@ -1,0 +1,11 @@
+use Rattle.std.proofs.Common.{◌∙◌, rules, length}
+use Rattle.of_scan.proofs.PartLemmas.{group_more}
+use Rattle.of_scan.proofs.parts.behind_quoted.Goals as goal
+
+pub loop-preserved : goal.loop-preserved
+loop-preserved c = record {
+  same = group_more c.loop.counter (length c.args.text.now) c.loop.rest.now c.in-Some.next.now c.loop-test.true
+      (search rules)
+      ∙ c.loop.invariant.same;
+  shorter = search rules;
+}
