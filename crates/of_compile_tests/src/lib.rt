@@ -1,4 +1,4 @@
-//! Tests of the public calls of the compiler of definitions, a file for each part of it.
+//! Tests of the public calls of the compiler of definitions and of the reader of texts, a file for each part of them.
 #![tactic(auto)]
 
 #[cfg(test)]
@@ -7,3 +7,5 @@ mod compiling;
 mod defining;
 #[cfg(test)]
 mod naming;
+#[cfg(test)]
+mod texts;
