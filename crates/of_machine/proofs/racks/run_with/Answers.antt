@@ -40,5 +40,6 @@ pub returns-in_err-round_with-clause-left : goal.returns-in_err-round_with-claus
 returns-in_err-round_with-clause-left g c =
     let f : _ → Meant = λ d. (goal.Device-dyn g (d.vtable, d.value)).meant d.value in
     on_err _
-    (left_behind c.args.limit (map f c.args.rack.now.items) (map f c.loop.rack.items) (map f c.round_with.new.rack.items)
-    c.args.feeder.now c.loop.feeder c.loop.invariant.gone c.in_err-round_with.ensures.left)
+    (left_behind c.args.limit (map f c.args.rack.now.items) (map f c.loop.rack.items)
+    (map f c.round_with.new.rack.items) c.args.feeder.now c.loop.feeder c.loop.invariant.gone
+    c.in_err-round_with.ensures.left)
