@@ -288,6 +288,8 @@ fn images_are_given_back(rt: HostRuntime) -> Result<(), Fail> {
 const NAMES: &str = "\
 + c0000080
 foo none
+if c00004c8
+b(lit) none
 #34 c00000e4
 #800 none
 #801 c000052c

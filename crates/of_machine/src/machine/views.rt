@@ -1,16 +1,17 @@
 ghost use Rattle.std.specs.Prelude.{◌≡◌, length, map, reverse};
 ghost use Rattle.of_eval.specs.Views.{items_of_word, next_item, next_token};
 ghost use Rattle.of_machine.specs.States.{is_running, reply_shown};
-ghost use Rattle.of_machine.specs.Views.{active_method, byte_of, xt_named, xt_numbered};
+ghost use Rattle.of_machine.specs.Views.{byte_of, word_named, xt_numbered};
 
 use super::Machine;
 use of_asking::Query;
 use of_cells::Cell;
 use of_client::ClientReply;
 use of_code::{CodeStore, ItemPlace};
-use of_fcodes::{FCode, word_with_name};
+use of_fcodes::FCode;
 use of_memory::Memory;
 use of_nodes::Tree;
+use of_text::Names;
 
 impl<C: CodeStore> Machine<C> {
     /// The cells of the data stack, the bottom first.
@@ -86,35 +87,18 @@ impl<C: CodeStore> Machine<C> {
         self.eval.is_running()
     }
 
-    /// The execution token of the method that a name has in the active package, if there is one.
-    fn active_method(&self, name: &[u8]) -> Option<Cell>
-        ensures { result ≡ active_method self.now.eval.board.tree self.now.eval.board.active.«package» name.now }
-    {
-        let Some(package) = self.eval.active_package() else {
-            return None;
-        };
-        match self.eval.tree().method(package, name) {
-            Ok(method) => method,
-            Err(_) => None,
-        }
-    }
-
     /// The execution token of the word that a name finds, if there is one. The search order is the active package,
-    /// whose methods come first, then own words, the newest first, then written words (IEEE 1275-1994, 5.3.2 and
-    /// 5.3.3.1; Forth 2012, 16.3.3). The case of ASCII letters doesn't count (Forth 2012, 3.4.2).
+    /// whose methods come first, then own words, the newest first, then the written words that a text has (IEEE
+    /// 1275-1994, 5.3.2 and 5.3.3.1; Forth 2012, 16.3.3). The case of ASCII letters doesn't count (Forth 2012, 3.4.2).
     pub fn word(&self, name: &[u8]) -> Option<Cell>
-        ensures { result ≡ xt_named self.now.eval name.now }
+        ensures { result ≡ word_named self.now.eval name.now }
     {
-        if let Some(method) = self.active_method(name) {
-            return Some(method);
-        }
-        match self.eval.words().dictionary().find(name) {
-            Some(word) => Some(word.xt()),
-            None => match word_with_name(name) {
-                Some(word) => Some(Cell(word.xt())),
-                None => None,
-            },
-        }
+        let names = Names {
+            tree: self.eval.tree(),
+            home: self.eval.active_package(),
+            words: self.eval.words(),
+        };
+        names.xt(name)
     }
 
     /// The execution token that an FCode names, if it is assigned.
