@@ -1,5 +1,6 @@
+use crate::rows::{Rows, check, decimal, hexadecimal, word};
 use of_cells::{Cell, Double, floored_division, joins_of_splits, splits_of_joins};
-use std::test::Fail;
+use std::alloc::Global;
 
 /// What an operation on one cell gives; 0 for an unknown one.
 fn of_one(name: &str, x: Cell) -> Cell {
@@ -37,16 +38,25 @@ lwflip 12345678 56781234
 lbflip 12345678 78563412
 ";
 
-#[test]
-fn one_cell(rt: HostRuntime) -> Result<(), Fail> {
-    for line in OF_ONE.lines() {
-        let mut words = line.split_whitespace();
-        let name = words.next().unwrap_or("");
-        let x = Cell(u32::from_str_radix(words.next().unwrap_or(""), 16)?);
-        let wanted = Cell(u32::from_str_radix(words.next().unwrap_or(""), 16)?);
-        assert_eq!(rt; of_one(name, x), wanted, "{line}");
+/// The cell at a place of a line.
+fn cell(line: &str, place: usize) -> Option<Cell> {
+    Some(Cell(hexadecimal(word(line, place))?))
+}
+
+/// Operations on one cell.
+#[derive(Clone, Copy)]
+struct OneCellRows;
+
+impl Rows for OneCellRows {
+    fn holds(&mut self, _alloc: Global, line: &str) -> Option<bool> {
+        let x = cell(line, 1)?;
+        Some(of_one(word(line, 0), x) == cell(line, 2)?)
     }
-    Ok(())
+}
+
+#[test]
+fn one_cell(rt: HostRuntime) {
+    check(&rt, rt.alloc(), &mut OneCellRows, OF_ONE);
 }
 
 /// What an operation on two cells gives, the divisor being no zero; 0 for an unknown one.
@@ -89,19 +99,26 @@ bwjoin 178 56 5678
 wljoin 15678 1234 12345678
 ";
 
-#[test]
-fn two_cells(rt: HostRuntime) -> Result<(), Fail> {
-    for line in OF_TWO.lines() {
-        let mut words = line.split_whitespace();
-        let name = words.next().unwrap_or("");
-        let x = Cell(u32::from_str_radix(words.next().unwrap_or(""), 16)?);
-        let y = Cell(u32::from_str_radix(words.next().unwrap_or(""), 16)?);
-        let wanted = Cell(u32::from_str_radix(words.next().unwrap_or(""), 16)?);
-        assert_eq!(rt; of_two(name, x, y), wanted, "{line}");
+/// Operations on two cells.
+#[derive(Clone, Copy)]
+struct TwoCellRows;
+
+impl Rows for TwoCellRows {
+    fn holds(&mut self, _alloc: Global, line: &str) -> Option<bool> {
+        let (x, y) = (cell(line, 1)?, cell(line, 2)?);
+        Some(of_two(word(line, 0), x, y) == cell(line, 3)?)
     }
+}
+
+#[test]
+fn two_cells(rt: HostRuntime) {
+    check(&rt, rt.alloc(), &mut TwoCellRows, OF_TWO);
+}
+
+#[test]
+fn four_bytes(rt: HostRuntime) {
     let joined = Cell::from_four_bytes(Cell(0x78), Cell(0x56), Cell(0x34), Cell(0x12));
-    assert_eq!(rt; joined, Cell(0x1234_5678));
-    Ok(())
+    assert!(rt; joined == Cell(0x1234_5678));
 }
 
 /// Whether a comparison holds; false for an unknown one.
@@ -131,29 +148,28 @@ u<= 0 1 1
 u>= 1 0 1
 ";
 
-#[test]
-fn comparisons(rt: HostRuntime) -> Result<(), Fail> {
-    let (less, more) = (Cell(0xffff_ffff), Cell(1));
-    for line in COMPARISONS.lines() {
-        let mut words = line.split_whitespace();
-        let name = words.next().unwrap_or("");
-        assert_eq!(rt;
-            holds(name, less, more),
-            words.next() == Some("1"),
-            "{line}"
-        );
-        assert_eq!(rt;
-            holds(name, more, less),
-            words.next() == Some("1"),
-            "{line}"
-        );
-        assert_eq!(rt;
-            holds(name, less, less),
-            words.next() == Some("1"),
-            "{line}"
-        );
+/// Whether a comparison holds of two cells as the word at a place of a line says, 1 or 0.
+fn is_as_said(line: &str, place: usize, x: Cell, y: Cell) -> bool {
+    holds(word(line, 0), x, y) == (word(line, place) == "1")
+}
+
+/// Comparisons of two cells.
+#[derive(Clone, Copy)]
+struct ComparisonRows;
+
+impl Rows for ComparisonRows {
+    fn holds(&mut self, _alloc: Global, line: &str) -> Option<bool> {
+        let (less, more) = (Cell(0xffff_ffff), Cell(1));
+        let is_said = is_as_said(line, 1, less, more)
+            && is_as_said(line, 2, more, less)
+            && is_as_said(line, 3, less, less);
+        Some(is_said)
     }
-    Ok(())
+}
+
+#[test]
+fn comparisons(rt: HostRuntime) {
+    check(&rt, rt.alloc(), &mut ComparisonRows, COMPARISONS);
 }
 
 #[test]
@@ -161,10 +177,9 @@ fn ranges_flags_and_signs(rt: HostRuntime) {
     let (less, more) = (Cell(0xffff_ffff), Cell(1));
     assert!(rt; more.is_between(less, more) && !Cell(2).is_between(less, more));
     assert!(rt; Cell(0).is_within(less, more) && !more.is_within(less, more));
-    assert_eq!(rt; Cell::flag(true), Cell(0xffff_ffff));
-    assert_eq!(rt; Cell::flag(false), Cell(0));
+    assert!(rt; Cell::flag(true) == Cell(0xffff_ffff) && Cell::flag(false) == Cell(0));
     assert!(rt; Cell(2).is_true() && !Cell::ZERO.is_true());
-    assert_eq!(rt; Cell(0xffff_fffe).signed(), -2);
+    assert!(rt; Cell(0xffff_fffe).signed() == -2);
 }
 
 /// Dividend, divisor, rest and quotient, as in the table of Forth 2012, 3.2.2.1.
@@ -176,10 +191,10 @@ const FLOORED: &str = "\
 -2147483648 -1 0 -2147483648
 ";
 
-/// The cell of a signed number in decimal digits.
-fn cell(digits: Option<&str>) -> Result<Cell, Fail> {
-    let n: i32 = digits.unwrap_or("").parse()?;
-    Ok(Cell(n.cast_unsigned()))
+/// The cell of the signed number at a place of a line, in decimal digits.
+fn signed(line: &str, place: usize) -> Option<Cell> {
+    let n = i32::try_from(decimal(word(line, place))?).ok()?;
+    Some(Cell(n.cast_unsigned()))
 }
 
 /// Rest and quotient of a division, and those of the product by 1, the divisor being no zero.
@@ -196,44 +211,51 @@ fn parts(n: Cell, d: Cell) -> [Cell; 4] {
     ]
 }
 
-#[test]
-fn division(rt: HostRuntime) -> Result<(), Fail> {
-    for line in FLOORED.lines() {
-        let mut words = line.split_whitespace();
-        let (n, d) = (cell(words.next())?, cell(words.next())?);
-        let (rest, quotient) = (cell(words.next())?, cell(words.next())?);
-        assert_eq!(rt; parts(n, d), [rest, quotient, rest, quotient], "{line}");
+/// Divisions.
+#[derive(Clone, Copy)]
+struct DivisionRows;
+
+impl Rows for DivisionRows {
+    fn holds(&mut self, _alloc: Global, line: &str) -> Option<bool> {
+        let [rest, quotient, scaled_rest, scaled_quotient] = parts(
+            signed(line, 0)?,
+            signed(line, 1)?,
+        );
+        let (wanted_rest, wanted_quotient) = (signed(line, 2)?, signed(line, 3)?);
+        let is_rest = rest == wanted_rest && scaled_rest == wanted_rest;
+        Some(is_rest && quotient == wanted_quotient && scaled_quotient == wanted_quotient)
     }
-    Ok(())
+}
+
+#[test]
+fn division(rt: HostRuntime) {
+    check(&rt, rt.alloc(), &mut DivisionRows, FLOORED);
 }
 
 #[test]
 fn unsigned_division(rt: HostRuntime) {
     let (n, d) = (Cell(0xffff_fff0), Cell(7));
-    assert_eq!(rt; n.unsigned_modulo(d), Cell(2));
-    assert_eq!(rt; n.unsigned_div(d), Cell(0x2492_4922));
-    assert_eq!(rt; Cell(0x7fff_ffff).scaled_div(Cell(6), d), Cell(0x6db6_db6c));
+    assert!(rt; n.unsigned_modulo(d) == Cell(2));
+    assert!(rt; n.unsigned_div(d) == Cell(0x2492_4922));
+    assert!(rt; Cell(0x7fff_ffff).scaled_div(Cell(6), d) == Cell(0x6db6_db6c));
 }
 
 #[test]
 fn doubles(rt: HostRuntime) {
     let most = Double::product(Cell::TRUE, Cell::TRUE);
-    assert_eq!(rt; (most.low, most.high), (Cell(1), Cell(0xffff_fffe)));
-    assert_eq!(rt; most.number(), 0xffff_fffe_0000_0001);
-    assert_eq!(rt; Double::new(0x1_0000_0002).high, Cell(1));
-    assert_eq!(rt; Double::extend(Cell(0xffff_fffe)).high, Cell::TRUE);
+    assert!(rt; most.low == Cell(1) && most.high == Cell(0xffff_fffe));
+    assert!(rt; most.number() == 0xffff_fffe_0000_0001);
+    assert!(rt; Double::new(0x1_0000_0002).high == Cell(1));
+    assert!(rt; Double::extend(Cell(0xffff_fffe)).high == Cell::TRUE);
 }
 
 #[test]
 fn sums_and_parts_of_doubles(rt: HostRuntime) {
     let five = Double::new(0x5_0000_0003);
-    assert_eq!(rt;
-        (five.modulo(Cell(2)), five.div(Cell(2))),
-        (Cell(1), Cell(0x8000_0001))
-    );
+    assert!(rt; five.modulo(Cell(2)) == Cell(1) && five.div(Cell(2)) == Cell(0x8000_0001));
     let one = Double::new(1);
-    assert_eq!(rt; Double::new(u64::MAX).add(one), Double::new(0));
-    assert_eq!(rt; Double::new(0).sub(one), Double::new(u64::MAX));
+    assert!(rt; Double::new(u64::MAX).add(one) == Double::new(0));
+    assert!(rt; Double::new(0).sub(one) == Double::new(u64::MAX));
 }
 
 #[test]

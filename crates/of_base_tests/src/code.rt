@@ -1,11 +1,12 @@
 //! Code by hand-worked places: the numbers of cells are counted from the items' lengths.
 
+use crate::rows::{Rows, check, hexadecimal, word};
 use of_cells::Cell;
 use of_code::{
     CodeFault, CodeStore, Item, ListCode, Place, abandoned_items_are_forgotten,
     appended_items_are_found, finished_words_are_bound, targets_change_alone,
 };
-use std::process::Abort;
+use std::alloc::Global;
 use std::test::Fail;
 
 /// A kind of item a line: its name, its cell or its target, the place where it begins behind the
@@ -30,7 +31,7 @@ end-case 0 1b 1 none 0
 return 0 1c 1 none 0
 ";
 
-/// Items that some store can't hold, and their cell or their target.
+/// ItemRows that some store can't hold, and their cell or their target.
 const MISFITS: &str = "\
 operation bfffffff
 operation c000052c
@@ -72,18 +73,18 @@ fn item_of(name: &str, x: u32) -> Item {
     }
 }
 
-/// The number of a word in hexadecimal.
-fn number(word: Option<&str>) -> Result<u32, Fail> {
-    Ok(u32::from_str_radix(word.unwrap_or(""), 16)?)
+/// The number at a place of a line, in hexadecimal.
+fn number(line: &str, at: usize) -> Option<u32> {
+    hexadecimal(word(line, at))
 }
 
 /// The place that a word names, or none.
-fn place_of(word: Option<&str>) -> Result<Option<Place>, Fail> {
-    if word.unwrap_or("") == "none" {
-        return Ok(None);
+fn place_of(word: &str) -> Option<Option<Place>> {
+    if word == "none" {
+        return Some(None);
     }
-    let cell = number(word)?;
-    Ok(Some(Place { cell }))
+    let cell = hexadecimal(word)?;
+    Some(Some(Place { cell }))
 }
 
 /// A line of the items.
@@ -99,20 +100,14 @@ struct Case {
 const NEW_TARGET: Place = Place { cell: 0x1d };
 
 /// Reads a line of the items.
-fn case_of(line: &str) -> Result<Case, Fail> {
-    let mut words = line.split_whitespace();
-    let name = words.next().unwrap_or("");
-    let item = item_of(name, number(words.next())?);
-    let cell = number(words.next())?;
-    let count = number(words.next())?;
-    let target = place_of(words.next())?;
-    let changed = item_of(name, number(words.next())?);
-    Ok(Case {
-        item,
+fn case_of(line: &str) -> Option<Case> {
+    let cell = number(line, 2)?;
+    Some(Case {
+        item: item_of(word(line, 0), number(line, 1)?),
         place: Place { cell },
-        count,
-        target,
-        changed,
+        count: number(line, 3)?,
+        target: place_of(word(line, 4))?,
+        changed: item_of(word(line, 0), number(line, 5)?),
     })
 }
 
@@ -123,24 +118,34 @@ fn is_as_said(case: &Case) -> bool {
         && case.item.with_target(NEW_TARGET) == case.changed
 }
 
-#[test]
-fn items(rt: HostRuntime) -> Result<(), Fail> {
-    for line in ITEMS.lines() {
-        let case = case_of(line)?;
-        assert!(rt; is_as_said(&case), "{line}");
+/// ItemRows by themselves.
+#[derive(Clone, Copy)]
+struct ItemRows;
+
+impl Rows for ItemRows {
+    fn holds(&mut self, _alloc: Global, line: &str) -> Option<bool> {
+        Some(is_as_said(&case_of(line)?))
     }
-    Ok(())
 }
 
 #[test]
-fn misfits(rt: HostRuntime) -> Result<(), Fail> {
-    for line in MISFITS.lines() {
-        let mut words = line.split_whitespace();
-        let name = words.next().unwrap_or("");
-        let item = item_of(name, number(words.next())?);
-        assert!(rt; !item.is_storable(), "{line}");
+fn items(rt: HostRuntime) {
+    check(&rt, rt.alloc(), &mut ItemRows, ITEMS);
+}
+
+/// ItemRows that some store can't hold.
+#[derive(Clone, Copy)]
+struct MisfitRows;
+
+impl Rows for MisfitRows {
+    fn holds(&mut self, _alloc: Global, line: &str) -> Option<bool> {
+        Some(!item_of(word(line, 0), number(line, 1)?).is_storable())
     }
-    Ok(())
+}
+
+#[test]
+fn misfits(rt: HostRuntime) {
+    check(&rt, rt.alloc(), &mut MisfitRows, MISFITS);
 }
 
 /// Appends an item, and answers whether it begins where its line says.
@@ -158,15 +163,24 @@ fn is_retargeted(code: &mut ListCode, case: &Case) -> bool {
     code.item_at(case.place) == Some(case.changed)
 }
 
-#[test]
-fn places(rt: HostRuntime) -> Result<(), Fail> {
-    let mut code = ListCode::new(rt.alloc());
-    for line in ITEMS.lines() {
+/// ItemRows in a store.
+#[derive(Drop)]
+struct StoredRows {
+    code: ListCode,
+}
+
+impl Rows for StoredRows {
+    fn holds(&mut self, _alloc: Global, line: &str) -> Option<bool> {
         let case = case_of(line)?;
-        assert!(rt; is_placed(&mut code, &case)?, "{line}");
-        assert!(rt; is_retargeted(&mut code, &case), "{line}");
+        let is_placed = is_placed(&mut self.code, &case) == Ok(true);
+        Some(is_placed && is_retargeted(&mut self.code, &case))
     }
-    Ok(())
+}
+
+#[test]
+fn places(rt: HostRuntime) {
+    let code = ListCode::new(rt.alloc());
+    check(&rt, rt.alloc(), &mut StoredRows { code }, ITEMS);
 }
 
 /// What a call answers, and none where it gives no place.
@@ -229,41 +243,48 @@ end 0 10000
 ";
 
 /// The answer that a word says.
-fn answer_of(word: Option<&str>) -> Result<Result<Option<Place>, CodeFault>, Fail> {
-    if word.unwrap_or("") == "Full" {
-        return Ok(Err(CodeFault::Full));
+fn answer_of(word: &str) -> Option<Result<Option<Place>, CodeFault>> {
+    if word == "Full" {
+        return Some(Err(CodeFault::Full));
     }
-    Ok(Ok(place_of(word)?))
+    Some(Ok(place_of(word)?))
 }
 
-/// Makes the calls of a script, and sees that they answer what it says.
-fn run_script(rt: &impl Abort, code: &mut ListCode, script: &str) -> Result<(), Fail> {
-    for line in script.lines() {
-        let mut words = line.split_whitespace();
-        let call = words.next().unwrap_or("");
-        let x = number(words.next())?;
-        let wanted = answer_of(words.next())?;
-        assert_eq!(rt; called(code, call, x), wanted, "{line}");
+/// The calls of a script.
+#[derive(Drop)]
+struct ScriptRows {
+    code: ListCode,
+}
+
+impl Rows for ScriptRows {
+    fn holds(&mut self, _alloc: Global, line: &str) -> Option<bool> {
+        let given = called(&mut self.code, word(line, 0), number(line, 1)?);
+        Some(given == answer_of(word(line, 2))?)
     }
-    Ok(())
 }
 
 #[test]
-fn words(rt: HostRuntime) -> Result<(), Fail> {
-    let mut code = ListCode::new(rt.alloc());
-    run_script(&rt, &mut code, WORDS)
+fn words(rt: HostRuntime) {
+    let code = ListCode::new(rt.alloc());
+    check(&rt, rt.alloc(), &mut ScriptRows { code }, WORDS);
 }
 
-#[test]
-fn last_cell(rt: HostRuntime) -> Result<(), Fail> {
+/// Appends strings until there is room for less than one.
+fn fill(code: &mut ListCode) -> Result<(), CodeFault> {
     let string = item_of("string", 0x10_0000);
-    let mut code = ListCode::new(rt.alloc());
     for _ in 0..65_535 / 3 {
         if string.is_storable() {
             code.append(string)?;
         }
     }
-    run_script(&rt, &mut code, LAST_CELL)
+    Ok(())
+}
+
+#[test]
+fn last_cell(rt: HostRuntime) {
+    let mut code = ListCode::new(rt.alloc());
+    assert!(rt; fill(&mut code).is_ok());
+    check(&rt, rt.alloc(), &mut ScriptRows { code }, LAST_CELL);
 }
 
 /// Makes room, at once or after one refusal, and answers whether the code stayed as it was.
@@ -275,21 +296,24 @@ fn has_room(code: &mut ListCode) -> bool {
     code.end() == before && code.reserve(2).is_ok()
 }
 
+/// Whether a word of one item is taken.
+fn takes_word(code: &mut ListCode, n: u32) -> bool {
+    code.append(Item::Literal(Cell(n))).is_ok() && code.finish(Cell(n)).is_ok()
+}
+
 /// Where allocations are refused, one or another, none is behind `reserve`.
 #[test]
 fn memory(rt: HostRuntime) {
     let mut code = ListCode::new(rt.alloc());
     for n in 0..40u32 {
-        assert!(rt; has_room(&mut code));
-        assert!(rt; code.append(Item::Literal(Cell(n))).is_ok());
-        assert_eq!(rt; code.finish(Cell(n)), Ok(()));
+        assert!(rt; has_room(&mut code) && takes_word(&mut code, n));
     }
 }
 
 #[test]
 fn faults(rt: HostRuntime) -> Result<(), Fail> {
     let said = format!(in rt.alloc(); "{}; {}", CodeFault::Full, CodeFault::NoMemory)?;
-    assert_eq!(rt; said.as_str(), "the code is full; out of memory");
+    assert!(rt; said.as_str() == "the code is full; out of memory");
     Ok(())
 }
 

@@ -1,10 +1,10 @@
 //! Calls of `Control` with the answers that the rules give, worked out by hand.
+use crate::rows::{Rows, check, natural, word};
 use of_control::{
     Control, calls_follow_matching, closed_is_read, compiled_is_flat, items_are_counted,
     items_are_flat, jumps_stay_inside, matching_is_decided, one_reading, places_stay_within,
 };
-use std::process::Abort;
-use std::test::Fail;
+use std::alloc::Global;
 
 /// Calls in turn, a line each: the call, its two numbers, and the answer, which of `closed` is 1
 /// where all is closed.
@@ -112,42 +112,36 @@ fn called(control: &mut Control<32>, call: &str, x: usize, y: Option<usize>) -> 
 }
 
 /// The number of a word, or none.
-fn number(word: Option<&str>) -> Result<Option<usize>, Fail> {
-    match word {
-        Some("none") | None => Ok(None),
-        Some(digits) => Ok(Some(digits.parse()?)),
+fn number(word: &str) -> Option<Option<usize>> {
+    if word == "none" || word == "" {
+        return Some(None);
     }
+    Some(Some(natural(word)? as usize))
 }
 
-/// Makes the calls of a script, and sees that they answer what it says.
-fn run_script(rt: &impl Abort, control: &mut Control<32>, script: &str) -> Result<(), Fail> {
-    for line in script.lines() {
-        let mut words = line.split_whitespace();
-        let call = words.next().unwrap_or("");
-        let x = number(words.next())?.unwrap_or(0);
-        let y = number(words.next())?;
-        let wanted = number(words.next())?;
-        assert_eq!(rt; called(control, call, x, y), wanted, "{line}");
+impl Rows for Control<32> {
+    fn holds(&mut self, _alloc: Global, line: &str) -> Option<bool> {
+        let x = number(word(line, 1))?.unwrap_or(0);
+        let y = number(word(line, 2))?;
+        Some(called(self, word(line, 0), x, y) == number(word(line, 3))?)
     }
-    Ok(())
 }
 
 /// Branches with targets, as an image resolves them, and rolled, as text does; marks; loops and
 /// cases; and what fits nowhere.
 #[test]
-fn calls(rt: HostRuntime) -> Result<(), Fail> {
-    let mut control = Control::new();
-    run_script(&rt, &mut control, CALLS)
+fn calls(rt: HostRuntime) {
+    check(&rt, rt.alloc(), &mut Control::new(), CALLS);
 }
 
 /// 32 structures may be open at once, 33 not.
 #[test]
-fn limit(rt: HostRuntime) -> Result<(), Fail> {
+fn limit(rt: HostRuntime) {
     let mut control = Control::new();
     for at in 0..32 {
         control.forward(at, None);
     }
-    run_script(&rt, &mut control, LIMIT)
+    check(&rt, rt.alloc(), &mut control, LIMIT);
 }
 
 /// The laws hold of any plain items and limit.

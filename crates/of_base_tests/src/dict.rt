@@ -1,5 +1,6 @@
 //! The dictionary by worked examples: names in their places, numbers counted by hand.
 
+use crate::rows::{Rows, check, decimal, word};
 use of_cells::Cell;
 use of_dict::{
     CAPACITY, Dict, DictFault, Kind, OwnWord, Slot, changes_are_found, names_are_listed_once,
@@ -112,39 +113,47 @@ add abcdefghijklmnopqrstuvwxyz123456 -19 abcdefghijklmnopqrstuvwxyz12345 swap du
 
 /// Makes the call of a line.
 fn answer(dict: &mut Dict, line: &str) -> i64 {
-    let mut words = line.split_whitespace();
-    let name = words.next().unwrap_or("");
-    let text = words.next().unwrap_or("");
-    call(dict, name, text, text.parse().unwrap_or(0))
+    let text = word(line, 1);
+    call(dict, word(line, 0), text, text.parse().unwrap_or(0))
 }
 
-/// The names that are listed, newest place first, with a space before each, and how many there are.
-fn listing(alloc: Global, dict: &Dict) -> Result<(Vec<u8>, usize), AllocError> {
+/// Appends a name behind a space.
+fn push_name(text: &mut Vec<u8>, name: &[u8]) -> Result<(), AllocError> {
+    text.push(b' ')?;
+    text.extend_from_slice(name)
+}
+
+/// The names that are listed, newest place first, with a space before each.
+fn listing(alloc: Global, dict: &Dict) -> Result<Vec<u8>, AllocError> {
     let mut text = Vec::new(alloc);
-    let mut count = 0usize;
     for number in 0..dict.made() as u32 {
         let word = OwnWord(dict.made() as u32 - 1 - number);
         if let Some(name) = dict.listed(word) {
-            text.push(b' ')?;
-            text.extend_from_slice(name)?;
-            count = count.saturating_add(1);
+            push_name(&mut text, name)?;
         }
     }
-    Ok((text, count))
+    Ok(text)
+}
+
+/// Whether the names of a line, behind its call and its answer, are those that are listed.
+fn is_listed(names: &[u8], line: &str) -> bool {
+    let count = names.iter().filter(|byte| **byte == b' ').count();
+    line.as_bytes().ends_with(names) && line.split_whitespace().skip(3).count() == count
+}
+
+impl Rows for Dict {
+    fn holds(&mut self, alloc: Global, line: &str) -> Option<bool> {
+        if answer(self, line) != decimal(word(line, 2))? {
+            return Some(false);
+        }
+        let names = listing(alloc, self).ok()?;
+        Some(is_listed(&names, line))
+    }
 }
 
 #[test]
-fn calls(rt: HostRuntime) -> Result<(), Fail> {
-    let mut dict = Dict::new(rt.alloc());
-    for line in CALLS.lines() {
-        let given = answer(&mut dict, line);
-        let wanted: i64 = line.split_whitespace().nth(2).unwrap_or("").parse()?;
-        assert_eq!(rt; given, wanted, "{line}");
-        let (names, count) = listing(rt.alloc(), &dict)?;
-        assert!(rt; line.as_bytes().ends_with(&names), "{line}");
-        assert_eq!(rt; line.split_whitespace().skip(3).count(), count, "{line}");
-    }
-    Ok(())
+fn calls(rt: HostRuntime) {
+    check(&rt, rt.alloc(), &mut Dict::new(rt.alloc()), CALLS);
 }
 
 /// The kinds, each with its number.
@@ -178,26 +187,33 @@ fn make_kinds(dict: &mut Dict) -> Result<(), DictFault> {
     Ok(())
 }
 
+/// Whether the word before the one that was made of a kind has that kind now, too.
+fn is_kind(dict: &Dict, number: u32, kind: Kind) -> bool {
+    dict.kind_of(OwnWord(number)) == Some(kind)
+}
+
 #[test]
 fn kinds(rt: HostRuntime) -> Result<(), Fail> {
     let mut dict = Dict::new(rt.alloc());
     make_kinds(&mut dict)?;
-    for (number, kind) in KINDS.iter().skip(1).enumerate() {
-        assert_eq!(rt; dict.kind_of(OwnWord(number as u32)), Some(*kind));
+    for number in 0..8u32 {
+        assert!(rt; is_kind(&dict, number, KINDS[number as usize + 1]));
     }
-    assert_eq!(rt; dict.kind_of(OwnWord(8)), Some(KINDS[8]));
-    assert_eq!(rt; dict.kind_of(OwnWord(9)), None);
+    assert!(rt; is_kind(&dict, 8, KINDS[8]));
+    assert!(rt; dict.kind_of(OwnWord(9)) == None);
     Ok(())
 }
 
-#[test]
-fn names_as_spelt(rt: HostRuntime) -> Result<(), Fail> {
-    let mut dict = Dict::new(rt.alloc());
+/// Whether a hidden word keeps its name as it was spelt, and a word that isn't there has none.
+fn keeps_name(dict: &mut Dict) -> Result<bool, DictFault> {
     let word = dict.add(Some(b"Add3"), PLAIN)?;
     dict.hide(word);
-    assert_eq!(rt; dict.name_of(word), Some(&b"Add3"[..]));
-    assert_eq!(rt; dict.name_of(OwnWord(1)), None);
-    Ok(())
+    Ok(dict.name_of(word) == Some(&b"Add3"[..]) && dict.name_of(OwnWord(1)) == None)
+}
+
+#[test]
+fn names_as_spelt(rt: HostRuntime) {
+    assert!(rt; keeps_name(&mut Dict::new(rt.alloc())) == Ok(true));
 }
 
 /// Makes words without a name, as many as can be.
@@ -208,49 +224,77 @@ fn fill(dict: &mut Dict) -> Result<(), DictFault> {
     Ok(())
 }
 
+/// Calls where all words are made; a removed one leaves no room.
+const FULL: &str = "\
+remove 0 0
+add-empty 0 -16
+add aaaaaaaaaaaaaaaaaaaaaaaaaaaaaaaa -19
+add aaaaaaaaaaaaaaaaaaaaaaaaaaaaaaa -8
+add-nameless 0 -8
+newest 0 8190
+";
+
 #[test]
-fn holds_8192_words(rt: HostRuntime) -> Result<(), Fail> {
+fn holds_8192_words(rt: HostRuntime) {
     let mut dict = Dict::new(rt.alloc());
-    fill(&mut dict)?;
-    dict.remove();
-    assert_eq!(rt; dict.add(Some(b""), PLAIN), Err(DictFault::EmptyName));
-    assert_eq!(rt;
-        dict.add(Some(&[b'a'; 32]), PLAIN),
-        Err(DictFault::LongName)
-    );
-    assert_eq!(rt; dict.add(Some(&[b'a'; 31]), PLAIN), Err(DictFault::Full));
-    assert_eq!(rt; dict.add(None, PLAIN), Err(DictFault::Full));
-    assert_eq!(rt; dict.newest(), Some(OwnWord(8190)));
-    Ok(())
+    assert!(rt; fill(&mut dict).is_ok());
+    check(&rt, rt.alloc(), &mut dict, FULL);
 }
 
-/// Each number as a name of four bytes.
-#[test]
-fn holds_8192_names(rt: HostRuntime) -> Result<(), Fail> {
-    let mut dict = Dict::new(rt.alloc());
+/// Makes words whose names are their numbers, of four bytes, as many as can be.
+fn fill_with_names(dict: &mut Dict) -> Result<(), DictFault> {
     for number in 0..CAPACITY {
         dict.add(Some(&(number as u32).to_be_bytes()), PLAIN)?;
     }
-    assert_eq!(rt; dict.find(&[0, 0, 0x13, 0x88]), Some(OwnWord(5000)));
     Ok(())
+}
+
+#[test]
+fn holds_8192_names(rt: HostRuntime) {
+    let mut dict = Dict::new(rt.alloc());
+    assert!(rt; fill_with_names(&mut dict).is_ok());
+    assert!(rt; number_of(dict.find(&[0, 0, 0x13, 0x88])) == 5000);
+}
+
+/// The number of the word of an execution token, or -1.
+fn number_with(xt: u32) -> i64 {
+    number_of(OwnWord::with_xt(Cell(xt)))
 }
 
 #[test]
 fn execution_tokens(rt: HostRuntime) {
-    assert_eq!(rt; OwnWord(0).xt(), Cell(0xc000_052c));
-    assert_eq!(rt; OwnWord(8191).xt(), Cell(0xc000_8528));
-    assert_eq!(rt; OwnWord::with_xt(Cell(0xc000_0530)), Some(OwnWord(1)));
-    assert_eq!(rt; OwnWord::with_xt(Cell(0xc000_0528)), None);
-    assert_eq!(rt; OwnWord::with_xt(Cell(0xc000_052d)), None);
-    assert_eq!(rt; OwnWord::with_xt(Cell(0xc000_852c)), None);
+    assert!(rt; OwnWord(0).xt() == Cell(0xc000_052c) && OwnWord(8191).xt() == Cell(0xc000_8528));
+    assert!(rt; number_with(0xc000_0530) == 1);
+    assert!(rt; number_with(0xc000_0528) == -1);
+    assert!(rt; number_with(0xc000_052d) == -1);
+    assert!(rt; number_with(0xc000_852c) == -1);
+}
+
+/// Whether two faults have these texts.
+fn are_said(alloc: Global, first: DictFault, second: DictFault, texts: &str) -> Result<bool, Fail> {
+    Ok(format!(in alloc; "{first}; {second}")?.as_str() == texts)
 }
 
 #[test]
 fn faults(rt: HostRuntime) -> Result<(), Fail> {
-    let first = format!(in rt.alloc(); "{}; {}", DictFault::Full, DictFault::EmptyName)?;
-    let last = format!(in rt.alloc(); "{}; {}", DictFault::LongName, DictFault::NoMemory)?;
-    assert_eq!(rt; first.as_str(), "the dictionary is full; the name is empty");
-    assert_eq!(rt; last.as_str(), "the name is too long; out of memory");
+    let (full, empty) = (DictFault::Full, DictFault::EmptyName);
+    assert!(rt;
+        are_said(
+            rt.alloc(),
+            full,
+            empty,
+            "the dictionary is full; the name is empty"
+        )?
+    );
+    let (long, memory) = (DictFault::LongName, DictFault::NoMemory);
+    assert!(rt;
+        are_said(
+            rt.alloc(),
+            long,
+            memory,
+            "the name is too long; out of memory"
+        )?
+    );
     Ok(())
 }
 

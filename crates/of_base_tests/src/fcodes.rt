@@ -1,6 +1,6 @@
+use crate::rows::{Rows, check, hexadecimal, word};
 use of_fcodes::*;
 use std::alloc::Global;
-use std::test::Fail;
 
 /// FCodes with their numbers, names and operands, from annex A of IEEE 1275-1994; others have none.
 const LISTED: &str = "\
@@ -22,26 +22,26 @@ const LISTED: &str = "\
 fff - Nothing
 ";
 
-/// What a line begins with.
-fn first_word(line: &str) -> &str {
-    line.split_whitespace().next().unwrap_or("")
+/// Whether an operand is called so.
+fn is_operand(alloc: Global, operand: Operand, name: &str) -> Option<bool> {
+    Some(format!(in alloc; "{operand:?}").ok()?.as_str() == name)
 }
 
-/// A line of the table of FCodes, by the calls.
-fn shown_code(alloc: Global, number: u16) -> Result<String, Fail> {
-    let code = FCode(number);
-    let name = name_of(code).unwrap_or("-");
-    Ok(format!(in alloc; "{number:03x} {name} {:?}", operand_of(code))?)
+/// FCodes.
+#[derive(Clone, Copy)]
+struct ListedRows;
+
+impl Rows for ListedRows {
+    fn holds(&mut self, alloc: Global, line: &str) -> Option<bool> {
+        let code = FCode(u16::try_from(hexadecimal(word(line, 0))?).ok()?);
+        let is_named = name_of(code).unwrap_or("-") == word(line, 1);
+        Some(is_named && is_operand(alloc, operand_of(code), word(line, 2))?)
+    }
 }
 
 #[test]
-fn listed(rt: HostRuntime) -> Result<(), Fail> {
-    for line in LISTED.lines() {
-        let number = u16::from_str_radix(first_word(line), 16)?;
-        let shown = shown_code(rt.alloc(), number)?;
-        assert_eq!(rt; shown.as_str(), line);
-    }
-    Ok(())
+fn listed(rt: HostRuntime) {
+    check(&rt, rt.alloc(), &mut ListedRows, LISTED);
 }
 
 /// The number of a name's FCode, or 0xffff.
@@ -54,14 +54,13 @@ fn number_of(name: &[u8]) -> u16 {
 
 #[test]
 fn names(rt: HostRuntime) {
-    assert_eq!(rt; number_of(b"B(LIT)"), 0x10);
-    assert_eq!(rt; number_of(b"b(lit"), 0xffff);
+    assert!(rt; number_of(b"B(LIT)") == 0x10 && number_of(b"b(lit") == 0xffff);
     assert!(rt; word_of(FCode(0x9d)).is_some());
     assert!(rt; word_of(FCode(0x800)).is_none());
     names_and_numbers();
 }
 
-/// Written words with their execution tokens and classes; other numbers name none.
+/// WrittenRows words with their execution tokens and classes; other numbers name none.
 const WRITTEN: &str = "\
 c0000000 end0 Stream
 c000007c offset16 Stream
@@ -82,25 +81,29 @@ c000052c -
 fffffffc -
 ";
 
-/// A line of the table of written words, by the calls.
-fn shown_word(alloc: Global, xt: u32) -> Result<String, Fail> {
-    match word_with_xt(xt) {
-        Some(word) => {
-            let name = word.name();
-            Ok(format!(in alloc; "{:x} {name} {:?}", word.xt(), word.class())?)
-        }
-        None => Ok(format!(in alloc; "{xt:x} -")?),
+/// Whether a class is called so.
+fn is_class(alloc: Global, class: Class, name: &str) -> Option<bool> {
+    Some(format!(in alloc; "{class:?}").ok()?.as_str() == name)
+}
+
+/// Written words.
+#[derive(Clone, Copy)]
+struct WrittenRows;
+
+impl Rows for WrittenRows {
+    fn holds(&mut self, alloc: Global, line: &str) -> Option<bool> {
+        let xt = hexadecimal(word(line, 0))?;
+        let Some(found) = word_with_xt(xt) else {
+            return Some(word(line, 1) == "-");
+        };
+        let is_named = found.xt() == xt && found.name() == word(line, 1);
+        Some(is_named && is_class(alloc, found.class(), word(line, 2))?)
     }
 }
 
 #[test]
-fn written(rt: HostRuntime) -> Result<(), Fail> {
-    for line in WRITTEN.lines() {
-        let xt = u32::from_str_radix(first_word(line), 16)?;
-        let shown = shown_word(rt.alloc(), xt)?;
-        assert_eq!(rt; shown.as_str(), line);
-    }
-    Ok(())
+fn written(rt: HostRuntime) {
+    check(&rt, rt.alloc(), &mut WrittenRows, WRITTEN);
 }
 
 /// The execution token of the written word of a name, or 0.
@@ -113,9 +116,8 @@ fn xt_with(name: &[u8]) -> u32 {
 
 #[test]
 fn written_names(rt: HostRuntime) {
-    assert_eq!(rt; FIRST_WRITTEN + 4 * 331, FIRST_OWN);
-    assert_eq!(rt; xt_with(b"EXECUTE"), 0xc000_018c);
-    assert_eq!(rt; xt_with(b"to,"), 0xc000_0528);
-    assert_eq!(rt; xt_with(b"nothing"), 0);
+    assert!(rt; FIRST_WRITTEN + 4 * 331 == FIRST_OWN);
+    assert!(rt; xt_with(b"EXECUTE") == 0xc000_018c);
+    assert!(rt; xt_with(b"to,") == 0xc000_0528 && xt_with(b"nothing") == 0);
     written_words_are_found();
 }

@@ -16,6 +16,8 @@ mod memory;
 #[cfg(test)]
 mod returns;
 #[cfg(test)]
+mod rows;
+#[cfg(test)]
 mod stacks;
 #[cfg(test)]
 mod tokens;

@@ -1,3 +1,4 @@
+use crate::rows::{Rows, check, hexadecimal, word};
 use of_cells::Cell;
 use of_memory::MemFault::{self, Address, Alignment, BadBlock, Full, NoMemory, ReadOnly};
 use of_memory::{Memory, Width};
@@ -84,39 +85,63 @@ fn put(memory: &mut Memory, word: &str, x: Cell, y: Cell, text: &[u8]) -> Result
     }
 }
 
-/// One call in turn, by the group of its word.
-fn call(memory: &mut Memory, line: &[&str], x: Cell, y: Cell, z: Cell) -> Result<Cell, MemFault> {
-    let [group, word, _, _, _, text, ..] = line else {
-        return Err(NoMemory);
-    };
-    let text = if *text == "-" { "" } else { text };
-    match *group {
-        "access" => access(memory, word, x, y),
-        "region" => region(memory, word, x, y),
-        "range" => range(memory, word, x, y, z),
-        _ => put(memory, word, x, y, text.as_bytes()),
+/// The text of a line, which is `-` where it is empty.
+fn text_of(line: &str) -> &str {
+    match word(line, 5) {
+        "-" => "",
+        text => text,
     }
 }
 
-/// Calls in turn on a new memory, a line each: the group, the word, three cells, a text, and what
-/// the call answers, in hexadecimal, or a fault by its name. An empty text is `-`. After `duplicate`
-/// the calls go to the copy.
+/// The cell at a place of a line.
+fn cell(line: &str, place: usize) -> Option<Cell> {
+    Some(Cell(hexadecimal(word(line, place))?))
+}
+
+/// The call of a line, by the group of its word.
+fn call(memory: &mut Memory, line: &str) -> Option<Result<Cell, MemFault>> {
+    let name = word(line, 1);
+    let (x, y, z) = (cell(line, 2)?, cell(line, 3)?, cell(line, 4)?);
+    Some(match word(line, 0) {
+        "access" => access(memory, name, x, y),
+        "region" => region(memory, name, x, y),
+        "range" => range(memory, name, x, y, z),
+        _ => put(memory, name, x, y, text_of(line).as_bytes()),
+    })
+}
+
+/// The name of a fault.
+fn name_of(fault: MemFault) -> &'static str {
+    match fault {
+        Address => "Address",
+        Alignment => "Alignment",
+        ReadOnly => "ReadOnly",
+        Full => "Full",
+        BadBlock => "BadBlock",
+        NoMemory => "NoMemory",
+    }
+}
+
+/// Whether a call answers what a word says: a cell in hexadecimal, or a fault by its name.
+fn is_said(answer: Result<Cell, MemFault>, wanted: &str) -> bool {
+    match answer {
+        Ok(found) => hexadecimal(wanted) == Some(found.0),
+        Err(fault) => name_of(fault) == wanted,
+    }
+}
+
+/// Calls in turn, a line each: the group, the word, three cells, a text, and what the call answers, in hexadecimal, or
+/// a fault by its name. An empty text is `-`. After `duplicate` the calls go to the copy.
+impl Rows for Memory {
+    fn holds(&mut self, _alloc: Global, line: &str) -> Option<bool> {
+        Some(is_said(call(self, line)?, word(line, 6)))
+    }
+}
+
+/// The calls of a text on a new memory.
 fn run(rt: &impl Abort, alloc: Global, lines: &str) -> Result<(), Fail> {
     let mut memory = Memory::new(alloc)?;
-    for line in lines.lines() {
-        let words: Vec<&str> = line.split_whitespace().collect(alloc)?;
-        let [_, _, x, y, z, _, wanted] = words.as_slice() else {
-            return Err(Fail::new("a line of another form"));
-        };
-        let x = Cell(u32::from_str_radix(x, 16)?);
-        let y = Cell(u32::from_str_radix(y, 16)?);
-        let z = Cell(u32::from_str_radix(z, 16)?);
-        let answer = match call(&mut memory, words.as_slice(), x, y, z) {
-            Ok(answer) => format!(in alloc; "{:x}", answer.0)?,
-            Err(fault) => format!(in alloc; "{fault:?}")?,
-        };
-        assert_eq!(rt; answer.as_str(), *wanted, "{line}");
-    }
+    check(rt, alloc, &mut memory, lines);
     Ok(())
 }
 
@@ -378,114 +403,223 @@ fn what_grows(rt: HostRuntime) -> Result<(), Fail> {
     run(&rt, rt.alloc(), IMAGES)
 }
 
+/// Puts a value of so many zeros, which stand from 0x100000 on.
+fn put_zeros(memory: &mut Memory, alloc: Global, length: u32) -> Option<Cell> {
+    let zeros = Vec::from_slice(alloc, memory.slice(Cell(0x10_0000), Cell(length)).ok()?).ok()?;
+    memory.put_property(&zeros).ok()
+}
+
+/// Calls where 20 bytes are free.
+const NEARLY_FULL_PROPERTIES: &str = "\
+put named 0 0 0 ab Full
+access read32 21fffc 0 0 - 0
+put property 0 0 0 a 21fffc
+put property 0 0 0 a Full
+";
+
 /// A name and a value are put together or not at all.
 #[test]
 fn properties_of_a_full_region(rt: HostRuntime) -> Result<(), Fail> {
     let mut memory = Memory::new(rt.alloc())?;
-    let zeros = Vec::from_slice(rt.alloc(), memory.slice(Cell(0x10_0000), Cell(0x1_ffec))?)?;
-    assert_eq!(rt; memory.put_property(&zeros), Ok(Cell(0x20_0010)));
-    assert_eq!(rt; memory.put_named(b"ab", b"val"), Err(Full));
-    assert_eq!(rt; memory.read32(Cell(0x21_fffc)), Ok(Cell(0)));
-    assert_eq!(rt; memory.put_property(b"a"), Ok(Cell(0x21_fffc)));
-    assert_eq!(rt; memory.put_property(b"a"), Err(Full));
+    assert!(rt; put_zeros(&mut memory, rt.alloc(), 0x1_ffec) == Some(Cell(0x20_0010)));
+    check(&rt, rt.alloc(), &mut memory, NEARLY_FULL_PROPERTIES);
     Ok(())
 }
+
+/// Takes blocks of 8, 9 and 0 bytes, and answers the fault, if there is one, and what stands then where the addresses
+/// go, 1 at first.
+fn take_three(memory: &mut Memory) -> (Option<MemFault>, [Cell; 3]) {
+    let mut addresses = [Cell(1); 3];
+    let fault = memory
+        .instance_take_all(&[Cell(8), Cell(9), Cell(0)], &mut addresses)
+        .err();
+    (fault, addresses)
+}
+
+/// Whether blocks of 8, 9 and 0 bytes are taken at these addresses.
+fn are_taken(memory: &mut Memory, first: u32, second: u32, third: u32) -> bool {
+    let (fault, addresses) = take_three(memory);
+    fault == None && addresses == [Cell(first), Cell(second), Cell(third)]
+}
+
+/// Whether such blocks are refused for want of room, and no address is given.
+fn are_refused(memory: &mut Memory) -> bool {
+    let (fault, addresses) = take_three(memory);
+    fault == Some(Full) && addresses == [Cell(1); 3]
+}
+
+/// Calls that leave 48 bytes, all of them 7, and what stands there once 32 were taken.
+const NEARLY_FULL_INSTANCES: &str = "\
+region instance 1ffd0 0 0 - 300000
+range fill 31ffd0 30 7 - 0
+";
+
+const TAKEN: &str = "\
+access read32 31ffd0 0 0 - 0
+access read32 31ffd4 0 0 - 0
+access read32 31ffd8 0 0 - 0
+access read32 31ffdc 0 0 - 0
+access read32 31ffe0 0 0 - 0
+access read32 31ffe4 0 0 - 0
+access read32 31ffe8 0 0 - 0
+access read32 31ffec 0 0 - 0
+access read32 31fff0 0 0 - 7070707
+access read32 31fff4 0 0 - 7070707
+access read32 31fff8 0 0 - 7070707
+access read32 31fffc 0 0 - 7070707
+";
 
 /// Two instances with blocks of 8, 16 and 8 bytes where 48 are free: the first finds room, and the
 /// second leaves the region byte for byte.
 #[test]
 fn instances_of_a_full_region(rt: HostRuntime) -> Result<(), Fail> {
     let mut memory = Memory::new(rt.alloc())?;
-    memory.instance_take(Cell(0x1_ffd0))?;
-    memory.fill(Cell(0x31_ffd0), Cell(0x30), 7)?;
-    let lengths = [Cell(8), Cell(9), Cell(0)];
-    let mut addresses = [Cell(1); 3];
-    memory.instance_take_all(&lengths, &mut addresses)?;
-    assert_eq!(rt;
-        addresses,
-        [Cell(0x31_ffd0), Cell(0x31_ffd8), Cell(0x31_ffe8)]
-    );
-    let mut others = [Cell(1); 3];
-    assert_eq!(rt; memory.instance_take_all(&lengths, &mut others), Err(Full));
-    assert_eq!(rt; others, [Cell(1); 3]);
-    let mut wanted = [0u8; 48];
-    wanted[32..].fill(7);
-    assert_eq!(rt;
-        memory.slice(Cell(0x31_ffd0), Cell(0x30))?,
-        wanted.as_slice()
-    );
+    check(&rt, rt.alloc(), &mut memory, NEARLY_FULL_INSTANCES);
+    assert!(rt; are_taken(&mut memory, 0x31_ffd0, 0x31_ffd8, 0x31_ffe8));
+    assert!(rt; are_refused(&mut memory));
+    check(&rt, rt.alloc(), &mut memory, TAKEN);
     Ok(())
+}
+
+/// Makes a call so many times, and answers whether each gives what its line says.
+fn holds_often(memory: &mut Memory, times: u32, line: &str) -> Option<bool> {
+    for _ in 0..times {
+        if !is_said(call(memory, line)?, word(line, 6)) {
+            return Some(false);
+        }
+    }
+    Some(true)
+}
+
+/// Takes so many blocks of 8 bytes of the instance region, and answers whether each finds room.
+fn takes_blocks(memory: &mut Memory, count: u32) -> bool {
+    for _ in 0..count {
+        if memory.instance_take(Cell(8)).is_err() {
+            return false;
+        }
+    }
+    true
 }
 
 #[test]
 fn every_mark_of_the_instance_region(rt: HostRuntime) -> Result<(), Fail> {
     let mut memory = Memory::new(rt.alloc())?;
-    for _ in 0..16384 {
-        let _ = memory.instance_take(Cell(8))?;
-    }
-    assert_eq!(rt; memory.instance_take(Cell(8)), Err(Full));
+    assert!(rt; takes_blocks(&mut memory, 16384));
+    check(&rt, rt.alloc(), &mut memory, "region instance 8 0 0 - Full");
     Ok(())
 }
 
 #[test]
 fn images_are_256_at_most(rt: HostRuntime) -> Result<(), Fail> {
     let mut memory = Memory::new(rt.alloc())?;
-    for _ in 0..256 {
-        assert_eq!(rt; memory.image_push(&[])?, Cell(0x60_0000));
-    }
-    assert_eq!(rt; memory.image_push(&[]), Err(Full));
-    assert_eq!(rt;
-        memory.image_push_from(Cell(0), Cell(0), Cell(1)),
-        Err(Full)
+    let pushed = holds_often(&mut memory, 256, "put image 0 0 0 - 600000");
+    assert!(rt; pushed == Some(true));
+    check(
+        &rt,
+        rt.alloc(),
+        &mut memory,
+        "put image 0 0 0 - Full\nrange from 0 0 1 - Full",
     );
     Ok(())
 }
 
+/// Pushes an image of so many bytes of 1.
+fn push_ones(memory: &mut Memory, alloc: Global, length: usize) -> Option<Cell> {
+    let image = vec![in alloc; 1u8; length].ok()?;
+    memory.image_push(&image).ok()
+}
+
+/// Calls where an image fills its region.
+const FULL_IMAGES: &str = "\
+put image 0 0 0 a Full
+region pop 0 0 0 - 0
+access read8 63ffff 0 0 - 0
+";
+
 #[test]
 fn an_image_fills_its_region(rt: HostRuntime) -> Result<(), Fail> {
     let mut memory = Memory::new(rt.alloc())?;
-    let image = vec![in rt.alloc(); 1u8; 0x4_0000]?;
-    assert_eq!(rt; memory.image_push(&image)?, Cell(0x60_0000));
-    assert_eq!(rt; memory.image_push(&[1]), Err(Full));
-    memory.image_pop();
-    assert_eq!(rt; memory.read8(Cell(0x63_ffff))?, 0);
+    assert!(rt; push_ones(&mut memory, rt.alloc(), 0x4_0000) == Some(Cell(0x60_0000)));
+    check(&rt, rt.alloc(), &mut memory, FULL_IMAGES);
     Ok(())
+}
+
+/// Takes a block of 8 bytes of the heap, and answers whether that is refused for memory alone.
+fn is_refused(memory: &mut Memory) -> Option<bool> {
+    match memory.heap_take(Cell(8)) {
+        Ok(addr) if addr == Cell(0x40_0000) => Some(false),
+        Err(fault) if fault == NoMemory => Some(true),
+        _ => None,
+    }
 }
 
 /// With each allocation refused in turn, making answers its error, and a refused block leaves the
 /// heap as it was.
 #[test]
-fn refused_growth_changes_nothing(rt: HostRuntime) -> Result<(), Fail> {
+fn refused_growth_changes_nothing(rt: HostRuntime) {
     let Ok(mut memory) = Memory::new(rt.alloc()) else {
-        return Ok(());
+        return;
     };
-    match memory.heap_take(Cell(8)) {
-        Ok(addr) => assert_eq!(rt; addr, Cell(0x40_0000)),
-        Err(fault) => assert_eq!(rt; fault, NoMemory),
+    match is_refused(&mut memory) {
+        Some(true) => check(&rt, rt.alloc(), &mut memory, REFUSED),
+        Some(false) => check(&rt, rt.alloc(), &mut memory, TAKEN_FIRST),
+        None => assert!(rt; false),
     }
-    let taken = memory.read8(Cell(0x40_0000)).is_ok();
-    let next = memory.heap_take(Cell(8))?;
-    assert_eq!(rt; next, Cell(if taken { 0x40_0008 } else { 0x40_0000 }));
-    Ok(())
+}
+
+/// The next calls where the first block was refused, and where it was taken.
+const REFUSED: &str = "\
+access read8 400000 0 0 - Address
+region take 8 0 0 - 400000
+";
+
+const TAKEN_FIRST: &str = "\
+access read8 400000 0 0 - 0
+region take 8 0 0 - 400008
+";
+
+/// The fault of a name.
+fn fault_of(name: &str) -> MemFault {
+    match name {
+        "Address" => Address,
+        "Alignment" => Alignment,
+        "ReadOnly" => ReadOnly,
+        "Full" => Full,
+        "BadBlock" => BadBlock,
+        _ => NoMemory,
+    }
+}
+
+/// Faults by their names, and their texts.
+const FAULT_TEXTS: &str = "\
+Address invalid memory address
+Alignment address alignment exception
+ReadOnly write to a read-only location
+Full no room in the region
+BadBlock no such block
+NoMemory out of memory
+";
+
+/// Faults.
+#[derive(Clone, Copy)]
+struct FaultRows;
+
+impl Rows for FaultRows {
+    fn holds(&mut self, alloc: Global, line: &str) -> Option<bool> {
+        let (name, text) = line.split_once(' ')?;
+        let said = format!(in alloc; "{}", fault_of(name)).ok()?;
+        Some(said.as_str() == text)
+    }
 }
 
 #[test]
-fn texts_of_faults(rt: HostRuntime) -> Result<(), Fail> {
-    let faults = [Address, Alignment, ReadOnly, Full, BadBlock, NoMemory];
-    let text = "invalid memory address,address alignment exception,write to a read-only location,\
-                no room in the region,no such block,out of memory";
-    for (fault, wanted) in faults.iter().zip(text.split(',')) {
-        assert_eq!(rt; format!(in rt.alloc(); "{fault}")?.as_str(), wanted);
-    }
-    Ok(())
+fn texts_of_faults(rt: HostRuntime) {
+    check(&rt, rt.alloc(), &mut FaultRows, FAULT_TEXTS);
 }
 
 #[test]
 fn widths(rt: HostRuntime) {
-    assert_eq!(rt;
-        [Width::One.bytes(), Width::Two.bytes(), Width::Four.bytes()],
-        [1, 2, 4]
-    );
+    assert!(rt; Width::One.bytes() == 1 && Width::Two.bytes() == 2 && Width::Four.bytes() == 4);
 }
 
 #[test]

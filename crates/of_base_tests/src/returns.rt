@@ -1,3 +1,5 @@
+use crate::rows::{Rows, check, decimal, natural, part, word};
+use crate::stacks::{cells_of, has_cells};
 use of_cells::Cell;
 use of_stacks::{
     Continuation, DataStack, Due, ExceptionFrame, Input, LoopExit, LoopParameters, Reading,
@@ -5,7 +7,6 @@ use of_stacks::{
 };
 use of_stream::OffsetSize;
 use std::alloc::Global;
-use std::test::Fail;
 
 /// A loop of an index and a limit, which is left for the code cell 9.
 fn loop_of(index: u32, limit: u32) -> ReturnItem {
@@ -39,30 +40,44 @@ fn reading() -> Reading {
 
 /// The item that a word names: `u` a cell, `l` a loop, `h` a handler, each with its number (a loop with a second one,
 /// its limit); `return`, `source` and `caller`.
-fn item_of(word: &str) -> Result<ReturnItem, Fail> {
+fn item_of(word: &str) -> Option<ReturnItem> {
     match word {
-        "return" => return Ok(ReturnItem::Return(Continuation::Code(3))),
-        "source" => return Ok(ReturnItem::Source(reading())),
-        "caller" => return Ok(ReturnItem::Caller(Due::Method { my_self: Cell(0) })),
-        _ => {}
-    }
-    let (index, limit) = word.split_once('/').unwrap_or((word, "0"));
-    let (kind, number) = index.split_at_checked(1).unwrap_or(("", ""));
-    let number: u32 = number.parse()?;
-    match kind {
-        "l" => Ok(loop_of(number, limit.parse()?)),
-        "h" => Ok(ReturnItem::Handler(frame_at((number % 256) as u8))),
-        _ => Ok(ReturnItem::User(Cell(number))),
+        "return" => Some(ReturnItem::Return(Continuation::Code(3))),
+        "source" => Some(ReturnItem::Source(reading())),
+        "caller" => Some(ReturnItem::Caller(Due::Method { my_self: Cell(0) })),
+        _ => numbered_item_of(word),
     }
 }
 
+fn numbered_item_of(word: &str) -> Option<ReturnItem> {
+    let (kind, digits) = word.split_at_checked(1)?;
+    match kind {
+        "l" => loop_item_of(digits),
+        "h" => Some(ReturnItem::Handler(frame_at((natural(digits)? % 256) as u8))),
+        _ => Some(ReturnItem::User(Cell(natural(digits)?))),
+    }
+}
+
+fn loop_item_of(digits: &str) -> Option<ReturnItem> {
+    let (index, limit) = digits.split_once('/')?;
+    Some(loop_of(natural(index)?, natural(limit)?))
+}
+
 /// The stack of the items that words name, the top last.
-fn stack_of(words: &str) -> Result<ReturnStack, Fail> {
+fn stack_of(words: &str) -> Option<ReturnStack> {
     let mut stack = ReturnStack::new();
     for word in words.split_whitespace() {
-        stack.try_push(item_of(word)?)?;
+        stack.try_push(item_of(word)?).ok()?;
     }
-    Ok(stack)
+    Some(stack)
+}
+
+/// Whether a stack has the items that words name, the top last.
+fn has_items(stack: &ReturnStack, words: &str) -> bool {
+    match stack_of(words) {
+        Some(wanted) => stack.items() == wanted.items(),
+        None => false,
+    }
 }
 
 /// What a word of the return stack answers: a cell, 1 or 0 for yes or no, a place, or 0.
@@ -149,56 +164,76 @@ const STEPS: &str = "\
 2147483657 9 2147483648 1 9
 ";
 
-#[test]
-fn words(rt: HostRuntime) -> Result<(), Fail> {
-    for line in WORDS.lines() {
-        let mut parts = line.split(':');
-        let mut head = parts.next().unwrap_or("").split_whitespace();
-        let name = head.next().unwrap_or("");
-        let n: u32 = head.next().unwrap_or("").parse()?;
-        let mut stack = stack_of(parts.next().unwrap_or(""))?;
-        let given = match call(name, n, &mut stack) {
-            Ok(x) => i64::from(x),
-            Err(t) => i64::from(t.0),
-        };
-        let wanted: i64 = parts.next().unwrap_or("").trim().parse()?;
-        assert_eq!(rt; given, wanted, "{line}");
-        let left = stack_of(parts.next().unwrap_or(""))?;
-        assert_eq!(rt; stack.items(), left.items(), "{line}");
+/// What the word of a line answers, or the number that it throws.
+fn given(line: &str, stack: &mut ReturnStack) -> Option<i64> {
+    match call(word(line, 0), natural(word(line, 1))?, stack) {
+        Ok(x) => Some(i64::from(x)),
+        Err(t) => Some(i64::from(t.0)),
     }
+}
+
+/// Words of the return stack.
+#[derive(Clone, Copy)]
+struct WordRows;
+
+impl Rows for WordRows {
+    fn holds(&mut self, _alloc: Global, line: &str) -> Option<bool> {
+        let mut stack = stack_of(part(line, 1))?;
+        let given = given(line, &mut stack)?;
+        Some(given == decimal(part(line, 2))? && has_items(&stack, part(line, 3)))
+    }
+}
+
+#[test]
+fn words(rt: HostRuntime) {
+    check(&rt, rt.alloc(), &mut WordRows, WORDS);
     ends_cut();
     limits_are_passed();
     loops_are_own();
-    Ok(())
 }
 
-/// The number of a line at a place.
-fn number(line: &str, place: usize) -> Result<u32, Fail> {
-    Ok(
-        line.split_whitespace()
-            .nth(place)
-            .unwrap_or("0")
-            .parse::<u32>()?,
-    )
+/// The number of a line at a place, 0 behind the last.
+fn number(line: &str, place: usize) -> Option<u32> {
+    match word(line, place) {
+        "" => Some(0),
+        digits => natural(digits),
+    }
+}
+
+/// The stack of a line's loop.
+fn loop_at(line: &str) -> Option<ReturnStack> {
+    let mut stack = ReturnStack::new();
+    stack.push(loop_of(number(line, 0)?, number(line, 1)?));
+    Some(stack)
+}
+
+/// Whether a stack has a line's loop with its new index, or nothing where the loop doesn't go on.
+fn has_loop(stack: &ReturnStack, line: &str, goes_on: bool) -> Option<bool> {
+    if !goes_on {
+        return Some(stack.depth() == 0);
+    }
+    let left = loop_of(number(line, 4)?, number(line, 1)?);
+    Some(stack.peek() == Some(left))
+}
+
+/// Steps of loops.
+#[derive(Clone, Copy)]
+struct StepRows;
+
+impl Rows for StepRows {
+    fn holds(&mut self, _alloc: Global, line: &str) -> Option<bool> {
+        let mut stack = loop_at(line)?;
+        let (step, wanted) = (Cell(number(line, 2)?), number(line, 3)? == 1);
+        if stack.loop_goes_on(step) != Ok(wanted) || stack.turn_loop(step) != Ok(wanted) {
+            return Some(false);
+        }
+        has_loop(&stack, line, wanted)
+    }
 }
 
 #[test]
-fn steps(rt: HostRuntime) -> Result<(), Fail> {
-    for line in STEPS.lines() {
-        let mut stack = ReturnStack::new();
-        stack.push(loop_of(number(line, 0)?, number(line, 1)?));
-        let would = stack.loop_goes_on(Cell(number(line, 2)?))?;
-        assert_eq!(rt; u32::from(would), number(line, 3)?, "{line}");
-        let goes_on = stack.turn_loop(Cell(number(line, 2)?))?;
-        assert_eq!(rt; u32::from(goes_on), number(line, 3)?, "{line}");
-        if goes_on {
-            let left = loop_of(number(line, 4)?, number(line, 1)?);
-            assert_eq!(rt; stack.peek(), Some(left), "{line}");
-        } else {
-            assert_eq!(rt; stack.depth(), 0, "{line}");
-        }
-    }
-    Ok(())
+fn steps(rt: HostRuntime) {
+    check(&rt, rt.alloc(), &mut StepRows, STEPS);
 }
 
 /// Throws: the number; the items and cells that it finds; the depth that the latest `catch` kept, or `none`; and the
@@ -211,51 +246,53 @@ const THROWS: &str = "\
 -4 : u1 return source : 1 2 3 : none : :
 ";
 
-/// The stack of the cells of a text, the top last.
-fn cells_of(text: &str) -> Result<DataStack, Fail> {
-    let mut stack = DataStack::new();
-    for word in text.split_whitespace() {
-        stack.try_push(Cell(word.parse()?))?;
+/// Whether the depth that a `catch` kept is what a line says.
+fn is_depth(found: Option<ExceptionFrame>, wanted: &str) -> bool {
+    match found {
+        Some(frame) => decimal(wanted) == Some(i64::from(frame.depth)),
+        None => wanted == "none",
     }
-    Ok(stack)
 }
 
-/// The depth that a `catch` kept.
-fn depth_text(alloc: Global, found: Option<ExceptionFrame>) -> Result<String, Fail> {
-    match found {
-        Some(frame) => Ok(format!(in alloc; "{}", frame.depth)?),
-        None => Ok("none".to_string(alloc)?),
+/// Throws.
+#[derive(Clone, Copy)]
+struct ThrowRows;
+
+impl Rows for ThrowRows {
+    fn holds(&mut self, _alloc: Global, line: &str) -> Option<bool> {
+        let thrown = Throw(part(line, 0).parse::<i32>().ok()?);
+        let mut stack = stack_of(part(line, 1))?;
+        let mut cells = cells_of(part(line, 2))?;
+        let found = stack.unwind(thrown, &mut cells);
+        let is_left = has_items(&stack, part(line, 4)) && has_cells(&cells, part(line, 5));
+        Some(is_depth(found, part(line, 3)) && is_left)
     }
 }
 
 #[test]
-fn throws(rt: HostRuntime) -> Result<(), Fail> {
-    for line in THROWS.lines() {
-        let mut parts = line.split(':');
-        let thrown = Throw(parts.next().unwrap_or("").trim().parse()?);
-        let mut stack = stack_of(parts.next().unwrap_or(""))?;
-        let mut cells = cells_of(parts.next().unwrap_or(""))?;
-        let found = depth_text(rt.alloc(), stack.unwind(thrown, &mut cells))?;
-        assert_eq!(rt; found.as_str(), parts.next().unwrap_or("").trim(), "{line}");
-        let left = stack_of(parts.next().unwrap_or(""))?;
-        assert_eq!(rt; stack.items(), left.items(), "{line}");
-        let cells_left = cells_of(parts.next().unwrap_or(""))?;
-        assert_eq!(rt; cells.cells(), cells_left.cells(), "{line}");
-    }
+fn throws(rt: HostRuntime) {
+    check(&rt, rt.alloc(), &mut ThrowRows, THROWS);
     throws_cut();
-    Ok(())
+}
+
+/// Pushes a 7 so many times, and answers whether each finds room.
+fn takes_sevens(stack: &mut ReturnStack, count: u32) -> bool {
+    for _ in 0..count {
+        if stack.try_push(ReturnItem::User(Cell(7))).is_err() {
+            return false;
+        }
+    }
+    true
 }
 
 #[test]
 fn holds_256_items(rt: HostRuntime) {
     let mut stack = ReturnStack::new();
-    for _ in 0..256 {
-        assert_eq!(rt; stack.try_push(ReturnItem::User(Cell(7))), Ok(()));
-    }
-    assert_eq!(rt; stack.room_for(1), Err(Throw(-5)));
-    assert_eq!(rt; stack.push_user(Cell(8)), Err(Throw(-5)));
-    assert_eq!(rt; stack.pop(), Some(ReturnItem::User(Cell(7))));
-    assert_eq!(rt; stack.room_for(1), Ok(()));
+    assert!(rt; takes_sevens(&mut stack, 256));
+    assert!(rt; stack.room_for(1) == Err(Throw(-5)));
+    assert!(rt; stack.push_user(Cell(8)) == Err(Throw(-5)));
+    assert!(rt; stack.pop() == Some(ReturnItem::User(Cell(7))));
+    assert!(rt; stack.room_for(1).is_ok());
 }
 
 #[test]
@@ -263,7 +300,7 @@ fn cut_to_a_depth(rt: HostRuntime) {
     let mut stack = DataStack::new();
     stack.push(Cell(3));
     stack.cut_to(2);
-    assert_eq!(rt; stack.cells(), [Cell(3), Cell(0)].as_slice());
+    assert!(rt; has_cells(&stack, "3 0"));
     stack.cut_to(0);
-    assert_eq!(rt; stack.depth(), 0);
+    assert!(rt; stack.depth() == 0);
 }

@@ -1,7 +1,7 @@
+use crate::rows::{Rows, check, decimal, natural, word};
 use of_cells::Cell;
 use of_stacks::{CAPACITY, DataStack, Throw, first_fault_counts, order_is_written, text_of};
 use std::alloc::Global;
-use std::test::Fail;
 
 /// Makes a call on the stack, and answers the cell that it gives, or 0.
 fn call(stack: &mut DataStack, name: &str, n: u32) -> Result<Cell, Throw> {
@@ -51,61 +51,71 @@ pop 0 7
 ";
 
 /// Makes the call of a line, and answers what it gives.
-fn answer(stack: &mut DataStack, line: &str) -> Result<i64, Fail> {
-    let mut words = line.split_whitespace();
-    let name = words.next().unwrap_or("");
-    let n: u32 = words.next().unwrap_or("").parse()?;
-    match call(stack, name, n) {
-        Ok(x) => Ok(i64::from(x.0)),
-        Err(t) => Ok(i64::from(t.0)),
+fn answer(stack: &mut DataStack, line: &str) -> Option<i64> {
+    match call(stack, word(line, 0), natural(word(line, 1))?) {
+        Ok(x) => Some(i64::from(x.0)),
+        Err(t) => Some(i64::from(t.0)),
     }
 }
 
-/// What the call of a line gives, and the stack that it leaves.
-fn wanted(line: &str) -> Result<(i64, DataStack), Fail> {
-    let mut words = line.split_whitespace().skip(2);
-    let answer: i64 = words.next().unwrap_or("").parse()?;
-    let mut left = DataStack::new();
-    for word in words {
-        left.try_push(Cell(word.parse()?))?;
+/// The stack of the cells that words name, the top last.
+pub(crate) fn cells_of(words: &str) -> Option<DataStack> {
+    let mut stack = DataStack::new();
+    for word in words.split_whitespace() {
+        stack.try_push(Cell(natural(word)?)).ok()?;
     }
-    Ok((answer, left))
+    Some(stack)
+}
+
+/// Whether a stack has the cells that words name, the top last.
+pub(crate) fn has_cells(stack: &DataStack, words: &str) -> bool {
+    match cells_of(words) {
+        Some(wanted) => stack.cells() == wanted.cells(),
+        None => false,
+    }
+}
+
+impl Rows for DataStack {
+    fn holds(&mut self, _alloc: Global, line: &str) -> Option<bool> {
+        if answer(self, line)? != decimal(word(line, 2))? {
+            return Some(false);
+        }
+        Some(has_cells(self, line.splitn(4, ' ').nth(3).unwrap_or("")))
+    }
 }
 
 #[test]
-fn calls(rt: HostRuntime) -> Result<(), Fail> {
-    let mut stack = DataStack::new();
-    for line in CALLS.lines() {
-        let given = answer(&mut stack, line)?;
-        let (wanted, left) = wanted(line)?;
-        assert_eq!(rt; given, wanted, "{line}");
-        assert_eq!(rt; stack.cells(), left.cells(), "{line}");
-    }
-    Ok(())
+fn calls(rt: HostRuntime) {
+    check(&rt, rt.alloc(), &mut DataStack::new(), CALLS);
+}
+
+/// Whether 2 and 3, and with them 1, are on top of a stack of three cells.
+fn three_on_top(stack: &DataStack) -> bool {
+    stack.top_two() == Ok((Cell(2), Cell(3)))
+        && stack.top_three() == Ok((Cell(1), Cell(2), Cell(3)))
+        && stack.top_four() == Err(Throw(-4))
+}
+
+/// Whether 1, 2, 3 and 4 are on top of a stack.
+fn four_on_top(stack: &DataStack) -> bool {
+    stack.top_four() == Ok((Cell(1), Cell(2), Cell(3), Cell(4)))
 }
 
 #[test]
 fn top_cells(rt: HostRuntime) {
-    let mut stack = DataStack::new();
-    assert_eq!(rt; stack.top_two(), Err(Throw(-4)));
-    stack.push(Cell(1));
-    stack.push(Cell(2));
-    stack.push(Cell(3));
-    assert_eq!(rt; stack.top_two(), Ok((Cell(2), Cell(3))));
-    assert_eq!(rt; stack.top_three(), Ok((Cell(1), Cell(2), Cell(3))));
-    assert_eq!(rt; stack.top_four(), Err(Throw(-4)));
-    stack.push(Cell(4));
-    assert_eq!(rt; stack.top_four(), Ok((Cell(1), Cell(2), Cell(3), Cell(4))));
+    assert!(rt; DataStack::new().top_two() == Err(Throw(-4)));
+    assert!(rt; three_on_top(&cells_of("1 2 3").unwrap_or(DataStack::new())));
+    assert!(rt; four_on_top(&cells_of("1 2 3 4").unwrap_or(DataStack::new())));
 }
 
 #[test]
 fn holds_256_cells(rt: HostRuntime) {
     let mut stack = DataStack::new();
     for _ in 0..CAPACITY {
-        assert_eq!(rt; stack.try_push(Cell(7)), Ok(()));
+        assert!(rt; stack.try_push(Cell(7)).is_ok());
     }
-    assert_eq!(rt; stack.try_push(Cell(8)), Err(Throw(-3)));
-    assert_eq!(rt; stack.depth(), 256);
+    assert!(rt; stack.try_push(Cell(8)) == Err(Throw(-3)));
+    assert!(rt; stack.depth() == 256);
 }
 
 /// The texts of the throws, as the table of this board has them.
@@ -144,15 +154,20 @@ const TEXTS: &str = "\
 -2147483648 thrown by the program
 ";
 
-#[test]
-fn texts(rt: HostRuntime) -> Result<(), Fail> {
-    for line in TEXTS.lines() {
-        let Some((code, text)) = line.split_once(' ') else {
-            continue;
-        };
-        assert_eq!(rt; text_of(code.parse()?), text, "{line}");
+/// TextRows of throws.
+#[derive(Clone, Copy)]
+struct TextRows;
+
+impl Rows for TextRows {
+    fn holds(&mut self, _alloc: Global, line: &str) -> Option<bool> {
+        let (code, text) = line.split_once(' ')?;
+        Some(text_of(code.parse::<i32>().ok()?) == text)
     }
-    Ok(())
+}
+
+#[test]
+fn texts(rt: HostRuntime) {
+    check(&rt, rt.alloc(), &mut TextRows, TEXTS);
 }
 
 /// The faults that a word finds, and the one that it throws.
@@ -165,31 +180,41 @@ const FAULTS: &str = "\
 -10 throws -10
 ";
 
+/// The throw that a word names.
+fn throw_of(word: &str) -> Option<Throw> {
+    Some(Throw(word.parse::<i32>().ok()?))
+}
+
 /// The faults of a line, with none behind each.
-fn faults_of(alloc: Global, faults: &str) -> Result<Vec<Option<Throw>>, Fail> {
+fn faults_of(alloc: Global, faults: &str) -> Option<Vec<Option<Throw>>> {
     let mut found = Vec::new(alloc);
     for word in faults.split_whitespace() {
-        found.push(Some(Throw(word.parse()?)))?;
-        found.push(None)?;
+        found.push(Some(throw_of(word)?)).ok()?;
+        found.push(None).ok()?;
     }
-    Ok(found)
+    Some(found)
+}
+
+/// FaultRows that count.
+#[derive(Clone, Copy)]
+struct FaultRows;
+
+impl Rows for FaultRows {
+    fn holds(&mut self, alloc: Global, line: &str) -> Option<bool> {
+        let (faults, wanted) = line.split_once(" throws ")?;
+        let wanted = throw_of(wanted)?;
+        Some(Throw::counting(&faults_of(alloc, faults)?) == Some(wanted))
+    }
 }
 
 #[test]
-fn the_first_fault_counts(rt: HostRuntime) -> Result<(), Fail> {
-    for line in FAULTS.lines() {
-        let (faults, wanted) = line.split_once(" throws ").unwrap_or((line, ""));
-        let faults = faults_of(rt.alloc(), faults)?;
-        let wanted = Some(Throw(wanted.parse()?));
-        assert_eq!(rt; Throw::counting(&faults), wanted, "{line}");
-    }
-    Ok(())
+fn the_first_fault_counts(rt: HostRuntime) {
+    check(&rt, rt.alloc(), &mut FaultRows, FAULTS);
 }
 
 #[test]
-fn no_fault_counts_where_there_is_none(rt: HostRuntime) -> Result<(), Fail> {
-    assert_eq!(rt; Throw::counting(&[None]), None);
+fn no_fault_counts_where_there_is_none(rt: HostRuntime) {
+    assert!(rt; Throw::counting(&[None]) == None);
     first_fault_counts();
     order_is_written();
-    Ok(())
 }

@@ -1,13 +1,16 @@
+use crate::rows::{Rows, check, hexadecimal, word};
 use of_fcodes::{FCode, FIRST_OWN, TokenEntry, TokenTable, table_is_map};
 use std::alloc::Global;
 use std::test::Fail;
 
-/// An entry as a line shows it.
-fn shown(alloc: Global, entry: Option<TokenEntry>) -> Result<String, Fail> {
+/// Whether an entry is what a line says behind its number: an execution token, and `immediate`; or `-`.
+fn is_entry(entry: Option<TokenEntry>, line: &str) -> bool {
     match entry {
-        Some(entry) if entry.immediate => Ok(format!(in alloc; "{:x} immediate", entry.xt)?),
-        Some(entry) => Ok(format!(in alloc; "{:x}", entry.xt)?),
-        None => Ok("-".to_string(alloc)?),
+        Some(entry) => {
+            hexadecimal(word(line, 1)) == Some(entry.xt)
+                && entry.immediate == (word(line, 2) == "immediate")
+        }
+        None => word(line, 1) == "-",
     }
 }
 
@@ -23,41 +26,50 @@ const FIRST: &str = "\
 fff -
 ";
 
+impl Rows for TokenTable {
+    fn holds(&mut self, _alloc: Global, line: &str) -> Option<bool> {
+        let code = u16::try_from(hexadecimal(word(line, 0))?).ok()?;
+        Some(is_entry(self.get(FCode(code)), line))
+    }
+}
+
 #[test]
 fn first_entries(rt: HostRuntime) -> Result<(), Fail> {
-    let table = TokenTable::new(rt.alloc())?;
-    for line in FIRST.lines() {
-        let Some((code, wanted)) = line.split_once(' ') else {
-            continue;
-        };
-        let entry = table.get(FCode(u16::from_str_radix(code, 16)?));
-        assert_eq!(rt; shown(rt.alloc(), entry)?.as_str(), wanted, "{line}");
-    }
+    let mut table = TokenTable::new(rt.alloc())?;
+    check(&rt, rt.alloc(), &mut table, FIRST);
     table_is_map();
     Ok(())
 }
 
-#[test]
-fn entries_are_set_and_cleared(rt: HostRuntime) -> Result<(), Fail> {
-    let mut table = TokenTable::new(rt.alloc())?;
+/// Some of them once two FCodes name the first own word, and then once that is cleared.
+const SET: &str = "\
+fff c000052c immediate
+801 -
+";
+
+const CLEARED: &str = "\
+800 -
+fff -
+01e c0000080
+";
+
+/// Has two FCodes name the first own word.
+fn set_two(table: &mut TokenTable) {
     let own = TokenEntry {
         xt: FIRST_OWN,
         immediate: true,
     };
     table.set(FCode(0x800), own);
     table.set(FCode(0xfff), own);
-    assert_eq!(rt;
-        shown(rt.alloc(), table.get(FCode(0xfff)))?.as_str(),
-        "c000052c immediate"
-    );
-    assert_eq!(rt; table.get(FCode(0x801)), None);
+}
+
+#[test]
+fn entries_are_set_and_cleared(rt: HostRuntime) -> Result<(), Fail> {
+    let mut table = TokenTable::new(rt.alloc())?;
+    set_two(&mut table);
+    check(&rt, rt.alloc(), &mut table, SET);
     table.clear(FIRST_OWN);
-    assert_eq!(rt; table.get(FCode(0x800)), None);
-    assert_eq!(rt; table.get(FCode(0xfff)), None);
-    assert_eq!(rt;
-        shown(rt.alloc(), table.get(FCode(0x1e)))?.as_str(),
-        "c0000080"
-    );
+    check(&rt, rt.alloc(), &mut table, CLEARED);
     Ok(())
 }
 
