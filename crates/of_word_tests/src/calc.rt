@@ -1,10 +1,9 @@
+use crate::rows::{Rows, check, decimal, hexadecimal, natural, word};
 use of_calc::{arrange, calculate, calculations_throw_listed, compare, split};
 use of_cells::Cell;
 use of_fcodes::{PrimitiveWord, Word, word_with_name};
 use of_stacks::{DataStack, Throw};
 use std::alloc::Global;
-use std::process::Abort;
-use std::test::Fail;
 
 /// Runs the word of a name over the stack.
 fn run(name: &str, stack: &mut DataStack) -> Result<(), Throw> {
@@ -18,49 +17,46 @@ fn run(name: &str, stack: &mut DataStack) -> Result<(), Throw> {
 }
 
 /// The stack of cells in hexadecimal digits.
-fn stack_of(cells: &str) -> Result<DataStack, Fail> {
+pub(crate) fn stack_of(cells: &str) -> Option<DataStack> {
     let mut stack = DataStack::new();
     for word in cells.split_whitespace() {
-        stack.try_push(Cell(u32::from_str_radix(word, 16)?))?;
+        stack.try_push(Cell(hexadecimal(word)?)).ok()?;
     }
-    Ok(stack)
+    Some(stack)
 }
 
-/// The cells of a stack in hexadecimal digits, with a space between them.
-fn shown(alloc: Global, stack: &DataStack) -> Result<String, Fail> {
-    let mut text = String::new(alloc);
-    for x in stack.cells() {
-        if !text.is_empty() {
-            text.push(' ')?;
-        }
-        text.push_str(&format!(in alloc; "{:x}", x.0)?)?;
+/// Whether this is what was thrown, an empty text where nothing was.
+fn is_thrown(ended: Result<(), Throw>, wanted: &str) -> bool {
+    match ended {
+        Ok(()) => wanted == "",
+        Err(fault) => decimal(wanted) == Some(i64::from(fault.0)),
     }
-    Ok(text)
 }
 
-/// What the word of a name leaves of a stack, and what it throws.
-fn answer(alloc: Global, before: &str, name: &str) -> Result<String, Fail> {
+/// Whether these cells are left, and what stands behind `throws` was thrown.
+pub(crate) fn is_left(stack: &DataStack, ended: Result<(), Throw>, after: &str) -> Option<bool> {
+    let (cells, thrown) = after.split_once("throws").unwrap_or((after, ""));
+    let wanted = stack_of(cells)?;
+    Some(stack.cells() == wanted.cells() && is_thrown(ended, thrown.trim()))
+}
+
+/// Whether the word of a name leaves this of a stack.
+fn leaves(before: &str, name: &str, after: &str) -> Option<bool> {
     let mut stack = stack_of(before)?;
-    let thrown = run(name, &mut stack);
-    let mut text = shown(alloc, &stack)?;
-    if let Err(fault) = thrown {
-        if !text.is_empty() {
-            text.push(' ')?;
-        }
-        text.push_str(&format!(in alloc; "throws {}", fault.0)?)?;
-    }
-    Ok(text)
+    let ended = run(name, &mut stack);
+    is_left(&stack, ended, after)
 }
 
-/// Each line of a table: a stack, the top last, a word, and what it leaves or throws.
-fn check(rt: &impl Abort, alloc: Global, table: &str) -> Result<(), Fail> {
-    for line in table.lines() {
-        let (before, rest) = line.split_once(':').unwrap_or(("", ""));
-        let (name, after) = rest.split_once("--").unwrap_or(("", ""));
-        let given = answer(alloc, before, name.trim())?;
-        assert_eq!(rt; given.as_str(), after.trim(), "{line}");
+/// Lines with a stack, the top last, a word, and what it leaves or throws.
+#[derive(Clone, Copy)]
+struct WordRows;
+
+impl Rows for WordRows {
+    fn holds(&mut self, _alloc: Global, line: &str) -> Option<bool> {
+        let (before, rest) = line.split_once(':')?;
+        let (name, after) = rest.split_once("--")?;
+        leaves(before, name.trim(), after)
     }
-    Ok(())
 }
 
 /// Worked out by hand from the definitions of the standards; the divisions also with another Forth system.
@@ -105,8 +101,8 @@ ffffffff 1 1 2 : d+ -- 0 4
 ";
 
 #[test]
-fn arithmetic(rt: HostRuntime) -> Result<(), Fail> {
-    check(&rt, rt.alloc(), ARITHMETIC)
+fn arithmetic(rt: HostRuntime) {
+    check(&rt, rt.alloc(), &mut WordRows, ARITHMETIC);
 }
 
 /// Worked out by hand from the definitions of the standards.
@@ -153,8 +149,8 @@ ffffffff fffffffe 1 : within -- ffffffff
 ";
 
 #[test]
-fn comparisons(rt: HostRuntime) -> Result<(), Fail> {
-    check(&rt, rt.alloc(), COMPARISONS)
+fn comparisons(rt: HostRuntime) {
+    check(&rt, rt.alloc(), &mut WordRows, COMPARISONS);
 }
 
 /// Worked out by hand from the definitions of the standards.
@@ -176,8 +172,8 @@ const SPLITS: &str = "\
 ";
 
 #[test]
-fn splits(rt: HostRuntime) -> Result<(), Fail> {
-    check(&rt, rt.alloc(), SPLITS)
+fn splits(rt: HostRuntime) {
+    check(&rt, rt.alloc(), &mut WordRows, SPLITS);
 }
 
 /// Worked out by hand from the definitions of the standards.
@@ -216,40 +212,64 @@ const ARRANGEMENTS: &str = "\
 ";
 
 #[test]
-fn arrangements(rt: HostRuntime) -> Result<(), Fail> {
-    check(&rt, rt.alloc(), ARRANGEMENTS)
+fn arrangements(rt: HostRuntime) {
+    check(&rt, rt.alloc(), &mut WordRows, ARRANGEMENTS);
 }
 
-/// Words whose results find no room throw -3; with just enough room they run.
-#[test]
-fn full_stacks(rt: HostRuntime) -> Result<(), Fail> {
-    for name in "dup over tuck ?dup depth lwsplit wbsplit".split_whitespace() {
-        let mut stack = DataStack::new();
-        for _ in 0..256 {
-            stack.try_push(Cell(5))?;
-        }
-        assert_eq!(rt; run(name, &mut stack), Err(Throw(-3)), "{name}");
-        assert_eq!(rt; stack.depth(), 256, "{name}");
-        stack.drop_top(1);
-        assert_eq!(rt; run(name, &mut stack), Ok(()), "{name}");
+/// Words whose results find no room throw -3; with just enough room they run. `2dup`, `2over` and `lbsplit` want room
+/// for more than one cell. A word, how many cells there are, and how many of them make room.
+const FULL: &str = "\
+dup 256 1
+over 256 1
+tuck 256 1
+?dup 256 1
+depth 256 1
+lwsplit 256 1
+wbsplit 256 1
+2dup 255 2
+2over 255 2
+lbsplit 255 2
+";
+
+/// A stack of so many fives.
+fn fives(count: u32) -> Option<DataStack> {
+    let mut stack = DataStack::new();
+    for _ in 0..count {
+        stack.try_push(Cell(5)).ok()?;
     }
-    Ok(())
+    Some(stack)
 }
 
-/// `2dup`, `2over` and `lbsplit` want room for more than one cell.
-#[test]
-fn nearly_full_stacks(rt: HostRuntime) -> Result<(), Fail> {
-    for name in "2dup 2over lbsplit".split_whitespace() {
-        let mut stack = DataStack::new();
-        for _ in 0..255 {
-            stack.try_push(Cell(5))?;
-        }
-        assert_eq!(rt; run(name, &mut stack), Err(Throw(-3)), "{name}");
-        assert_eq!(rt; stack.depth(), 255, "{name}");
-        stack.drop_top(2);
-        assert_eq!(rt; run(name, &mut stack), Ok(()), "{name}");
+/// Whether a word finds no room on a stack of so many cells, and changes nothing.
+fn finds_no_room(name: &str, stack: &mut DataStack, count: u32) -> bool {
+    run(name, stack) == Err(Throw(-3)) && stack.depth() == count as usize
+}
+
+/// Whether a word runs where so many cells less are on a stack.
+fn runs_without(name: &str, stack: &mut DataStack, room: u32) -> bool {
+    if stack.depth() < room as usize {
+        return false;
     }
-    Ok(())
+    stack.drop_top(room as usize);
+    run(name, stack) == Ok(())
+}
+
+/// Full stacks.
+#[derive(Clone, Copy)]
+struct FullRows;
+
+impl Rows for FullRows {
+    fn holds(&mut self, _alloc: Global, line: &str) -> Option<bool> {
+        let (name, count) = (word(line, 0), natural(word(line, 1))?);
+        let mut stack = fives(count)?;
+        let is_full = finds_no_room(name, &mut stack, count);
+        Some(is_full && runs_without(name, &mut stack, natural(word(line, 2))?))
+    }
+}
+
+#[test]
+fn full_stacks(rt: HostRuntime) {
+    check(&rt, rt.alloc(), &mut FullRows, FULL);
 }
 
 #[test]

@@ -1,10 +1,11 @@
 //! Listings that were worked out by hand from the bytes of images (IEEE 1275-1994, 5.2.2).
+use crate::rows::{Rows, check, check_cases, field, natural, word};
 use of_detok::{
     DetokFault, Extras, bound_cuts_nothing, listing, listings_read_back, partial_listing,
     read_listing,
 };
 use of_stream::StreamFault;
-use std::alloc::Global;
+use std::alloc::{AllocError, Global};
 use std::test::Fail;
 
 /// Images in hexadecimal, each with its listing, and an empty line between two. The first is
@@ -73,88 +74,134 @@ f10800cc0000000acc00
 000008: cc  offset16
 000009: 00  end0";
 
-/// Whether an image has the listing of these lines.
-fn is_listed(alloc: Global, image: &[u8], lines: &str) -> Result<bool, Fail> {
-    let listed = listing(alloc, image, Extras::default())?;
-    Ok(listed.strip_suffix(b"\n") == Some(lines.as_bytes()))
+/// The digits of a case's image, and its listing.
+fn halves(case: &str) -> (&str, &str) {
+    case.split_once('\n').unwrap_or(("", ""))
+}
+
+/// Images with their listings, which end in no newline.
+#[derive(Clone, Copy)]
+struct ListingRows;
+
+impl Rows for ListingRows {
+    fn holds(&mut self, alloc: Global, case: &str) -> Option<bool> {
+        let (digits, lines) = halves(case);
+        let image = hex::decode(alloc, digits).ok()?;
+        let listed = listing(alloc, &image, Extras::default()).ok()?;
+        Some(listed.strip_suffix(b"\n") == Some(lines.as_bytes()))
+    }
 }
 
 #[test]
-fn listings(rt: HostRuntime) -> Result<(), Fail> {
-    for case in LISTINGS.split("\n\n") {
-        let (digits, lines) = case.split_once('\n').unwrap_or(("", ""));
-        let image = hex::decode(rt.alloc(), digits)?;
-        assert!(rt; is_listed(rt.alloc(), &image, lines)?, "{digits}");
-    }
-    Ok(())
+fn listings(rt: HostRuntime) {
+    check_cases(&rt, rt.alloc(), &mut ListingRows, LISTINGS);
 }
 
 /// The listings read back, without their last newline.
-#[test]
-fn images(rt: HostRuntime) -> Result<(), Fail> {
-    for case in LISTINGS.split("\n\n") {
-        let (digits, lines) = case.split_once('\n').unwrap_or(("", ""));
-        let read = read_listing(rt.alloc(), lines.as_bytes())?;
-        let said = hex::encode(rt.alloc(), &read)?;
-        assert_eq!(rt; said.as_str(), digits);
+#[derive(Clone, Copy)]
+struct ImageRows;
+
+impl Rows for ImageRows {
+    fn holds(&mut self, alloc: Global, case: &str) -> Option<bool> {
+        let (digits, lines) = halves(case);
+        let image = hex::decode(alloc, digits).ok()?;
+        let read = read_listing(alloc, lines.as_bytes()).ok()?;
+        Some(read.as_slice() == image.as_slice())
     }
-    Ok(())
+}
+
+#[test]
+fn images(rt: HostRuntime) {
+    check_cases(&rt, rt.alloc(), &mut ImageRows, LISTINGS);
+}
+
+/// Digits of an image, and behind them a byte so many times.
+fn image_with(alloc: Global, digits: &str, byte: u8, count: usize) -> Option<Vec<u8>> {
+    let mut image = hex::decode(alloc, digits).ok()?;
+    for _ in 0..count {
+        image.push(byte).ok()?;
+    }
+    Some(image)
 }
 
 /// `end0` and 259 bytes of FE behind it: their sum, 65,786, is 00fa in sixteen bits.
 #[test]
-fn sums_have_sixteen_bits(rt: HostRuntime) -> Result<(), Fail> {
-    let mut image = hex::decode(rt.alloc(), "f10800fa0000010c00")?;
-    image.extend_from_slice(&[0xfe; 259])?;
-    let listed = listing(rt.alloc(), &image, Extras::default())?;
-    let first = b"000000: f10800fa0000010c  start1\n000008: 00  end0\n";
-    assert!(rt; listed.starts_with(first));
-    Ok(())
+fn sums_have_sixteen_bits(rt: HostRuntime) {
+    assert!(rt; has_sixteen_bits(rt.alloc()) == Some(true));
+}
+
+/// Whether its listing says no other sum.
+fn has_sixteen_bits(alloc: Global) -> Option<bool> {
+    let image = image_with(alloc, "f10800fa0000010c00", 0xfe, 259)?;
+    let listed = listing(alloc, &image, Extras::default()).ok()?;
+    Some(listed.starts_with(b"000000: f10800fa0000010c  start1\n000008: 00  end0\n"))
 }
 
 /// The listing, indented, of an image that ends in the token 1 within so many marks.
-fn within_marks(alloc: Global, count: usize) -> Result<Vec<u8>, Fail> {
-    let mut image = hex::decode(alloc, "f108000000000000")?;
-    for _ in 0..count {
-        image.push(0xb1)?;
-    }
-    image.push(0xa6)?;
+fn within_marks(alloc: Global, count: usize) -> Option<Vec<u8>> {
+    let mut image = image_with(alloc, "f108000000000000", 0xb1, count)?;
+    image.push(0xa6).ok()?;
     let extras = Extras {
         names: false,
         indents: true,
     };
-    let (listed, _) = partial_listing(alloc, &image, extras)?;
-    Ok(listed)
+    let (listed, _) = partial_listing(alloc, &image, extras).ok()?;
+    Some(listed)
+}
+
+/// Marks, the place of the token within them, and by how many structures its line is indented.
+const DEEP: &str = "\
+31 000027 31
+32 000028 32
+33 000029 32
+";
+
+/// The last line of such a listing.
+fn last_line(alloc: Global, place: &str, depth: u32) -> Result<String, AllocError> {
+    let mut last = format!(in alloc; "{place}: a6  ")?;
+    for _ in 0..depth {
+        last.push_str("  ")?;
+    }
+    last.push_str("1\n")?;
+    Ok(last)
+}
+
+/// Structures within others.
+#[derive(Clone, Copy)]
+struct DeepRows;
+
+impl Rows for DeepRows {
+    fn holds(&mut self, alloc: Global, line: &str) -> Option<bool> {
+        let listed = within_marks(alloc, natural(word(line, 0))? as usize)?;
+        let last = last_line(alloc, word(line, 1), natural(word(line, 2))?).ok()?;
+        Some(listed.ends_with(last.as_bytes()))
+    }
 }
 
 /// Each open structure indents by two, the 33rd no more, since a definition has no more open at once.
 #[test]
-fn deep_structures_are_indented(rt: HostRuntime) -> Result<(), Fail> {
-    for (count, place, depth) in [(31, "000027", 31), (32, "000028", 32), (33, "000029", 32)] {
-        let listed = within_marks(rt.alloc(), count)?;
-        let mut last = format!(in rt.alloc(); "{place}: a6  ")?;
-        for _ in 0..depth {
-            last.push_str("  ")?;
-        }
-        last.push_str("1\n")?;
-        assert!(rt; listed.ends_with(last.as_bytes()), "{count}");
-    }
-    Ok(())
+fn deep_structures_are_indented(rt: HostRuntime) {
+    check(&rt, rt.alloc(), &mut DeepRows, DEEP);
+}
+
+/// Whether a listing reads back to its image.
+fn reads_back(alloc: Global, listed: &[u8], image: &[u8]) -> Option<bool> {
+    Some(read_listing(alloc, listed).ok()?.as_slice() == image)
+}
+
+/// Whether such an image has such a listing.
+fn is_long(alloc: Global) -> Option<bool> {
+    let mut image = image_with(alloc, "f108000000000000", 0xa6, 100_000)?;
+    image.push(0x00).ok()?;
+    let listed = listing(alloc, &image, Extras::default()).ok()?;
+    let ends = listed.ends_with(b"\n0186a7: a6  1\n0186a8: 00  end0\n");
+    Some(ends && reads_back(alloc, &listed, &image)?)
 }
 
 /// 100,000 tokens and `end0` behind them, each on a line of its own, that read back.
 #[test]
-fn a_long_image(rt: HostRuntime) -> Result<(), Fail> {
-    let mut image = hex::decode(rt.alloc(), "f108000000000000")?;
-    for _ in 0..100_000 {
-        image.push(0xa6)?;
-    }
-    image.push(0x00)?;
-    let listed = listing(rt.alloc(), &image, Extras::default())?;
-    assert!(rt; listed.ends_with(b"\n0186a7: a6  1\n0186a8: 00  end0\n"));
-    let read = read_listing(rt.alloc(), &listed)?;
-    assert!(rt; read == image);
-    Ok(())
+fn a_long_image(rt: HostRuntime) {
+    assert!(rt; is_long(rt.alloc()) == Some(true));
 }
 
 /// Damaged images, each with its lines up to the fault, indented and with the names that it gives; an empty line
@@ -194,30 +241,38 @@ fd08000000000000c4a71c05a8c603c5b604220a7800080208021705a615fe12ff
 00001d: 15fe  b(loop) -> 00001c
 ";
 
-#[test]
-fn partial_listings(rt: HostRuntime) -> Result<(), Fail> {
-    let extras = Extras {
-        names: true,
-        indents: true,
-    };
-    for case in PARTIAL.split("\n\n") {
-        let (digits, lines) = case.split_once('\n').unwrap_or(("", ""));
-        let image = hex::decode(rt.alloc(), digits)?;
-        let (listed, fault) = partial_listing(rt.alloc(), &image, extras)?;
-        assert_eq!(rt;
-            without_newline(&listed),
-            without_newline(lines.as_bytes()),
-            "{digits}"
-        );
-        let end = read_listing(rt.alloc(), &listed)?.len();
-        assert!(rt; fault == Some(StreamFault::Ended(end)), "{digits}");
-    }
-    Ok(())
-}
-
 /// A text without the newline at its end.
 fn without_newline(text: &[u8]) -> &[u8] {
     text.strip_suffix(b"\n").unwrap_or(text)
+}
+
+/// Whether the fault of a listing comes where the image ends to which it reads back.
+fn ends_at_fault(alloc: Global, listed: &[u8], fault: Option<StreamFault>) -> Option<bool> {
+    let end = read_listing(alloc, listed).ok()?.len();
+    Some(fault == Some(StreamFault::Ended(end)))
+}
+
+/// Damaged images.
+#[derive(Clone, Copy)]
+struct PartialRows;
+
+impl Rows for PartialRows {
+    fn holds(&mut self, alloc: Global, case: &str) -> Option<bool> {
+        let extras = Extras {
+            names: true,
+            indents: true,
+        };
+        let (digits, lines) = halves(case);
+        let image = hex::decode(alloc, digits).ok()?;
+        let (listed, fault) = partial_listing(alloc, &image, extras).ok()?;
+        let is_listed = without_newline(&listed) == without_newline(lines.as_bytes());
+        Some(is_listed && ends_at_fault(alloc, &listed, fault)?)
+    }
+}
+
+#[test]
+fn partial_listings(rt: HostRuntime) {
+    check_cases(&rt, rt.alloc(), &mut PartialRows, PARTIAL);
 }
 
 /// Images without a listing, and what is wrong with them.
@@ -231,16 +286,22 @@ f108000000000000a7a8 Some(Stream(Ended(10)))
 f108000000000000a712056162 Some(Stream(Ended(9)))
 ";
 
-#[test]
-fn images_without_listing(rt: HostRuntime) -> Result<(), Fail> {
-    for line in FAULTS.lines() {
-        let (digits, wanted) = line.split_once(' ').unwrap_or(("", ""));
-        let image = hex::decode(rt.alloc(), digits)?;
-        let fault = listing(rt.alloc(), &image, Extras::default()).err();
-        let said = format!(in rt.alloc(); "{fault:?}")?;
-        assert_eq!(rt; said.as_str(), wanted, "{line}");
+/// Images without a listing.
+#[derive(Clone, Copy)]
+struct FaultRows;
+
+impl Rows for FaultRows {
+    fn holds(&mut self, alloc: Global, line: &str) -> Option<bool> {
+        let (digits, wanted) = line.split_once(' ')?;
+        let image = hex::decode(alloc, digits).ok()?;
+        let fault = listing(alloc, &image, Extras::default()).err();
+        Some(format!(in alloc; "{fault:?}").ok()?.as_str() == wanted)
     }
-    Ok(())
+}
+
+#[test]
+fn images_without_listing(rt: HostRuntime) {
+    check(&rt, rt.alloc(), &mut FaultRows, FAULTS);
 }
 
 /// Texts, a line each, where `/` stands for a newline, and behind `|` the bytes that they mean, or
@@ -268,23 +329,28 @@ const TEXTS: &str = "\
 000000: f1  /000001: 00  /x|BadLine(3)
 ";
 
-/// What a text means, in hexadecimal, or what is wrong with it.
-fn meaning(alloc: Global, text: &[u8]) -> Result<String, Fail> {
+/// Whether a text means these bytes, in hexadecimal, or this is wrong with it.
+fn is_meant(alloc: Global, text: &[u8], wanted: &str) -> Option<bool> {
     match read_listing(alloc, text) {
-        Ok(image) => Ok(hex::encode(alloc, &image)?),
-        Err(fault) => Ok(format!(in alloc; "{fault:?}")?),
+        Ok(image) => Some(hex::encode(alloc, &image).ok()?.as_str() == wanted),
+        Err(fault) => Some(format!(in alloc; "{fault:?}").ok()?.as_str() == wanted),
+    }
+}
+
+/// Texts as listings.
+#[derive(Clone, Copy)]
+struct ReadingRows;
+
+impl Rows for ReadingRows {
+    fn holds(&mut self, alloc: Global, line: &str) -> Option<bool> {
+        let text = field(line, 0).replace(alloc, "/", "\n").ok()?;
+        is_meant(alloc, text.as_bytes(), field(line, 1))
     }
 }
 
 #[test]
-fn readings(rt: HostRuntime) -> Result<(), Fail> {
-    for line in TEXTS.lines() {
-        let (text, wanted) = line.split_once('|').unwrap_or(("", ""));
-        let text = text.replace(rt.alloc(), "/", "\n")?;
-        let said = meaning(rt.alloc(), text.as_bytes())?;
-        assert_eq!(rt; said.as_str(), wanted, "{line}");
-    }
-    Ok(())
+fn readings(rt: HostRuntime) {
+    check(&rt, rt.alloc(), &mut ReadingRows, TEXTS);
 }
 
 /// What the faults say, a line each.
@@ -302,7 +368,7 @@ fn faults(rt: HostRuntime) -> Result<(), Fail> {
         DetokFault::BadLine(3),
         DetokFault::NoMemory
     )?;
-    assert_eq!(rt; said.as_str(), FAULT_TEXTS);
+    assert!(rt; said.as_str() == FAULT_TEXTS);
     Ok(())
 }
 

@@ -1,3 +1,4 @@
+use crate::rows::{Rows, check, hexadecimal, natural, word};
 use of_cells::{Cell, Double};
 use of_format::{
     Pictured, base, digit, digit_byte, double_text, read_number, signed_text, texts_read_back,
@@ -6,7 +7,6 @@ use of_format::{
 use of_memory::Memory;
 use of_stacks::Throw;
 use std::alloc::Global;
-use std::process::Abort;
 use std::test::Fail;
 
 /// A cell in hexadecimal, a base, and the cell's text unsigned and signed.
@@ -80,120 +80,107 @@ const BASES: &str = "\
 10000010 none
 ";
 
-/// What a number is written as, or `none`.
-fn shown(alloc: Global, number: Option<u32>, base: u32) -> Result<String, Fail> {
+/// Texts of cells.
+#[derive(Clone, Copy)]
+struct TextRows;
+
+impl Rows for TextRows {
+    fn holds(&mut self, _alloc: Global, line: &str) -> Option<bool> {
+        let x = Cell(hexadecimal(word(line, 0))?);
+        let base = natural(word(line, 1))?.clamp(2, 36);
+        let is_unsigned = unsigned_text(x, base).as_bytes() == word(line, 2).as_bytes();
+        Some(is_unsigned && signed_text(x, base).as_bytes() == word(line, 3).as_bytes())
+    }
+}
+
+#[test]
+fn cells_as_text(rt: HostRuntime) {
+    check(&rt, rt.alloc(), &mut TextRows, TEXTS);
+}
+
+/// Texts of doubles.
+#[derive(Clone, Copy)]
+struct DoubleRows;
+
+impl Rows for DoubleRows {
+    fn holds(&mut self, _alloc: Global, line: &str) -> Option<bool> {
+        let high = u64::from(hexadecimal(word(line, 0))?);
+        let low = u64::from(hexadecimal(word(line, 1))?);
+        let number = Double::new(high * 0x1_0000_0000 + low);
+        let base = natural(word(line, 2))?.clamp(2, 36);
+        Some(double_text(number, base).as_bytes() == word(line, 3).as_bytes())
+    }
+}
+
+#[test]
+fn doubles_as_text(rt: HostRuntime) {
+    check(&rt, rt.alloc(), &mut DoubleRows, DOUBLES);
+}
+
+/// Whether a number is what a word says, in decimal digits, or `none`.
+fn is_said(number: Option<u32>, wanted: &str) -> bool {
     match number {
-        None => Ok("none".to_string(alloc)?),
-        Some(number) if base == 16 => Ok(format!(in alloc; "{number:x}")?),
-        Some(number) => Ok(format!(in alloc; "{number}")?),
+        Some(_) => number == natural(wanted),
+        None => wanted == "none",
     }
 }
 
-/// Compares a row's two texts of a cell.
-fn cell_text(rt: &impl Abort, alloc: Global, line: &str) -> Result<(), Fail> {
-    let words: Vec<&str> = line.split_whitespace().collect(alloc)?;
-    let [x, base, unsigned, signed] = words.as_slice() else {
-        return Err(Fail::new("a line of another form"));
-    };
-    let x = Cell(u32::from_str_radix(x, 16)?);
-    let base = base.parse::<u32>()?.clamp(2, 36);
-    assert_eq!(rt;
-        unsigned_text(x, base).as_bytes(),
-        unsigned.as_bytes(),
-        "{line}"
-    );
-    assert_eq!(rt;
-        signed_text(x, base).as_bytes(),
-        signed.as_bytes(),
-        "{line}"
-    );
-    Ok(())
-}
+/// Characters as digits.
+#[derive(Clone, Copy)]
+struct DigitRows;
 
-#[test]
-fn cells_as_text(rt: HostRuntime) -> Result<(), Fail> {
-    for line in TEXTS.lines() {
-        cell_text(&rt, rt.alloc(), line)?;
+impl Rows for DigitRows {
+    fn holds(&mut self, _alloc: Global, line: &str) -> Option<bool> {
+        let char = hexadecimal(word(line, 0))?;
+        Some(is_said(digit(char, natural(word(line, 1))?), word(line, 2)))
     }
-    Ok(())
 }
 
-/// Compares a row's text of a double.
-fn double(rt: &impl Abort, alloc: Global, line: &str) -> Result<(), Fail> {
-    let words: Vec<&str> = line.split_whitespace().collect(alloc)?;
-    let [high, low, base, text] = words.as_slice() else {
-        return Err(Fail::new("a line of another form"));
-    };
-    let high = u64::from(u32::from_str_radix(high, 16)?);
-    let low = u64::from(u32::from_str_radix(low, 16)?);
-    let base = base.parse::<u32>()?.clamp(2, 36);
-    let number = Double::new(high * 0x1_0000_0000 + low);
-    assert_eq!(rt;
-        double_text(number, base).as_bytes(),
-        text.as_bytes(),
-        "{line}"
-    );
-    Ok(())
-}
+/// Texts as numbers.
+#[derive(Clone, Copy)]
+struct ReadRows;
 
-#[test]
-fn doubles_as_text(rt: HostRuntime) -> Result<(), Fail> {
-    for line in DOUBLES.lines() {
-        double(&rt, rt.alloc(), line)?;
-    }
-    Ok(())
-}
-
-/// What a line's call answers: a character's digit, what a text reads as, or the base.
-fn answer(alloc: Global, kind: char, words: &[&str]) -> Result<String, Fail> {
-    let [x, y, ..] = words else {
-        return Err(Fail::new("a line of another form"));
-    };
-    match kind {
-        'd' => {
-            let char = u32::from_str_radix(x, 16)?;
-            shown(alloc, digit(char, y.parse::<u32>()?), 10)
-        }
-        'r' => {
-            let base = x.parse::<u32>()?.clamp(2, 36);
-            let number = read_number(y.as_bytes(), base).map(|cell| cell.0);
-            shown(alloc, number, 16)
-        }
-        _ => {
-            let mut memory = Memory::new(alloc)?;
-            memory.write32(Cell(0x50_0000), Cell(u32::from_str_radix(x, 16)?))?;
-            shown(alloc, base(&memory).ok(), 10)
+impl Rows for ReadRows {
+    fn holds(&mut self, _alloc: Global, line: &str) -> Option<bool> {
+        let base = natural(word(line, 0))?.clamp(2, 36);
+        match read_number(word(line, 1).as_bytes(), base) {
+            Some(cell) => Some(hexadecimal(word(line, 2)) == Some(cell.0)),
+            None => Some(word(line, 2) == "none"),
         }
     }
 }
 
-/// Runs lines of one kind, each with the wanted answer last.
-fn run(rt: &impl Abort, alloc: Global, kind: char, lines: &str) -> Result<(), Fail> {
-    for line in lines.lines() {
-        let words: Vec<&str> = line.split_whitespace().collect(alloc)?;
-        let found = answer(alloc, kind, words.as_slice())?;
-        assert_eq!(rt; Some(&found.as_str()), words.last(), "{line}");
-    }
-    Ok(())
-}
-
 #[test]
-fn digits_and_numbers_read(rt: HostRuntime) -> Result<(), Fail> {
-    run(&rt, rt.alloc(), 'd', DIGITS)?;
-    run(&rt, rt.alloc(), 'r', READ)?;
-    assert_eq!(rt; read_number(b"", 10), None);
-    assert_eq!(rt; [digit_byte(9), digit_byte(10)], [b'9', b'a']);
+fn digits_and_numbers_read(rt: HostRuntime) {
+    check(&rt, rt.alloc(), &mut DigitRows, DIGITS);
+    check(&rt, rt.alloc(), &mut ReadRows, READ);
+    assert!(rt; read_number(b"", 10) == None);
+    assert!(rt; digit_byte(9) == b'9' && digit_byte(10) == b'a');
     texts_read_back();
-    Ok(())
+}
+
+/// What a memory has as its base once that is stored.
+#[derive(Drop)]
+struct BaseRows {
+    memory: Memory,
+}
+
+impl Rows for BaseRows {
+    fn holds(&mut self, _alloc: Global, line: &str) -> Option<bool> {
+        let x = Cell(hexadecimal(word(line, 0))?);
+        self.memory.write32(Cell(0x50_0000), x).ok()?;
+        Some(is_said(base(&self.memory).ok(), word(line, 1)))
+    }
 }
 
 #[test]
 fn bases(rt: HostRuntime) -> Result<(), Fail> {
-    run(&rt, rt.alloc(), 'b', BASES)?;
-    let mut memory = Memory::new(rt.alloc())?;
-    assert_eq!(rt; base(&memory), Ok(16));
-    memory.write32(Cell(0x50_0000), Cell(37))?;
-    assert_eq!(rt; base(&memory), Err(Throw(-24)));
+    let memory = Memory::new(rt.alloc())?;
+    assert!(rt; base(&memory) == Ok(16));
+    let mut rows = BaseRows { memory };
+    check(&rt, rt.alloc(), &mut rows, BASES);
+    check(&rt, rt.alloc(), &mut rows, "25 none");
+    assert!(rt; base(&rows.memory) == Err(Throw(-24)));
     Ok(())
 }
 
@@ -204,40 +191,76 @@ b ba
 xyz xyzba
 ";
 
+/// A pictured text and its memory.
+#[derive(Drop)]
+struct HeldRows {
+    memory: Memory,
+    pictured: Pictured,
+}
+
+impl HeldRows {
+    /// Holds one byte, or a text of other lengths.
+    fn hold(&mut self, new: &[u8]) -> Result<(), Throw> {
+        match new {
+            [byte] => self.pictured.hold(&mut self.memory, *byte),
+            bytes => self.pictured.hold_text(&mut self.memory, bytes),
+        }
+    }
+
+    /// Whether this is the text.
+    fn has_text(&self, wanted: &str) -> bool {
+        let (addr, len) = self.pictured.text();
+        let ends = addr.0.wrapping_add(len.0) == 0x50_0100;
+        ends && self.memory.slice(addr, len) == Ok(wanted.as_bytes())
+    }
+}
+
+impl Rows for HeldRows {
+    fn holds(&mut self, _alloc: Global, line: &str) -> Option<bool> {
+        self.hold(word(line, 0).as_bytes()).ok()?;
+        Some(self.has_text(word(line, 1)))
+    }
+}
+
+/// Nothing held yet.
+fn nothing_held(alloc: Global) -> Result<HeldRows, Fail> {
+    let memory = Memory::new(alloc)?;
+    let pictured = Pictured::new();
+    Ok(HeldRows { memory, pictured })
+}
+
 /// Bytes are held before those that are held, and end at 0x500100.
 #[test]
 fn pictured_text(rt: HostRuntime) -> Result<(), Fail> {
-    let mut memory = Memory::new(rt.alloc())?;
-    let mut pictured = Pictured::new();
-    for line in HELD.lines() {
-        let words: Vec<&str> = line.split_whitespace().collect(rt.alloc())?;
-        let [new, whole] = words.as_slice() else {
-            return Err(Fail::new("a line of another form"));
-        };
-        match new.as_bytes() {
-            [byte] => pictured.hold(&mut memory, *byte)?,
-            bytes => pictured.hold_text(&mut memory, bytes)?,
-        }
-        let (addr, len) = pictured.text();
-        assert_eq!(rt; memory.slice(addr, len)?, whole.as_bytes(), "{line}");
-        assert_eq!(rt; addr.0.wrapping_add(len.0), 0x50_0100);
-    }
-    pictured.start();
-    assert_eq!(rt; pictured.text(), (Cell(0x50_0100), Cell(0)));
+    let mut rows = nothing_held(rt.alloc())?;
+    check(&rt, rt.alloc(), &mut rows, HELD);
+    rows.pictured.start();
+    assert!(rt; rows.pictured.text() == (Cell(0x50_0100), Cell(0)));
     Ok(())
+}
+
+/// Holds 127 characters.
+fn hold_127(rows: &mut HeldRows) -> Result<(), Throw> {
+    for _ in 0..127 {
+        rows.hold(b"x")?;
+    }
+    Ok(())
+}
+
+/// Whether one more character finds room then, and no two do, nor does one behind it.
+fn one_more_fits(rows: &mut HeldRows) -> bool {
+    rows.hold(b"ab") == Err(Throw(-17))
+        && rows.pictured.len() == 127
+        && rows.pictured.hold_text(&mut rows.memory, b"a") == Ok(())
+        && rows.hold(b"b") == Err(Throw(-17))
 }
 
 #[test]
 fn pictured_text_of_128_bytes(rt: HostRuntime) -> Result<(), Fail> {
-    let mut memory = Memory::new(rt.alloc())?;
-    let mut pictured = Pictured::new();
-    for _ in 0..127 {
-        pictured.hold(&mut memory, b'x')?;
-    }
-    assert_eq!(rt; pictured.hold_text(&mut memory, b"ab"), Err(Throw(-17)));
-    assert_eq!(rt; pictured.len(), 127);
-    pictured.hold_text(&mut memory, b"a")?;
-    assert_eq!(rt; pictured.hold(&mut memory, b'b'), Err(Throw(-17)));
-    assert_eq!(rt; memory.slice(Cell(0x50_007f), Cell(3))?, b"\0ax".as_slice());
+    let mut rows = nothing_held(rt.alloc())?;
+    assert!(rt; hold_127(&mut rows) == Ok(()));
+    assert!(rt; one_more_fits(&mut rows));
+    let first = rows.memory.slice(Cell(0x50_007f), Cell(3));
+    assert!(rt; first == Ok(b"\0ax".as_slice()));
     Ok(())
 }

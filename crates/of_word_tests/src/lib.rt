@@ -10,6 +10,8 @@ mod format;
 #[cfg(test)]
 mod prims;
 #[cfg(test)]
+mod rows;
+#[cfg(test)]
 mod scan;
 #[cfg(test)]
 mod stream;

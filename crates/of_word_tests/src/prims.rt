@@ -1,3 +1,5 @@
+use crate::calc::{is_left, stack_of};
+use crate::rows::{Rows, check, hexadecimal};
 use of_cells::Cell;
 use of_fcodes::{AddressesWord, MemoryWord, NumbersWord, TextWord, Word, word_with_name};
 use of_format::Pictured;
@@ -8,8 +10,6 @@ use of_prims::{
 };
 use of_stacks::{DataStack, Throw};
 use std::alloc::Global;
-use std::process::Abort;
-use std::test::Fail;
 
 /// What stands from 0x100000 on: two cells, two texts with commas, and a text with its length.
 const BYTES: &[u8] = b"\x12\x34\x56\x78\x9a\xbc\xde\xf0ab,1F,-2\x05hello\0\0-ff zz12";
@@ -22,17 +22,20 @@ struct Parts {
     pictured: Pictured,
 }
 
-/// A stack of cells in hexadecimal digits over the bytes above, with `here` at 0x100000.
-fn parts_of(alloc: Global, cells: &str) -> Result<Parts, Fail> {
-    let mut memory = Memory::new(alloc)?;
-    memory.append(BYTES)?;
-    memory.allot(Cell(0xffff_ffe0))?;
-    let mut stack = DataStack::new();
-    for word in cells.split_whitespace() {
-        stack.try_push(Cell(u32::from_str_radix(word, 16)?))?;
-    }
+/// A memory with the bytes above, and `here` at 0x100000.
+fn memory_of_bytes(alloc: Global) -> Option<Memory> {
+    let mut memory = Memory::new(alloc).ok()?;
+    memory.append(BYTES).ok()?;
+    memory.allot(Cell(0xffff_ffe0)).ok()?;
+    Some(memory)
+}
+
+/// A stack of cells in hexadecimal digits over such a memory.
+fn parts_of(alloc: Global, cells: &str) -> Option<Parts> {
+    let stack = stack_of(cells)?;
+    let memory = memory_of_bytes(alloc)?;
     let pictured = Pictured::new();
-    Ok(Parts {
+    Some(Parts {
         stack,
         memory,
         pictured,
@@ -60,44 +63,42 @@ fn run_all(parts: &mut Parts, words: &str) -> Result<(), Throw> {
         match word.strip_prefix('%') {
             Some(digits) => parts
                 .stack
-                .try_push(Cell(u32::from_str_radix(digits, 16).unwrap_or(0)))?,
+                .try_push(Cell(hexadecimal(digits).unwrap_or(0)))?,
             None => run(parts, word)?,
         }
     }
     Ok(())
 }
 
-/// The cells of the stack in hexadecimal digits, what was thrown, and the first twelve bytes from
-/// 0x100000 on where they have changed.
-fn shown(alloc: Global, parts: &Parts, thrown: Result<(), Throw>) -> Result<String, Fail> {
-    let mut text = String::new(alloc);
-    for x in parts.stack.cells() {
-        text.push_str(&format!(in alloc; " {:x}", x.0)?)?;
+/// Whether the first twelve bytes from 0x100000 on are these, where they have changed, and an empty text where not.
+fn has_bytes(alloc: Global, memory: &Memory, wanted: &str) -> Option<bool> {
+    let bytes = memory.slice(Cell(0x10_0000), Cell(12)).ok()?;
+    if wanted == "" {
+        return Some(bytes == &BYTES[..12]);
     }
-    if let Err(fault) = thrown {
-        text.push_str(&format!(in alloc; " throws {}", fault.0)?)?;
-    }
-    let bytes = parts.memory.slice(Cell(0x10_0000), Cell(12))?;
-    if bytes != &BYTES[..12] {
-        text.push_str(" mem ")?;
-        for byte in bytes {
-            text.push_str(&format!(in alloc; "{byte:02x}")?)?;
-        }
-    }
-    Ok(text)
+    Some(hex::decode(alloc, wanted).ok()?.as_slice() == bytes)
 }
 
-/// Each line of a table: a stack, the top last, words, and what they leave.
-fn check(rt: &impl Abort, alloc: Global, table: &str) -> Result<(), Fail> {
-    for line in table.lines() {
-        let (before, rest) = line.split_once(':').unwrap_or(("", ""));
-        let (words, after) = rest.split_once("--").unwrap_or(("", ""));
+/// Whether these cells are left, what stands behind `throws` was thrown, and the first twelve bytes are those that
+/// stand behind `mem`.
+fn are_left(alloc: Global, parts: &Parts, ended: Result<(), Throw>, after: &str) -> Option<bool> {
+    let (stack, bytes) = after.split_once("mem").unwrap_or((after, ""));
+    Some(is_left(&parts.stack, ended, stack)? && has_bytes(alloc, &parts.memory, bytes.trim())?)
+}
+
+/// Lines with a stack, the top last, words, and what they leave: the cells of the stack in hexadecimal digits, what was
+/// thrown, and the first twelve bytes from 0x100000 on where they have changed.
+#[derive(Clone, Copy)]
+struct PrimRows;
+
+impl Rows for PrimRows {
+    fn holds(&mut self, alloc: Global, line: &str) -> Option<bool> {
+        let (before, rest) = line.split_once(':')?;
+        let (words, after) = rest.split_once("--")?;
         let mut parts = parts_of(alloc, before)?;
-        let thrown = run_all(&mut parts, words);
-        let given = shown(alloc, &parts, thrown)?;
-        assert_eq!(rt; given.as_str(), after, "{line}");
+        let ended = run_all(&mut parts, words);
+        are_left(alloc, &parts, ended, after)
     }
-    Ok(())
 }
 
 /// Worked out by hand from the definitions of the standards.
@@ -177,8 +178,8 @@ ffffffff 2 : < -- ffffffff
 ";
 
 #[test]
-fn words(rt: HostRuntime) -> Result<(), Fail> {
-    check(&rt, rt.alloc(), WORDS)
+fn words(rt: HostRuntime) {
+    check(&rt, rt.alloc(), &mut PrimRows, WORDS);
 }
 
 /// Words that store; the bytes stand in the order of their addresses.
@@ -207,8 +208,8 @@ c0000000 0 1 : fill --
 ";
 
 #[test]
-fn stores(rt: HostRuntime) -> Result<(), Fail> {
-    check(&rt, rt.alloc(), STORES)
+fn stores(rt: HostRuntime) {
+    check(&rt, rt.alloc(), &mut PrimRows, STORES);
 }
 
 /// Numbers pictured digit by digit.
@@ -225,8 +226,8 @@ fab : <# u#s u#> + 1 - c@ -- 62
 ";
 
 #[test]
-fn pictured_text(rt: HostRuntime) -> Result<(), Fail> {
-    check(&rt, rt.alloc(), PICTURED)
+fn pictured_text(rt: HostRuntime) {
+    check(&rt, rt.alloc(), &mut PrimRows, PICTURED);
 }
 
 /// Words that throw, and leave all as it was.
@@ -266,99 +267,156 @@ c0000000 : count -- c0000000 throws -9
 ";
 
 #[test]
-fn faults(rt: HostRuntime) -> Result<(), Fail> {
-    check(&rt, rt.alloc(), FAULTS)
+fn faults(rt: HostRuntime) {
+    check(&rt, rt.alloc(), &mut PrimRows, FAULTS);
 }
 
 /// Words whose results find no room throw -3, and change nothing.
+const FULL: &str = "/c\nhere\n2@\ncount\nleft-parse-string\nbell\nu#>\nbase\n0";
+
+/// Fills the stack with 256 cells: 254 addresses, 0, and an address.
+fn fill(stack: &mut DataStack) -> Result<(), Throw> {
+    for _ in 0..254 {
+        stack.try_push(Cell(0x10_0000))?;
+    }
+    stack.try_push(Cell(0))?;
+    stack.try_push(Cell(0x10_0000))
+}
+
+/// Words on a full stack, one a line.
+#[derive(Clone, Copy)]
+struct FullRows;
+
+impl Rows for FullRows {
+    fn holds(&mut self, alloc: Global, line: &str) -> Option<bool> {
+        let mut parts = parts_of(alloc, "")?;
+        fill(&mut parts.stack).ok()?;
+        Some(run(&mut parts, line) == Err(Throw(-3)) && parts.stack.depth() == 256)
+    }
+}
+
 #[test]
-fn full_stacks(rt: HostRuntime) -> Result<(), Fail> {
-    let names = "/c here 2@ count left-parse-string bell u#> base 0";
-    for name in names.split_whitespace() {
-        let mut parts = parts_of(rt.alloc(), "")?;
-        for _ in 0..254 {
-            parts.stack.try_push(Cell(0x10_0000))?;
-        }
-        parts.stack.try_push(Cell(0))?;
-        parts.stack.try_push(Cell(0x10_0000))?;
-        assert_eq!(rt; run(&mut parts, name), Err(Throw(-3)), "{name}");
-        assert_eq!(rt; parts.stack.depth(), 256, "{name}");
+fn full_stacks(rt: HostRuntime) {
+    check(&rt, rt.alloc(), &mut FullRows, FULL);
+}
+
+/// Whether a cell finds no room where three bytes are free, and a half does.
+fn a_half_fits(parts: &mut Parts) -> bool {
+    parts.memory.allot(Cell(0x3_fffd)).is_ok()
+        && run(parts, ",") == Err(Throw(-8))
+        && run(parts, "w,") == Ok(())
+}
+
+#[test]
+fn a_full_data_region(rt: HostRuntime) {
+    assert!(rt; parts_of(rt.alloc(), "1").is_some_and(|mut parts| a_half_fits(&mut parts)));
+}
+
+/// Whether a block is taken, and given back.
+fn gives_back(parts: &mut Parts) -> bool {
+    parts.memory.heap_take(Cell(16)).is_ok()
+        && run(parts, "free-mem") == Ok(())
+        && parts.memory.read8(Cell(0x40_0000)).is_err()
+}
+
+#[test]
+fn blocks_are_given_back(rt: HostRuntime) {
+    let parts = parts_of(rt.alloc(), "400000 9");
+    assert!(rt; parts.is_some_and(|mut parts| gives_back(&mut parts)));
+}
+
+/// Holds 127 characters.
+fn hold_127(parts: &mut Parts) -> Result<(), Throw> {
+    for _ in 0..127 {
+        parts.pictured.hold(&mut parts.memory, b'x')?;
     }
     Ok(())
 }
 
-#[test]
-fn a_full_data_region(rt: HostRuntime) -> Result<(), Fail> {
-    let mut parts = parts_of(rt.alloc(), "1")?;
-    parts.memory.allot(Cell(0x3_fffd))?;
-    assert_eq!(rt; run(&mut parts, ","), Err(Throw(-8)));
-    assert_eq!(rt; run(&mut parts, "w,"), Ok(()));
-    Ok(())
+/// Whether a text is full where it has 127 characters and one more is held.
+fn is_full(parts: &mut Parts) -> bool {
+    hold_127(parts) == Ok(())
+        && run_all(parts, "#s") == Err(Throw(-17))
+        && run_all(parts, "# #") == Err(Throw(-17))
+        && run_all(parts, "%41 hold") == Err(Throw(-17))
 }
 
-#[test]
-fn blocks_are_given_back(rt: HostRuntime) -> Result<(), Fail> {
-    let mut parts = parts_of(rt.alloc(), "400000 9")?;
-    let _ = parts.memory.heap_take(Cell(16))?;
-    assert_eq!(rt; run(&mut parts, "free-mem"), Ok(()));
-    assert_eq!(rt; parts.memory.read8(Cell(0x40_0000)).is_ok(), false);
-    Ok(())
+/// Whether a bad base is said then.
+fn is_bad_base(parts: &mut Parts) -> bool {
+    parts.memory.write32(Cell(0x50_0000), Cell(37)).is_ok()
+        && run(parts, "#") == Err(Throw(-24))
+        && parts.pictured.len() == 128
 }
 
 /// A bad base comes before a full text, and neither changes anything.
 #[test]
-fn full_texts_and_bad_bases(rt: HostRuntime) -> Result<(), Fail> {
-    let mut parts = parts_of(rt.alloc(), "12 0")?;
-    for _ in 0..127 {
-        parts.pictured.hold(&mut parts.memory, b'x')?;
-    }
-    for (words, code) in [("#s", -17), ("# #", -17), ("%41 hold", -17)] {
-        assert_eq!(rt; run_all(&mut parts, words), Err(Throw(code)), "{words}");
-    }
-    parts.memory.write32(Cell(0x50_0000), Cell(37))?;
-    assert_eq!(rt; run(&mut parts, "#"), Err(Throw(-24)));
-    assert_eq!(rt; parts.pictured.len(), 128);
-    Ok(())
+fn full_texts_and_bad_bases(rt: HostRuntime) {
+    let parts = parts_of(rt.alloc(), "12 0");
+    assert!(rt; parts.is_some_and(|mut parts| is_full(&mut parts) && is_bad_base(&mut parts)));
 }
 
 #[test]
 fn faults_of_the_data_space(rt: HostRuntime) {
-    assert_eq!(rt; throw_of(MemFault::Address), Throw(-9));
-    assert_eq!(rt; throw_of(MemFault::Alignment), Throw(-23));
-    assert_eq!(rt; throw_of(MemFault::ReadOnly), Throw(-20));
-    assert_eq!(rt; throw_of(MemFault::Full), Throw(-8));
-    assert_eq!(rt; throw_of(MemFault::BadBlock), Throw(-24));
+    assert!(rt; throw_of(MemFault::Address) == Throw(-9));
+    assert!(rt; throw_of(MemFault::Alignment) == Throw(-23));
+    assert!(rt; throw_of(MemFault::ReadOnly) == Throw(-20));
+    assert!(rt; throw_of(MemFault::Full) == Throw(-8));
+    assert!(rt; throw_of(MemFault::BadBlock) == Throw(-24));
     prims_throw_listed();
 }
 
-#[test]
-fn words_by_themselves(rt: HostRuntime) -> Result<(), Fail> {
-    let mut parts = parts_of(rt.alloc(), "100001 1ff 100003 5 100004")?;
-    store(&mut parts.stack, &mut parts.memory)?;
-    store_byte(&mut parts.stack, &mut parts.memory)?;
-    fetch_byte(&mut parts.stack, &parts.memory)?;
-    assert_eq!(rt;
-        shown(rt.alloc(), &parts, Ok(()))?.as_str(),
-        " 34 mem 123456ff0000000561622c31"
-    );
-    parts.stack.try_push(Cell(0x10_0004))?;
-    fetch(&mut parts.stack, &parts.memory)?;
-    assert_eq!(rt; parts.stack.peek(), Ok(Cell(5)));
-    Ok(())
+/// Stores, and fetches a byte.
+fn store_both(stack: &mut DataStack, memory: &mut Memory) -> Result<(), Throw> {
+    store(stack, memory)?;
+    store_byte(stack, memory)?;
+    fetch_byte(stack, memory)
+}
+
+/// Fetches the cell at 0x100004.
+fn fetch_five(stack: &mut DataStack, memory: &Memory) -> Result<(), Throw> {
+    stack.try_push(Cell(0x10_0004))?;
+    fetch(stack, memory)
+}
+
+/// Whether both leave what they should.
+fn stores_and_fetches(alloc: Global, parts: &mut Parts) -> Option<bool> {
+    let ended = store_both(&mut parts.stack, &mut parts.memory);
+    if !are_left(alloc, parts, ended, "34 mem 123456ff0000000561622c31")? {
+        return Some(false);
+    }
+    let ended = fetch_five(&mut parts.stack, &parts.memory);
+    Some(ended == Ok(()) && parts.stack.peek() == Ok(Cell(5)))
 }
 
 #[test]
-fn groups_by_themselves(rt: HostRuntime) -> Result<(), Fail> {
-    let mut parts = parts_of(rt.alloc(), "100008")?;
-    run_address_word(AddressesWord::NextByte, &mut parts.stack, &parts.memory)?;
-    run_memory_word(MemoryWord::FetchByte, &mut parts.stack, &mut parts.memory)?;
-    run_text_word(TextWord::UpperCase, &mut parts.stack, &mut parts.memory)?;
+fn words_by_themselves(rt: HostRuntime) {
+    let parts = parts_of(rt.alloc(), "100001 1ff 100003 5 100004");
+    let holds = parts.is_some_and(|mut parts| stores_and_fetches(rt.alloc(), &mut parts)
+        == Some(true));
+    assert!(rt; holds);
+}
+
+/// Runs a word of each of four groups.
+fn run_groups(parts: &mut Parts) -> Result<(), Throw> {
     let Parts {
         stack,
         memory,
         pictured,
-    } = &mut parts;
-    run_number_word(NumbersWord::One, stack, memory, pictured)?;
-    assert_eq!(rt; shown(rt.alloc(), &parts, Ok(()))?.as_str(), " 42 1");
-    Ok(())
+    } = parts;
+    run_address_word(AddressesWord::NextByte, stack, memory)?;
+    run_memory_word(MemoryWord::FetchByte, stack, memory)?;
+    run_text_word(TextWord::UpperCase, stack, memory)?;
+    run_number_word(NumbersWord::One, stack, memory, pictured)
+}
+
+/// Whether they leave what they should.
+fn groups_run(alloc: Global, parts: &mut Parts) -> bool {
+    let ended = run_groups(parts);
+    are_left(alloc, parts, ended, "42 1") == Some(true)
+}
+
+#[test]
+fn groups_by_themselves(rt: HostRuntime) {
+    let parts = parts_of(rt.alloc(), "100008");
+    assert!(rt; parts.is_some_and(|mut parts| groups_run(rt.alloc(), &mut parts)));
 }

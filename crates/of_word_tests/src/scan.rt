@@ -1,8 +1,7 @@
+use crate::rows::{Rows, check, field, hexadecimal, natural, word};
 use of_cells::Cell;
 use of_scan::{Number, Rest, Word, number_in, parts_are_read, strings_are_read, words_are_read};
-use std::alloc::Global;
-use std::process::Abort;
-use std::test::Fail;
+use std::alloc::{AllocError, Global};
 
 /// A call, a text, what the call gives, the position behind it, and the next word with its position then, or `none`.
 ///
@@ -99,136 +98,143 @@ const NUMBERS: &str = "\
 36 z 23
 ";
 
+/// A byte of a row's text.
+fn byte_of(byte: u8) -> u8 {
+    match byte {
+        b'~' => b'\n',
+        b'^' => b'\t',
+        b'@' => 0,
+        _ => byte,
+    }
+}
+
 /// A text of a row.
-fn text_of(alloc: Global, row: &str) -> Result<Vec<u8>, Fail> {
-    let bytes: Vec<u8> = row
-        .bytes()
-        .map(|byte| match byte {
-            b'~' => b'\n',
-            b'^' => b'\t',
-            b'@' => 0,
-            _ => byte,
-        })
-        .collect(alloc)?;
+fn text_of(alloc: Global, row: &str) -> Result<Vec<u8>, AllocError> {
+    let mut bytes = Vec::new(alloc);
+    for byte in row.as_bytes() {
+        bytes.push(byte_of(*byte))?;
+    }
     Ok(bytes)
 }
 
-/// A word with its position, or `none`.
-fn word_shown(alloc: Global, word: Option<Word<'_>>) -> Result<Vec<u8>, Fail> {
-    let Some(word) = word else {
-        return Ok(b"none".to_vec(alloc)?);
-    };
-    let mut shown = word.bytes.to_vec(alloc)?;
-    let at = format!(in alloc; " {}", word.at)?;
-    shown.extend_from_slice(at.as_bytes())?;
-    Ok(shown)
+/// Whether a row's text has these bytes.
+fn is_text(alloc: Global, found: &[u8], row: &str) -> Option<bool> {
+    Some(text_of(alloc, row).ok()?.as_slice() == found)
 }
 
-/// What a call gives.
-fn given(alloc: Global, call: &str, rest: &mut Rest<'_>) -> Result<Vec<u8>, Fail> {
+/// Whether a row says this word with its position, or `none`.
+fn is_word(alloc: Global, found: Option<Word<'_>>, row: &str) -> Option<bool> {
+    let Some(found) = found else {
+        return Some(row == "none");
+    };
+    let (bytes, at) = row.rsplit_once(' ')?;
+    Some(natural(at)? as usize == found.at && is_text(alloc, found.bytes, bytes)?)
+}
+
+/// Whether a call gives what a row says, where that is a text.
+fn is_string(alloc: Global, found: Option<&[u8]>, row: &str) -> Option<bool> {
+    match found {
+        Some(bytes) => is_text(alloc, bytes, row),
+        None => Some(row == "none"),
+    }
+}
+
+/// Whether the string of a word `"` is what a row says.
+fn is_quoted(alloc: Global, rest: &mut Rest<'_>, row: &str) -> Option<bool> {
+    match rest.quoted_string(alloc).ok()? {
+        Some(bytes) => is_text(alloc, &bytes, row),
+        None => Some(row == "none"),
+    }
+}
+
+/// Whether a call gives what a row says.
+fn is_given(alloc: Global, call: &str, rest: &mut Rest<'_>, row: &str) -> Option<bool> {
     match call {
-        "w" => word_shown(alloc, rest.word()),
-        "s" => Ok(rest.string(b'"').unwrap_or(b"none").to_vec(alloc)?),
-        "c" if rest.skip_comment() => Ok(b"true".to_vec(alloc)?),
-        "c" => Ok(b"false".to_vec(alloc)?),
+        "w" => is_word(alloc, rest.word(), row),
+        "s" => is_string(alloc, rest.string(b'"'), row),
+        "c" => Some(rest.skip_comment() == (row == "true")),
         "l" => {
             rest.skip_line();
-            Ok(b"done".to_vec(alloc)?)
+            Some(row == "done")
         }
         "p" => {
             rest.skip_byte();
-            Ok(rest.part(b'"').to_vec(alloc)?)
+            is_text(alloc, rest.part(b'"'), row)
         }
         "g" => {
             rest.skip_byte();
             rest.skip_quoted();
-            Ok(b"done".to_vec(alloc)?)
+            Some(row == "done")
         }
-        _ => match rest.quoted_string(alloc)? {
-            Some(bytes) => Ok(bytes),
-            None => Ok(b"none".to_vec(alloc)?),
-        },
+        _ => is_quoted(alloc, rest, row),
     }
 }
 
-/// Runs a row.
-fn read(rt: &impl Abort, alloc: Global, line: &str) -> Result<(), Fail> {
-    let fields: Vec<&str> = line.split('|').collect(alloc)?;
-    let [call, text, wanted, at, next] = fields.as_slice() else {
-        return Err(Fail::new("a line of another form"));
-    };
-    let text = text_of(alloc, text)?;
-    let mut rest = Rest::new(text.as_slice());
-    let found = given(alloc, call, &mut rest)?;
-    assert_eq!(rt; found, text_of(alloc, wanted)?, "{line}");
-    assert_eq!(rt; rest.at(), at.parse::<usize>()?, "{line}");
-    assert_eq!(rt;
-        word_shown(alloc, rest.word())?,
-        text_of(alloc, next)?,
-        "{line}"
-    );
-    Ok(())
+/// Whether a position is what a row says, and the next word then.
+fn is_behind(alloc: Global, rest: &mut Rest<'_>, line: &str) -> Option<bool> {
+    let at = natural(field(line, 3))? as usize;
+    Some(rest.at() == at && is_word(alloc, rest.word(), field(line, 4))?)
+}
+
+/// Calls on texts.
+#[derive(Clone, Copy)]
+struct ReadRows;
+
+impl Rows for ReadRows {
+    fn holds(&mut self, alloc: Global, line: &str) -> Option<bool> {
+        let text = text_of(alloc, field(line, 1)).ok()?;
+        let mut rest = Rest::new(text.as_slice());
+        let is_given = is_given(alloc, field(line, 0), &mut rest, field(line, 2))?;
+        Some(is_given && is_behind(alloc, &mut rest, line)?)
+    }
 }
 
 #[test]
-fn words_and_strings(rt: HostRuntime) -> Result<(), Fail> {
-    for line in READ.lines() {
-        read(&rt, rt.alloc(), line)?;
-    }
+fn words_and_strings(rt: HostRuntime) {
+    check(&rt, rt.alloc(), &mut ReadRows, READ);
     words_are_read();
     strings_are_read();
     parts_are_read();
-    Ok(())
 }
 
-/// Reads behind a position.
-fn behind(rt: &impl Abort, alloc: Global, line: &str) -> Result<(), Fail> {
-    let fields: Vec<&str> = line.split('|').collect(alloc)?;
-    let [text, at, next] = fields.as_slice() else {
-        return Err(Fail::new("a line of another form"));
-    };
-    let mut rest = Rest::behind(text.as_bytes(), at.parse()?);
-    assert_eq!(rt;
-        word_shown(alloc, rest.word())?,
-        text_of(alloc, next)?,
-        "{line}"
-    );
-    Ok(())
+/// Positions.
+#[derive(Clone, Copy)]
+struct PositionRows;
+
+impl Rows for PositionRows {
+    fn holds(&mut self, alloc: Global, line: &str) -> Option<bool> {
+        let at = natural(field(line, 1))? as usize;
+        let mut rest = Rest::behind(field(line, 0).as_bytes(), at);
+        is_word(alloc, rest.word(), field(line, 2))
+    }
 }
 
 #[test]
-fn positions(rt: HostRuntime) -> Result<(), Fail> {
-    for line in POSITIONS.lines() {
-        behind(&rt, rt.alloc(), line)?;
-    }
-    Ok(())
+fn positions(rt: HostRuntime) {
+    check(&rt, rt.alloc(), &mut PositionRows, POSITIONS);
 }
 
-/// What a word says, as a row has it.
-fn number_shown(alloc: Global, number: Number) -> Result<String, Fail> {
+/// Whether a row says this number: a cell in hexadecimal, `range` or `none`.
+fn is_number(number: Number, wanted: &str) -> bool {
     match number {
-        Number::Value(Cell(x)) => Ok(format!(in alloc; "{x:x}")?),
-        Number::OutOfRange => Ok("range".to_string(alloc)?),
-        Number::NoNumber => Ok("none".to_string(alloc)?),
+        Number::Value(Cell(x)) => hexadecimal(wanted) == Some(x),
+        Number::OutOfRange => wanted == "range",
+        Number::NoNumber => wanted == "none",
     }
 }
 
-/// Compares a row's number.
-fn number(rt: &impl Abort, alloc: Global, line: &str) -> Result<(), Fail> {
-    let words: Vec<&str> = line.split_whitespace().collect(alloc)?;
-    let [base, word, wanted] = words.as_slice() else {
-        return Err(Fail::new("a line of another form"));
-    };
-    let base = base.parse::<u32>()?.clamp(2, 36);
-    let found = number_shown(alloc, number_in(word.as_bytes(), base))?;
-    assert_eq!(rt; &found.as_str(), wanted, "{line}");
-    Ok(())
+/// Words as numbers.
+#[derive(Clone, Copy)]
+struct NumberRows;
+
+impl Rows for NumberRows {
+    fn holds(&mut self, _alloc: Global, line: &str) -> Option<bool> {
+        let base = natural(word(line, 0))?.clamp(2, 36);
+        Some(is_number(number_in(word(line, 1).as_bytes(), base), word(line, 2)))
+    }
 }
 
 #[test]
-fn numbers(rt: HostRuntime) -> Result<(), Fail> {
-    for line in NUMBERS.lines() {
-        number(&rt, rt.alloc(), line)?;
-    }
-    Ok(())
+fn numbers(rt: HostRuntime) {
+    check(&rt, rt.alloc(), &mut NumberRows, NUMBERS);
 }

@@ -1,4 +1,5 @@
 //! Images and tokens by bytes that were worked out by hand (IEEE 1275-1994, 5.2.2).
+use crate::rows::{Rows, check, decimal, hexadecimal, natural, word};
 use of_cells::Cell;
 use of_fcodes::FCode;
 use of_stream::{
@@ -20,17 +21,22 @@ ff000000000000 Err(Short)
 f1 Err(Short)
 ";
 
-#[test]
-fn headers(rt: HostRuntime) -> Result<(), Fail> {
-    for line in HEADERS.lines() {
-        let mut words = line.split_whitespace();
-        let image = hex::decode(rt.alloc(), words.next().unwrap_or(""))?;
+/// Headers.
+#[derive(Clone, Copy)]
+struct HeaderRows;
+
+impl Rows for HeaderRows {
+    fn holds(&mut self, alloc: Global, line: &str) -> Option<bool> {
+        let image = hex::decode(alloc, word(line, 0)).ok()?;
         let size = open(&image).map(|stream| stream.first_size());
-        let answer = format!(in rt.alloc(); "{size:?}")?;
-        assert_eq!(rt; answer.as_str(), words.next().unwrap_or(""), "{line}");
+        Some(format!(in alloc; "{size:?}").ok()?.as_str() == word(line, 1))
     }
-    assert_eq!(rt; HEADER_LENGTH, 8);
-    Ok(())
+}
+
+#[test]
+fn headers(rt: HostRuntime) {
+    check(&rt, rt.alloc(), &mut HeaderRows, HEADERS);
+    assert!(rt; HEADER_LENGTH == 8);
 }
 
 /// Tokens: their bytes, the number of bytes of an offset, the FCode, and what stands behind it.
@@ -60,46 +66,64 @@ fn size_of(word: &str) -> OffsetSize {
     }
 }
 
-/// What is said of a token: its FCode, and without spaces what stands behind it.
-fn said(alloc: Global, token: &Token<'_>) -> Result<String, Fail> {
-    let whole = format!(in alloc; "{:03x} {:?}", token.code.0, token.argument)?;
-    Ok(whole.replace(alloc, ", ", ",")?)
+/// Whether this is said of a token: its FCode, and without spaces what stands behind it.
+fn is_said(alloc: Global, token: &Token<'_>, wanted: &str) -> Option<bool> {
+    let argument = format!(in alloc; "{:?}", token.argument).ok()?;
+    let argument = argument.replace(alloc, ", ", ",").ok()?;
+    let is_code = hexadecimal(word(wanted, 0)) == Some(u32::from(token.code.0));
+    Some(is_code && argument.as_str() == word(wanted, 1))
+}
+
+/// Tokens as they are read.
+#[derive(Clone, Copy)]
+struct TokenRows;
+
+impl Rows for TokenRows {
+    fn holds(&mut self, alloc: Global, line: &str) -> Option<bool> {
+        let (bytes, rest) = line.split_once(' ')?;
+        let (size, wanted) = rest.split_once(' ')?;
+        let image = hex::decode(alloc, bytes).ok()?;
+        let stream = Stream { image: &image };
+        let (token, next) = stream.token_at(0, size_of(size)).ok()?;
+        Some(next == image.len() && is_said(alloc, &token, wanted)?)
+    }
 }
 
 #[test]
-fn tokens(rt: HostRuntime) -> Result<(), Fail> {
-    for line in TOKENS.lines() {
-        let (bytes, rest) = line.split_once(' ').unwrap_or(("", ""));
-        let (size, wanted) = rest.split_once(' ').unwrap_or(("", ""));
-        let image = hex::decode(rt.alloc(), bytes)?;
-        let stream = Stream { image: &image };
-        let (token, next) = stream.token_at(0, size_of(size))?;
-        assert_eq!(rt; next, image.len(), "{line}");
-        assert_eq!(rt; said(rt.alloc(), &token)?.as_str(), wanted, "{line}");
+fn tokens(rt: HostRuntime) {
+    check(&rt, rt.alloc(), &mut TokenRows, TOKENS);
+}
+
+/// The bytes of a token as it is written, where it can be.
+fn written(alloc: Global, token: &Token<'_>, size: OffsetSize) -> Option<Vec<u8>> {
+    if !token.is_encodable(size) {
+        return None;
     }
-    Ok(())
+    let mut out = Vec::new(alloc);
+    token.put(size, &mut out).ok()?;
+    Some(out)
 }
 
 /// Whether the token of these bytes has them again where it is written.
-fn is_written_again(alloc: Global, image: &[u8], size: OffsetSize) -> Result<bool, Fail> {
-    let (token, next) = Stream { image }.token_at(0, size)?;
-    if token.length(size) != next || !token.is_encodable(size) {
-        return Ok(false);
+fn is_written_again(alloc: Global, image: &[u8], size: OffsetSize) -> Option<bool> {
+    let (token, next) = Stream { image }.token_at(0, size).ok()?;
+    Some(token.length(size) == next && written(alloc, &token, size)?.as_slice() == image)
+}
+
+/// Tokens as they are written.
+#[derive(Clone, Copy)]
+struct ByteRows;
+
+impl Rows for ByteRows {
+    fn holds(&mut self, alloc: Global, line: &str) -> Option<bool> {
+        let image = hex::decode(alloc, word(line, 0)).ok()?;
+        is_written_again(alloc, &image, size_of(word(line, 1)))
     }
-    let mut out = Vec::new(alloc);
-    token.put(size, &mut out)?;
-    Ok(out.as_slice() == image)
 }
 
 #[test]
-fn bytes(rt: HostRuntime) -> Result<(), Fail> {
-    for line in TOKENS.lines() {
-        let mut words = line.split_whitespace();
-        let image = hex::decode(rt.alloc(), words.next().unwrap_or(""))?;
-        let size = size_of(words.next().unwrap_or(""));
-        assert!(rt; is_written_again(rt.alloc(), &image, size)?, "{line}");
-    }
-    Ok(())
+fn bytes(rt: HostRuntime) {
+    check(&rt, rt.alloc(), &mut ByteRows, TOKENS);
 }
 
 /// Whether a token of this FCode has bytes.
@@ -130,17 +154,21 @@ fn is_cut(image: &[u8], position: usize, size: OffsetSize) -> bool {
 }
 
 /// Each token without its last byte, and one past the end.
-#[test]
-fn cut(rt: HostRuntime) -> Result<(), Fail> {
-    for line in TOKENS.lines() {
-        let mut words = line.split_whitespace();
-        let image = hex::decode(rt.alloc(), words.next().unwrap_or(""))?;
-        let size = size_of(words.next().unwrap_or(""));
+#[derive(Clone, Copy)]
+struct CutRows;
+
+impl Rows for CutRows {
+    fn holds(&mut self, alloc: Global, line: &str) -> Option<bool> {
+        let image = hex::decode(alloc, word(line, 0)).ok()?;
+        let size = size_of(word(line, 1));
         let short = &image[..image.len().saturating_sub(1)];
-        assert!(rt; is_cut(short, 0, size), "{line}");
-        assert!(rt; is_cut(&image, usize::MAX, size), "{line}");
+        Some(is_cut(short, 0, size) && is_cut(&image, usize::MAX, size))
     }
-    Ok(())
+}
+
+#[test]
+fn cut(rt: HostRuntime) {
+    check(&rt, rt.alloc(), &mut CutRows, TOKENS);
 }
 
 /// Offsets in an image of 20 bytes: the token's position, the offset, where it leads from the
@@ -158,28 +186,37 @@ const TARGETS: &str = "\
 12 32767 32780 none
 ";
 
-/// The number of a word, or none.
-fn number(word: Option<&str>) -> Result<Option<usize>, Fail> {
-    match word {
-        Some("none") | None => Ok(None),
-        Some(digits) => Ok(Some(digits.parse()?)),
+/// Whether a position is what a word says, or `none`.
+fn is_position(found: Option<usize>, wanted: &str) -> bool {
+    match found {
+        Some(found) => match u32::try_from(found) {
+            Ok(found) => natural(wanted) == Some(found),
+            Err(_) => false,
+        },
+        None => wanted == "none",
+    }
+}
+
+/// Targets.
+#[derive(Clone, Copy)]
+struct TargetRows;
+
+impl Rows for TargetRows {
+    fn holds(&mut self, _alloc: Global, line: &str) -> Option<bool> {
+        let stream = Stream { image: &[0; 20] };
+        let position = natural(word(line, 0))? as usize;
+        let by = i16::try_from(decimal(word(line, 1))?).ok()?;
+        if position >= 20 {
+            return None;
+        }
+        let is_target = is_position(target_at(position, by), word(line, 2));
+        Some(is_target && is_position(stream.landing(position, by), word(line, 3)))
     }
 }
 
 #[test]
-fn targets(rt: HostRuntime) -> Result<(), Fail> {
-    let stream = Stream { image: &[0; 20] };
-    for line in TARGETS.lines() {
-        let mut words = line.split_whitespace();
-        let position = number(words.next())?.unwrap_or(0);
-        let by: i16 = words.next().unwrap_or("").parse()?;
-        let target = number(words.next())?;
-        let landing = number(words.next())?;
-        assert!(rt; position < stream.image.len(), "{line}");
-        assert!(rt; target_at(position, by) == target, "{line}");
-        assert!(rt; stream.landing(position, by) == landing, "{line}");
-    }
-    Ok(())
+fn targets(rt: HostRuntime) {
+    check(&rt, rt.alloc(), &mut TargetRows, TARGETS);
 }
 
 /// FCodes, whether they end an image, and the size of offsets behind them where it was one byte.
@@ -191,21 +228,26 @@ const SIZES: &str = "\
 1cc false One
 ";
 
-#[test]
-fn sizes(rt: HostRuntime) -> Result<(), Fail> {
-    for line in SIZES.lines() {
-        let (digits, wanted) = line.split_once(' ').unwrap_or(("", ""));
+/// Sizes of offsets.
+#[derive(Clone, Copy)]
+struct SizeRows;
+
+impl Rows for SizeRows {
+    fn holds(&mut self, _alloc: Global, line: &str) -> Option<bool> {
         let token = Token {
-            code: FCode(u16::from_str_radix(digits, 16)?),
+            code: FCode(u16::try_from(hexadecimal(word(line, 0))?).ok()?),
             argument: Argument::Nothing,
         };
-        let behind = token.size_behind(OffsetSize::One);
-        let said = format!(in rt.alloc(); "{} {:?}", token.is_end(), behind)?;
-        assert_eq!(rt; said.as_str(), wanted, "{line}");
+        let is_two = token.size_behind(OffsetSize::One) == OffsetSize::Two;
+        let is_end = token.is_end() == (word(line, 1) == "true");
+        Some(is_end && is_two == (word(line, 2) == "Two"))
     }
-    assert_eq!(rt; OffsetSize::One.bytes(), 1);
-    assert_eq!(rt; OffsetSize::Two.bytes(), 2);
-    Ok(())
+}
+
+#[test]
+fn sizes(rt: HostRuntime) {
+    check(&rt, rt.alloc(), &mut SizeRows, SIZES);
+    assert!(rt; OffsetSize::One.bytes() == 1 && OffsetSize::Two.bytes() == 2);
 }
 
 /// What the faults say, a line each.
@@ -225,7 +267,7 @@ fn faults(rt: HostRuntime) -> Result<(), Fail> {
         StreamFault::Short,
         StreamFault::Ended(31)
     )?;
-    assert_eq!(rt; said.as_str(), FAULTS);
+    assert!(rt; said.as_str() == FAULTS);
     Ok(())
 }
 
