@@ -1,6 +1,6 @@
 //! The active package, the current instance and the open `new-device`s.
 
-use crate::histories::differing;
+use crate::rows::check;
 use crate::running::Trial;
 use of_board::{Active, Board, DeviceFault};
 use of_cells::Cell;
@@ -79,7 +79,7 @@ open_device d0000008 = done | d0000010 e0000000 1/1 0
 
 #[test]
 fn histories(rt: HostRuntime) -> Result<(), Fail> {
-    for lines in [
+    let tables = [
         IMAGE_ENDS,
         OLDER_FINISHED,
         NUMBERS_RISE,
@@ -89,38 +89,49 @@ fn histories(rt: HostRuntime) -> Result<(), Fail> {
         ALL_IN_AN_INSTANCE,
         NO_PARENT,
         NO_ROOM,
-    ] {
-        assert_eq!(rt; differing(rt.alloc(), lines)?.as_str(), "");
-    }
-    Ok(())
+    ];
+    check::<Trial, _>(&rt, rt.alloc(), &tables)
 }
 
 #[test]
 fn texts_are_allocated(rt: HostRuntime) -> Result<(), Fail> {
     let active = Active::new(rt.alloc());
     let text = String::from_str(active.new_devices.alloc(), "ab")?;
-    assert_eq!(rt; text.as_str(), "ab");
+    assert!(rt; text.as_str() == "ab");
     Ok(())
 }
 
-/// Whether a `new-device` is opened, or else refused for memory alone, and nothing was made for it.
-fn opens_or_changes_nothing(board: &mut Board) -> bool {
-    let Err(fault) = board.open_device(Phandle::of(2)) else {
-        return true;
-    };
-    let node = DeviceFault::Node(NodeFault::NoMemory);
-    let instance = DeviceFault::Instance(InstanceFault::NoMemory);
-    (fault == node || fault == instance)
-        && board.tree.child(Phandle::of(2)) == Ok(None)
+/// Opens a `new-device` below `/slot`.
+fn open_one(board: &mut Board) -> Result<(), DeviceFault> {
+    board.open_device(Phandle::of(2))
+}
+
+/// Whether a fault says that no memory was found.
+fn is_for_memory(fault: DeviceFault) -> bool {
+    fault == DeviceFault::Node(NodeFault::NoMemory)
+        || fault == DeviceFault::Instance(InstanceFault::NoMemory)
+}
+
+/// Whether no `new-device` was ever opened, and nothing was made for one.
+fn is_at_first(board: &mut Board) -> bool {
+    board.tree.child(Phandle::of(2)) == Ok(None)
         && board.active.new_devices.ever() == 0
         && board.active.my_self == Cell::ZERO
         && board.memory.instance_take(Cell::ZERO) == Ok(Cell(0x30_0000))
 }
 
+/// Whether a `new-device` is opened, or else refused for memory alone, and nothing was made for it.
+fn opens_or_changes_nothing(trial: &mut Trial) -> bool {
+    match open_one(&mut trial.board) {
+        Ok(()) => true,
+        Err(fault) => is_for_memory(fault) && is_at_first(&mut trial.board),
+    }
+}
+
 // To be run with one allocation after another refused.
 #[test]
 fn a_refused_growth_opens_nothing(rt: HostRuntime) -> Result<(), Fail> {
-    let mut trial = Trial::new(rt.alloc())?;
-    assert!(rt; opens_or_changes_nothing(&mut trial.board));
+    let mut trial = Trial::begun(rt.alloc())?;
+    assert!(rt; opens_or_changes_nothing(&mut trial));
     Ok(())
 }

@@ -1,12 +1,13 @@
 //! The words that ask the outside: what they ask, and what they leave with an answer at hand.
 
+use crate::rows::{Rows, check};
 use crate::running::{Trial, left, number};
 use of_asking::{
     Answer, Halt, Query, answers_settle, asking_words_throw_listed, images_stay_asked, is_fitting,
     questions_are_said, run_devices_word, run_keys_word,
 };
 use of_board::Board;
-use of_fcodes::{Word, word_with_name};
+use of_fcodes::{DevicesWord, KeysWord, Word, word_with_name};
 use of_stacks::{Stop, Throw};
 use std::alloc::{AllocError, Global};
 use std::test::Fail;
@@ -230,11 +231,21 @@ fn answer(text: &str) -> Option<Answer> {
     }
 }
 
+/// Runs a word over devices. It has no contract, nor has the next one, so that `ask` carries nothing of the words' own.
+fn ask_devices(word: DevicesWord, reply: Option<Answer>, board: &mut Board) -> Result<(), Halt> {
+    run_devices_word(word, reply, board)
+}
+
+/// Runs a word over keys and time.
+fn ask_keys(word: KeysWord, reply: Option<Answer>, board: &mut Board) -> Result<(), Halt> {
+    run_keys_word(word, reply, board)
+}
+
 /// Runs the word of a name with the answer at hand.
 fn ask(board: &mut Board, name: &str, reply: Option<Answer>) -> Result<(), Halt> {
     match word_with_name(name.as_bytes()) {
-        Some(Word::Devices(word)) => run_devices_word(word, reply, board),
-        Some(Word::Keys(word)) => run_keys_word(word, reply, board),
+        Some(Word::Devices(word)) => ask_devices(word, reply, board),
+        Some(Word::Keys(word)) => ask_keys(word, reply, board),
         _ => Err(Halt::Thrown(Throw::NOT_ASSIGNED)),
     }
 }
@@ -257,96 +268,143 @@ fn show_query(text: &mut String, query: Query) -> Result<(), AllocError> {
     }
 }
 
-/// The cells of the stack, and what was thrown or asked.
-fn shown(alloc: Global, board: &Board, ended: Result<(), Halt>) -> Result<String, AllocError> {
+/// How a word stopped that asks nothing further.
+fn stop_of(ended: &Result<(), Halt>) -> Result<(), Stop> {
     match ended {
-        Ok(()) => left(alloc, board, Ok(())),
-        Err(Halt::Thrown(fault)) => left(alloc, board, Err(Stop::Thrown(fault))),
-        Err(Halt::NoMemory) => left(alloc, board, Err(Stop::NoMemory)),
-        Err(Halt::Asks(query)) => {
-            let mut text = left(alloc, board, Ok(()))?;
-            show_query(&mut text, query)?;
-            Ok(text)
-        }
+        Ok(()) | Err(Halt::Asks(_)) => Ok(()),
+        Err(Halt::Thrown(fault)) => Err(Stop::Thrown(*fault)),
+        Err(Halt::NoMemory) => Err(Stop::NoMemory),
     }
 }
 
-/// What a word leaves on a new board, behind other words and before those that stand behind the answer.
-fn given(alloc: Global, words: &str, name: &str, reply: &str) -> Result<String, Fail> {
-    let mut trial = Trial::new(alloc)?;
-    trial.run_all(words)?;
-    let (reply, behind) = reply.split_once(' ').unwrap_or((reply, ""));
-    let ended = ask(&mut trial.board, name, answer(reply));
-    trial.run_all(behind)?;
-    Ok(shown(alloc, &trial.board, ended)?)
-}
-
-/// Whether an answer fits what a word asks on a new board.
-fn fits(alloc: Global, words: &str, name: &str, reply: &str) -> Result<bool, Fail> {
-    let mut trial = Trial::new(alloc)?;
-    trial.run_all(words)?;
-    match (ask(&mut trial.board, name, None), answer(reply)) {
-        (Err(Halt::Asks(query)), Some(answer)) => Ok(is_fitting(query, answer)),
-        _ => Ok(false),
-    }
-}
-
-/// The lines of a table that leave something else, each with what it leaves. A line has words, the word that may ask,
-/// an answer and words that stand behind it, and what all leave.
-fn differing(alloc: Global, table: &str) -> Result<String, Fail> {
-    let mut text = String::new(alloc);
-    for line in table.lines() {
-        let (words, rest) = line.split_once('|').unwrap_or(("", ""));
-        let (name, rest) = rest.split_once('|').unwrap_or(("", ""));
-        let (reply, wanted) = rest.split_once('|').unwrap_or(("", ""));
-        let given = given(alloc, words, name, reply)?;
-        if given.trim_end() != wanted {
-            write!(text, "{line}|{given}\n")?;
-        }
+/// The cells of the stack, and what was thrown or asked.
+fn shown(alloc: Global, board: &Board, ended: &Result<(), Halt>) -> Result<String, AllocError> {
+    let mut text = left(alloc, board, stop_of(ended))?;
+    if let Err(Halt::Asks(query)) = ended {
+        show_query(&mut text, *query)?;
     }
     Ok(text)
 }
 
+/// How a word ended behind other words, and before those that stand behind the answer.
+fn ended(
+    trial: &mut Trial,
+    words: &str,
+    name: &str,
+    reply: &str,
+) -> Result<Result<(), Halt>, Stop> {
+    trial.run_all(words)?;
+    let (reply, behind) = reply.split_once(' ').unwrap_or((reply, ""));
+    let ended = ask(&mut trial.board, name, answer(reply));
+    trial.run_all(behind)?;
+    Ok(ended)
+}
+
+/// What it leaves.
+fn left_by(
+    alloc: Global,
+    trial: &mut Trial,
+    words: &str,
+    name: &str,
+    reply: &str,
+) -> Result<String, Fail> {
+    let ended = ended(trial, words, name, reply)?;
+    Ok(shown(alloc, &trial.board, &ended)?)
+}
+
+/// The same on a new board.
+fn given(alloc: Global, words: &str, name: &str, reply: &str) -> Result<String, Fail> {
+    let mut trial = Trial::begun(alloc)?;
+    left_by(alloc, &mut trial, words, name, reply)
+}
+
+/// The question that a word asks, if it asks one.
+fn question(board: &mut Board, name: &str) -> Option<Query> {
+    match ask(board, name, None) {
+        Err(Halt::Asks(query)) => Some(query),
+        _ => None,
+    }
+}
+
+/// Whether an answer fits what a word asks, behind other words.
+fn is_answered(trial: &mut Trial, words: &str, name: &str, reply: &str) -> Result<bool, Fail> {
+    trial.run_all(words)?;
+    match (question(&mut trial.board, name), answer(reply)) {
+        (Some(query), Some(answer)) => Ok(is_fitting(query, answer)),
+        _ => Ok(false),
+    }
+}
+
+/// The same on a new board.
+fn fits(alloc: Global, words: &str, name: &str, reply: &str) -> Result<bool, Fail> {
+    let mut trial = Trial::begun(alloc)?;
+    is_answered(&mut trial, words, name, reply)
+}
+
+/// The parts of a call: words, the word that may ask, and an answer with the words that stand behind it.
+fn parts(call: &str) -> (&str, &str, &str) {
+    let (words, rest) = call.split_once('|').unwrap_or(("", ""));
+    let (name, reply) = rest.split_once('|').unwrap_or(("", ""));
+    (words, name, reply)
+}
+
+/// Lines with words, the word that may ask, an answer and words that stand behind it, and what all leave.
+#[derive(Drop)]
+struct AskingRows;
+
+impl Rows for AskingRows {
+    fn new(_alloc: Global) -> Result<AskingRows, Fail> {
+        Ok(AskingRows)
+    }
+
+    fn halves(line: &str) -> (&str, &str) {
+        line.rsplit_once('|').unwrap_or(("", "none"))
+    }
+
+    fn given(&mut self, alloc: Global, call: &str) -> Result<String, Fail> {
+        let (words, name, reply) = parts(call);
+        given(alloc, words, name, reply)
+    }
+}
+
+/// Lines with words, the word that asks, and an answer, and whether this fits.
+#[derive(Drop)]
+struct FittingRows;
+
+impl Rows for FittingRows {
+    fn new(_alloc: Global) -> Result<FittingRows, Fail> {
+        Ok(FittingRows)
+    }
+
+    fn halves(line: &str) -> (&str, &str) {
+        line.rsplit_once('|').unwrap_or(("", "none"))
+    }
+
+    fn given(&mut self, alloc: Global, call: &str) -> Result<String, Fail> {
+        let (words, name, reply) = parts(call);
+        let fits = fits(alloc, words, name, reply)?;
+        Ok(String::from_str(alloc, if fits { "fits" } else { "doesn't" })?)
+    }
+}
+
 #[test]
 fn questions(rt: HostRuntime) -> Result<(), Fail> {
-    for table in [ASKED, ANSWERED] {
-        assert_eq!(rt; differing(rt.alloc(), table)?.as_str(), "");
-    }
-    Ok(())
+    check::<AskingRows, _>(&rt, rt.alloc(), &[ASKED, ANSWERED])
 }
 
 #[test]
 fn faults(rt: HostRuntime) -> Result<(), Fail> {
-    for table in [REFUSED, FULL] {
-        assert_eq!(rt; differing(rt.alloc(), table)?.as_str(), "");
-    }
-    Ok(())
+    check::<AskingRows, _>(&rt, rt.alloc(), &[REFUSED, FULL])
 }
 
 #[test]
 fn addresses(rt: HostRuntime) -> Result<(), Fail> {
-    for table in [EDGES, SPACE] {
-        assert_eq!(rt; differing(rt.alloc(), table)?.as_str(), "");
-    }
-    Ok(())
-}
-
-#[test]
-fn tries(rt: HostRuntime) -> Result<(), Fail> {
-    assert_eq!(rt; differing(rt.alloc(), TRIED)?.as_str(), "");
-    Ok(())
+    check::<AskingRows, _>(&rt, rt.alloc(), &[EDGES, SPACE, TRIED])
 }
 
 #[test]
 fn answers(rt: HostRuntime) -> Result<(), Fail> {
-    for line in FITTING.lines() {
-        let (words, rest) = line.split_once('|').unwrap_or(("", ""));
-        let (name, rest) = rest.split_once('|').unwrap_or(("", ""));
-        let (reply, wanted) = rest.split_once('|').unwrap_or(("", ""));
-        let fits = fits(rt.alloc(), words, name, reply)?;
-        assert_eq!(rt; fits, wanted == "fits", "{line}");
-    }
-    Ok(())
+    check::<FittingRows, _>(&rt, rt.alloc(), &[FITTING])
 }
 
 #[test]

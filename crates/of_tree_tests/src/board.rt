@@ -1,5 +1,6 @@
 //! The devices of a board, alone and in a rack: what they answer in turn.
 
+use crate::rows::{Rows, check};
 use crate::running::number;
 use of_asking::{Answer, Query, is_fitting};
 use of_cells::Cell;
@@ -78,31 +79,33 @@ standard|write 4 80000ffc 12345678, read 4 80000ffc, read 4 80000000, read 4 800
 done 12345678 0 fault 0 done
 ";
 
-/// The word at a place, or an empty one.
-fn word<'a>(words: &[&'a str], place: usize) -> &'a str {
-    match words.get(place) {
-        Some(word) => *word,
-        None => "",
-    }
+/// The word at a place of a text, or an empty one.
+fn word(text: &str, place: usize) -> &str {
+    text.split_whitespace().nth(place).unwrap_or("")
+}
+
+/// Device memory at an address, of at least so many bytes, the first of them in hexadecimal digits.
+fn memory(alloc: Global, address: Cell, length: usize, digits: &str) -> Result<Part, Fail> {
+    let first = hex::decode(alloc, digits)?;
+    let size = usize::max(length, first.len());
+    Ok(Part::Memory(DeviceMemory::new(alloc, address, size, &first)?))
+}
+
+/// A keyboard on which bytes in hexadecimal digits were typed.
+fn keyboard(alloc: Global, digits: &str) -> Result<Part, Fail> {
+    let keys = hex::decode(alloc, digits)?;
+    Ok(Part::Keyboard(Keyboard::new(alloc, &keys)?))
 }
 
 /// The part that a text stands for: `memory` with address, length and first bytes, `fault` with address and length,
 /// `keys` with bytes, or `clock`.
 fn part(alloc: Global, text: &str) -> Result<Part, Fail> {
-    let words: Vec<&str> = text.split_whitespace().collect(alloc)?;
-    let address = Cell(number(word(&words, 1)));
-    let length = number(word(&words, 2)) as usize;
-    match word(&words, 0) {
-        "memory" => {
-            let first = hex::decode(alloc, word(&words, 3))?;
-            let size = usize::max(length, first.len());
-            Ok(Part::Memory(DeviceMemory::new(alloc, address, size, &first)?))
-        }
+    let address = Cell(number(word(text, 1)));
+    let length = number(word(text, 2)) as usize;
+    match word(text, 0) {
+        "memory" => memory(alloc, address, length, word(text, 3)),
         "fault" => Ok(Part::Broken(AddressRange { address, length })),
-        "keys" => {
-            let keys = hex::decode(alloc, word(&words, 1))?;
-            Ok(Part::Keyboard(Keyboard::new(alloc, &keys)?))
-        }
+        "keys" => keyboard(alloc, word(text, 1)),
         _ => Ok(Part::Clock(Clock::new())),
     }
 }
@@ -131,12 +134,11 @@ fn width(bytes: &str) -> Width {
 }
 
 /// The question that a text stands for, with a width in bytes, an address and a number.
-fn query(alloc: Global, text: &str) -> Result<Query, AllocError> {
-    let words: Vec<&str> = text.split_whitespace().collect(alloc)?;
-    let width = width(word(&words, 1));
-    let address = Cell(number(word(&words, 2)));
-    let x = Cell(number(word(&words, 3)));
-    Ok(match word(&words, 0) {
+fn query(text: &str) -> Query {
+    let width = width(word(text, 1));
+    let address = Cell(number(word(text, 2)));
+    let x = Cell(number(word(text, 3)));
+    match word(text, 0) {
         "read" => Query::Read(width, address),
         "write" => Query::Write(width, address, x),
         "peek" => Query::Peek(width, address),
@@ -144,8 +146,8 @@ fn query(alloc: Global, text: &str) -> Result<Query, AllocError> {
         "key" => Query::Key,
         "key?" => Query::KeyReady,
         "get-msecs" => Query::Milliseconds,
-        _ => Query::Wait(Cell(number(word(&words, 1)))),
-    })
+        _ => Query::Wait(Cell(number(word(text, 1)))),
+    }
 }
 
 /// Shows an answer behind others.
@@ -157,6 +159,15 @@ fn show(text: &mut String, answer: Answer) -> Result<(), AllocError> {
     }
 }
 
+/// Shows the answer to a question behind others, and whether it doesn't fit.
+fn show_fitting(text: &mut String, query: Query, answer: Answer) -> Result<(), AllocError> {
+    show(text, answer)?;
+    if !is_fitting(query, answer) {
+        text.push_str("misfit ")?;
+    }
+    Ok(())
+}
+
 /// What a rack of parts answers to questions in turn.
 fn answers(alloc: Global, parts: Vec<Part>, questions: &str) -> Result<String, Fail> {
     let mut rack: Rack = Vec::new(alloc);
@@ -165,45 +176,40 @@ fn answers(alloc: Global, parts: Vec<Part>, questions: &str) -> Result<String, F
     }
     let mut text = String::new(alloc);
     for question in questions.split(',') {
-        let query = query(alloc, question)?;
+        let query = query(question);
         let answer = ask(&mut rack, query);
-        show(&mut text, answer)?;
-        if !is_fitting(query, answer) {
-            text.push_str("misfit ")?;
-        }
+        show_fitting(&mut text, query, answer)?;
     }
     Ok(text)
 }
 
-/// The lines of a table whose parts answer something else, each with what they answer. A line has parts, questions,
-/// and the answers to these in turn: a number, `done` or `fault`.
-fn differing(alloc: Global, table: &str) -> Result<String, Fail> {
-    let mut text = String::new(alloc);
-    for line in table.lines() {
-        let (board, rest) = line.split_once('|').unwrap_or(("", ""));
-        let (questions, wanted) = rest.split_once('|').unwrap_or(("", ""));
-        let given = answers(alloc, parts(alloc, board)?, questions)?;
-        if given.trim_end() != wanted {
-            write!(text, "{line}|{given}\n")?;
-        }
+/// Lines with parts, questions, and the answers to these in turn: a number, `done` or `fault`.
+#[derive(Drop)]
+struct RackRows;
+
+impl Rows for RackRows {
+    fn new(_alloc: Global) -> Result<RackRows, Fail> {
+        Ok(RackRows)
     }
-    Ok(text)
+
+    fn halves(line: &str) -> (&str, &str) {
+        line.rsplit_once('|').unwrap_or(("", "none"))
+    }
+
+    fn given(&mut self, alloc: Global, call: &str) -> Result<String, Fail> {
+        let (board, questions) = call.split_once('|').unwrap_or(("", ""));
+        answers(alloc, parts(alloc, board)?, questions)
+    }
 }
 
 #[test]
 fn memories(rt: HostRuntime) -> Result<(), Fail> {
-    for table in [MEMORIES, EDGES] {
-        assert_eq!(rt; differing(rt.alloc(), table)?.as_str(), "");
-    }
-    Ok(())
+    check::<RackRows, _>(&rt, rt.alloc(), &[MEMORIES, EDGES])
 }
 
 #[test]
 fn racks(rt: HostRuntime) -> Result<(), Fail> {
-    for table in [OVERLAPS, OTHERS] {
-        assert_eq!(rt; differing(rt.alloc(), table)?.as_str(), "");
-    }
-    Ok(())
+    check::<RackRows, _>(&rt, rt.alloc(), &[OVERLAPS, OTHERS])
 }
 
 #[test]

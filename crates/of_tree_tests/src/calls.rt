@@ -1,5 +1,6 @@
 //! Calls on the nodes of a tree, one a line, and what is shown of their answers.
 
+use crate::rows::Rows;
 use crate::running::number;
 use of_cells::Cell;
 use of_memory::Memory;
@@ -259,28 +260,27 @@ fn given(
     }
 }
 
-/// The lines that answer something else on a tree.
-fn differing_on(
-    alloc: Global,
-    tree: &mut Tree,
-    memory: &mut Memory,
-    lines: &str,
-) -> Result<String, AllocError> {
-    let mut text = String::new(alloc);
-    for line in lines.lines() {
-        let (call, wanted) = line.split_once('=').unwrap_or(("", ""));
-        let given = given(alloc, tree, memory, &Call::read(call))?;
-        if given.as_str() != wanted.trim() {
-            write!(text, "{line}: {given}\n")?;
-        }
-    }
-    Ok(text)
+/// A tree and its memory. A line has a call, and behind `=` what it answers on the tree that the lines before it have
+/// made of the first tree.
+#[derive(Drop)]
+pub(crate) struct TreeRows {
+    pub(crate) tree: Tree,
+    pub(crate) memory: Memory,
 }
 
-/// The lines that answer something else, each with what it answers. A line has a call, and behind `=` what it answers
-/// on the tree that the lines before it have made of the first tree.
-pub(crate) fn differing(alloc: Global, lines: &str) -> Result<String, Fail> {
-    let mut memory = Memory::new(alloc)?;
-    let mut tree = Tree::new(alloc, &mut memory)?;
-    Ok(differing_on(alloc, &mut tree, &mut memory, lines)?)
+impl Rows for TreeRows {
+    fn new(alloc: Global) -> Result<TreeRows, Fail> {
+        let mut memory = Memory::new(alloc)?;
+        let tree = Tree::new(alloc, &mut memory)?;
+        Ok(TreeRows { tree, memory })
+    }
+
+    fn halves(line: &str) -> (&str, &str) {
+        line.split_once('=').unwrap_or(("", "none"))
+    }
+
+    fn given(&mut self, alloc: Global, call: &str) -> Result<String, Fail> {
+        let call = Call::read(call);
+        Ok(given(alloc, &mut self.tree, &mut self.memory, &call)?)
+    }
 }

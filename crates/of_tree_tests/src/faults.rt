@@ -1,6 +1,7 @@
 //! Words that throw, and leave all as it was.
 
-use crate::running::differing;
+use crate::rows::check;
+use crate::running::WordRows;
 use std::test::Fail;
 
 /// Of several faults the first of the order counts: -4, -259, -263, -9, -32, -24, -262, -8, -3.
@@ -133,8 +134,6 @@ $call-method|throws -256|
 
 #[test]
 fn lines(rt: HostRuntime) -> Result<(), Fail> {
-    for table in [ENCODING, SETTING, FULL, FINDING, NODES, METHODS] {
-        assert_eq!(rt; differing(rt.alloc(), table)?.as_str(), "");
-    }
-    Ok(())
+    let tables = [ENCODING, SETTING, FULL, FINDING, NODES, METHODS];
+    check::<WordRows, _>(&rt, rt.alloc(), &tables)
 }

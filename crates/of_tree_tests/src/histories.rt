@@ -1,6 +1,7 @@
 //! Calls on one board, one a line, and what is active behind each.
 
 use crate::instances::Call;
+use crate::rows::Rows;
 use crate::running::{Trial, left, number};
 use of_board::{Board, DeviceFault};
 use of_cells::Cell;
@@ -171,29 +172,20 @@ fn active(alloc: Global, board: &Board) -> Result<String, AllocError> {
     format!(in alloc; "{package:x} {my_self:x} {open}/{ever}{live}")
 }
 
-/// What a line's call answers, and what is active then.
-fn given(alloc: Global, trial: &mut Trial, line: &str) -> Result<String, AllocError> {
-    let answer = answered(alloc, trial, line)?;
-    let active = active(alloc, &trial.board)?;
-    format!(in alloc; "{} | {active}", answer.trim_end())
-}
-
-/// The lines that give something else on a board.
-fn differing_on(alloc: Global, trial: &mut Trial, lines: &str) -> Result<String, AllocError> {
-    let mut text = String::new(alloc);
-    for line in lines.lines() {
-        let (call, wanted) = line.split_once(" =").unwrap_or(("", ""));
-        let given = given(alloc, trial, call)?;
-        if given.trim_start() != wanted.trim_start() {
-            write!(text, "{line}: {given}\n")?;
-        }
+/// Lines in turn on one board. A line has a call, and behind `=` what it answers on the board that the lines before it
+/// have made of the first board, and what is active then.
+impl Rows for Trial {
+    fn new(alloc: Global) -> Result<Trial, Fail> {
+        Trial::begun(alloc)
     }
-    Ok(text)
-}
 
-/// The lines that give something else, each with what it gives. A line has a call, and behind `=` what it answers on
-/// the board that the lines before it have made of the first board, and what is active then.
-pub(crate) fn differing(alloc: Global, lines: &str) -> Result<String, Fail> {
-    let mut trial = Trial::new(alloc)?;
-    Ok(differing_on(alloc, &mut trial, lines)?)
+    fn halves(line: &str) -> (&str, &str) {
+        line.split_once(" =").unwrap_or(("", "none"))
+    }
+
+    fn given(&mut self, alloc: Global, call: &str) -> Result<String, Fail> {
+        let answer = answered(alloc, self, call)?;
+        let active = active(alloc, &self.board)?;
+        Ok(format!(in alloc; "{} | {active}", answer.trim_end())?)
+    }
 }

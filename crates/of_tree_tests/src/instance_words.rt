@@ -1,7 +1,7 @@
 //! The words over instances that run no method, on the instances that `new-device` opens, and property words there.
 
-use crate::histories;
-use crate::running::differing;
+use crate::rows::check;
+use crate::running::{Trial, WordRows};
 use std::test::Fail;
 
 /// The current instance, the one that it was opened below, and packages of instances. An ihandle isn't used again, and
@@ -271,26 +271,17 @@ const RELEASED: &str = "\
 
 #[test]
 fn instances(rt: HostRuntime) -> Result<(), Fail> {
-    for table in [HANDLES, IMAGES, ARGUMENTS, UNITS] {
-        assert_eq!(rt; differing(rt.alloc(), table)?.as_str(), "");
-    }
-    Ok(())
+    check::<WordRows, _>(&rt, rt.alloc(), &[HANDLES, IMAGES, ARGUMENTS, UNITS])
 }
 
 #[test]
 fn counts(rt: HostRuntime) -> Result<(), Fail> {
-    for table in [COUNTS, BAD_UNITS, FULL] {
-        assert_eq!(rt; differing(rt.alloc(), table)?.as_str(), "");
-    }
-    Ok(())
+    check::<WordRows, _>(&rt, rt.alloc(), &[COUNTS, BAD_UNITS, FULL])
 }
 
 #[test]
 fn faults(rt: HostRuntime) -> Result<(), Fail> {
-    for table in [FAULTS, PROPERTIES, RELEASED] {
-        assert_eq!(rt; differing(rt.alloc(), table)?.as_str(), "");
-    }
-    Ok(())
+    check::<WordRows, _>(&rt, rt.alloc(), &[FAULTS, PROPERTIES, RELEASED])
 }
 
 /// A refused `set-args` leaves arguments and address as they were.
@@ -337,14 +328,12 @@ run my-parent = 20003c 1 0 0 | 0 e0000000 1/1 0
 
 #[test]
 fn histories(rt: HostRuntime) -> Result<(), Fail> {
-    for lines in [
+    let tables = [
         REFUSED_ARGUMENTS,
         REFUSED_DEVICE,
         COUNTS_CHANGE,
         ROOT,
         NO_PACKAGE,
-    ] {
-        assert_eq!(rt; histories::differing(rt.alloc(), lines)?.as_str(), "");
-    }
-    Ok(())
+    ];
+    check::<Trial, _>(&rt, rt.alloc(), &tables)
 }

@@ -1,5 +1,6 @@
 //! Calls on instances, one a line, and what is shown of their answers.
 
+use crate::rows::{Rows, check};
 use crate::running::number;
 use of_cells::Cell;
 use of_ihandles::{
@@ -200,30 +201,28 @@ fn given(
     }
 }
 
-/// The lines that answer something else on instances.
-fn differing_on(
-    alloc: Global,
-    instances: &mut Instances,
-    memory: &mut Memory,
-    lines: &str,
-) -> Result<String, AllocError> {
-    let mut text = String::new(alloc);
-    for line in lines.lines() {
-        let (call, wanted) = line.split_once('=').unwrap_or(("", ""));
-        let given = given(alloc, instances, memory, &Call::read(call))?;
-        if given.as_str() != wanted.trim() {
-            write!(text, "{line}: {given}\n")?;
-        }
-    }
-    Ok(text)
+/// Instances and their memory. A line has a call, and behind `=` what it answers behind the lines before it.
+#[derive(Drop)]
+struct InstanceRows {
+    instances: Instances,
+    memory: Memory,
 }
 
-/// The lines that answer something else, each with what it answers. A line has a call, and behind `=` what it answers
-/// behind the lines before it.
-fn differing(alloc: Global, lines: &str) -> Result<String, Fail> {
-    let mut memory = Memory::new(alloc)?;
-    let mut instances = Instances::new(alloc);
-    Ok(differing_on(alloc, &mut instances, &mut memory, lines)?)
+impl Rows for InstanceRows {
+    fn new(alloc: Global) -> Result<InstanceRows, Fail> {
+        let memory = Memory::new(alloc)?;
+        let instances = Instances::new(alloc);
+        Ok(InstanceRows { instances, memory })
+    }
+
+    fn halves(line: &str) -> (&str, &str) {
+        line.split_once('=').unwrap_or(("", "none"))
+    }
+
+    fn given(&mut self, alloc: Global, call: &str) -> Result<String, Fail> {
+        let call = Call::read(call);
+        Ok(given(alloc, &mut self.instances, &mut self.memory, &call)?)
+    }
 }
 
 #[test]
@@ -407,10 +406,8 @@ open d0000008 0 - = no room for the instance
 
 #[test]
 fn calls(rt: HostRuntime) -> Result<(), Fail> {
-    for lines in [OPENED, RELEASED, SLOTS, ARGUMENTS, FULL, OPENINGS] {
-        assert_eq!(rt; differing(rt.alloc(), lines)?.as_str(), "");
-    }
-    Ok(())
+    let tables = [OPENED, RELEASED, SLOTS, ARGUMENTS, FULL, OPENINGS];
+    check::<InstanceRows, _>(&rt, rt.alloc(), &tables)
 }
 
 /// Whether an opening and then a slot are made, or refused for memory alone, and no block is taken for what is

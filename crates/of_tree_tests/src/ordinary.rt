@@ -1,5 +1,6 @@
 //! Ordinary words over the board.
 
+use crate::rows::{Rows, check};
 use crate::running::{Trial, left, number};
 use of_board::Board;
 use of_cells::Cell;
@@ -37,20 +38,41 @@ fn shown(alloc: Global, board: &Board, ended: Result<(), Stop>) -> Result<String
     Ok(text)
 }
 
-/// What words print and leave on a new board.
-fn given(alloc: Global, words: &str) -> Result<String, Fail> {
-    let mut trial = Trial::new(alloc)?;
+/// What words print and leave.
+fn printed_and_left(alloc: Global, trial: &mut Trial, words: &str) -> Result<String, Fail> {
     let ended = trial.run_all(words);
     Ok(shown(alloc, &trial.board, ended)?)
 }
 
+/// The same on a new board.
+fn given(alloc: Global, words: &str) -> Result<String, Fail> {
+    let mut trial = Trial::begun(alloc)?;
+    printed_and_left(alloc, &mut trial, words)
+}
+
+/// Lines of words, each on a new board. A line is given whole, since blanks count where it prints them.
+#[derive(Drop)]
+struct PrintingRows;
+
+impl Rows for PrintingRows {
+    fn new(_alloc: Global) -> Result<PrintingRows, Fail> {
+        Ok(PrintingRows)
+    }
+
+    fn halves(line: &str) -> (&str, &str) {
+        let (words, _) = line.split_once('|').unwrap_or(("", ""));
+        (words, line)
+    }
+
+    fn given(&mut self, alloc: Global, call: &str) -> Result<String, Fail> {
+        let shown = given(alloc, call)?;
+        Ok(format!(in alloc; "{call}|{shown}")?)
+    }
+}
+
 #[test]
 fn lines(rt: HostRuntime) -> Result<(), Fail> {
-    for line in LINES.lines() {
-        let (words, wanted) = line.split_once('|').unwrap_or(("", ""));
-        assert_eq!(rt; given(rt.alloc(), words)?.as_str(), wanted);
-    }
-    Ok(())
+    check::<PrintingRows, _>(&rt, rt.alloc(), &[LINES])
 }
 
 /// The words that stand where they are called, each behind the cells that it finds and before those that it leaves.
@@ -86,29 +108,50 @@ fn left_inline(alloc: Global, cells: &str, name: &str) -> Result<String, Fail> {
     Ok(text)
 }
 
-#[test]
-fn inline(rt: HostRuntime) -> Result<(), Fail> {
-    for line in INLINE.lines() {
-        let (cells, rest) = line.split_once('|').unwrap_or(("", ""));
-        let (name, wanted) = rest.split_once('|').unwrap_or(("", ""));
-        assert_eq!(rt; left_inline(rt.alloc(), cells, name)?.trim_end(), wanted);
+/// Lines with cells, a word that stands where it is called, and what it leaves.
+#[derive(Drop)]
+struct InlineRows;
+
+impl Rows for InlineRows {
+    fn new(_alloc: Global) -> Result<InlineRows, Fail> {
+        Ok(InlineRows)
     }
-    Ok(())
+
+    fn halves(line: &str) -> (&str, &str) {
+        line.rsplit_once('|').unwrap_or(("", "none"))
+    }
+
+    fn given(&mut self, alloc: Global, call: &str) -> Result<String, Fail> {
+        let (cells, name) = call.split_once('|').unwrap_or(("", ""));
+        left_inline(alloc, cells, name)
+    }
 }
 
-/// What `dup` leaves as a primitive on a new board, behind a 3.
-fn doubled(alloc: Global) -> Result<String, Fail> {
-    let mut trial = Trial::new(alloc)?;
-    let board = &mut trial.board;
-    let ended = match board.stack.try_push(Cell(3)) {
-        Ok(()) => run_primitive(PrimitiveWord::Stacks(StacksWord::Dup), board),
-        Err(fault) => Err(Stop::Thrown(fault)),
-    };
+#[test]
+fn inline(rt: HostRuntime) -> Result<(), Fail> {
+    check::<InlineRows, _>(&rt, rt.alloc(), &[INLINE])
+}
+
+/// Runs `dup` as a primitive, behind a 3.
+fn double(board: &mut Board) -> Result<(), Stop> {
+    board.stack.try_push(Cell(3))?;
+    run_primitive(PrimitiveWord::Stacks(StacksWord::Dup), board)
+}
+
+/// What that leaves.
+fn doubled_on(alloc: Global, board: &mut Board) -> Result<String, Fail> {
+    let ended = double(board);
     Ok(left(alloc, board, ended)?)
+}
+
+/// The same on a new board.
+fn doubled(alloc: Global) -> Result<String, Fail> {
+    let mut trial = Trial::begun(alloc)?;
+    doubled_on(alloc, &mut trial.board)
 }
 
 #[test]
 fn primitives(rt: HostRuntime) -> Result<(), Fail> {
-    assert_eq!(rt; doubled(rt.alloc())?.as_str(), "3 3 ");
+    assert!(rt; doubled(rt.alloc())?.as_str() == "3 3 ");
     Ok(())
 }

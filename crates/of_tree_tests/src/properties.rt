@@ -1,5 +1,6 @@
 //! Property values: calls that encode and decode them, one a line, and what they answer.
 
+use crate::rows::{Rows, check};
 use crate::running::number;
 use of_cells::Cell;
 use of_memory::Memory;
@@ -133,24 +134,26 @@ fn given(alloc: Global, memory: &mut Memory, call: &Call<'_>) -> Result<String, 
     }
 }
 
-/// The lines that answer something else in a memory.
-fn differing_in(alloc: Global, memory: &mut Memory, lines: &str) -> Result<String, AllocError> {
-    let mut text = String::new(alloc);
-    for line in lines.lines() {
-        let (call, wanted) = line.split_once('=').unwrap_or(("", ""));
-        let given = given(alloc, memory, &Call::read(call))?;
-        if given.as_str() != wanted.trim() {
-            write!(text, "{line}: {given}\n")?;
-        }
-    }
-    Ok(text)
+/// Calls in turn in one memory, in which property values stand. A line has a call, and behind `=` what it answers in
+/// the memory that the lines before it have made of the first.
+#[derive(Drop)]
+struct ValueRows {
+    memory: Memory,
 }
 
-/// The lines that answer something else, each with what it answers. A line has a call, and behind `=` what it answers
-/// in the memory that the lines before it have made of the first.
-fn differing(alloc: Global, lines: &str) -> Result<String, Fail> {
-    let mut memory = Memory::new(alloc)?;
-    Ok(differing_in(alloc, &mut memory, lines)?)
+impl Rows for ValueRows {
+    fn new(alloc: Global) -> Result<ValueRows, Fail> {
+        let memory = Memory::new(alloc)?;
+        Ok(ValueRows { memory })
+    }
+
+    fn halves(line: &str) -> (&str, &str) {
+        line.split_once('=').unwrap_or(("", "none"))
+    }
+
+    fn given(&mut self, alloc: Global, call: &str) -> Result<String, Fail> {
+        Ok(given(alloc, &mut self.memory, &Call::read(call))?)
+    }
 }
 
 /// A number and what follows it.
@@ -194,10 +197,7 @@ here = 13fffd
 
 #[test]
 fn calls(rt: HostRuntime) -> Result<(), Fail> {
-    for lines in [NUMBERS, STRINGS, CELLS, FAULTS] {
-        assert_eq!(rt; differing(rt.alloc(), lines)?.as_str(), "");
-    }
-    Ok(())
+    check::<ValueRows, _>(&rt, rt.alloc(), &[NUMBERS, STRINGS, CELLS, FAULTS])
 }
 
 #[test]

@@ -1,8 +1,9 @@
 //! How a line of words is run, and what is shown of what it leaves.
 
+use crate::rows::Rows;
 use of_board::{Active, Board, Console};
 use of_cells::Cell;
-use of_fcodes::{Word, word_with_name};
+use of_fcodes::{PropertiesWord, TreeWord, Word, word_with_name};
 use of_format::Pictured;
 use of_ihandles::Instances;
 use of_instances::{run_properties_word, run_tree_word};
@@ -26,19 +27,20 @@ pub(crate) struct Trial {
 
 impl Trial {
     /// The first tree, with no active package and no instance.
-    pub(crate) fn new(alloc: Global) -> Result<Trial, Fail> {
+    pub(crate) fn begun(alloc: Global) -> Result<Trial, Fail> {
         let mut memory = Memory::new(alloc)?;
         let tree = Tree::new(alloc, &mut memory)?;
+        let board = Board {
+            stack: DataStack::new(),
+            memory,
+            pictured: Pictured::new(),
+            console: Console::new(alloc),
+            tree,
+            active: Active::new(alloc),
+            instances: Instances::new(alloc),
+        };
         Ok(Trial {
-            board: Board {
-                stack: DataStack::new(),
-                memory,
-                pictured: Pictured::new(),
-                console: Console::new(alloc),
-                tree,
-                active: Active::new(alloc),
-                instances: Instances::new(alloc),
-            },
+            board,
             ever: 0,
             before: None,
             outer: Cell::ZERO,
@@ -48,9 +50,9 @@ impl Trial {
     /// Runs the word of a name.
     pub(crate) fn run(&mut self, name: &str) -> Result<(), Stop> {
         match word_with_name(name.as_bytes()) {
-            Some(Word::Properties(word)) => run_properties_word(word, &mut self.board),
-            Some(Word::Tree(word)) => run_tree_word(word, &mut self.board),
-            Some(word) => of_words::run_word(word, &mut self.board),
+            Some(Word::Properties(word)) => run_of_properties(word, &mut self.board),
+            Some(Word::Tree(word)) => run_of_tree(word, &mut self.board),
+            Some(word) => run_ordinary(word, &mut self.board),
             None => Err(Stop::NoMemory),
         }
     }
@@ -119,6 +121,21 @@ impl Trial {
         }
         Ok(())
     }
+}
+
+/// Runs a word over properties. The functions below have no contracts, so that `run` carries nothing of the words' own.
+fn run_of_properties(word: PropertiesWord, board: &mut Board) -> Result<(), Stop> {
+    run_properties_word(word, board)
+}
+
+/// Runs a word over the tree.
+fn run_of_tree(word: TreeWord, board: &mut Board) -> Result<(), Stop> {
+    run_tree_word(word, board)
+}
+
+/// Runs any other word.
+fn run_ordinary(word: Word, board: &mut Board) -> Result<(), Stop> {
+    of_words::run_word(word, board)
 }
 
 /// A number in hexadecimal digits.
@@ -190,31 +207,46 @@ fn show_properties(text: &mut String, board: &Board) -> Result<(), Fail> {
     Ok(())
 }
 
+/// What is left, without the blank at its end, and a bar behind it.
+fn with_bar(alloc: Global, left: &str) -> Result<String, AllocError> {
+    format!(in alloc; "{}|", left.trim_end())
+}
+
 /// What words leave, and the properties of the package that is active then.
 fn shown(alloc: Global, board: &Board, ended: Result<(), Stop>) -> Result<String, Fail> {
     let left = left(alloc, board, ended)?;
-    let mut text = format!(in alloc; "{}|", left.trim_end())?;
+    let mut text = with_bar(alloc, left.as_str())?;
     show_properties(&mut text, board)?;
     Ok(text)
 }
 
-/// What words leave on a new board.
-fn given(alloc: Global, words: &str) -> Result<String, Fail> {
-    let mut trial = Trial::new(alloc)?;
+/// The same behind words.
+fn left_by(alloc: Global, trial: &mut Trial, words: &str) -> Result<String, Fail> {
     let ended = trial.run_all(words);
     shown(alloc, &trial.board, ended)
 }
 
-/// The lines of a table that leave something else, each with what it leaves. A line has words, what they leave, and
-/// the properties of the package that is active then.
-pub(crate) fn differing(alloc: Global, table: &str) -> Result<String, Fail> {
-    let mut text = String::new(alloc);
-    for line in table.lines() {
-        let (words, wanted) = line.split_once('|').unwrap_or(("", ""));
-        let given = given(alloc, words)?;
-        if given.trim_end() != wanted {
-            write!(text, "{words}|{given}\n")?;
-        }
+/// The same on a new board.
+fn given(alloc: Global, words: &str) -> Result<String, Fail> {
+    let mut trial = Trial::begun(alloc)?;
+    left_by(alloc, &mut trial, words)
+}
+
+/// Lines of words, each on a new board. Behind `|` a line has what they leave, and the properties of the package that
+/// is active then.
+#[derive(Drop)]
+pub(crate) struct WordRows;
+
+impl Rows for WordRows {
+    fn new(_alloc: Global) -> Result<WordRows, Fail> {
+        Ok(WordRows)
     }
-    Ok(text)
+
+    fn halves(line: &str) -> (&str, &str) {
+        line.split_once('|').unwrap_or(("", "none"))
+    }
+
+    fn given(&mut self, alloc: Global, call: &str) -> Result<String, Fail> {
+        given(alloc, call)
+    }
 }

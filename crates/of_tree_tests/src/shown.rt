@@ -1,11 +1,13 @@
 //! What the console prints of the device tree.
 
+use crate::calls::TreeRows;
+use crate::rows::{Rows, check};
 use hex::decode;
 use of_cells::Cell;
 use of_console::{properties_are_listed, properties_text, tree_text, values_are_shown};
 use of_memory::Memory;
 use of_nodes::{NodeFault, Phandle, Tree};
-use std::alloc::Global;
+use std::alloc::{AllocError, Global};
 use std::test::Fail;
 
 /// The node `/slot`.
@@ -45,45 +47,98 @@ DEADbeef| deadbeef
 6162630061626300| 61626300 61626300";
 
 /// The properties of `/slot`, where a property has a value.
-fn slot_with(alloc: Global, digits: &str) -> Result<Vec<u8>, Fail> {
+fn slot_with(alloc: Global, rows: &mut TreeRows, value: &[u8]) -> Result<Vec<u8>, NodeFault> {
+    let TreeRows { tree, memory } = rows;
+    tree.set_property(memory, SLOT, b"v", value)?;
+    properties_text(alloc, memory, tree, SLOT)
+}
+
+/// Whether a value stands so behind the name of a property of `/slot`.
+fn is_said(alloc: Global, text: &[u8], shown: &str) -> Result<bool, Fail> {
+    let wanted = format!(in alloc; "name \"slot\"\nv{shown}\n")?;
+    Ok(text == wanted.as_bytes())
+}
+
+/// Whether the value of these digits is shown so.
+fn is_shown(alloc: Global, digits: &str, shown: &str) -> Result<bool, Fail> {
+    let mut rows = TreeRows::new(alloc)?;
     let value = decode(alloc, digits)?;
-    let mut memory = Memory::new(alloc)?;
-    let mut tree = Tree::new(alloc, &mut memory)?;
-    tree.set_property(&mut memory, SLOT, b"v", &value)?;
-    Ok(properties_text(alloc, &memory, &tree, SLOT)?)
+    let text = slot_with(alloc, &mut rows, &value)?;
+    is_said(alloc, &text, shown)
 }
 
 #[test]
 fn shown_values(rt: HostRuntime) -> Result<(), Fail> {
     for line in VALUES.lines() {
-        let mut parts = line.split('|');
-        let digits = parts.next().unwrap_or("");
-        let shown = parts.next().unwrap_or("");
-        let text = slot_with(rt.alloc(), digits)?;
-        let wanted = format!(in rt.alloc(); "name \"slot\"\nv{shown}\n")?;
-        assert_eq!(rt; text.as_slice(), wanted.as_bytes());
+        let (digits, shown) = line.split_once('|').unwrap_or(("", "none"));
+        assert!(rt; is_shown(rt.alloc(), digits, shown)?, "{line}");
     }
     Ok(())
 }
 
-/// Sets a property of `/slot` to a cell.
-fn set_cell(tree: &mut Tree, memory: &mut Memory, name: &str, value: u32) -> Result<(), NodeFault> {
-    tree.set_property(memory, SLOT, name.as_bytes(), &value.to_be_bytes())
+/// A text in print on one line, each end of a line as `;`.
+fn on_one_line(alloc: Global, text: &[u8]) -> Result<String, AllocError> {
+    let mut line = String::new(alloc);
+    for byte in text {
+        line.push(if *byte == b'\n' {
+            ';'
+        } else {
+            char::from(*byte)
+        })?;
+    }
+    Ok(line)
 }
+
+/// The properties of `/slot` in print.
+fn slot_shown(alloc: Global, rows: &TreeRows) -> Result<String, Fail> {
+    let text = properties_text(alloc, &rows.memory, &rows.tree, SLOT)?;
+    Ok(on_one_line(alloc, &text)?)
+}
+
+/// A tree in print.
+fn tree_shown(alloc: Global, rows: &TreeRows) -> Result<String, Fail> {
+    let text = tree_text(alloc, &rows.memory, &rows.tree)?;
+    Ok(on_one_line(alloc, &text)?)
+}
+
+/// Calls on a tree, and what is in print of it: `slot` stands for the properties of `/slot`, `tree` for all.
+#[derive(Drop)]
+struct PrintRows {
+    rows: TreeRows,
+}
+
+impl Rows for PrintRows {
+    fn new(alloc: Global) -> Result<PrintRows, Fail> {
+        let rows = TreeRows::new(alloc)?;
+        Ok(PrintRows { rows })
+    }
+
+    fn halves(line: &str) -> (&str, &str) {
+        TreeRows::halves(line)
+    }
+
+    fn given(&mut self, alloc: Global, call: &str) -> Result<String, Fail> {
+        match call {
+            "slot " => slot_shown(alloc, &self.rows),
+            "tree " => tree_shown(alloc, &self.rows),
+            _ => self.rows.given(alloc, call),
+        }
+    }
+}
+
+/// Properties, of which one is set again.
+const SET_AGAIN: &str = "\
+set_property d0000008 a #1 = done
+set_property d0000008 b #2 = done
+set_property d0000008 c #3 = done
+set_property d0000008 a #4 = done
+slot = name \"slot\";a 00000004;b 00000002;c 00000003;
+";
 
 /// A property that is set again keeps its place.
 #[test]
 fn properties_stand_in_order(rt: HostRuntime) -> Result<(), Fail> {
-    let mut memory = Memory::new(rt.alloc())?;
-    let mut tree = Tree::new(rt.alloc(), &mut memory)?;
-    set_cell(&mut tree, &mut memory, "a", 1)?;
-    set_cell(&mut tree, &mut memory, "b", 2)?;
-    set_cell(&mut tree, &mut memory, "c", 3)?;
-    set_cell(&mut tree, &mut memory, "a", 4)?;
-    let text = properties_text(rt.alloc(), &memory, &tree, SLOT)?;
-    let wanted = b"name \"slot\"\na 00000004\nb 00000002\nc 00000003\n".as_slice();
-    assert_eq!(rt; text.as_slice(), wanted);
-    Ok(())
+    check::<PrintRows, _>(&rt, rt.alloc(), &[SET_AGAIN])
 }
 
 #[test]
@@ -95,39 +150,19 @@ fn no_node_has_no_properties(rt: HostRuntime) -> Result<(), Fail> {
     Ok(())
 }
 
-/// A node with a name below one.
-fn add_named(
-    tree: &mut Tree,
-    memory: &mut Memory,
-    parent: Phandle,
-    name: &[u8],
-) -> Result<Phandle, NodeFault> {
-    let node = tree.add_node(parent)?;
-    tree.set_property(memory, node, b"name", name)?;
-    Ok(node)
-}
-
 /// The tree at first, and behind it one with nodes below `/packages` and `/slot`.
+const TREES: &str = "\
+tree = /;name \"board\";/packages;name \"packages\";/slot;name \"slot\";
+add_node d0000008 = d000000c
+set_property d000000c name card~ = done
+add_node d000000c = d0000010
+add_node d0000004 = d0000014
+set_property d0000014 name disk~ = done
+tree = /;name \"board\";/packages;name \"packages\";/packages/disk;name \"disk\";\
+/slot;name \"slot\";/slot/card;name \"card\";/slot/card/;
+";
+
 #[test]
 fn trees_are_shown(rt: HostRuntime) -> Result<(), Fail> {
-    let mut memory = Memory::new(rt.alloc())?;
-    let mut tree = Tree::new(rt.alloc(), &mut memory)?;
-    let text = tree_text(rt.alloc(), &memory, &tree)?;
-    let first =
-        b"/\nname \"board\"\n/packages\nname \"packages\"\n/slot\nname \"slot\"\n".as_slice();
-    assert_eq!(rt; text.as_slice(), first);
-    let card = add_named(&mut tree, &mut memory, SLOT, b"card\0")?;
-    let _ = tree.add_node(card)?;
-    let _ = add_named(
-        &mut tree,
-        &mut memory,
-        Phandle(Cell(0xd000_0004)),
-        b"disk\0",
-    )?;
-    let text = tree_text(rt.alloc(), &memory, &tree)?;
-    let wanted = b"/\nname \"board\"\n/packages\nname \"packages\"\n/packages/disk\nname \"disk\"\n\
-        /slot\nname \"slot\"\n/slot/card\nname \"card\"\n/slot/card/\n"
-        .as_slice();
-    assert_eq!(rt; text.as_slice(), wanted);
-    Ok(())
+    check::<PrintRows, _>(&rt, rt.alloc(), &[TREES])
 }

@@ -1,7 +1,7 @@
 //! Words that don't throw.
 
-use crate::histories;
-use crate::running::differing;
+use crate::rows::check;
+use crate::running::{Trial, WordRows};
 use of_instances::{tree_words_throw_listed, words_keep_the_space};
 use std::test::Fail;
 
@@ -108,10 +108,8 @@ const IMAGES: &str = "\
 
 #[test]
 fn lines(rt: HostRuntime) -> Result<(), Fail> {
-    for table in [ENCODED, SET, FOUND, NODES, IMAGES] {
-        assert_eq!(rt; differing(rt.alloc(), table)?.as_str(), "");
-    }
-    Ok(())
+    let tables = [ENCODED, SET, FOUND, NODES, IMAGES];
+    check::<WordRows, _>(&rt, rt.alloc(), &tables)
 }
 
 /// A method is found whatever the case of its name.
@@ -129,10 +127,7 @@ run new-device = throws -8 | d0000008 0 0/1021
 
 #[test]
 fn histories(rt: HostRuntime) -> Result<(), Fail> {
-    for lines in [METHODS, MANY_NODES] {
-        assert_eq!(rt; histories::differing(rt.alloc(), lines)?.as_str(), "");
-    }
-    Ok(())
+    check::<Trial, _>(&rt, rt.alloc(), &[METHODS, MANY_NODES])
 }
 
 #[test]
