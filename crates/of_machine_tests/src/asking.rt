@@ -1,10 +1,11 @@
 //! Questions between the calls of a machine: what is seen while one is open, and where limits and clients come.
 use crate::questions::{answer_of, answers_of, mark, push_query, push_stack};
-use crate::shared::{image_of, on_machine, on_machine_if_room, push_bytes, run_on};
+use crate::rows::{MachineRows, Rows, check, check_on_one, halves};
+use crate::shared::{image_of, on_machine_if_room, push_bytes, run_on, run_with};
 use crate::tree::load_in_turn;
 use of_asking::Answer;
 use of_client::ClientCall;
-use of_machine::{End, Progress, Refusal, ScriptMachine, run_script};
+use of_machine::{End, Progress, Refusal, ScriptMachine};
 use of_nodes::Phandle;
 use std::alloc::Global;
 use std::test::Fail;
@@ -68,28 +69,49 @@ fn push_counts(text: &mut String, machine: &ScriptMachine, end: End) -> Result<(
     Ok(())
 }
 
+/// The steps, the end, how many questions were asked, and the replies.
+fn counts_text(alloc: Global, machine: &ScriptMachine, end: End) -> Result<String, Fail> {
+    let mut text = String::new(alloc);
+    push_counts(&mut text, machine, end)?;
+    Ok(text)
+}
+
+/// The same of a run with these answers and clients.
+fn counts_of(
+    alloc: Global,
+    image: &[u8],
+    answers: &[Answer],
+    calls: &[(u64, ClientCall)],
+    limit: u64,
+) -> Result<String, Fail> {
+    let (machine, end) = run_with(alloc, image, answers, calls, limit)?;
+    counts_text(alloc, &machine, end)
+}
+
 /// What a run of that image leaves, in so many steps at most.
 fn counts(alloc: Global, answers: &str, limit: u64) -> Result<String, Fail> {
     let image = image_of(alloc, THREE)?;
     let answers = answers_of(alloc, answers)?;
     let calls = clients(alloc)?;
-    let (machine, end) = run_script(alloc, &image, &[], &answers, &calls, limit)?;
-    let mut text = String::new(alloc);
-    push_counts(&mut text, &machine, end)?;
-    Ok(text)
+    counts_of(alloc, &image, &answers, &calls, limit)
+}
+
+/// Limits of the run of that image.
+struct LimitRows;
+
+impl Rows for LimitRows {
+    fn given<'a>(alloc: Global, line: &'a str) -> Result<(String, &'a str), Fail> {
+        let (limit, rest) = halves(line);
+        let (answers, wanted) = halves(rest);
+        Ok((counts(alloc, answers, limit.parse()?)?, wanted))
+    }
 }
 
 /// A limit comes before the next question. A client that is due is answered before anything further, also behind a step
 /// that asked.
 #[test]
 fn limits_and_clients(rt: HostRuntime) -> Result<(), Fail> {
-    for line in LIMITS.lines() {
-        let (limit, rest) = line.split_once('|').unwrap_or(("", ""));
-        let (answers, wanted) = rest.split_once('|').unwrap_or(("", ""));
-        let left = counts(rt.alloc(), answers, limit.parse()?)?;
-        assert_eq!(rt; left.as_str(), wanted, "{line}");
-    }
-    Ok(())
+    check::<LimitRows, _>(&rt, rt.alloc(), LIMITS)
 }
 
 /// Calls of one machine, what each gives, and what is seen then: the steps, the depth of the return stack, how many
@@ -265,57 +287,35 @@ fn push_seen(text: &mut String, machine: &ScriptMachine) -> Result<(), Fail> {
     push_bytes(text, machine.console())
 }
 
-/// What a call gives, and what is seen then.
-fn seen(alloc: Global, machine: &mut ScriptMachine, call: &str) -> Result<String, Fail> {
-    let mut text = String::new(alloc);
-    push_call(alloc, &mut text, machine, call)?;
-    text.push('|')?;
-    push_seen(&mut text, machine)?;
-    Ok(text)
-}
+/// Calls of one machine.
+struct CallRows;
 
-/// The lines of calls that give something else, each with what it gives.
-fn differing_calls(
-    alloc: Global,
-    machine: &mut ScriptMachine,
-    table: &str,
-) -> Result<String, Fail> {
-    let mut text = String::new(alloc);
-    for line in table.lines() {
-        let (call, wanted) = line.split_once('|').unwrap_or(("", ""));
-        let seen = seen(alloc, machine, call)?;
-        if seen.as_str() != wanted {
-            write!(text, "{line} : {seen}\n")?;
-        }
+impl MachineRows for CallRows {
+    /// What a call gives, and what is seen then.
+    fn given(alloc: Global, machine: &mut ScriptMachine, call: &str) -> Result<String, Fail> {
+        let mut text = String::new(alloc);
+        push_call(alloc, &mut text, machine, call)?;
+        text.push('|')?;
+        push_seen(&mut text, machine)?;
+        Ok(text)
     }
-    Ok(text)
-}
-
-/// The same on a new machine.
-fn differing_on_new(alloc: Global, table: &str) -> Result<String, Fail> {
-    on_machine(alloc, |machine| differing_calls(alloc, machine, table))
 }
 
 #[test]
 fn questions_stay_open(rt: HostRuntime) -> Result<(), Fail> {
-    assert_eq!(rt; differing_on_new(rt.alloc(), OPEN)?.as_str(), "");
-    Ok(())
+    check_on_one::<CallRows, _>(&rt, rt.alloc(), OPEN)
 }
 
 #[test]
 fn bus_faults_are_thrown(rt: HostRuntime) -> Result<(), Fail> {
-    for table in [THROWN, HANDLED] {
-        assert_eq!(rt; differing_on_new(rt.alloc(), table)?.as_str(), "");
-    }
-    Ok(())
+    check_on_one::<CallRows, _>(&rt, rt.alloc(), THROWN)?;
+    check_on_one::<CallRows, _>(&rt, rt.alloc(), HANDLED)
 }
 
 #[test]
 fn packages_open_with_answers(rt: HostRuntime) -> Result<(), Fail> {
-    for table in [OPENING, NAMED] {
-        assert_eq!(rt; differing_on_new(rt.alloc(), table)?.as_str(), "");
-    }
-    Ok(())
+    check_on_one::<CallRows, _>(&rt, rt.alloc(), OPENING)?;
+    check_on_one::<CallRows, _>(&rt, rt.alloc(), NAMED)
 }
 
 /// Makes a step, again where memory is refused, and tells whether it asks. None where a refused one is counted.

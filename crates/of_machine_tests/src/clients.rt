@@ -1,10 +1,11 @@
 //! Clients, whom a machine answers between two steps.
+use crate::rows::{MachineRows, check_on_machines};
 use crate::shared::{
-    bytes_of, image_of, load, load_tokens, on_machine, on_machine_if_room, run_on,
+    bytes_of, load, load_tokens, new_machine, on_machine_if_room, run_on, run_with,
 };
 use of_cells::Cell;
 use of_client::{ClientCall, ClientReply};
-use of_machine::{Refusal, ScriptMachine, run_script};
+use of_machine::{Refusal, ScriptMachine};
 use of_nodes::Phandle;
 use std::alloc::Global;
 use std::test::Fail;
@@ -128,71 +129,75 @@ fn replies(alloc: Global, machine: &ScriptMachine) -> Result<String, Fail> {
 }
 
 /// What a client is answered once an image of tokens has run, for so many steps at most.
-fn answered(alloc: Global, tokens: &str, line: &str) -> Result<String, Fail> {
-    on_machine(alloc, |machine| {
-        load_tokens(alloc, machine, tokens, "/slot")?;
-        run_on(machine, 99)?;
-        serve(machine, &call_of(alloc, line)?)?;
-        replies(alloc, machine)
-    })
+fn answered(
+    alloc: Global,
+    machine: &mut ScriptMachine,
+    tokens: &str,
+    line: &str,
+) -> Result<String, Fail> {
+    load_tokens(alloc, machine, tokens, "/slot")?;
+    run_on(machine, 99)?;
+    serve(machine, &call_of(alloc, line)?)?;
+    replies(alloc, machine)
 }
 
-/// The lines of a table that give something else, with what they give.
-fn differing(alloc: Global, table: &str) -> Result<String, Fail> {
-    let mut out = String::new(alloc);
-    for line in table.lines() {
-        let (asked, wanted) = line.split_once('|').unwrap_or(("", ""));
-        let (tokens, call) = asked.split_once('>').unwrap_or(("", ""));
-        let given = answered(alloc, tokens, call)?;
-        if given.as_str() != wanted {
-            write!(out, "{asked}|{given}\n")?;
-        }
+/// Tokens, behind `>` a call, and behind `|` what it is answered.
+struct ServiceRows;
+
+impl MachineRows for ServiceRows {
+    fn given(alloc: Global, machine: &mut ScriptMachine, call: &str) -> Result<String, Fail> {
+        let (tokens, call) = call.split_once('>').unwrap_or(("", ""));
+        answered(alloc, machine, tokens, call)
     }
-    Ok(out)
 }
 
 #[test]
 fn services(rt: HostRuntime) -> Result<(), Fail> {
-    assert_eq!(rt; differing(rt.alloc(), SERVICES)?.as_str(), "");
-    Ok(())
+    check_on_machines::<ServiceRows, _>(&rt, rt.alloc(), SERVICES)
 }
 
 #[test]
 fn services_of_what_was_built(rt: HostRuntime) -> Result<(), Fail> {
-    assert_eq!(rt; differing(rt.alloc(), BUILT)?.as_str(), "");
-    Ok(())
+    check_on_machines::<ServiceRows, _>(&rt, rt.alloc(), BUILT)
 }
 
 /// What a client is answered that asks for `/slot`'s child before each of the first steps.
-fn between_steps(alloc: Global, image: &[u8]) -> Result<String, Fail> {
-    on_machine(alloc, |machine| {
-        load(machine, image, "/slot")?;
-        for _ in 0..3 {
-            serve(machine, &call_of(alloc, "child d0000008")?)?;
-            run_on(machine, 1)?;
-        }
-        replies(alloc, machine)
-    })
+fn between_steps(alloc: Global, machine: &mut ScriptMachine, image: &[u8]) -> Result<String, Fail> {
+    load(machine, image, "/slot")?;
+    for _ in 0..3 {
+        serve(machine, &ClientCall::Child(Phandle::of(2)))?;
+        run_on(machine, 1)?;
+    }
+    replies(alloc, machine)
+}
+
+/// The same on a new machine.
+fn between_steps_of(alloc: Global, image: &[u8]) -> Result<String, Fail> {
+    let mut machine = new_machine(alloc)?;
+    between_steps(alloc, &mut machine, image)
 }
 
 #[test]
 fn clients_ask_between_steps(rt: HostRuntime) -> Result<(), Fail> {
     let image = bytes_of(rt.alloc(), "f10800ce00000012011f1201700201012700")?;
-    assert_eq!(rt;
-        between_steps(rt.alloc(), &image)?.as_str(),
-        "00000000d000000cd000000c"
-    );
+    assert!(rt; between_steps_of(rt.alloc(), &image)?.as_str() == "00000000d000000cd000000c");
     Ok(())
+}
+
+/// Clients that ask for the child of `/slot` when these steps were made.
+fn calls_at(alloc: Global, dues: &[u64]) -> Result<Vec<(u64, ClientCall)>, Fail> {
+    let mut calls = Vec::new(alloc);
+    for due in dues {
+        calls.push((*due, ClientCall::Child(Phandle::of(2))))?;
+    }
+    Ok(calls)
 }
 
 /// What clients are answered by a script's run of an image, for so many steps at most: each asks for `/slot`'s child
 /// once so many steps are made.
 fn by_script(alloc: Global, image: &[u8], dues: &[u64], limit: u64) -> Result<String, Fail> {
-    let mut calls = Vec::new(alloc);
-    for due in dues {
-        calls.push((*due, call_of(alloc, "child d0000008")?))?;
-    }
-    let (machine, _) = run_script(alloc, image, &[], &[], &calls, limit)?;
+    let calls = calls_at(alloc, dues)?;
+    let (machine, _) = run_with(alloc, image, &[], &calls, limit)?;
     replies(alloc, &machine)
 }
 
@@ -200,19 +205,10 @@ fn by_script(alloc: Global, image: &[u8], dues: &[u64], limit: u64) -> Result<St
 fn scripts_answer_clients(rt: HostRuntime) -> Result<(), Fail> {
     let alloc = rt.alloc();
     let image = bytes_of(alloc, "f10800ce00000012011f1201700201012700")?;
-    assert_eq!(rt;
-        by_script(alloc, &image, &[0, 1], 99)?.as_str(),
-        "00000000d000000c"
-    );
-    assert_eq!(rt;
-        by_script(alloc, &image, &[1, 0], 99)?.as_str(),
-        "d000000cd000000c"
-    );
-    assert_eq!(rt; by_script(alloc, &image, &[0, 1], 0)?.as_str(), "00000000");
-    assert_eq!(rt;
-        by_script(alloc, &image, &[0, 99, 0], 99)?.as_str(),
-        "00000000"
-    );
+    assert!(rt; by_script(alloc, &image, &[0, 1], 99)?.as_str() == "00000000d000000c");
+    assert!(rt; by_script(alloc, &image, &[1, 0], 99)?.as_str() == "d000000cd000000c");
+    assert!(rt; by_script(alloc, &image, &[0, 1], 0)?.as_str() == "00000000");
+    assert!(rt; by_script(alloc, &image, &[0, 99, 0], 99)?.as_str() == "00000000");
     Ok(())
 }
 

@@ -1,5 +1,6 @@
 //! Images that run in instances: what they print of these, and what is left behind their ends.
-use crate::tree::{differing, differing_in_turn, differing_trees};
+use crate::rows::check_on_machines;
+use crate::tree::{PrintRows, TreeRows, check_in_turn};
 use std::test::Fail;
 
 /// Images loaded one after another, each behind the path of its node, and behind `|` what they print. A load opens an
@@ -67,32 +68,27 @@ const ARGUMENTS: &str = "\
 
 #[test]
 fn images_run_in_instances(rt: HostRuntime) -> Result<(), Fail> {
-    assert_eq!(rt; differing(rt.alloc(), &[INSTANCES])?.as_str(), "");
-    Ok(())
+    check_on_machines::<PrintRows, _>(&rt, rt.alloc(), INSTANCES)
 }
 
 #[test]
 fn loads_follow_loads(rt: HostRuntime) -> Result<(), Fail> {
-    assert_eq!(rt; differing(rt.alloc(), &[LOADS])?.as_str(), "");
-    Ok(())
+    check_on_machines::<PrintRows, _>(&rt, rt.alloc(), LOADS)
 }
 
 #[test]
 fn throws_release(rt: HostRuntime) -> Result<(), Fail> {
-    assert_eq!(rt; differing(rt.alloc(), &[THROWS])?.as_str(), "");
-    Ok(())
+    check_on_machines::<PrintRows, _>(&rt, rt.alloc(), THROWS)
 }
 
 #[test]
 fn catching_keeps_devices(rt: HostRuntime) -> Result<(), Fail> {
-    assert_eq!(rt; differing(rt.alloc(), &[CAUGHT])?.as_str(), "");
-    Ok(())
+    check_on_machines::<PrintRows, _>(&rt, rt.alloc(), CAUGHT)
 }
 
 #[test]
 fn arguments(rt: HostRuntime) -> Result<(), Fail> {
-    assert_eq!(rt; differing(rt.alloc(), &[ARGUMENTS])?.as_str(), "");
-    Ok(())
+    check_on_machines::<PrintRows, _>(&rt, rt.alloc(), ARGUMENTS)
 }
 
 /// Images for nodes, and behind `|` what they print and the nodes that are there then: property words work on the
@@ -108,8 +104,7 @@ const TREES: &str = "\
 
 #[test]
 fn property_words_work_on_instances(rt: HostRuntime) -> Result<(), Fail> {
-    assert_eq!(rt; differing_trees(rt.alloc(), TREES)?.as_str(), "");
-    Ok(())
+    check_on_machines::<TreeRows, _>(&rt, rt.alloc(), TREES)
 }
 
 /// An image whose instances take their blocks.
@@ -121,6 +116,5 @@ const GROWING: &str = "\
 /// Growths are refused in turn.
 #[test]
 fn refused_memory(rt: HostRuntime) -> Result<(), Fail> {
-    assert_eq!(rt; differing_in_turn(rt.alloc(), GROWING)?.as_str(), "");
-    Ok(())
+    check_in_turn(&rt, rt.alloc(), GROWING)
 }

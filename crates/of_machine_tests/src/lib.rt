@@ -20,6 +20,8 @@ mod questions;
 #[cfg(test)]
 mod racks;
 #[cfg(test)]
+mod rows;
+#[cfg(test)]
 mod runs;
 #[cfg(test)]
 mod shared;

@@ -1,5 +1,6 @@
 //! Images whose words call methods: for which instance these run, and what comes back at their end.
-use crate::tree::{differing, differing_in_turn};
+use crate::rows::check_on_machines;
+use crate::tree::{PrintRows, check_in_turn};
 use std::test::Fail;
 
 /// Images, and behind `|` what they print: a method's current instance is the one that it is called for, and the
@@ -107,26 +108,24 @@ const INHERITED: &str = "\
 
 #[test]
 fn methods_run_for_instances(rt: HostRuntime) -> Result<(), Fail> {
-    assert_eq!(rt; differing(rt.alloc(), &[CALLED, NESTED])?.as_str(), "");
-    Ok(())
+    check_on_machines::<PrintRows, _>(&rt, rt.alloc(), CALLED)?;
+    check_on_machines::<PrintRows, _>(&rt, rt.alloc(), NESTED)
 }
 
 #[test]
 fn throws_leave_methods(rt: HostRuntime) -> Result<(), Fail> {
-    assert_eq!(rt; differing(rt.alloc(), &[THROWN, REFUSED])?.as_str(), "");
-    Ok(())
+    check_on_machines::<PrintRows, _>(&rt, rt.alloc(), THROWN)?;
+    check_on_machines::<PrintRows, _>(&rt, rt.alloc(), REFUSED)
 }
 
 #[test]
 fn packages_are_closed(rt: HostRuntime) -> Result<(), Fail> {
-    assert_eq!(rt; differing(rt.alloc(), &[CLOSED])?.as_str(), "");
-    Ok(())
+    check_on_machines::<PrintRows, _>(&rt, rt.alloc(), CLOSED)
 }
 
 #[test]
 fn properties_are_inherited(rt: HostRuntime) -> Result<(), Fail> {
-    assert_eq!(rt; differing(rt.alloc(), &[INHERITED])?.as_str(), "");
-    Ok(())
+    check_on_machines::<PrintRows, _>(&rt, rt.alloc(), INHERITED)
 }
 
 /// A method that takes memory, and a `close` that does.
@@ -139,6 +138,5 @@ e0000000 e0000000 e0000000 ;/slot name=736c6f7400;/slot/;/slot/
 /// Growths are refused in turn: what called the method is undone, too.
 #[test]
 fn refused_memory(rt: HostRuntime) -> Result<(), Fail> {
-    assert_eq!(rt; differing_in_turn(rt.alloc(), GROWING)?.as_str(), "");
-    Ok(())
+    check_in_turn(&rt, rt.alloc(), GROWING)
 }

@@ -1,7 +1,8 @@
 //! Images that open packages: what `open-package` and `$open-package` leave, for which instance `open` runs, and which
 //! instances and blocks are there then.
+use crate::rows::check_on_machines;
 use crate::shared::{after_run, image_of, printed};
-use crate::tree::{differing, differing_in_turn};
+use crate::tree::{PrintRows, check_in_turn};
 use std::test::Fail;
 
 /// Images, and behind `|` what they print: the new instance where `open` leaves anything but 0 on top, else 0, and then
@@ -301,38 +302,38 @@ fault -9: invalid memory address$
 
 #[test]
 fn packages_answer(rt: HostRuntime) -> Result<(), Fail> {
-    assert_eq!(rt; differing(rt.alloc(), &[ANSWERED, FOUND])?.as_str(), "");
-    Ok(())
+    check_on_machines::<PrintRows, _>(&rt, rt.alloc(), ANSWERED)?;
+    check_on_machines::<PrintRows, _>(&rt, rt.alloc(), FOUND)
 }
 
 #[test]
 fn open_runs_for_the_new_instance(rt: HostRuntime) -> Result<(), Fail> {
-    assert_eq!(rt; differing(rt.alloc(), &[INSIDE, THROWN])?.as_str(), "");
-    Ok(())
+    check_on_machines::<PrintRows, _>(&rt, rt.alloc(), INSIDE)?;
+    check_on_machines::<PrintRows, _>(&rt, rt.alloc(), THROWN)
 }
 
 #[test]
 fn open_is_any_word(rt: HostRuntime) -> Result<(), Fail> {
-    assert_eq!(rt; differing(rt.alloc(), &[KINDS, DEFERRED])?.as_str(), "");
-    Ok(())
+    check_on_machines::<PrintRows, _>(&rt, rt.alloc(), KINDS)?;
+    check_on_machines::<PrintRows, _>(&rt, rt.alloc(), DEFERRED)
 }
 
 #[test]
 fn packages_are_opened_by_name(rt: HostRuntime) -> Result<(), Fail> {
-    assert_eq!(rt; differing(rt.alloc(), &[NAMED, NESTED])?.as_str(), "");
-    Ok(())
+    check_on_machines::<PrintRows, _>(&rt, rt.alloc(), NAMED)?;
+    check_on_machines::<PrintRows, _>(&rt, rt.alloc(), NESTED)
 }
 
 #[test]
 fn opened_packages_are_closed(rt: HostRuntime) -> Result<(), Fail> {
-    assert_eq!(rt; differing(rt.alloc(), &[CLOSED, REFUSED])?.as_str(), "");
-    Ok(())
+    check_on_machines::<PrintRows, _>(&rt, rt.alloc(), CLOSED)?;
+    check_on_machines::<PrintRows, _>(&rt, rt.alloc(), REFUSED)
 }
 
 #[test]
 fn instances_find_room(rt: HostRuntime) -> Result<(), Fail> {
-    assert_eq!(rt; differing(rt.alloc(), &[BLOCKS, NO_ROOM])?.as_str(), "");
-    Ok(())
+    check_on_machines::<PrintRows, _>(&rt, rt.alloc(), BLOCKS)?;
+    check_on_machines::<PrintRows, _>(&rt, rt.alloc(), NO_ROOM)
 }
 
 /// Behind the load of an image and 65,535 openings, which are released at once, there is no number for another one.
@@ -346,7 +347,7 @@ fn openings_are_counted(rt: HostRuntime) -> Result<(), Fail> {
     let alloc = rt.alloc();
     let said = after_run(alloc, &image, 999_999, |machine, _| printed(alloc, machine))?;
     let wanted = "-8 d0000008 0 0 e0000000 300000 0 fault -8: dictionary overflow$";
-    assert_eq!(rt; said.as_str(), wanted);
+    assert!(rt; said.as_str() == wanted);
     Ok(())
 }
 
@@ -368,6 +369,5 @@ e0000004 0 e000000c e0000010 300010 ;/slot name=736c6f7400;/slot/
 /// Growths are refused in turn: an instance that was made for a deferred `open` which found no memory is undone, too.
 #[test]
 fn refused_memory(rt: HostRuntime) -> Result<(), Fail> {
-    assert_eq!(rt; differing_in_turn(rt.alloc(), GROWING)?.as_str(), "");
-    Ok(())
+    check_in_turn(&rt, rt.alloc(), GROWING)
 }

@@ -1,5 +1,6 @@
 //! Items that come next, and how many items words have: numbers counted by hand from what the tokens compile.
-use crate::shared::{load_tokens, on_machine, run_on};
+use crate::rows::{MachineRows, check_on_machines};
+use crate::shared::{load_tokens, new_machine, run_on};
 use of_cells::Cell;
 use of_machine::ScriptMachine;
 use std::alloc::Global;
@@ -43,23 +44,21 @@ fn push_places(text: &mut String, machine: &mut ScriptMachine) -> Result<(), Fai
     Ok(())
 }
 
-/// The items that come next in a run of tokens.
-fn places(alloc: Global, machine: &mut ScriptMachine, tokens: &str) -> Result<String, Fail> {
-    load_tokens(alloc, machine, tokens, "/slot")?;
-    let mut text = String::new(alloc);
-    push_places(&mut text, machine)?;
-    Ok(text)
+/// Items that come next in a run of tokens.
+struct PlaceRows;
+
+impl MachineRows for PlaceRows {
+    fn given(alloc: Global, machine: &mut ScriptMachine, call: &str) -> Result<String, Fail> {
+        load_tokens(alloc, machine, call, "/slot")?;
+        let mut text = String::new(alloc);
+        push_places(&mut text, machine)?;
+        Ok(text)
+    }
 }
 
 #[test]
 fn items_come_next(rt: HostRuntime) -> Result<(), Fail> {
-    let alloc = rt.alloc();
-    for line in PLACES.lines() {
-        let (tokens, wanted) = line.split_once('|').unwrap_or(("", ""));
-        let seen = on_machine(alloc, |machine| places(alloc, machine, tokens))?;
-        assert_eq!(rt; seen.as_str(), wanted, "{tokens}");
-    }
-    Ok(())
+    check_on_machines::<PlaceRows, _>(&rt, rt.alloc(), PLACES)
 }
 
 /// Tokens, how many steps are made of them, an execution token, and how many items its word has then. A definition that
@@ -97,12 +96,16 @@ fn is_counted(alloc: Global, machine: &mut ScriptMachine, line: &str) -> Result<
     Ok(count == wanted.parse().ok())
 }
 
+/// The same on a new machine.
+fn is_counted_on_new(alloc: Global, line: &str) -> Result<bool, Fail> {
+    let mut machine = new_machine(alloc)?;
+    is_counted(alloc, &mut machine, line)
+}
+
 #[test]
 fn words_have_items(rt: HostRuntime) -> Result<(), Fail> {
-    let alloc = rt.alloc();
     for line in COUNTS.lines() {
-        let counted = on_machine(alloc, |machine| is_counted(alloc, machine, line))?;
-        assert!(rt; counted, "{line}");
+        assert!(rt; is_counted_on_new(rt.alloc(), line)?, "{line}");
     }
     Ok(())
 }

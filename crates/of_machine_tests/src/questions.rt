@@ -1,5 +1,6 @@
 //! Images whose steps ask the outside: what is asked, and what a run leaves, whose questions get these answers.
-use crate::shared::{after_answers, bytes_of, push_bytes};
+use crate::rows::{Rows, check, halves};
+use crate::shared::{after_answers, bytes_of, image_of, push_bytes};
 use of_asking::{Answer, Query};
 use of_machine::{End, ScriptMachine};
 use std::alloc::Global;
@@ -390,80 +391,75 @@ fn left_by(alloc: Global, image: &[u8], answers: &[Answer]) -> Result<String, Fa
     )
 }
 
-/// Appends a line whose image leaves something else, with what it leaves. The image is the line's digits behind others.
-fn push_differing(alloc: Global, text: &mut String, before: &str, line: &str) -> Result<(), Fail> {
-    let (digits, rest) = line.split_once('|').unwrap_or(("", ""));
-    let (answers, wanted) = rest.split_once('|').unwrap_or(("", ""));
-    let image = bytes_of(alloc, format!(in alloc; "{before}{digits}")?.as_str())?;
-    let left = left_by(alloc, &image, &answers_of(alloc, answers)?)?;
-    if left.as_str() != wanted {
-        write!(text, "{line} : {left}\n")?;
+/// Whole images, the answers to their questions, and what their runs leave.
+struct ImageRows;
+
+impl Rows for ImageRows {
+    fn given<'a>(alloc: Global, line: &'a str) -> Result<(String, &'a str), Fail> {
+        let (digits, rest) = halves(line);
+        let (answers, wanted) = halves(rest);
+        let image = bytes_of(alloc, digits)?;
+        Ok((
+            left_by(alloc, &image, &answers_of(alloc, answers)?)?,
+            wanted,
+        ))
     }
-    Ok(())
 }
 
-/// The lines of a table that leave something else, each with what it leaves.
-fn differing(alloc: Global, before: &str, table: &str) -> Result<String, Fail> {
-    let mut text = String::new(alloc);
-    for line in table.lines() {
-        push_differing(alloc, &mut text, before, line)?;
-    }
-    Ok(text)
-}
+/// The same of tokens behind a header.
+struct TokenRows;
 
-/// A header for tokens.
-const HEADER: &str = "f108000000000000";
+impl Rows for TokenRows {
+    fn given<'a>(alloc: Global, line: &'a str) -> Result<(String, &'a str), Fail> {
+        let (tokens, rest) = halves(line);
+        let (answers, wanted) = halves(rest);
+        let image = image_of(alloc, tokens)?;
+        Ok((
+            left_by(alloc, &image, &answers_of(alloc, answers)?)?,
+            wanted,
+        ))
+    }
+}
 
 #[test]
 fn rows(rt: HostRuntime) -> Result<(), Fail> {
-    assert_eq!(rt; differing(rt.alloc(), "", ROWS)?.as_str(), "");
-    Ok(())
+    check::<ImageRows, _>(&rt, rt.alloc(), ROWS)
 }
 
 #[test]
 fn answers_fit(rt: HostRuntime) -> Result<(), Fail> {
-    assert_eq!(rt; differing(rt.alloc(), HEADER, FITTING)?.as_str(), "");
-    Ok(())
+    check::<TokenRows, _>(&rt, rt.alloc(), FITTING)
 }
 
 #[test]
 fn answers_do_not_fit(rt: HostRuntime) -> Result<(), Fail> {
-    assert_eq!(rt; differing(rt.alloc(), HEADER, MISFITS)?.as_str(), "");
-    Ok(())
+    check::<TokenRows, _>(&rt, rt.alloc(), MISFITS)
 }
 
 #[test]
 fn nothing_is_asked(rt: HostRuntime) -> Result<(), Fail> {
-    for table in [SPACE, REFUSED] {
-        assert_eq!(rt; differing(rt.alloc(), HEADER, table)?.as_str(), "");
-    }
-    Ok(())
+    check::<TokenRows, _>(&rt, rt.alloc(), SPACE)?;
+    check::<TokenRows, _>(&rt, rt.alloc(), REFUSED)
 }
 
 #[test]
 fn stacks_are_full(rt: HostRuntime) -> Result<(), Fail> {
-    assert_eq!(rt; differing(rt.alloc(), HEADER, FULL)?.as_str(), "");
-    Ok(())
+    check::<TokenRows, _>(&rt, rt.alloc(), FULL)
 }
 
 #[test]
 fn other_words_run_words_that_ask(rt: HostRuntime) -> Result<(), Fail> {
-    for table in [EXECUTED, CAUGHT] {
-        assert_eq!(rt; differing(rt.alloc(), HEADER, table)?.as_str(), "");
-    }
-    Ok(())
+    check::<TokenRows, _>(&rt, rt.alloc(), EXECUTED)?;
+    check::<TokenRows, _>(&rt, rt.alloc(), CAUGHT)
 }
 
 #[test]
 fn methods_ask(rt: HostRuntime) -> Result<(), Fail> {
-    for table in [METHODS, OPENED] {
-        assert_eq!(rt; differing(rt.alloc(), HEADER, table)?.as_str(), "");
-    }
-    Ok(())
+    check::<TokenRows, _>(&rt, rt.alloc(), METHODS)?;
+    check::<TokenRows, _>(&rt, rt.alloc(), OPENED)
 }
 
 #[test]
 fn answers_come_in_order(rt: HostRuntime) -> Result<(), Fail> {
-    assert_eq!(rt; differing(rt.alloc(), HEADER, SEVERAL)?.as_str(), "");
-    Ok(())
+    check::<TokenRows, _>(&rt, rt.alloc(), SEVERAL)
 }

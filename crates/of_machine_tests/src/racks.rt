@@ -1,5 +1,6 @@
 //! Runs whose questions devices answer.
 use crate::questions::left;
+use crate::rows::{Rows, check, halves};
 use crate::shared::{bytes_of, image_of};
 use of_asking::{Answer, Query};
 use of_cells::Cell;
@@ -66,17 +67,22 @@ fn left_on(alloc: Global, devices: &str, tokens: &str, limit: u64) -> Result<Str
     left(alloc, &machine, end)
 }
 
+/// Runs on devices.
+struct DeviceRows;
+
+impl Rows for DeviceRows {
+    fn given<'a>(alloc: Global, line: &'a str) -> Result<(String, &'a str), Fail> {
+        let (devices, rest) = halves(line);
+        let (tokens, rest) = halves(rest);
+        let (limit, wanted) = halves(rest);
+        Ok((left_on(alloc, devices, tokens, limit.parse()?)?, wanted))
+    }
+}
+
 /// The first device that takes a question answers it, and what it answers may depend on the questions before.
 #[test]
 fn devices_answer(rt: HostRuntime) -> Result<(), Fail> {
-    for line in ROWS.lines() {
-        let (devices, rest) = line.split_once('|').unwrap_or(("", ""));
-        let (tokens, rest) = rest.split_once('|').unwrap_or(("", ""));
-        let (limit, wanted) = rest.split_once('|').unwrap_or(("", ""));
-        let left = left_on(rt.alloc(), devices, tokens, limit.parse()?)?;
-        assert_eq!(rt; left.as_str(), wanted, "{line}");
-    }
-    Ok(())
+    check::<DeviceRows, _>(&rt, rt.alloc(), ROWS)
 }
 
 /// Digits of an image, a limit of steps, and behind `|` the steps that are made, or why the image is refused, and what
@@ -111,33 +117,49 @@ fn push_run(text: &mut String, run: &Result<(ScriptMachine, End), Refusal>) -> R
     Ok(())
 }
 
+/// The clients of these runs.
+fn clients(alloc: Global) -> Result<Vec<(u64, ClientCall)>, Fail> {
+    Ok(vec![in alloc;
+        (0, ClientCall::Child(Phandle::of(2))),
+        (2, ClientCall::Child(Phandle::of(2))),
+    ]?)
+}
+
+/// Appends what a clock answers.
+fn push_time(text: &mut String, answer: Answer) -> Result<(), Fail> {
+    match answer {
+        Answer::Value(time) => write!(text, " {time}")?,
+        Answer::Done | Answer::BusFault => {}
+    }
+    Ok(())
+}
+
 /// What the run of an image leaves, and what its clock answers next.
 fn next_time(alloc: Global, digits: &str, limit: u64) -> Result<String, Fail> {
     let image = bytes_of(alloc, digits)?;
-    let calls = vec![in alloc;
-        (0, ClientCall::Child(Phandle::of(2))),
-        (2, ClientCall::Child(Phandle::of(2))),
-    ]?;
+    let calls = clients(alloc)?;
     let mut rack: Rack = Vec::new(alloc);
     rack.push(Box::new(alloc, Part::Clock(Clock::new()))?)?;
     let run = run_rack(alloc, &image, &[], &mut rack, &calls, limit);
     let mut text = String::new(alloc);
     push_run(&mut text, &run)?;
-    match ask(&mut rack, Query::Milliseconds) {
-        Answer::Value(time) => write!(text, " {time}")?,
-        Answer::Done | Answer::BusFault => {}
-    }
+    push_time(&mut text, ask(&mut rack, Query::Milliseconds))?;
     Ok(text)
+}
+
+/// Runs on a clock.
+struct ClockRows;
+
+impl Rows for ClockRows {
+    fn given<'a>(alloc: Global, line: &'a str) -> Result<(String, &'a str), Fail> {
+        let (digits, rest) = halves(line);
+        let (limit, wanted) = halves(rest);
+        Ok((next_time(alloc, digits, limit.parse()?)?, wanted))
+    }
 }
 
 /// Devices are left as the questions of the run leave them; an image that is refused asks nothing.
 #[test]
 fn devices_are_left(rt: HostRuntime) -> Result<(), Fail> {
-    for line in LEFT.lines() {
-        let (digits, rest) = line.split_once('|').unwrap_or(("", ""));
-        let (limit, wanted) = rest.split_once('|').unwrap_or(("", ""));
-        let left = next_time(rt.alloc(), digits, limit.parse()?)?;
-        assert_eq!(rt; left.as_str(), wanted, "{line}");
-    }
-    Ok(())
+    check::<ClockRows, _>(&rt, rt.alloc(), LEFT)
 }

@@ -1,3 +1,4 @@
+use crate::rows::{Rows, check, halves};
 use crate::shared::{after_run, bytes_of, image_of, push_bytes};
 use hex::decode;
 use of_machine::{End, ScriptMachine, calls_agree, run_script, runs_agree};
@@ -56,14 +57,19 @@ f10800ad0000000e0203020b9b00|4 d0000008
 f10801490000000d020d9d9d00|4 0 0 
 ";
 
+/// Images.
+struct ImageRows;
+
+impl Rows for ImageRows {
+    fn given<'a>(alloc: Global, line: &'a str) -> Result<(String, &'a str), Fail> {
+        let (image, wanted) = halves(line);
+        Ok((shown(alloc, &bytes_of(alloc, image)?, 999)?, wanted))
+    }
+}
+
 #[test]
 fn images(rt: HostRuntime) -> Result<(), Fail> {
-    for line in IMAGES.lines() {
-        let (image, wanted) = line.split_once('|').unwrap_or(("", ""));
-        let bytes = bytes_of(rt.alloc(), image)?;
-        assert_eq!(rt; shown(rt.alloc(), &bytes, 999)?.as_str(), wanted, "{image}");
-    }
-    Ok(())
+    check::<ImageRows, _>(&rt, rt.alloc(), IMAGES)
 }
 
 /// Tokens behind a header, and what they make: numbers in the base, at the right of a width, the
@@ -102,16 +108,21 @@ a6a6a0729d00|5 fault -24: invalid numeric argument$
 a58c00|2 fault -4: stack underflow$
 ";
 
+/// Tokens.
+struct TokenRows;
+
+impl Rows for TokenRows {
+    fn given<'a>(alloc: Global, line: &'a str) -> Result<(String, &'a str), Fail> {
+        let (tokens, wanted) = halves(line);
+        Ok((shown(alloc, &image_of(alloc, tokens)?, 99)?, wanted))
+    }
+}
+
 #[test]
 fn tokens(rt: HostRuntime) -> Result<(), Fail> {
-    for line in TOKENS.lines() {
-        let (tokens, wanted) = line.split_once('|').unwrap_or(("", ""));
-        let image = image_of(rt.alloc(), tokens)?;
-        assert_eq!(rt; shown(rt.alloc(), &image, 99)?.as_str(), wanted, "{tokens}");
-    }
     runs_agree();
     calls_agree();
-    Ok(())
+    check::<TokenRows, _>(&rt, rt.alloc(), TOKENS)
 }
 
 /// Limits of a run of `2 3 + .`, and what it makes; with `+` where the limit was reached.
@@ -122,22 +133,37 @@ const LIMITS: &str = "\
 5|5 5 
 ";
 
+/// Limits.
+struct LimitRows;
+
+impl Rows for LimitRows {
+    fn given<'a>(alloc: Global, line: &'a str) -> Result<(String, &'a str), Fail> {
+        let (limit, wanted) = halves(line);
+        let image = decode(alloc, "f108020a0000000da7a81e9d00")?;
+        Ok((shown(alloc, &image, limit.parse()?)?, wanted))
+    }
+}
+
 #[test]
 fn limits(rt: HostRuntime) -> Result<(), Fail> {
-    let image = decode(rt.alloc(), "f108020a0000000da7a81e9d00")?;
-    for line in LIMITS.lines() {
-        let (limit, wanted) = line.split_once('|').unwrap_or(("", ""));
-        let made = shown(rt.alloc(), &image, limit.parse()?)?;
-        assert_eq!(rt; made.as_str(), wanted, "{limit}");
-    }
-    Ok(())
+    check::<LimitRows, _>(&rt, rt.alloc(), LIMITS)
+}
+
+/// Whether a run threw -257.
+fn has_ended(machine: &ScriptMachine) -> bool {
+    machine.console().ends_with(b"fault -257: image ended\n")
+}
+
+/// The run of an image, if it begins.
+fn begun(alloc: Global, image: &[u8]) -> Option<(ScriptMachine, End)> {
+    run_script(alloc, image, &[], &[], &[], 99).ok()
 }
 
 /// Whether an image that is cut off throws -257, or has no whole header.
 fn is_cut(alloc: Global, image: &[u8]) -> bool {
-    match run_script(alloc, image, &[], &[], &[], 99) {
-        Ok((machine, _)) => machine.console().ends_with(b"fault -257: image ended\n"),
-        Err(_) => image.len() < 8,
+    match begun(alloc, image) {
+        Some((machine, _)) => has_ended(&machine),
+        None => image.len() < 8,
     }
 }
 

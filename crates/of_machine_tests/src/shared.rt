@@ -2,6 +2,7 @@
 //! nothing of the machine's own, which are long.
 use hex::decode;
 use of_asking::Answer;
+use of_client::ClientCall;
 use of_code::ListCode;
 use of_machine::{End, Machine, ScriptMachine, run_script};
 use std::alloc::Global;
@@ -21,6 +22,11 @@ pub(crate) fn image_of(alloc: Global, tokens: &str) -> Result<Vec<u8>, Fail> {
     )
 }
 
+/// A machine on which nothing ran yet.
+pub(crate) fn new_machine(alloc: Global) -> Result<ScriptMachine, Fail> {
+    Ok(Machine::new(alloc, ListCode::new(alloc))?)
+}
+
 /// What is done with a machine on which nothing ran yet.
 pub(crate) fn on_machine<T, F: FnOnce(&mut ScriptMachine) -> Result<T, Fail>>(
     alloc: Global,
@@ -28,7 +34,7 @@ pub(crate) fn on_machine<T, F: FnOnce(&mut ScriptMachine) -> Result<T, Fail>>(
 ) -> Result<T, Fail>
     requires { F.IsAlwaysCallable act }
 {
-    let mut machine = Machine::new(alloc, ListCode::new(alloc))?;
+    let mut machine = new_machine(alloc)?;
     act(&mut machine)
 }
 
@@ -68,6 +74,17 @@ pub(crate) fn run_on(machine: &mut ScriptMachine, limit: u64) -> Result<(), Fail
     Ok(())
 }
 
+/// The run of an image for `/slot`, whose questions get these answers, with these clients.
+pub(crate) fn run_with(
+    alloc: Global,
+    image: &[u8],
+    answers: &[Answer],
+    calls: &[(u64, ClientCall)],
+    limit: u64,
+) -> Result<(ScriptMachine, End), Fail> {
+    Ok(run_script(alloc, image, &[], answers, calls, limit)?)
+}
+
 /// What is seen of a machine on which an image has run for `/slot`, for so many steps at most, and of the end.
 pub(crate) fn after_run<T, F: FnOnce(&ScriptMachine, End) -> Result<T, Fail>>(
     alloc: Global,
@@ -90,7 +107,7 @@ pub(crate) fn after_answers<T, F: FnOnce(&ScriptMachine, End) -> Result<T, Fail>
 ) -> Result<T, Fail>
     requires { F.IsAlwaysCallable see }
 {
-    let (machine, end) = run_script(alloc, image, &[], answers, &[], limit)?;
+    let (machine, end) = run_with(alloc, image, answers, &[], limit)?;
     see(&machine, end)
 }
 

@@ -1,6 +1,7 @@
 //! Images whose words are one of each instance: what they leave, for which instance, and where their bytes stand.
+use crate::rows::check_on_machines;
 use crate::shared::{after_run, image_of, printed};
-use crate::tree::{differing, differing_in_turn};
+use crate::tree::{PrintRows, check_in_turn};
 use std::test::Fail;
 
 /// Images, and behind `|` what they print: a value, a variable, a buffer and a defer of the instance that the load
@@ -271,32 +272,32 @@ b50802 b7 c3 0801 c2 11 0203 11 0802 10e0000004 0208 10e0000004 0206 9b 10e00000
 
 #[test]
 fn words_are_of_each_instance(rt: HostRuntime) -> Result<(), Fail> {
-    assert_eq!(rt; differing(rt.alloc(), &[KINDS, WAITING])?.as_str(), "");
-    Ok(())
+    check_on_machines::<PrintRows, _>(&rt, rt.alloc(), KINDS)?;
+    check_on_machines::<PrintRows, _>(&rt, rt.alloc(), WAITING)
 }
 
 #[test]
 fn instances_have_their_own(rt: HostRuntime) -> Result<(), Fail> {
-    assert_eq!(rt; differing(rt.alloc(), &[OWN, GIVEN])?.as_str(), "");
-    Ok(())
+    check_on_machines::<PrintRows, _>(&rt, rt.alloc(), OWN)?;
+    check_on_machines::<PrintRows, _>(&rt, rt.alloc(), GIVEN)
 }
 
 #[test]
 fn slots_find_room(rt: HostRuntime) -> Result<(), Fail> {
-    assert_eq!(rt; differing(rt.alloc(), &[BLOCKS, FULL])?.as_str(), "");
-    Ok(())
+    check_on_machines::<PrintRows, _>(&rt, rt.alloc(), BLOCKS)?;
+    check_on_machines::<PrintRows, _>(&rt, rt.alloc(), FULL)
 }
 
 #[test]
 fn slots_are_used_at_home(rt: HostRuntime) -> Result<(), Fail> {
-    assert_eq!(rt; differing(rt.alloc(), &[AWAY, REFUSED])?.as_str(), "");
-    Ok(())
+    check_on_machines::<PrintRows, _>(&rt, rt.alloc(), AWAY)?;
+    check_on_machines::<PrintRows, _>(&rt, rt.alloc(), REFUSED)
 }
 
 #[test]
 fn slots_defer(rt: HostRuntime) -> Result<(), Fail> {
-    assert_eq!(rt; differing(rt.alloc(), &[CHAINS, METHODS])?.as_str(), "");
-    Ok(())
+    check_on_machines::<PrintRows, _>(&rt, rt.alloc(), CHAINS)?;
+    check_on_machines::<PrintRows, _>(&rt, rt.alloc(), METHODS)
 }
 
 /// Behind 8,192 words, of which the last is one of each instance, no other is made, and no block is taken for one.
@@ -310,7 +311,7 @@ fn words_are_counted(rt: HostRuntime) -> Result<(), Fail> {
     let alloc = rt.alloc();
     let said = after_run(alloc, &image, 99_999, |machine, _| printed(alloc, machine))?;
     let wanted = "300008 -8 300010 fault -256: fcode not assigned$";
-    assert_eq!(rt; said.as_str(), wanted);
+    assert!(rt; said.as_str() == wanted);
     Ok(())
 }
 
@@ -333,6 +334,5 @@ e0000000 e0000000 e0000000 ;/slot name=736c6f7400;/slot/;/slot/
 /// Growths are refused in turn: a slot that was made for a word which found no memory is undone, too.
 #[test]
 fn refused_memory(rt: HostRuntime) -> Result<(), Fail> {
-    assert_eq!(rt; differing_in_turn(rt.alloc(), GROWING)?.as_str(), "");
-    Ok(())
+    check_in_turn(&rt, rt.alloc(), GROWING)
 }

@@ -1,10 +1,11 @@
 //! Images that build the device tree, and the tree that they leave.
-use crate::shared::{
-    after_run, image_of, load_tokens, on_machine, on_machine_if_room, printed, push_bytes, run_on,
-};
-use of_machine::ScriptMachine;
+use crate::rows::{MachineRows, check_on_machines, halves};
+use crate::shared::{after_run, image_of, load_tokens, printed, push_bytes, run_on};
+use of_code::ListCode;
+use of_machine::{Machine, ScriptMachine};
 use of_nodes::{Phandle, Property, Span};
 use std::alloc::Global;
+use std::process::Abort;
 use std::test::Fail;
 
 /// The bytes of a span.
@@ -89,29 +90,14 @@ fn run_loads(alloc: Global, machine: &mut ScriptMachine, loads: &str) -> Result<
     Ok(())
 }
 
-/// What such images print on a machine, and the tree that they leave.
-fn made_on(alloc: Global, machine: &mut ScriptMachine, loads: &str) -> Result<String, Fail> {
-    run_loads(alloc, machine, loads)?;
-    shown(alloc, machine)
-}
+/// Such images, and behind `|` what they print and the tree that they leave.
+pub(crate) struct TreeRows;
 
-/// The lines of such images that print something else or leave another tree, each with what they do.
-pub(crate) fn differing_trees(alloc: Global, table: &str) -> Result<String, Fail> {
-    let mut text = String::new(alloc);
-    for line in table.lines() {
-        let (loads, wanted) = line.split_once('|').unwrap_or(("", ""));
-        let made = on_machine(alloc, |machine| made_on(alloc, machine, loads))?;
-        push_differing(&mut text, loads, made.as_str(), wanted)?;
+impl MachineRows for TreeRows {
+    fn given(alloc: Global, machine: &mut ScriptMachine, call: &str) -> Result<String, Fail> {
+        run_loads(alloc, machine, call)?;
+        shown(alloc, machine)
     }
-    Ok(text)
-}
-
-/// Appends a line that gives something else, with what it gives.
-fn push_differing(text: &mut String, line: &str, given: &str, wanted: &str) -> Result<(), Fail> {
-    if given != wanted {
-        write!(text, "{line}|{given}\n")?;
-    }
-    Ok(())
 }
 
 /// Images, each behind the path of the node that it is loaded for, and behind `|` what they print and the nodes that
@@ -157,29 +143,15 @@ fault -4: stack underflow$ffffffff c000052c
 fault -22: control structure mismatch$0
 ";
 
-/// What images print on a machine, loaded one after another.
-fn said_on(alloc: Global, machine: &mut ScriptMachine, loads: &str) -> Result<String, Fail> {
-    run_loads(alloc, machine, loads)?;
-    printed(alloc, machine)
-}
+/// Images that are loaded one after another, and behind `|` what they print, without the blanks at the end.
+pub(crate) struct PrintRows;
 
-/// Appends the lines of a table that print something else, each with what it prints.
-fn push_differing_lines(alloc: Global, text: &mut String, table: &str) -> Result<(), Fail> {
-    for line in table.lines() {
-        let (loads, wanted) = line.split_once('|').unwrap_or(("", ""));
-        let said = on_machine(alloc, |machine| said_on(alloc, machine, loads))?;
-        push_differing(text, loads, said.trim_end(), wanted)?;
+impl MachineRows for PrintRows {
+    fn given(alloc: Global, machine: &mut ScriptMachine, call: &str) -> Result<String, Fail> {
+        run_loads(alloc, machine, call)?;
+        let said = printed(alloc, machine)?;
+        Ok(String::from_str(alloc, said.trim_end())?)
     }
-    Ok(())
-}
-
-/// The lines of tables that print something else, each with what it prints.
-pub(crate) fn differing(alloc: Global, tables: &[&str]) -> Result<String, Fail> {
-    let mut text = String::new(alloc);
-    for table in tables {
-        push_differing_lines(alloc, &mut text, table)?;
-    }
-    Ok(text)
 }
 
 /// Images loaded one after another, and behind `|` what they print: the data stack and the base stay.
@@ -191,8 +163,7 @@ const STAYING: &str = "\
 
 #[test]
 fn loads_begin_on_what_is_there(rt: HostRuntime) -> Result<(), Fail> {
-    assert_eq!(rt; differing(rt.alloc(), &[STAYING])?.as_str(), "");
-    Ok(())
+    check_on_machines::<PrintRows, _>(&rt, rt.alloc(), STAYING)
 }
 
 /// What `run_script` makes of an image's tokens: what is printed, and the tree.
@@ -205,20 +176,18 @@ fn made_by_script(alloc: Global, tokens: &str) -> Result<String, Fail> {
 #[test]
 fn scripts_run_for_the_slot(rt: HostRuntime) -> Result<(), Fail> {
     let made = made_by_script(rt.alloc(), "a6 0111 120161 0110 00")?;
-    assert_eq!(rt; made.as_str(), ";/slot name=736c6f7400 a=00000001");
+    assert!(rt; made.as_str() == ";/slot name=736c6f7400 a=00000001");
     Ok(())
 }
 
 #[test]
 fn named_words_become_methods(rt: HostRuntime) -> Result<(), Fail> {
-    assert_eq!(rt; differing(rt.alloc(), &[METHODS])?.as_str(), "");
-    Ok(())
+    check_on_machines::<PrintRows, _>(&rt, rt.alloc(), METHODS)
 }
 
 #[test]
 fn images_build_trees(rt: HostRuntime) -> Result<(), Fail> {
-    assert_eq!(rt; differing_trees(rt.alloc(), TREES)?.as_str(), "");
-    Ok(())
+    check_on_machines::<TreeRows, _>(&rt, rt.alloc(), TREES)
 }
 
 /// Loads an image for `/slot`. False where that is refused.
@@ -261,24 +230,34 @@ fn in_turn(alloc: Global, machine: &mut ScriptMachine, image: &[u8]) -> Result<S
     }
 }
 
-/// Appends a line of such an image, if it leaves another tree; nothing where there is no memory for a machine.
-fn push_in_turn(alloc: Global, text: &mut String, line: &str) -> Result<(), Fail> {
-    let (tokens, wanted) = line.split_once('|').unwrap_or(("", ""));
+/// Sees that an image prints and leaves on a machine what its line says.
+fn check_in_turn_on<R: Abort>(
+    rt: &R,
+    alloc: Global,
+    machine: &mut ScriptMachine,
+    line: &str,
+) -> Result<(), Fail> {
+    let (tokens, wanted) = halves(line);
     let image = image_of(alloc, tokens)?;
-    match on_machine_if_room(alloc, |machine| in_turn(alloc, machine, &image)) {
-        Some(made) => push_differing(text, tokens, made?.as_str(), wanted),
-        None => Ok(()),
+    let made = in_turn(alloc, machine, &image)?;
+    assert!(rt; made.as_str() == wanted, "{line} : {made}");
+    Ok(())
+}
+
+/// The same on a new machine, if there is memory for one.
+fn check_one_in_turn<R: Abort>(rt: &R, alloc: Global, line: &str) -> Result<(), Fail> {
+    match Machine::new(alloc, ListCode::new(alloc)) {
+        Ok(mut machine) => check_in_turn_on(rt, alloc, &mut machine, line),
+        Err(_) => Ok(()),
     }
 }
 
-/// The lines of a table whose images print something else or leave another tree where each growth is refused in turn,
-/// or where a refused step is counted.
-pub(crate) fn differing_in_turn(alloc: Global, table: &str) -> Result<String, Fail> {
-    let mut text = String::new(alloc);
+/// The same of each line of a table, where each growth is refused in turn and no refused step is counted.
+pub(crate) fn check_in_turn<R: Abort>(rt: &R, alloc: Global, table: &str) -> Result<(), Fail> {
     for line in table.lines() {
-        push_in_turn(alloc, &mut text, line)?;
+        check_one_in_turn(rt, alloc, line)?;
     }
-    Ok(text)
+    Ok(())
 }
 
 /// A device of the tree whose node is made, and a definition with two arms, which is run with 0 and prints 2.
@@ -290,6 +269,5 @@ a6 0111 120161 0110 011f 120170 0201 0127 00|;/slot name=736c6f7400 a=00000001;/
 /// A machine whose growths are refused in turn goes on where it stood.
 #[test]
 fn refused_memory(rt: HostRuntime) -> Result<(), Fail> {
-    assert_eq!(rt; differing_in_turn(rt.alloc(), GROWING)?.as_str(), "");
-    Ok(())
+    check_in_turn(&rt, rt.alloc(), GROWING)
 }
