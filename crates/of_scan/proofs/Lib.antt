@@ -1,4 +1,5 @@
 mod Scanning
 mod PartLemmas
+mod GroupLemmas
 mod WordLemmas
 mod StringLemmas

@@ -95,22 +95,34 @@ group_more i end text u lt h =
     more (Some g) h = ap (λ o. (grouped_part (end - (i + 1)) (got o)).1) h
     more None h = cc
 
+-- the last piece
+pub group_last : (i end : ℕ) (text : List ℕ) → i < end → None ≡ option_map (λ g. g.1) (group_in (part_to 34 text).1)
+    → (part_to 34 text).1 ≡ (grouped_part (end - i) text).1
+group_last i end text lt h =
+    let n : end - i ≡ suc (end - (i + 1)) = omega arith in
+    rw n (last (group_in (part_to 34 text).1) h)
+  where
+    last : (g : Option Parted) → None ≡ option_map (λ (g : Parted). g.1) g
+        → (part_to 34 text).1 ≡ (with_group (part_to 34 text) g (grouped_part (end - (i + 1)))).1
+    last None h = refl
+    last (Some g) h = absurd cc
+
 -- ---- the law
 
-passed : (end b : ℕ) (text : List ℕ) → b ≢ end
+pub passed : (end b : ℕ) (text : List ℕ) → b ≢ end
     → part_to end (b ∷ text) ≡ (b ∷ (part_to end text).0, (part_to end text).1)
 passed end b text h =
     let n : nat_eq b end ≡ false = grind (arith, nat_tests) in
     rw (take_while-cons (λ c. not (nat_eq c end)) b text, n) refl
 
-ended : (end : ℕ) (bytes more : List ℕ) → All (λ b. b ≢ end) bytes
+pub ended : (end : ℕ) (bytes more : List ℕ) → All (λ b. b ≢ end) bytes
     → part_to end (bytes ++ end ∷ more) ≡ (bytes, more)
 ended end [] more h = let n : nat_eq end end ≡ true = grind (arith, nat_tests) in rw n refl
 ended end (b ∷ bytes) more h =
     passed end b (bytes ++ end ∷ more) (All-head (λ c. c ≢ end) b bytes h)
     ∙ ap (λ r. (b ∷ r.0, r.1)) (ended end bytes more (All-tail (λ c. c ≢ end) b bytes h))
 
-unended : (end : ℕ) (bytes : List ℕ) → All (λ b. b ≢ end) bytes → part_to end bytes ≡ (bytes, [])
+pub unended : (end : ℕ) (bytes : List ℕ) → All (λ b. b ≢ end) bytes → part_to end bytes ≡ (bytes, [])
 unended end [] h = refl
 unended end (b ∷ bytes) h = passed end b bytes (All-head (λ c. c ≢ end) b bytes h)
     ∙ ap (λ r. (b ∷ r.0, r.1)) (unended end bytes (All-tail (λ c. c ≢ end) b bytes h))

@@ -1,6 +1,7 @@
 // A function without parameters does nothing: its contract is a law.
 
 ghost use Rattle.of_scan.specs.Laws.{PartsAreRead, StringsAreRead, WordsAreRead};
+ghost use Rattle.of_scan.specs.Groups.{QuotedPartsAreRead};
 
 /// A text of blanks and a word, which ends at a blank or at the end of the text, gives that word, with the position
 /// of its first byte, and what follows it is left; a text of blanks alone gives none.
@@ -21,4 +22,11 @@ pub fn strings_are_read()
 #[tactic(auto, using(crate::proofs::PartLemmas::parts_are_read))]
 pub fn parts_are_read()
     ensures { PartsAreRead }
+{}
+
+/// The string of a word `"` is its bytes up to the first `"`, and where a group stands behind that, the bytes that its
+/// pairs of digits say and the string behind the group; a text without `"` is the whole string.
+#[tactic(auto, using(crate::proofs::GroupLemmas::quoted_parts_are_read))]
+pub fn quoted_parts_are_read()
+    ensures { QuotedPartsAreRead }
 {}

@@ -1,9 +1,13 @@
 //! Strings that no line ends, as those of a console line and of an evaluated text.
-ghost use Rattle.std.specs.Prelude.{◌≡◌, ◌+◌, ◌≤◌, ◌<◌, ◌^◌, length, drop, is_some, option_map, IfSome};
+ghost use Rattle.std.specs.Prelude.{◌≡◌, ◌+◌, ◌≤◌, ◌<◌, ◌^◌, ◌++◌, length, drop, is_some, option_map, IfSome, IfNone};
 ghost use Rattle.of_scan.specs.Parts.{closed_pairs, count_before, group_in, paired, part_to, quoted_part};
 ghost use Rattle.of_scan.specs.Scan.{left_of, rest_at};
 
 use crate::scan::{Rest, byte_of, is_blank};
+use arrayvec::ArrayVec;
+
+/// Bytes of a string that may be used: no more than 255.
+pub type StringBytes = ArrayVec<u8, 255>;
 
 /// How many bytes stand before the first of these.
 fn count_before(text: &[u8], end: u8) -> usize
@@ -81,6 +85,57 @@ fn part_to(text: &[u8], end: u8) -> (&[u8], &[u8])
     (bytes, behind_byte(rest))
 }
 
+/// Appends the bytes that pairs of digits say, with blanks between pairs or none; None where there is no room for them.
+fn append_pairs(out: &mut StringBytes, mut digits: &[u8]) -> Option<()>
+    ensures bytes { IfSome result (λ _. IfSome (paired digits.entry.now)
+        (λ bytes. out.new.items ≡ out.old.items ++ bytes)) }
+    ensures long { IfNone result (IfSome (paired digits.entry.now)
+        (λ bytes. 255 < length out.old.items + length bytes)) }
+{
+    while let [high, low, rest @ ..] = digits {
+        if is_blank(*high) {
+            digits = &digits[1..];
+            continue;
+        }
+        let Some(byte) = byte_of(*high, *low) else {
+            return Some(());
+        };
+        out.try_push(byte).ok()?;
+        digits = rest;
+    }
+    Some(())
+}
+
+/// Appends the bytes of the group that a text begins with; None where there is no room for them.
+fn append_group(out: &mut StringBytes, text: &[u8]) -> Option<()>
+    ensures bytes { IfSome result (λ _. IfSome (group_in text.now) (λ g. out.new.items ≡ out.old.items ++ g.0)) }
+    ensures long { IfNone result (IfSome (group_in text.now) (λ g. 255 < length out.old.items + length g.0)) }
+{
+    let (digits, _) = part_to(behind_byte(text), b')');
+    append_pairs(out, digits)
+}
+
+/// The bytes of the string of a word `"`; None where it has more than 255.
+fn bytes_of_quoted(text: &[u8]) -> Option<StringBytes>
+    ensures bytes { IfSome result (λ bytes. bytes.items ≡ (quoted_part text.now).0) }
+    ensures long { IfNone result (255 < length (quoted_part text.now).0) }
+{
+    let mut out = ArrayVec::new();
+    let mut rest = text;
+    for _ in 0..text.len() {
+        let (bytes, behind) = part_to(rest, b'"');
+        out.try_extend_from_slice(bytes).ok()?;
+        match behind_group(behind) {
+            Some(next) => {
+                append_group(&mut out, behind)?;
+                rest = next;
+            }
+            None => return Some(out),
+        }
+    }
+    Some(out)
+}
+
 /// What follows the string of a word `"`.
 fn behind_quoted(text: &[u8]) -> &[u8]
     ensures rest { result.now ≡ (quoted_part text.now).1 }
@@ -134,5 +189,14 @@ impl<'a> Rest<'a> {
         ensures { self.new ≡ left_of self.old (quoted_part self.old.text).1 }
     {
         self.leave(behind_quoted(self.text));
+    }
+
+    /// The bytes of the string of a word `"` that `skip_quoted` goes past, with a byte for each pair of digits of its
+    /// groups; None where these are more than 255. Nothing is passed, and no memory is taken.
+    pub fn quoted_bytes(&self) -> Option<StringBytes>
+        ensures bytes { IfSome result (λ bytes. bytes.items ≡ (quoted_part self.now.text).0) }
+        ensures long { IfNone result (255 < length (quoted_part self.now.text).0) }
+    {
+        bytes_of_quoted(self.text)
     }
 }
