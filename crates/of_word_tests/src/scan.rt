@@ -1,6 +1,9 @@
 use crate::rows::{Rows, check, field, hexadecimal, natural, word};
 use of_cells::Cell;
-use of_scan::{Number, Rest, Word, number_in, parts_are_read, strings_are_read, words_are_read};
+use of_scan::{
+    Number, Rest, Word, number_in, parts_are_read, quoted_parts_are_read, strings_are_read,
+    words_are_read,
+};
 use std::alloc::{AllocError, Global};
 
 /// A call, a text, what the call gives, the position behind it, and the next word with its position then, or `none`.
@@ -49,15 +52,15 @@ p| a~b"x|a~b|5|x 5
 p|~a"x|a|3|x 3
 p|"||1|none
 p|||0|none
-g| a"(41 42)b" x|done|12|x 13
-g| "(41~42)"|done|10|none
-g| "(41"(42)" x|done|2|(41"(42)" 2
-g| "(4)" x|done|2|(4)" 2
-g| "(4g)" x|done|2|(4g)" 2
-g| "()"(4A)"(4b)x|done|15|none
-g| no end|done|7|none
-g|"a" x|done|3|x 4
-g||done|0|none
+g| a"(41 42)b" x|aABb|12|x 13
+g| "(41~42)"|AB|10|none
+g| "(41"(42)" x||2|(41"(42)" 2
+g| "(4)" x||2|(4)" 2
+g| "(4g)" x||2|(4g)" 2
+g| "()"(4A)"(4b)x|JKx|15|none
+g| no end|no end|7|none
+g|"a" x|a|3|x 4
+g|||0|none
 "#;
 
 /// A text, a position, and the next word behind it with its own, or `none`.
@@ -163,8 +166,9 @@ fn is_given(alloc: Global, call: &str, rest: &mut Rest<'_>, row: &str) -> Option
         }
         "g" => {
             rest.skip_byte();
+            let bytes = rest.quoted_bytes()?;
             rest.skip_quoted();
-            Some(row == "done")
+            is_text(alloc, &bytes, row)
         }
         _ => is_quoted(alloc, rest, row),
     }
@@ -195,6 +199,42 @@ fn words_and_strings(rt: HostRuntime) {
     words_are_read();
     strings_are_read();
     parts_are_read();
+    quoted_parts_are_read();
+}
+
+/// How many bytes a string begins with, the text behind them, and how many bytes the string has, or `none` where they
+/// are too many.
+const LONG: &str = "\
+0|\"|0|
+255|\" x|255|
+255||255|
+256|\"|none|
+254|\"(41)b\"|none|
+254|\"(41)\"|255|
+254|\"(41 42)\"|none|
+255|\"()\"|255|
+255|\"(41)\"|none|
+";
+
+/// Long strings.
+#[derive(Clone, Copy)]
+struct LongRows;
+
+impl Rows for LongRows {
+    fn holds(&mut self, alloc: Global, line: &str) -> Option<bool> {
+        let count = natural(field(line, 0))? as usize;
+        let mut text = vec![in alloc; b'a'; count].ok()?;
+        text.extend_from_slice(field(line, 1).as_bytes()).ok()?;
+        match Rest::new(&text).quoted_bytes() {
+            Some(bytes) => Some(bytes.len() == natural(field(line, 2))? as usize),
+            None => Some(field(line, 2) == "none"),
+        }
+    }
+}
+
+#[test]
+fn long_strings(rt: HostRuntime) {
+    check(&rt, rt.alloc(), &mut LongRows, LONG);
 }
 
 /// Positions.
