@@ -1,5 +1,5 @@
 -- What holds of the names of every text.
-use Rattle.std.specs.Prelude.{◌≡◌, List, ◌++◌, map, replicate, drop, Some, None}
+use Rattle.std.specs.Prelude.{◌≡◌, ◌++◌, map, replicate, drop, Some, None}
 use Rattle.of_fcodes.specs.Words.{Written, words}
 use Rattle.of_text.specs.Names.{written_named}
 

@@ -1,6 +1,6 @@
 -- What a name finds (Forth 2012, 3.4.2; IEEE 1275-1994, 5.3.2, 5.3.3.1).
 use Rattle.std.specs.Prelude.{ℕ, List, [], ◌∷◌, Option, Some, None, Result, Ok, Err, option_and_then}
-use Rattle.std.specs.Option.{option_map, option_or}
+use Rattle.std.specs.Option.{ok_or, option_map, option_or}
 use Rattle.of_cells.specs.declared.cells.Cell.{Cell}
 use Rattle.of_stacks.specs.declared.throws.Throw.{Throw}
 use Rattle.of_stacks.specs.Throws.{empty_name, undefined_word}
@@ -57,15 +57,10 @@ abbrev pub xt_named : Names → List ℕ → Option Cell
 xt_named n name =
     option_or (own_named n name) (option_map (λ w. record { 0 = written_xt w }) (written_named name))
 
--- what is there, or a throw
-abbrev pub or_throw : {A : Type 0} → Throw → Option A → Result A Throw
-or_throw t None = Err t
-or_throw t (Some x) = Ok x
-
 -- the execution token of a name that must be there and find one
 abbrev pub known_name : Names → List ℕ → Result Cell Throw
 known_name n [] = Err empty_name
-known_name n (b ∷ name) = or_throw undefined_word (xt_named n (b ∷ name))
+known_name n (b ∷ name) = ok_or (xt_named n (b ∷ name)) undefined_word
 
 -- the first byte of a name that must be there
 abbrev pub first_byte : List ℕ → Result Cell Throw
@@ -73,6 +68,6 @@ first_byte [] = Err empty_name
 first_byte (b ∷ name) = Ok (record { 0 = b })
 
 -- the number that a word reads as in a base, if there is one
-abbrev pub number_in : Result ℕ Throw → List ℕ → Result Cell Throw
-number_in (Err t) name = Err t
-number_in (Ok base) name = or_throw undefined_word (number_read base name)
+abbrev pub number_named : Result ℕ Throw → List ℕ → Result Cell Throw
+number_named (Err t) name = Err t
+number_named (Ok base) name = ok_or (number_read base name) undefined_word

@@ -19,7 +19,7 @@ use Rattle.of_text.specs.declared.words.Found.{Found}
 use Rattle.of_text.specs.declared.words.Part.{Part}
 use Rattle.of_text.specs.declared.words.TextWord.{TextWord}
 use Rattle.of_text.specs.declared.words.TextWord.TheVariants as text
-use Rattle.of_text.specs.Names.{Names, first_byte, known_name, number_in, own_named, written_named}
+use Rattle.of_text.specs.Names.{Names, first_byte, known_name, number_named, own_named, written_named}
 
 -- the bytes of a part
 abbrev pub bytes_in : List ℕ → Part → List ℕ
@@ -92,8 +92,8 @@ parsing_read parsing.Device n r = (text.Device (part_behind r), (name_behind r).
 parsing_read parsing.SourceString n r = by_string (λ p. text.Plain p) r
 parsing_read parsing.String n r = (text.Quoted (behind_byte r).at, behind_quoted (behind_byte r))
 parsing_read parsing.PrintString n r = by_string (λ p. text.Printed p) r
-parsing_read parsing.Hexadecimal n r = by_name (λ name. text.Number (number_in (Ok 16) name)) r
-parsing_read parsing.DecimalNumber n r = by_name (λ name. text.Number (number_in (Ok 10) name)) r
+parsing_read parsing.Hexadecimal n r = by_name (λ name. text.Number (number_named (Ok 16) name)) r
+parsing_read parsing.DecimalNumber n r = by_name (λ name. text.Number (number_named (Ok 10) name)) r
 parsing_read parsing.Char n r = by_name (λ name. text.Char (first_byte name)) r
 parsing_read parsing.Comment n r = (text.Comment, past 41 (behind_byte r))
 parsing_read parsing.LineComment n r = (text.Comment, past 10 r)
@@ -116,7 +116,7 @@ ordinary_read w x = (text.Found (record { 0 = xt_of w }) false, x.1)
 
 -- a written word with what it parses; where there is none, the name is a number
 abbrev pub written_read : Option Word → Names → Result ℕ Throw → Named → Read
-written_read None n base x = (text.Number (number_in base x.0), x.1)
+written_read None n base x = (text.Number (number_named base x.0), x.1)
 written_read (Some (word.Parsing w)) n base x = parsing_read w n x.1
 written_read (Some (word.Compiling w)) n base x = compiling_read w n x.1
 written_read (Some (word.Stream w)) n base x = ordinary_read (word.Stream w) x
