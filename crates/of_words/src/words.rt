@@ -2,6 +2,7 @@ ghost use Rattle.std.specs.Prelude.{◌≡◌, true};
 ghost use Rattle.of_words.specs.Words.{grows, word_entry};
 ghost use Rattle.of_stacks.specs.Stacks.{Makes};
 
+use crate::console_words::run_console_word;
 use crate::heap::run_heap_word;
 use crate::printing::run_printing_word;
 use of_board::Board;
@@ -26,7 +27,8 @@ pub fn run_primitive(word: PrimitiveWord, board: &mut Board) -> Result<(), Stop>
     Ok(())
 }
 
-/// Runs an ordinary word; a stop changes nothing. A group that is not run yet throws -256.
+/// Runs an ordinary word; a stop changes nothing. A group that is not run yet throws -256, and so do, of the console's
+/// words, `immediate`, `]`, `device-end`, `pwd`, `ls`, `.properties`, `show-devs` and `words`.
 #[inline]
 pub fn run_word(word: Word, board: &mut Board) -> Result<(), Stop>
     ensures value { Makes (grows word) (word_entry word board.old) board.old board.new result }
@@ -44,7 +46,7 @@ pub fn run_word(word: Word, board: &mut Board) -> Result<(), Stop>
         Word::Properties(word) => run_properties_word(word, board),
         Word::Tree(word) => run_tree_word(word, board),
         Word::Devices(_) => Err(Stop::Thrown(Throw::NOT_ASSIGNED)),
-        Word::Console(_) => Err(Stop::Thrown(Throw::NOT_ASSIGNED)),
+        Word::Console(word) => run_console_word(word, board),
         Word::Parsing(_) => Err(Stop::Thrown(Throw::NOT_ASSIGNED)),
         Word::Compiling(_) => Err(Stop::Thrown(Throw::NOT_ASSIGNED)),
     }
