@@ -13,6 +13,8 @@ mod calls;
 #[cfg(test)]
 mod console;
 #[cfg(test)]
+mod console_words;
+#[cfg(test)]
 mod faults;
 #[cfg(test)]
 mod histories;

@@ -52,7 +52,7 @@ fn given(alloc: Global, words: &str) -> Result<String, Fail> {
 
 /// Lines of words, each on a new board. A line is given whole, since blanks count where it prints them.
 #[derive(Drop)]
-struct PrintingRows;
+pub(crate) struct PrintingRows;
 
 impl Rows for PrintingRows {
     fn new(_alloc: Global) -> Result<PrintingRows, Fail> {

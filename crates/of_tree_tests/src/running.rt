@@ -82,10 +82,14 @@ impl Trial {
 
     /// Runs what one word of a line stands for. `%1f` is a number, `"text` the address and the length of a text
     /// at `here`, `>1f` moves `here` up, `*1f` stands for so many cells of 0, and `@2` makes node 2 active; all
-    /// numbers are hexadecimal. `[` and `]` are the beginning and the end of an image.
+    /// numbers are hexadecimal. `[` and `]` are the beginning and the end of an image. `'` stands before the name of a
+    /// word that begins as one of these.
     fn run_word(&mut self, word: &str) -> Result<(), Stop> {
         if let Some(text) = word.strip_prefix('"') {
             return self.push_text(text);
+        }
+        if let Some(name) = word.strip_prefix('\'') {
+            return self.run(name);
         }
         if let Some(digits) = word.strip_prefix('%') {
             self.board.stack.try_push(Cell(number(digits)))?;
