@@ -29,6 +29,7 @@ use Rattle.of_nodes.specs.Stored.{AreStored, StoredStays}
 use Rattle.of_ihandles.specs.SpaceKept.{InstancesKeepTheSpace, Keeps}
 use Rattle.of_board.specs.declared.board.Board.{Board}
 use Rattle.of_instances.specs.SpaceKept.{Keeps as KeepsBoard, WordsKeepTheSpace}
+use Rattle.of_words.specs.SpaceKept.{ConsoleWordsKeepTheSpace}
 
 -- what the laws of the layers below say
 pub record Laws : Type 0 where
@@ -42,6 +43,7 @@ pub record Laws : Type 0 where
   pub stored : StoredStays
   pub instances : InstancesKeepTheSpace
   pub words : WordsKeepTheSpace
+  pub console : ConsoleWordsKeepTheSpace
   pub asking : ImagesStayAsked
 
 -- ---- the data space

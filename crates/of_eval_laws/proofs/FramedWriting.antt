@@ -42,6 +42,7 @@ use Rattle.of_instances.specs.SpaceKept.{Keeps as KeepsBoard}
 use Rattle.of_instances.specs.PropertyWords.{properties_entry}
 use Rattle.of_instances.specs.TreeWords.{tree_entry}
 use Rattle.of_board.specs.declared.board.Board.{Board}
+use Rattle.of_words.specs.ConsoleWords.{console_entry}
 use Rattle.of_words.specs.declared.printing.Signs.{Signs}
 use Rattle.of_words.specs.declared.printing.Signs.TheVariants.{Signed, Unsigned}
 use Rattle.of_eval_laws.specs.Images.{ImagesStand}
@@ -310,7 +311,7 @@ word_stands l (word.Throws w) m sound = tt
 word_stands l (word.Properties w) m sound = keeps m (properties_entry w m) (λ s e. l.words.properties w m s sound e)
 word_stands l (word.Tree w) m sound = keeps m (tree_entry w m) (λ s e. l.words.tree w m s sound e)
 word_stands l (word.Devices w) m sound = tt
-word_stands l (word.Console w) m sound = tt
+word_stands l (word.Console w) m sound = keeps m (console_entry w m) (λ s e. l.console.console w m s sound e)
 word_stands l (word.Parsing w) m sound = tt
 word_stands l (word.Compiling w) m sound = tt
 

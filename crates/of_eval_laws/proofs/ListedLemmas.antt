@@ -5,7 +5,7 @@ use Rattle.of_stacks.specs.declared.throws.Throw.{Throw}
 use Rattle.of_stacks.specs.Throws.{ThrowsListed, is_listed, listed_numbers, invalid_argument}
 use Rattle.of_stacks.specs.Order.{refused_if}
 use Rattle.of_fcodes.specs.declared.words.Word.{Word}
-use Rattle.of_fcodes.specs.declared.words.Word.TheVariants.{Primitive, Printing, Heap, Properties, Tree}
+use Rattle.of_fcodes.specs.declared.words.Word.TheVariants.{Primitive, Printing, Heap, Properties, Tree, Console}
 use Rattle.of_fcodes.specs.declared.words.HeapWord.TheVariants.{AllocMem}
 use Rattle.of_fcodes.specs.declared.words.PrintingWord.{PrintingWord}
 use Rattle.of_fcodes.specs.declared.words.PrintingWord.TheVariants as printing
@@ -19,6 +19,7 @@ use Rattle.of_prims.specs.Listed.{ThrowListedNumbers}
 use Rattle.of_prims.specs.Prims.{prim_entry}
 use Rattle.of_instances.specs.Listed.{ThrowListedNumbers as TreeWordsListed}
 use Rattle.of_board.specs.declared.board.Board.{Board}
+use Rattle.of_words.specs.Listed.{ThrowListedNumbers as ConsoleWordsListed}
 use Rattle.of_words.specs.declared.printing.Signs.{Signs}
 use Rattle.of_words.specs.declared.printing.Signs.TheVariants.{Signed, Unsigned}
 use Rattle.of_words.specs.Words.{number_entry, right_entry, dot_stack_entry, emit_entry, type_read, type_entry}
@@ -94,14 +95,16 @@ with : (m : Board) (r : Result Data Throw) → ThrowsListed r → ThrowsListed (
 with m (Ok d) h = tt
 with m (Err t) h = h
 
-words : ThrowListedNumbers → TreeWordsListed → (w : Word) (m : Board) → ThrowsListed (word_entry w m)
+words : ThrowListedNumbers → TreeWordsListed → ConsoleWordsListed → (w : Word) (m : Board)
+    → ThrowsListed (word_entry w m)
 unfolding is_listed listed_numbers
-words law tree (Primitive w) m = with m (prim_entry w (data_in m)) (law.words w (data_in m))
-words law tree (Printing w) m = prints law w m
-words law tree (Heap AllocMem) m = allocates law m.stack m
-words law tree (Properties w) m = tree.properties w m
-words law tree (Tree w) m = tree.tree w m
-words law tree _ m = refl
+words law tree console (Primitive w) m = with m (prim_entry w (data_in m)) (law.words w (data_in m))
+words law tree console (Printing w) m = prints law w m
+words law tree console (Heap AllocMem) m = allocates law m.stack m
+words law tree console (Properties w) m = tree.properties w m
+words law tree console (Tree w) m = tree.tree w m
+words law tree console (Console w) m = console.console w m
+words law tree console _ m = refl
 
-pub words_throw_listed : ThrowListedNumbers → TreeWordsListed → WordsThrowListed
-words_throw_listed law tree = record { words = words law tree }
+pub words_throw_listed : ThrowListedNumbers → TreeWordsListed → ConsoleWordsListed → WordsThrowListed
+words_throw_listed law tree console = record { words = words law tree console }

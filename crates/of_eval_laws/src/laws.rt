@@ -29,6 +29,7 @@ use of_memory::{
 };
 use of_nodes::{properties_keep_the_space, stored_stays};
 use of_prims::prims_throw_listed;
+use of_words::{console_words_keep_the_space, console_words_throw_listed};
 
 /// What the ordinary words throw has one of the numbers that words raise of themselves.
 #[tactic(auto, using(crate::proofs::ListedLemmas::words_throw_listed))]
@@ -37,6 +38,7 @@ pub fn words_throw_listed()
 {
     prims_throw_listed();
     tree_words_throw_listed();
+    console_words_throw_listed();
 }
 
 /// What a token or an item throws has one of these numbers, too, but for -22 where `b(;)` ends a definition, and for
@@ -107,6 +109,7 @@ pub fn images_stand()
     stored_stays();
     instances_keep_the_space();
     words_keep_the_space();
+    console_words_keep_the_space();
     images_stay_asked();
 }
 
@@ -134,6 +137,7 @@ pub fn space_stays_sound()
     stored_stays();
     instances_keep_the_space();
     words_keep_the_space();
+    console_words_keep_the_space();
     images_stay_asked();
 }
 
@@ -154,6 +158,7 @@ pub fn images_run()
     stored_stays();
     instances_keep_the_space();
     words_keep_the_space();
+    console_words_keep_the_space();
     images_stay_asked();
 }
 
@@ -174,6 +179,7 @@ pub fn images_are_readings()
     stored_stays();
     instances_keep_the_space();
     words_keep_the_space();
+    console_words_keep_the_space();
     images_stay_asked();
 }
 

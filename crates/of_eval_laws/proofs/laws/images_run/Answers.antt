@@ -17,6 +17,7 @@ returns c =
       stored = c.stored_stays.ensures;
       instances = c.instances_keep_the_space.ensures;
       words = c.words_keep_the_space.ensures;
+      console = c.console_words_keep_the_space.ensures;
       asking = c.images_stay_asked.ensures;
     } in
     record { cells = images_run l Coding; bodies = images_run l Definitions }

@@ -15,6 +15,7 @@ returns c =
       stored = c.stored_stays.ensures;
       instances = c.instances_keep_the_space.ensures;
       words = c.words_keep_the_space.ensures;
+      console = c.console_words_keep_the_space.ensures;
       asking = c.images_stay_asked.ensures;
     } in
     images_stand l
