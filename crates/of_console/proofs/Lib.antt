@@ -1,7 +1,9 @@
 -- Groups: digits in groups of four. Listed: a line for each property. NodeTexts: each node of the tree, in preorder.
+-- ChildLists: a line for each child.
 -- Shown, Named: the laws.
 mod Groups
 mod Listed
 mod NodeTexts
+mod ChildLists
 mod Shown
 mod Named

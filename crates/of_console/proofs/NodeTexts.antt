@@ -17,14 +17,17 @@ use Rattle.of_nodes.specs.Nodes.{phandle_of, properties_in}
 use Rattle.of_nodes.specs.Paths.{path_found, path_in}
 use Rattle.of_nodes.specs.Preorder.{AfterRuns, numbers_of}
 use Rattle.of_nodes.specs.Tree.{tree_of}
-use Rattle.of_console.specs.Texts.{node_shown, node_text, nodes_shown, properties_shown, properties_text, tree_text}
+use Rattle.of_console.specs.Texts.{detail_shown, node_shown, node_text, nodes_shown, properties_shown, properties_text}
+use Rattle.of_console.specs.Texts.{pwd_text, walk_text}
+use Rattle.of_console.specs.declared.tree.Detail.{Detail}
+use Rattle.of_console.specs.declared.tree.Detail.TheVariants.{Path, Properties}
 
 -- ---- a node
 
 joined_at : (m : DataSpace) (ns : List Node) (o : Option ℕ) (path text : List ℕ)
     → numbered {A = List ℕ} o (λ i. Ok (path_in m ns i)) ≡ Ok path
     → numbered {A = List ℕ} o (λ i. Ok (properties_shown m (properties_in ns i))) ≡ Ok text
-    → numbered {A = List ℕ} o (λ i. Ok (node_shown m ns i)) ≡ Ok (path ++ 10 ∷ text)
+    → numbered {A = List ℕ} o (λ i. Ok (node_shown Properties m ns i)) ≡ Ok (path ++ 10 ∷ text)
 joined_at m ns None path text p t = absurd cc
 joined_at m ns (Some i) path text p t =
     let same_path : path_in m ns i ≡ path = cc in
@@ -33,8 +36,24 @@ joined_at m ns (Some i) path text p t =
     ∙ ap (λ x. Ok (path ++ 10 ∷ x)) same_text
 
 pub joined : (m : DataSpace) (ns : List Node) (ph : Phandle) (path text : List ℕ) → path_found m ns ph ≡ Ok path
-    → properties_text m ns ph ≡ Ok text → node_text m ns ph ≡ Ok (path ++ 10 ∷ text)
+    → properties_text m ns ph ≡ Ok text → node_text Properties m ns ph ≡ Ok (path ++ 10 ∷ text)
 joined m ns ph path text p t = joined_at m ns (number_of (length ns) ph) path text p t
+
+line_at : (m : DataSpace) (ns : List Node) (o : Option ℕ) (path : List ℕ)
+    → numbered {A = List ℕ} o (λ i. Ok (path_in m ns i)) ≡ Ok path
+    → numbered {A = List ℕ} o (λ i. Ok (path_in m ns i ++ 10 ∷ [])) ≡ Ok (path ++ 10 ∷ [])
+line_at m ns None path p = absurd cc
+line_at m ns (Some i) path p =
+    let same_path : path_in m ns i ≡ path = cc in
+    ap (λ x. Ok (x ++ 10 ∷ [])) same_path
+
+pub joined_path : (m : DataSpace) (ns : List Node) (ph : Phandle) (path : List ℕ) → path_found m ns ph ≡ Ok path
+    → node_text Path m ns ph ≡ Ok (path ++ 10 ∷ [])
+joined_path m ns ph path p = line_at m ns (number_of (length ns) ph) path p
+
+pub line_joined : (m : DataSpace) (ns : List Node) (ph : Phandle) (path : List ℕ) → path_found m ns ph ≡ Ok path
+    → pwd_text m ns ph ≡ Ok (path ++ 10 ∷ [])
+line_joined m ns ph path p = line_at m ns (number_of (length ns) ph) path p
 
 -- ---- the nodes in preorder
 
@@ -44,23 +63,23 @@ first_of [] = None
 first_of (i ∷ is) = Some i
 
 -- Some nodes of the tree are shown, and the first of the others is at hand.
-pub record IsAt (m : DataSpace) (ns : List Node) (left : Option Phandle) (text : List ℕ) : Type 0 where
+pub record IsAt (d : Detail) (m : DataSpace) (ns : List Node) (left : Option Phandle) (text : List ℕ) : Type 0 where
   pub before : List ℕ
   pub others : List ℕ
   pub all : numbers_of (tree_of ns) ≡ before ++ others
   pub next : left ≡ phandle_in (first_of others)
-  pub shown : text ≡ nodes_shown m ns before
+  pub shown : text ≡ nodes_shown d m ns before
 
-nodes_joined : (m : DataSpace) (ns : List Node) (is js : List ℕ)
-    → nodes_shown m ns (is ++ js) ≡ nodes_shown m ns is ++ nodes_shown m ns js
-nodes_joined m ns [] js = refl
-nodes_joined m ns (i ∷ is) js =
-    ap (λ x. node_shown m ns i ++ x) (nodes_joined m ns is js)
-    ∙ sym (append_assoc (node_shown m ns i) (nodes_shown m ns is) (nodes_shown m ns js))
+nodes_joined : (d : Detail) (m : DataSpace) (ns : List Node) (is js : List ℕ)
+    → nodes_shown d m ns (is ++ js) ≡ nodes_shown d m ns is ++ nodes_shown d m ns js
+nodes_joined d m ns [] js = refl
+nodes_joined d m ns (i ∷ is) js =
+    ap (λ x. node_shown d m ns i ++ x) (nodes_joined d m ns is js)
+    ∙ sym (append_assoc (node_shown d m ns i) (nodes_shown d m ns is) (nodes_shown d m ns js))
 
 -- ---- a node by its phandle
 
-number_is : (count i : ℕ) → number_of count (phandle_of i) ≡ (if nat_lt i count then Some i else None)
+pub number_is : (count i : ℕ) → number_of count (phandle_of i) ≡ (if nat_lt i count then Some i else None)
 number_is count i =
     let x = 0xD000_0000 + 4 * i in
     let low : nat_lt x 0xD000_0000 ≡ false = le-ltb x 0xD000_0000 (omega arith) in
@@ -80,121 +99,126 @@ found_at ns i f g x e =
     ap (λ o. numbered o g) (number_is (length ns) i)
     ∙ found_if (nat_lt i (length ns)) i f g x (sym (ap (λ o. numbered o f) (number_is (length ns) i)) ∙ e)
 
-shown_at : (m : DataSpace) (ns : List Node) (i : ℕ) (o : Option Phandle) → after_found ns (phandle_of i) ≡ Ok o
-    → node_text m ns (phandle_of i) ≡ Ok (node_shown m ns i)
-shown_at m ns i o e =
+shown_at : (d : Detail) (m : DataSpace) (ns : List Node) (i : ℕ) (o : Option Phandle)
+    → after_found ns (phandle_of i) ≡ Ok o
+    → node_text d m ns (phandle_of i) ≡ Ok (node_shown d m ns i)
+shown_at d m ns i o e =
     found_at ns i (λ k. Ok (phandle_in (option_or (child_from 1 (drop 1 ns) k) (behind_in ns k k))))
-    (λ k. Ok (node_shown m ns k)) o e
+    (λ k. Ok (node_shown d m ns k)) o e
 
 -- ---- from node to node
 
 -- The node at hand has a text and a next one, and the text is one of the tree's.
-pub record GoesOn (m : DataSpace) (ns : List Node) (ph : Phandle) (text : List ℕ) : Type 0 where
+pub record GoesOn (d : Detail) (m : DataSpace) (ns : List Node) (ph : Phandle) (text : List ℕ) : Type 0 where
   pub more : List ℕ
   pub left : Option Phandle
-  pub has : node_text m ns ph ≡ Ok more
+  pub has : node_text d m ns ph ≡ Ok more
   pub goes : after_found ns ph ≡ Ok left
-  pub at : IsAt m ns left (text ++ more)
+  pub at : IsAt d m ns left (text ++ more)
   pub longer : length text < length (text ++ more)
-  pub within : length (text ++ more) ≤ length (tree_text m ns)
+  pub within : length (text ++ more) ≤ length (walk_text d m ns)
 
-is_within : (m : DataSpace) (ns : List Node) (before others : List ℕ) → numbers_of (tree_of ns) ≡ before ++ others
-    → length (nodes_shown m ns before) ≤ length (tree_text m ns)
-is_within m ns before others e =
-    let whole : tree_text m ns ≡ nodes_shown m ns before ++ nodes_shown m ns others =
-    ap (nodes_shown m ns) e ∙ nodes_joined m ns before others in
-    let sum : length (tree_text m ns) ≡ length (nodes_shown m ns before) + length (nodes_shown m ns others) =
-    ap length whole ∙ length-append (nodes_shown m ns before) (nodes_shown m ns others) in
+is_within : (d : Detail) (m : DataSpace) (ns : List Node) (before others : List ℕ)
+    → numbers_of (tree_of ns) ≡ before ++ others
+    → length (nodes_shown d m ns before) ≤ length (walk_text d m ns)
+is_within d m ns before others e =
+    let whole : walk_text d m ns ≡ nodes_shown d m ns before ++ nodes_shown d m ns others =
+    ap (nodes_shown d m ns) e ∙ nodes_joined d m ns before others in
+    let sum : length (walk_text d m ns) ≡ length (nodes_shown d m ns before) + length (nodes_shown d m ns others) =
+    ap length whole ∙ length-append (nodes_shown d m ns before) (nodes_shown d m ns others) in
     omega (arith, sum)
 
-goes_from : (m : DataSpace) (ns : List Node) (i : ℕ) (before others : List ℕ) (text : List ℕ) (left : Option Phandle)
-    → numbers_of (tree_of ns) ≡ before ++ i ∷ others → text ≡ nodes_shown m ns before
+goes_from : (d : Detail) (m : DataSpace) (ns : List Node) (i : ℕ) (before others : List ℕ) (text : List ℕ)
+    (left : Option Phandle) → numbers_of (tree_of ns) ≡ before ++ i ∷ others → text ≡ nodes_shown d m ns before
     → after_found ns (phandle_of i) ≡ Ok left → left ≡ phandle_in (first_of others)
-    → GoesOn m ns (phandle_of i) text
-goes_from m ns i before others text left all shown goes next =
-    let more = node_shown m ns i in
+    → GoesOn d m ns (phandle_of i) text
+goes_from d m ns i before others text left all shown goes next =
+    let more = node_shown d m ns i in
     let now : numbers_of (tree_of ns) ≡ (before ++ i ∷ []) ++ others =
     all ∙ sym (append_assoc before (i ∷ []) others) in
-    let new : text ++ more ≡ nodes_shown m ns (before ++ i ∷ []) =
-    ap (λ t. t ++ more) shown ∙ ap (λ t. nodes_shown m ns before ++ t) (sym (append-nil more))
-    ∙ sym (nodes_joined m ns before (i ∷ [])) in
+    let new : text ++ more ≡ nodes_shown d m ns (before ++ i ∷ []) =
+    ap (λ t. t ++ more) shown ∙ ap (λ t. nodes_shown d m ns before ++ t) (sym (append-nil more))
+    ∙ sym (nodes_joined d m ns before (i ∷ [])) in
     let path = path_in m ns i in
-    let line = properties_shown m (properties_in ns i) in
+    let line = detail_shown d m ns i in
     let size : length more ≡ length path + length (10 ∷ line) = length-append path (10 ∷ line) in
     let sum : length (text ++ more) ≡ length text + length more = length-append text more in
-    let bound : length (nodes_shown m ns (before ++ i ∷ [])) ≤ length (tree_text m ns) =
-    is_within m ns (before ++ i ∷ []) others now in
+    let bound : length (nodes_shown d m ns (before ++ i ∷ [])) ≤ length (walk_text d m ns) =
+    is_within d m ns (before ++ i ∷ []) others now in
     record {
       more = more;
       left = left;
-      has = shown_at m ns i left goes;
+      has = shown_at d m ns i left goes;
       goes = goes;
       at = record { before = before ++ i ∷ []; others = others; all = now; next = next; shown = new };
       longer = omega (arith, size, sum);
       within = omega (arith, bound, ap length new);
     }
 
-goes_by : (m : DataSpace) (ns : List Node) (ph : Phandle) (before others text : List ℕ) → AfterRuns → AreNodes ns
-    → numbers_of (tree_of ns) ≡ before ++ others → Some ph ≡ phandle_in (first_of others)
-    → text ≡ nodes_shown m ns before → GoesOn m ns ph text
-goes_by m ns ph before [] text runs nodes all next shown = absurd cc
-goes_by m ns ph before (i ∷ []) text runs nodes all next shown =
+goes_by : (d : Detail) (m : DataSpace) (ns : List Node) (ph : Phandle) (before others text : List ℕ)
+    → AfterRuns → AreNodes ns → numbers_of (tree_of ns) ≡ before ++ others → Some ph ≡ phandle_in (first_of others)
+    → text ≡ nodes_shown d m ns before → GoesOn d m ns ph text
+goes_by d m ns ph before [] text runs nodes all next shown = absurd cc
+goes_by d m ns ph before (i ∷ []) text runs nodes all next shown =
     let same : ph ≡ phandle_of i = cc in
-    subst (λ x. GoesOn m ns x text) (sym same)
-    (goes_from m ns i before [] text None all shown (runs.last ns before i nodes all) refl)
-goes_by m ns ph before (i ∷ j ∷ others) text runs nodes all next shown =
+    subst (λ x. GoesOn d m ns x text) (sym same)
+    (goes_from d m ns i before [] text None all shown (runs.last ns before i nodes all) refl)
+goes_by d m ns ph before (i ∷ j ∷ others) text runs nodes all next shown =
     let same : ph ≡ phandle_of i = cc in
-    subst (λ x. GoesOn m ns x text) (sym same)
-    (goes_from m ns i before (j ∷ others) text (Some (phandle_of j)) all shown
+    subst (λ x. GoesOn d m ns x text) (sym same)
+    (goes_from d m ns i before (j ∷ others) text (Some (phandle_of j)) all shown
     (runs.next ns before others i j nodes all) refl)
 
-pub begins : (m : DataSpace) (ns : List Node) → AfterRuns → AreNodes ns → IsAt m ns (Some (phandle_of 0)) []
-begins m ns runs nodes =
+pub begins : (d : Detail) (m : DataSpace) (ns : List Node) → AfterRuns → AreNodes ns
+    → IsAt d m ns (Some (phandle_of 0)) []
+begins d m ns runs nodes =
     let first = runs.first ns nodes in
     record { before = []; others = 0 ∷ first.0; all = first.1; next = refl; shown = refl }
 
-pub goes_on : (m : DataSpace) (ns : List Node) (ph : Phandle) (text : List ℕ) → AfterRuns → AreNodes ns
-    → IsAt m ns (Some ph) text → GoesOn m ns ph text
-goes_on m ns ph text runs nodes at = goes_by m ns ph at.before at.others text runs nodes at.all at.next at.shown
+pub goes_on : (d : Detail) (m : DataSpace) (ns : List Node) (ph : Phandle) (text : List ℕ) → AfterRuns → AreNodes ns
+    → IsAt d m ns (Some ph) text → GoesOn d m ns ph text
+goes_on d m ns ph text runs nodes at = goes_by d m ns ph at.before at.others text runs nodes at.all at.next at.shown
 
-all_by : (m : DataSpace) (ns : List Node) (before others text : List ℕ) → numbers_of (tree_of ns) ≡ before ++ others
-    → ◌≡◌ {A = Option Phandle} None (phandle_in (first_of others)) → text ≡ nodes_shown m ns before
-    → text ≡ tree_text m ns
-all_by m ns before [] text all next shown = shown ∙ ap (nodes_shown m ns) (sym (all ∙ append-nil before))
-all_by m ns before (i ∷ others) text all next shown = absurd cc
+all_by : (d : Detail) (m : DataSpace) (ns : List Node) (before others text : List ℕ)
+    → numbers_of (tree_of ns) ≡ before ++ others
+    → ◌≡◌ {A = Option Phandle} None (phandle_in (first_of others)) → text ≡ nodes_shown d m ns before
+    → text ≡ walk_text d m ns
+all_by d m ns before [] text all next shown = shown ∙ ap (nodes_shown d m ns) (sym (all ∙ append-nil before))
+all_by d m ns before (i ∷ others) text all next shown = absurd cc
 
-pub all_are : (m : DataSpace) (ns : List Node) (text : List ℕ) → IsAt m ns None text → text ≡ tree_text m ns
-all_are m ns text at = all_by m ns at.before at.others text at.all at.next at.shown
+pub all_are : (d : Detail) (m : DataSpace) (ns : List Node) (text : List ℕ) → IsAt d m ns None text
+    → text ≡ walk_text d m ns
+all_are d m ns text at = all_by d m ns at.before at.others text at.all at.next at.shown
 
 -- ---- a turn of the walk
 
 -- what was appended for the node at hand
-abbrev pub IsPushed : DataSpace → List Node → Phandle → List ℕ → List ℕ → Type 0
-IsPushed m ns ph text new = (t : List ℕ) × (node_text m ns ph ≡ Ok t) × (new ≡ text ++ t)
+abbrev pub IsPushed : Detail → DataSpace → List Node → Phandle → List ℕ → List ℕ → Type 0
+IsPushed d m ns ph text new = (t : List ℕ) × (node_text d m ns ph ≡ Ok t) × (new ≡ text ++ t)
 
 same_Ok : {A : Type 0} {x y : A} → ◌≡◌ {A = Result A NodeFault} (Ok x) (Ok y) → x ≡ y
 same_Ok e = cc
 
-is_pushed : (m : DataSpace) (ns : List Node) (ph : Phandle) (text new : List ℕ) (goes : GoesOn m ns ph text)
-    → IsPushed m ns ph text new → new ≡ text ++ goes.more
-is_pushed m ns ph text new goes pushed = pushed.2 ∙ ap (λ t. text ++ t) (same_Ok (sym pushed.1 ∙ goes.has))
+is_pushed : (d : Detail) (m : DataSpace) (ns : List Node) (ph : Phandle) (text new : List ℕ)
+    (goes : GoesOn d m ns ph text) → IsPushed d m ns ph text new → new ≡ text ++ goes.more
+is_pushed d m ns ph text new goes pushed = pushed.2 ∙ ap (λ t. text ++ t) (same_Ok (sym pushed.1 ∙ goes.has))
 
-pub moves : (m : DataSpace) (ns : List Node) (ph : Phandle) (left : Option Phandle) (text new : List ℕ)
-    → GoesOn m ns ph text → IsPushed m ns ph text new → after_found ns ph ≡ Ok left → IsAt m ns left new
-moves m ns ph left text new goes pushed found =
-    subst (λ x. IsAt m ns left x) (sym (is_pushed m ns ph text new goes pushed))
-    (subst (λ x. IsAt m ns x (text ++ goes.more)) (same_Ok (sym goes.goes ∙ found)) goes.at)
+pub moves : (d : Detail) (m : DataSpace) (ns : List Node) (ph : Phandle) (left : Option Phandle) (text new : List ℕ)
+    → GoesOn d m ns ph text → IsPushed d m ns ph text new → after_found ns ph ≡ Ok left → IsAt d m ns left new
+moves d m ns ph left text new goes pushed found =
+    subst (λ x. IsAt d m ns left x) (sym (is_pushed d m ns ph text new goes pushed))
+    (subst (λ x. IsAt d m ns x (text ++ goes.more)) (same_Ok (sym goes.goes ∙ found)) goes.at)
 
-pub smaller : (m : DataSpace) (ns : List Node) (ph : Phandle) (text new : List ℕ) → GoesOn m ns ph text
-    → IsPushed m ns ph text new
-    → length (tree_text m ns) - length new < length (tree_text m ns) - length text
-smaller m ns ph text new goes pushed =
-    let same = ap length (is_pushed m ns ph text new goes pushed) in
+pub smaller : (d : Detail) (m : DataSpace) (ns : List Node) (ph : Phandle) (text new : List ℕ) → GoesOn d m ns ph text
+    → IsPushed d m ns ph text new
+    → length (walk_text d m ns) - length new < length (walk_text d m ns) - length text
+smaller d m ns ph text new goes pushed =
+    let same = ap length (is_pushed d m ns ph text new goes pushed) in
     omega (arith, same, goes.longer, goes.within)
 
 -- the node is there, so an error is for memory
-pub only_memory : (m : DataSpace) (ns : List Node) (ph : Phandle) (text : List ℕ) (e : NodeFault)
-    → GoesOn m ns ph text → (e ≡ NoMemory) ⊎ (node_text m ns ph ≡ Err e) → e ≡ NoMemory
-only_memory m ns ph text e goes (inl h) = h
-only_memory m ns ph text e goes (inr h) =
+pub only_memory : (d : Detail) (m : DataSpace) (ns : List Node) (ph : Phandle) (text : List ℕ) (e : NodeFault)
+    → GoesOn d m ns ph text → (e ≡ NoMemory) ⊎ (node_text d m ns ph ≡ Err e) → e ≡ NoMemory
+only_memory d m ns ph text e goes (inl h) = h
+only_memory d m ns ph text e goes (inr h) =
     let both : ◌≡◌ {A = Result (List ℕ) NodeFault} (Ok goes.more) (Err e) = sym goes.has ∙ h in absurd cc

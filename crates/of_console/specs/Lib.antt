@@ -1,3 +1,4 @@
 pub mod Values
 pub mod Texts
+pub mod Children
 pub mod Laws

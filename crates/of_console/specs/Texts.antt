@@ -11,6 +11,8 @@ use Rattle.of_nodes.specs.Preorder.{numbers_of}
 use Rattle.of_nodes.specs.Properties.{bytes_at}
 use Rattle.of_nodes.specs.Tree.{tree_of}
 use Rattle.of_console.specs.Values.{behind_name}
+use Rattle.of_console.specs.declared.tree.Detail.{Detail}
+use Rattle.of_console.specs.declared.tree.Detail.TheVariants.{Path, Properties}
 
 -- a property as a line: its name and its value
 abbrev pub property_line : DataSpace → Property → List ℕ
@@ -25,18 +27,35 @@ properties_shown m (e ∷ es) = property_line m e.1 ++ properties_shown m es
 abbrev pub properties_text : DataSpace → List Node → Phandle → Result (List ℕ) NodeFault
 properties_text m ns ph = by_phandle ns ph (λ i. Ok (properties_shown m (properties_in ns i)))
 
--- node i: its path as a line, and its properties behind it
-abbrev pub node_shown : DataSpace → List Node → ℕ → List ℕ
-node_shown m ns i = path_in m ns i ++ 10 ∷ properties_shown m (properties_in ns i)
+-- the path of the node with a phandle, as a line
+abbrev pub pwd_text : DataSpace → List Node → Phandle → Result (List ℕ) NodeFault
+pwd_text m ns ph = by_phandle ns ph (λ i. Ok (path_in m ns i ++ 10 ∷ []))
+
+-- what is shown of node i behind its path
+abbrev pub detail_shown : Detail → DataSpace → List Node → ℕ → List ℕ
+detail_shown Path m ns i = []
+detail_shown Properties m ns i = properties_shown m (properties_in ns i)
+
+-- node i: its path as a line, and the detail behind it
+abbrev pub node_shown : Detail → DataSpace → List Node → ℕ → List ℕ
+node_shown d m ns i = path_in m ns i ++ 10 ∷ detail_shown d m ns i
 
 -- the node with a phandle
-abbrev pub node_text : DataSpace → List Node → Phandle → Result (List ℕ) NodeFault
-node_text m ns ph = by_phandle ns ph (λ i. Ok (node_shown m ns i))
+abbrev pub node_text : Detail → DataSpace → List Node → Phandle → Result (List ℕ) NodeFault
+node_text d m ns ph = by_phandle ns ph (λ i. Ok (node_shown d m ns i))
 
-abbrev pub nodes_shown : DataSpace → List Node → List ℕ → List ℕ
-nodes_shown m ns [] = []
-nodes_shown m ns (i ∷ is) = node_shown m ns i ++ nodes_shown m ns is
+abbrev pub nodes_shown : Detail → DataSpace → List Node → List ℕ → List ℕ
+nodes_shown d m ns [] = []
+nodes_shown d m ns (i ∷ is) = node_shown d m ns i ++ nodes_shown d m ns is
 
 -- each node of the tree, in preorder
+abbrev pub walk_text : Detail → DataSpace → List Node → List ℕ
+walk_text d m ns = nodes_shown d m ns (numbers_of (tree_of ns))
+
+-- with its properties
 abbrev pub tree_text : DataSpace → List Node → List ℕ
-tree_text m ns = nodes_shown m ns (numbers_of (tree_of ns))
+tree_text m ns = walk_text Properties m ns
+
+-- by its path alone
+abbrev pub devs_text : DataSpace → List Node → List ℕ
+devs_text m ns = walk_text Path m ns

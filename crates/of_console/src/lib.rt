@@ -1,11 +1,13 @@
 //! What the console prints of the device tree: the properties of a node, and the whole tree.
 #![tactic(auto)]
 
+mod children;
 mod laws;
 mod properties;
 mod tree;
 mod values;
 
-pub use laws::{properties_are_listed, values_are_shown};
+pub use children::ls_text;
+pub use laws::{children_are_listed, properties_are_listed, values_are_shown};
 pub use properties::properties_text;
-pub use tree::tree_text;
+pub use tree::{devs_text, pwd_text, tree_text};

@@ -46,7 +46,7 @@ fn is_text(value: &[u8]) -> bool
 }
 
 /// Appends bytes in hexadecimal digits.
-fn push_digits(alloc: Global, out: &mut Vec<u8>, bytes: &[u8]) -> Result<(), AllocError>
+pub(crate) fn push_digits(alloc: Global, out: &mut Vec<u8>, bytes: &[u8]) -> Result<(), AllocError>
     ensures { OnOk result (out.new.items ≡ out.old.items ++ encode_lower bytes.now) }
 {
     let digits = encode(alloc, bytes)?;
