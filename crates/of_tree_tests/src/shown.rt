@@ -4,7 +4,10 @@ use crate::calls::TreeRows;
 use crate::rows::{Rows, check};
 use hex::decode;
 use of_cells::Cell;
-use of_console::{properties_are_listed, properties_text, tree_text, values_are_shown};
+use of_console::{
+    children_are_listed, devs_text, ls_text, properties_are_listed, properties_text, pwd_text,
+    tree_text, values_are_shown,
+};
 use of_memory::Memory;
 use of_nodes::{NodeFault, Phandle, Tree};
 use std::alloc::{AllocError, Global};
@@ -15,6 +18,7 @@ const SLOT: Phandle = Phandle(Cell(0xd000_0008));
 
 #[test]
 fn laws_hold() {
+    children_are_listed();
     properties_are_listed();
     values_are_shown();
 }
@@ -95,13 +99,27 @@ fn slot_shown(alloc: Global, rows: &TreeRows) -> Result<String, Fail> {
     Ok(on_one_line(alloc, &text)?)
 }
 
+/// The path of a node, its children or the paths of all nodes in print, as a call says.
+fn found_shown(alloc: Global, rows: &TreeRows, call: &str) -> Result<String, Fail> {
+    let TreeRows { tree, memory } = rows;
+    let (word, digits) = call.split_once(' ').unwrap_or((call, ""));
+    let node = Phandle(Cell(u32::from_str_radix(digits.trim_end(), 16).unwrap_or(0)));
+    let text = match word {
+        "pwd" => pwd_text(memory, tree, node)?,
+        "ls" => ls_text(alloc, memory, tree, node)?,
+        _ => devs_text(alloc, memory, tree)?,
+    };
+    Ok(on_one_line(alloc, &text)?)
+}
+
 /// A tree in print.
 fn tree_shown(alloc: Global, rows: &TreeRows) -> Result<String, Fail> {
     let text = tree_text(alloc, &rows.memory, &rows.tree)?;
     Ok(on_one_line(alloc, &text)?)
 }
 
-/// Calls on a tree, and what is in print of it: `slot` stands for the properties of `/slot`, `tree` for all.
+/// Calls on a tree, and what is in print of it: `slot` stands for the properties of `/slot`, `tree` for all, `devs` for
+/// all paths, `pwd` and `ls` for the path and the children of a node.
 #[derive(Drop)]
 struct PrintRows {
     rows: TreeRows,
@@ -121,6 +139,9 @@ impl Rows for PrintRows {
         match call {
             "slot " => slot_shown(alloc, &self.rows),
             "tree " => tree_shown(alloc, &self.rows),
+            _ if call.starts_with("pwd ") || call.starts_with("ls ") || call == "devs " => {
+                found_shown(alloc, &self.rows, call)
+            }
             _ => self.rows.given(alloc, call),
         }
     }
@@ -142,11 +163,13 @@ fn properties_stand_in_order(rt: HostRuntime) -> Result<(), Fail> {
 }
 
 #[test]
-fn no_node_has_no_properties(rt: HostRuntime) -> Result<(), Fail> {
+fn no_node_has_no_text(rt: HostRuntime) -> Result<(), Fail> {
     let mut memory = Memory::new(rt.alloc())?;
     let tree = Tree::new(rt.alloc(), &mut memory)?;
-    let none = properties_text(rt.alloc(), &memory, &tree, Phandle(Cell(0xd000_000c)));
-    assert!(rt; none.is_err());
+    let none = Phandle(Cell(0xd000_000c));
+    assert!(rt; properties_text(rt.alloc(), &memory, &tree, none).is_err());
+    assert!(rt; pwd_text(&memory, &tree, none).is_err());
+    assert!(rt; ls_text(rt.alloc(), &memory, &tree, none).is_err());
     Ok(())
 }
 
@@ -165,4 +188,32 @@ tree = /;name \"board\";/packages;name \"packages\";/packages/disk;name \"disk\"
 #[test]
 fn trees_are_shown(rt: HostRuntime) -> Result<(), Fail> {
     check::<PrintRows, _>(&rt, rt.alloc(), &[TREES])
+}
+
+/// The first nodes, and behind them those below `/packages` and `/slot`: one without a name, and one with a unit
+/// address.
+const LISTED: &str = "\
+pwd d0000000 = /;
+pwd d0000008 = /slot;
+ls d0000000 = d0000004 packages;d0000008 slot;
+ls d0000004 = 
+devs = /;/packages;/slot;
+add_node d0000008 = d000000c
+set_property d000000c name card~ = done
+set_property d000000c reg #2,1,3 = done
+add_node d0000004 = d0000010
+add_node d000000c = d0000014
+add_node d0000008 = d0000018
+set_property d0000018 name disk~ = done
+pwd d000000c = /slot/card@2,1;
+pwd d0000014 = /slot/card@2,1/;
+ls d0000008 = d000000c card@2,1;d0000018 disk;
+ls d000000c = d0000014 ;
+ls d0000018 = 
+devs = /;/packages;/packages/;/slot;/slot/card@2,1;/slot/card@2,1/;/slot/disk;
+";
+
+#[test]
+fn nodes_are_listed(rt: HostRuntime) -> Result<(), Fail> {
+    check::<PrintRows, _>(&rt, rt.alloc(), &[LISTED])
 }
