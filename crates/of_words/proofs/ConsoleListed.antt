@@ -1,5 +1,6 @@
 -- What the console's words throw has a listed number, word by word.
-use Rattle.std.proofs.Common.{Bool, true, false, List, [], ◌∷◌, Result, Ok, Err, length, nat_lt, eqb, refl}
+use Rattle.std.proofs.Common.{ℕ, Bool, true, false, List, [], ◌∷◌, Option, Some, None, Result, Ok, Err, length, nat_lt}
+use Rattle.std.proofs.Common.{eqb, refl}
 use Rattle.of_cells.specs.declared.cells.Cell.{Cell}
 use Rattle.of_cells.specs.Division.{scaled_quotient, scaled_remainder}
 use Rattle.of_cells.specs.Doubles.{extended}
@@ -20,9 +21,13 @@ use Rattle.of_calc.specs.Arithmetic.{arithmetic_entry, with_double}
 use Rattle.of_calc.specs.Listed.{ThrowListedNumbers as CalculationsThrowListed}
 use Rattle.of_prims.specs.Data.{cell_at, number}
 use Rattle.of_prims.specs.Listed.{ThrowListedNumbers as PrimsThrowListed}
+use Rattle.of_nodes.specs.declared.fault.NodeFault.{NodeFault}
+use Rattle.of_nodes.specs.declared.phandles.Phandle.{Phandle}
+use Rattle.of_console.specs.Children.{ls_text}
+use Rattle.of_console.specs.Texts.{properties_text, pwd_text}
 use Rattle.of_board.specs.declared.board.Board.{Board}
 use Rattle.of_words.specs.ConsoleWords.{allot_entry, console_entry, debug_cell, decreased, doubled, erase_entry}
-use Rattle.of_words.specs.ConsoleWords.{increased}
+use Rattle.of_words.specs.ConsoleWords.{increased, package_shown, text_shown}
 use Rattle.of_words.specs.ConsoleWords.{on_board, scaled, scaled_parts, space_left, spaces_entry}
 use Rattle.of_words.specs.Listed.{ThrowListedNumbers}
 
@@ -95,6 +100,17 @@ calculates : CalculationsThrowListed → (w : ArithmeticWord) (m : Board)
     → ThrowsListed (on_board m (arithmetic_entry w m.stack))
 calculates calc w m = stacks m (arithmetic_entry w m.stack) (calc.arithmetic w m.stack)
 
+shows_text : (r : Result (List ℕ) NodeFault) (m : Board) → ThrowsListed (text_shown r m)
+unfolding is_listed listed_numbers
+shows_text (Ok text) m = tt
+shows_text (Err fault) m = refl
+
+shows : (text : Phandle → Result (List ℕ) NodeFault) (o : Option Phandle) (m : Board)
+    → ThrowsListed (package_shown text o m)
+unfolding is_listed listed_numbers
+shows text None m = refl
+shows text (Some node) m = shows_text (text node) m
+
 words : CalculationsThrowListed → PrimsThrowListed → (w : ConsoleWord) (m : Board) → ThrowsListed (console_entry w m)
 unfolding is_listed listed_numbers
 words calc law console.OnePlus m = stacks m (increased (number 1) m.stack) (increases (number 1) m.stack)
@@ -118,6 +134,11 @@ words calc law console.SingleToDouble m = stacks m (doubled m.stack) (extends m.
 words calc law console.TimesSlash m = stacks m (scaled m.stack) (scales m.stack)
 words calc law console.TimesSlashMod m = stacks m (scaled_parts m.stack) (scales_parts m.stack)
 words calc law console.FcodeDebug m = pushes (cell_at m.memory debug_cell) m
+words calc law console.DeviceEnd m = tt
+words calc law console.PrintPath m = shows (pwd_text m.memory m.tree) m.active.package m
+words calc law console.PrintChildren m = shows (ls_text m.memory m.tree) m.active.package m
+words calc law console.PrintProperties m = shows (properties_text m.memory m.tree) m.active.package m
+words calc law console.ShowDevices m = tt
 words calc law _ m = refl
 
 pub throw_listed_numbers : CalculationsThrowListed → PrimsThrowListed → ThrowListedNumbers

@@ -1,5 +1,5 @@
 -- The law `console_words_keep_the_space`: what each of the console's words leaves of the data space.
-use Rattle.std.proofs.Common.{◌≡◌, ℕ, ◌-◌, ◌%◌, List, [], ◌∷◌, Option, None, Result, Ok, Err, refl, ap, subst}
+use Rattle.std.proofs.Common.{◌≡◌, ℕ, ◌-◌, ◌%◌, List, [], ◌∷◌, Option, Some, None, Result, Ok, Err, refl, ap, subst}
 use Rattle.std.proofs.Common.{arith}
 use Rattle.of_cells.specs.declared.cells.Cell.{Cell}
 use Rattle.of_stacks.specs.declared.throws.Throw.{Throw}
@@ -15,11 +15,15 @@ use Rattle.of_memory.specs.Regions.{scratch_start}
 use Rattle.of_memory.specs.SoundChanges.{ChangesStaySound}
 use Rattle.of_memory.specs.declared.fault.MemFault.{MemFault}
 use Rattle.of_memory.specs.declared.width.Width.TheVariants.{Four}
+use Rattle.of_nodes.specs.declared.fault.NodeFault.{NodeFault}
+use Rattle.of_nodes.specs.declared.phandles.Phandle.{Phandle}
 use Rattle.of_nodes.specs.Stored.{StoredStays}
+use Rattle.of_console.specs.Children.{ls_text}
+use Rattle.of_console.specs.Texts.{properties_text, pwd_text}
 use Rattle.of_board.specs.declared.board.Board.{Board}
 use Rattle.of_instances.specs.SpaceKept.{Keeps}
 use Rattle.of_words.specs.ConsoleWords.{allot_entry, console_entry, erase_entry, here_at, on_board, space_left}
-use Rattle.of_words.specs.ConsoleWords.{spaces_entry, with_base}
+use Rattle.of_words.specs.ConsoleWords.{package_shown, spaces_entry, text_shown, with_base}
 use Rattle.of_words.specs.SpaceKept.{ConsoleWordsKeepTheSpace}
 use Rattle.of_words.proofs.Aligning.{allotted_aligned}
 
@@ -121,6 +125,15 @@ erases g (n ∷ a ∷ s) m sound =
     let r = filled m.memory a.0 n.0 0 in spaces g m s r sound (by_fill g m.memory a.0 n.0 r sound refl)
 erases g _ m sound = tt
 
+shows_text : (r : Result (List ℕ) NodeFault) (m : Board) → IsSound m.memory → BoardKept m (text_shown r m)
+shows_text (Ok text) m sound = record { sound = sound; images = (refl, refl); stored = λ a. a }
+shows_text (Err fault) m sound = tt
+
+shows : (text : Phandle → Result (List ℕ) NodeFault) (o : Option Phandle) (m : Board) → IsSound m.memory
+    → BoardKept m (package_shown text o m)
+shows text None m sound = tt
+shows text (Some node) m sound = shows_text (text node) m sound
+
 words : (g : Given) (w : ConsoleWord) (m : Board) → IsSound m.memory → BoardKept m (console_entry w m)
 words g console.OnePlus m sound = stacks m _ sound
 words g console.OneMinus m sound = stacks m _ sound
@@ -143,6 +156,11 @@ words g console.SingleToDouble m sound = stacks m _ sound
 words g console.TimesSlash m sound = stacks m _ sound
 words g console.TimesSlashMod m sound = stacks m _ sound
 words g console.FcodeDebug m sound = stacks m _ sound
+words g console.DeviceEnd m sound = record { sound = sound; images = (refl, refl); stored = λ a. a }
+words g console.PrintPath m sound = shows (pwd_text m.memory m.tree) m.active.package m sound
+words g console.PrintChildren m sound = shows (ls_text m.memory m.tree) m.active.package m sound
+words g console.PrintProperties m sound = shows (properties_text m.memory m.tree) m.active.package m sound
+words g console.ShowDevices m sound = record { sound = sound; images = (refl, refl); stored = λ a. a }
 words g _ m sound = tt
 
 left : (g : Given) (w : ConsoleWord) (m after : Board) → IsSound m.memory → console_entry w m ≡ Ok after

@@ -1,8 +1,8 @@
 -- The law `console_words_are_sequences`, word by word.
 use Rattle.std.proofs.Common.{◌≡◌, ◌≢◌, ℕ, suc, ◌+◌, ◌-◌, ◌^◌, ◌<◌, ◌≤◌, ℤ, pos, negsuc, ◌+ℤ◌}
-use Rattle.std.proofs.Common.{◌*ℤ◌, Bool, true, false, ◌&&◌, List, [], ◌∷◌, ◌++◌, length, eqb, nat_lt, Option, None}
-use Rattle.std.proofs.Common.{Result, Ok, Err, ◌⊎◌, inl, inr, append_assoc, if◌then◌else◌, refl, sym, ap, subst, ◌∙◌}
-use Rattle.std.proofs.Common.{arith}
+use Rattle.std.proofs.Common.{◌*ℤ◌, Bool, true, false, ◌&&◌, List, [], ◌∷◌, ◌++◌, length, eqb, nat_lt, Option, Some}
+use Rattle.std.proofs.Common.{None, Result, Ok, Err, ◌⊎◌, inl, inr, append_assoc, if◌then◌else◌, refl, sym, ap}
+use Rattle.std.proofs.Common.{subst, ◌∙◌, arith}
 use Rattle.std.proofs.lemmas.Bool.{leb-true, lt-ltb, ltb-true}
 use Rattle.std.proofs.lemmas.Bool.Decides.{nat_tests}
 use Rattle.std.proofs.lemmas.Int.{ints}
@@ -16,7 +16,7 @@ use Rattle.of_cells.specs.Numbers.{cell_of, flag, signed}
 use Rattle.of_stacks.specs.declared.throws.Throw.{Throw}
 use Rattle.of_stacks.specs.Order.{refused_if}
 use Rattle.of_stacks.specs.Stacks.{within}
-use Rattle.of_stacks.specs.Throws.{division_by_zero, not_assigned}
+use Rattle.of_stacks.specs.Throws.{division_by_zero, no_node, not_assigned}
 use Rattle.of_stacks.specs.Throws.{stack_overflow, stack_underflow}
 use Rattle.of_fcodes.specs.declared.console_words.ConsoleWord.{ConsoleWord}
 use Rattle.of_fcodes.specs.declared.console_words.ConsoleWord.TheVariants as console
@@ -38,6 +38,13 @@ use Rattle.of_memory.specs.Regions.{data_limit, data_start, scratch_start}
 use Rattle.of_memory.specs.declared.fault.MemFault.{MemFault}
 use Rattle.of_memory.specs.declared.fault.MemFault.TheVariants.{Full}
 use Rattle.of_memory.specs.declared.width.Width.TheVariants.{Four, One}
+use Rattle.of_nodes.specs.declared.fault.NodeFault.{NodeFault}
+use Rattle.of_nodes.specs.declared.phandles.Phandle.{Phandle}
+use Rattle.of_nodes.specs.declared.tree.Node.{Node}
+use Rattle.of_nodes.specs.Nodes.{number_of, numbered as for_number}
+use Rattle.of_nodes.specs.Paths.{path_in}
+use Rattle.of_console.specs.Children.{ls_text}
+use Rattle.of_console.specs.Texts.{properties_text, pwd_text}
 use Rattle.of_format.specs.Pictured.{base_in}
 use Rattle.of_prims.specs.Addresses.{addresses_entry, addressing_of, rounded_up}
 use Rattle.of_prims.specs.Data.{cell_at, number, stored}
@@ -48,8 +55,9 @@ use Rattle.of_board.specs.Text.{Printed, printed}
 use Rattle.of_board.specs.declared.board.Board.{Board}
 use Rattle.of_words.specs.ConsoleWords.{allot_entry, blanks, console_entry, debug_cell, decreased, doubled, erase_entry}
 use Rattle.of_words.specs.ConsoleWords.{here_at, increased, on_board, scaled, scaled_parts, space_left, spaces_entry}
-use Rattle.of_words.specs.ConsoleWords.{with_base}
-use Rattle.of_words.specs.Sequences.{ConsoleWordsAreSequences, Divides, IsNotRun, LiesBehind, Run, TakesCells}
+use Rattle.of_words.specs.ConsoleWords.{package_shown, text_shown, with_base}
+use Rattle.of_words.specs.Sequences.{ConsoleWordsAreSequences, Divides, IsNotRun, LiesBehind, Prints, Run, ShowsPackage}
+use Rattle.of_words.specs.Sequences.{TakesCells}
 use Rattle.of_words.specs.Sequences.{behind, moved_to, on_top, primitive_left}
 use Rattle.of_words.specs.Words.{data_in, grows, with_data}
 use Rattle.of_words.proofs.Aligning.{placed}
@@ -308,18 +316,49 @@ empties w m h e = absurd h
 not_run : (w : ConsoleWord) (m : Board) → IsNotRun w → console_entry w m ≡ Err not_assigned
 not_run console.Immediate m h = refl
 not_run console.EnterCompiling m h = refl
-not_run console.DeviceEnd m h = refl
-not_run console.PrintPath m h = refl
-not_run console.PrintChildren m h = refl
-not_run console.PrintProperties m h = refl
-not_run console.ShowDevices m h = refl
 not_run console.PrintWords m h = refl
 not_run w m h = absurd h
 
-others : (w : ConsoleWord) → w ≢ console.Space → w ≢ console.Spaces → grows (Console w) ≡ false
-others console.Space h k = absurd (h refl)
-others console.Spaces h k = absurd (k refl)
-others w h k = refl
+growing : (w : ConsoleWord) → Prints w → grows (Console w) ≡ true
+growing console.Space h = refl
+growing console.Spaces h = refl
+growing console.PrintPath h = refl
+growing console.PrintChildren h = refl
+growing console.PrintProperties h = refl
+growing console.ShowDevices h = refl
+growing w h = absurd h
+
+others : (w : ConsoleWord) → (Prints w → ⊥) → grows (Console w) ≡ false
+others console.Space h = absurd (h tt)
+others console.Spaces h = absurd (h tt)
+others console.PrintPath h = absurd (h tt)
+others console.PrintChildren h = absurd (h tt)
+others console.PrintProperties h = absurd (h tt)
+others console.ShowDevices h = absurd (h tt)
+others w h = refl
+
+-- ---- the device tree
+
+line_of : (ns : List Node) (o : Option ℕ) (m : DataSpace) (path : List ℕ)
+    → for_number {A = List ℕ} o (λ i. Ok (path_in m ns i)) ≡ Ok path
+    → for_number {A = List ℕ} o (λ i. Ok (path_in m ns i ++ 10 ∷ [])) ≡ Ok (path ++ 10 ∷ [])
+line_of ns None m path h = absurd cc
+line_of ns (Some i) m path h =
+    let same : path_in m ns i ≡ path = cc in
+    ap (λ x. Ok (x ++ 10 ∷ [])) same
+
+package_has : (text : Phandle → Result (List ℕ) NodeFault) (node : Phandle) (bytes : List ℕ) (o : Option Phandle)
+    (m : Board) → o ≡ Some node → text node ≡ Ok bytes
+    → package_shown text o m ≡ Ok (record m { console = printed m.console bytes })
+package_has text node bytes o m e h =
+    ap (λ p. package_shown text p m) e ∙ ap (λ r. text_shown r m) h
+
+no_package : (w : ConsoleWord) (m : Board) → ShowsPackage w → m.active.package ≡ None
+    → console_entry w m ≡ Err no_node
+no_package console.PrintPath m h e = ap (λ o. package_shown (pwd_text m.memory m.tree) o m) e
+no_package console.PrintChildren m h e = ap (λ o. package_shown (ls_text m.memory m.tree) o m) e
+no_package console.PrintProperties m h e = ap (λ o. package_shown (properties_text m.memory m.tree) o m) e
+no_package w m h e = absurd h
 
 -- ---- the law
 
@@ -361,8 +400,15 @@ console_words_are_sequences divides open_there joins = record {
   few_times_slash_mod = λ m l. few_parts m m.stack l;
   times_slash = λ m. scales m m.stack;
   empty = empties;
+  path = λ m node path e h.
+      package_has (pwd_text m.memory m.tree) node (path ++ 10 ∷ []) m.active.package m e
+      (line_of m.tree (number_of (length m.tree) node) m.memory path h);
+  children = λ m node text e h. package_has (ls_text m.memory m.tree) node text m.active.package m e h;
+  properties = λ m node text e h. package_has (properties_text m.memory m.tree) node text m.active.package m e h;
+  devices = λ m. refl;
+  no_package = no_package;
+  device_end = λ m. refl;
   not_run = not_run;
-  space_grows = refl;
-  spaces_grow = refl;
+  growing = growing;
   others = others;
 }

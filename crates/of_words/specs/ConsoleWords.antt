@@ -1,8 +1,10 @@
 -- What each of the console's ordinary words without an FCode makes of the board, or what it throws. Forth 2012:
 -- 6.1.0290 `1+`, 6.1.0300 `1-`, 6.2.2298 `true`, 6.2.1485 `false`, 6.1.1805 `lshift`, 6.1.2162 `rshift`, 6.1.1720
 -- `invert`, 6.1.2220 `space`, 6.1.2230 `spaces`, 6.1.0710 `allot`, 6.1.0705 `align`, 6.2.1350 `erase`, 6.2.1660 `hex`,
--- 6.1.1170 `decimal`, 6.1.2170 `s>d`, 6.1.0100 `*/`, 6.1.0110 `*/mod`. The others: IEEE 1275-1994, annex A.
-use Rattle.std.specs.Prelude.{ℕ, ◌+◌, ℤ, pos, negsuc, Bool, true, false, List, [], ◌∷◌, replicate, Result, Ok, Err}
+-- 6.1.1170 `decimal`, 6.1.2170 `s>d`, 6.1.0100 `*/`, 6.1.0110 `*/mod`. The others: IEEE 1275-1994, annex A
+-- and 7.4.11.
+use Rattle.std.specs.Prelude.{ℕ, ◌+◌, ℤ, pos, negsuc, Bool, true, false, List, [], ◌∷◌, replicate, Option, Some, None}
+use Rattle.std.specs.Prelude.{Result, Ok, Err}
 use Rattle.std.specs.Int.{bytes_high_first}
 use Rattle.of_cells.specs.declared.cells.Cell.{Cell}
 use Rattle.of_cells.specs.Arithmetic.{plus, minus}
@@ -11,7 +13,7 @@ use Rattle.of_cells.specs.Doubles.{extended}
 use Rattle.of_cells.specs.Numbers.{flag, signed}
 use Rattle.of_stacks.specs.declared.throws.Throw.{Throw}
 use Rattle.of_stacks.specs.Stacks.{within}
-use Rattle.of_stacks.specs.Throws.{not_assigned, stack_underflow}
+use Rattle.of_stacks.specs.Throws.{no_node, not_assigned, stack_underflow}
 use Rattle.of_fcodes.specs.declared.console_words.ConsoleWord.{ConsoleWord}
 use Rattle.of_fcodes.specs.declared.console_words.ConsoleWord.TheVariants as console
 use Rattle.of_fcodes.specs.declared.words.ArithmeticWord.TheVariants.{Invert, LeftShift, RightShift}
@@ -22,6 +24,13 @@ use Rattle.of_memory.specs.Regions.{scratch_start}
 use Rattle.of_memory.specs.declared.fault.MemFault.{MemFault}
 use Rattle.of_calc.specs.Arithmetic.{arithmetic_entry, if_divides, with_double}
 use Rattle.of_prims.specs.Data.{cell_at, number, throw_of}
+use Rattle.of_stacks.specs.declared.stop.Stop.{Stop}
+use Rattle.of_stacks.specs.declared.stop.Stop.TheVariants.{Thrown, NoMemory as Refused}
+use Rattle.of_nodes.specs.declared.fault.NodeFault.{NodeFault}
+use Rattle.of_nodes.specs.declared.fault.NodeFault.TheVariants.{BadName, NoMemory, NoNode, PropertyFull, TooManyNodes}
+use Rattle.of_nodes.specs.declared.phandles.Phandle.{Phandle}
+use Rattle.of_console.specs.Children.{ls_text}
+use Rattle.of_console.specs.Texts.{devs_text, properties_text, pwd_text}
 use Rattle.of_board.specs.Text.{printed}
 use Rattle.of_board.specs.declared.board.Board.{Board}
 
@@ -98,7 +107,31 @@ with_base n m = written m scratch_start (bytes_high_first 4 n)
 abbrev pub debug_cell : ℕ
 debug_cell = scratch_start + 4
 
--- ---- the table, a word a line; the last eight are not run yet
+-- ---- on the device tree
+
+-- why a text of the tree isn't there
+abbrev pub fault_stop : NodeFault → Stop
+fault_stop NoMemory = Refused
+fault_stop NoNode = Thrown no_node
+fault_stop BadName = Thrown no_node
+fault_stop PropertyFull = Thrown no_node
+fault_stop TooManyNodes = Thrown no_node
+
+-- the board with a text of the tree on the console; -259 where there is no node
+abbrev pub text_shown : Result (List ℕ) NodeFault → Board → Result Board Throw
+text_shown (Ok text) m = Ok (record m { console = printed m.console text })
+text_shown (Err fault) m = Err no_node
+
+-- the text of the active package; -259 where there is none
+abbrev pub package_shown : (Phandle → Result (List ℕ) NodeFault) → Option Phandle → Board → Result Board Throw
+package_shown text None m = Err no_node
+package_shown text (Some node) m = text_shown (text node) m
+
+-- the board without an active package
+abbrev pub nothing_active : Board → Board
+nothing_active m = record m { active = record m.active { «package» = None } }
+
+-- ---- the table, a word a line; three are not run yet
 abbrev pub console_entry : ConsoleWord → Board → Result Board Throw
 console_entry console.OnePlus m = on_board m (increased (number 1) m.stack)
 console_entry console.OneMinus m = on_board m (decreased (number 1) m.stack)
@@ -123,11 +156,11 @@ console_entry console.TimesSlashMod m = on_board m (scaled_parts m.stack)
 console_entry console.FcodeDebug m = on_board m (within (cell_at m.memory debug_cell ∷ m.stack))
 console_entry console.Immediate m = Err not_assigned
 console_entry console.EnterCompiling m = Err not_assigned
-console_entry console.DeviceEnd m = Err not_assigned
-console_entry console.PrintPath m = Err not_assigned
-console_entry console.PrintChildren m = Err not_assigned
-console_entry console.PrintProperties m = Err not_assigned
-console_entry console.ShowDevices m = Err not_assigned
+console_entry console.DeviceEnd m = Ok (nothing_active m)
+console_entry console.PrintPath m = package_shown (pwd_text m.memory m.tree) m.active.package m
+console_entry console.PrintChildren m = package_shown (ls_text m.memory m.tree) m.active.package m
+console_entry console.PrintProperties m = package_shown (properties_text m.memory m.tree) m.active.package m
+console_entry console.ShowDevices m = text_shown (Ok (devs_text m.memory m.tree)) m
 console_entry console.PrintWords m = Err not_assigned
 
 -- whether the console grows by the word
@@ -156,8 +189,8 @@ console_grows console.FcodeDebug = false
 console_grows console.Immediate = false
 console_grows console.EnterCompiling = false
 console_grows console.DeviceEnd = false
-console_grows console.PrintPath = false
-console_grows console.PrintChildren = false
-console_grows console.PrintProperties = false
-console_grows console.ShowDevices = false
+console_grows console.PrintPath = true
+console_grows console.PrintChildren = true
+console_grows console.PrintProperties = true
+console_grows console.ShowDevices = true
 console_grows console.PrintWords = false

@@ -2,13 +2,13 @@
 -- tables of the words that have FCodes (Forth 2012, 6.1 and 6.2; IEEE 1275-1994, annex A). A number that a word has of
 -- itself needs no room on the stack; one that a text has does.
 use Rattle.std.specs.Prelude.{◌≡◌, ◌≢◌, ℕ, ◌^◌, ◌<◌, ◌≤◌, ℤ, pos, ◌+ℤ◌, ◌*ℤ◌, suc, true, false, List, [], ◌∷◌}
-use Rattle.std.specs.Prelude.{length, ◌⊎◌, Result, Ok, Err}
+use Rattle.std.specs.Prelude.{length, ◌++◌, ◌⊎◌, Option, Some, None, Result, Ok, Err}
 use Rattle.of_cells.specs.declared.cells.Cell.{Cell}
 use Rattle.of_cells.specs.Division.{HasSignOf}
 use Rattle.of_cells.specs.Numbers.{cell_of, signed}
 use Rattle.of_stacks.specs.declared.throws.Throw.{Throw}
 use Rattle.of_stacks.specs.Stacks.{within}
-use Rattle.of_stacks.specs.Throws.{dictionary_overflow, division_by_zero, not_assigned, stack_underflow}
+use Rattle.of_stacks.specs.Throws.{dictionary_overflow, division_by_zero, no_node, not_assigned, stack_underflow}
 use Rattle.of_fcodes.specs.declared.console_words.ConsoleWord.{ConsoleWord}
 use Rattle.of_fcodes.specs.declared.console_words.ConsoleWord.TheVariants as console
 use Rattle.of_fcodes.specs.declared.words.AddressesWord.TheVariants.{Aligned}
@@ -24,6 +24,10 @@ use Rattle.of_fcodes.specs.declared.words.Word.{Word}
 use Rattle.of_fcodes.specs.declared.words.Word.TheVariants.{Console, Primitive, Printing}
 use Rattle.of_memory.specs.DataSpace.{IsSound}
 use Rattle.of_memory.specs.Regions.{data_limit, data_start}
+use Rattle.of_nodes.specs.declared.phandles.Phandle.{Phandle}
+use Rattle.of_nodes.specs.Paths.{path_found}
+use Rattle.of_console.specs.Children.{ls_text}
+use Rattle.of_console.specs.Texts.{devs_text, properties_text}
 use Rattle.of_format.specs.Pictured.{base_in}
 use Rattle.of_prims.specs.Addresses.{addresses_entry}
 use Rattle.of_prims.specs.Data.{number}
@@ -93,15 +97,24 @@ TakesCells console.TimesSlash = Unit {0}
 TakesCells console.TimesSlashMod = Unit {0}
 TakesCells w = ⊥
 
+-- those that show the active package
+abbrev pub ShowsPackage : ConsoleWord → Type 0
+ShowsPackage console.PrintPath = Unit {0}
+ShowsPackage console.PrintChildren = Unit {0}
+ShowsPackage console.PrintProperties = Unit {0}
+ShowsPackage w = ⊥
+
+-- those that print
+abbrev pub Prints : ConsoleWord → Type 0
+Prints console.Space = Unit {0}
+Prints console.Spaces = Unit {0}
+Prints console.ShowDevices = Unit {0}
+Prints w = ShowsPackage w
+
 -- those that are not run yet
 abbrev pub IsNotRun : ConsoleWord → Type 0
 IsNotRun console.Immediate = Unit {0}
 IsNotRun console.EnterCompiling = Unit {0}
-IsNotRun console.DeviceEnd = Unit {0}
-IsNotRun console.PrintPath = Unit {0}
-IsNotRun console.PrintChildren = Unit {0}
-IsNotRun console.PrintProperties = Unit {0}
-IsNotRun console.ShowDevices = Unit {0}
 IsNotRun console.PrintWords = Unit {0}
 IsNotRun w = ⊥
 
@@ -173,9 +186,25 @@ pub record ConsoleWordsAreSequences : Type 0 where
   -- a word that takes cells finds none on an empty stack
   pub empty : (w : ConsoleWord) (m : Board) → TakesCells w → m.stack ≡ []
       → console_entry w m ≡ Err stack_underflow
+  -- what the words on the device tree print is its text; without an active package there is none
+  pub path : (m : Board) (node : Phandle) (path : List ℕ) → m.active.package ≡ Some node
+      → path_found m.memory m.tree node ≡ Ok path
+      → console_entry console.PrintPath m ≡ Ok (record m { console = printed m.console (path ++ 10 ∷ []) })
+  pub children : (m : Board) (node : Phandle) (text : List ℕ) → m.active.package ≡ Some node
+      → ls_text m.memory m.tree node ≡ Ok text
+      → console_entry console.PrintChildren m ≡ Ok (record m { console = printed m.console text })
+  pub properties : (m : Board) (node : Phandle) (text : List ℕ) → m.active.package ≡ Some node
+      → properties_text m.memory m.tree node ≡ Ok text
+      → console_entry console.PrintProperties m ≡ Ok (record m { console = printed m.console text })
+  pub devices : (m : Board) → console_entry console.ShowDevices m
+      ≡ Ok (record m { console = printed m.console (devs_text m.memory m.tree) })
+  pub no_package : (w : ConsoleWord) (m : Board) → ShowsPackage w → m.active.package ≡ None
+      → console_entry w m ≡ Err no_node
+  -- `device-end` leaves no package active, and then there is none to show
+  pub device_end : (m : Board) → console_entry console.DeviceEnd m
+      ≡ Ok (record m { active = record m.active { «package» = None } })
   -- the others are not run yet
   pub not_run : (w : ConsoleWord) (m : Board) → IsNotRun w → console_entry w m ≡ Err not_assigned
-  -- blanks alone may want memory
-  pub space_grows : grows (Console console.Space) ≡ true
-  pub spaces_grow : grows (Console console.Spaces) ≡ true
-  pub others : (w : ConsoleWord) → w ≢ console.Space → w ≢ console.Spaces → grows (Console w) ≡ false
+  -- words that print alone may want memory
+  pub growing : (w : ConsoleWord) → Prints w → grows (Console w) ≡ true
+  pub others : (w : ConsoleWord) → (Prints w → ⊥) → grows (Console w) ≡ false

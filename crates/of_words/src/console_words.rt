@@ -10,6 +10,7 @@ ghost use Rattle.of_prims.specs.Data.{cell_at};
 use crate::console_numbers::{
     calculate_on, decrease, extend, increase, push, scale, scale_with_rest,
 };
+use crate::tree_texts::{end_device, print_children, print_devices, print_path, print_properties};
 use of_board::Board;
 use of_cells::Cell;
 use of_fcodes::{ArithmeticWord, ConsoleWord};
@@ -54,11 +55,11 @@ pub(crate) fn run_console_word(word: ConsoleWord, board: &mut Board) -> Result<(
         ConsoleWord::FcodeDebug => push(debug_flag(&board.memory), board),
         ConsoleWord::Immediate => Err(Stop::Thrown(Throw::NOT_ASSIGNED)),
         ConsoleWord::EnterCompiling => Err(Stop::Thrown(Throw::NOT_ASSIGNED)),
-        ConsoleWord::DeviceEnd => Err(Stop::Thrown(Throw::NOT_ASSIGNED)),
-        ConsoleWord::PrintPath => Err(Stop::Thrown(Throw::NOT_ASSIGNED)),
-        ConsoleWord::PrintChildren => Err(Stop::Thrown(Throw::NOT_ASSIGNED)),
-        ConsoleWord::PrintProperties => Err(Stop::Thrown(Throw::NOT_ASSIGNED)),
-        ConsoleWord::ShowDevices => Err(Stop::Thrown(Throw::NOT_ASSIGNED)),
+        ConsoleWord::DeviceEnd => end_device(board),
+        ConsoleWord::PrintPath => print_path(board),
+        ConsoleWord::PrintChildren => print_children(board),
+        ConsoleWord::PrintProperties => print_properties(board),
+        ConsoleWord::ShowDevices => print_devices(board),
         ConsoleWord::PrintWords => Err(Stop::Thrown(Throw::NOT_ASSIGNED)),
     }
 }

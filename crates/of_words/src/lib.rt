@@ -7,6 +7,7 @@ mod heap;
 mod inline_words;
 mod laws;
 mod printing;
+mod tree_texts;
 mod words;
 
 pub use inline_words::{difference, exchange, is_less, sum};
