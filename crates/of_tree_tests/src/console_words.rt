@@ -171,15 +171,35 @@ fcode-debug?||0
 *100 fcode-debug?||256 cells throws -3
 ";
 
+/// Words on the device tree, whose nodes are `/`, `/packages` and `/slot` at first.
+const TREE: &str = "\
+@0 pwd|/~|
+@2 pwd|/slot~|
+@2 *100 pwd|/slot~|256 cells
+@2 %5 pwd %41 emit|/slot~A|5
+pwd||throws -259
+@0 ls|d0000004 packages~d0000008 slot~|
+@2 %5 ls||5
+ls||throws -259
+@2 .properties|name \"slot\"~|
+@2 \"v \"x property %1 encode-int \"y property .properties|name \"slot\"~x 76~y 00000001~|
+.properties||throws -259
+show-devs|/~/packages~/slot~|
+@2 %5 show-devs|/~/packages~/slot~|5
+@2 new-device \"disk device-name pwd|/slot/disk~|
+@2 new-device \"disk device-name finish-device pwd ls|/slot~d000000c disk~|
+@2 new-device \"disk device-name show-devs|/~/packages~/slot~/slot/disk~|
+@2 pwd device-end pwd|/slot~|throws -259
+@2 device-end ls||throws -259
+@2 device-end .properties||throws -259
+@2 %5 device-end show-devs|/~/packages~/slot~|5
+device-end||
+";
+
 /// Words that work on more than the board.
 const NOT_RUN: &str = "\
 immediate||throws -256
 ']||throws -256
-device-end||throws -256
-pwd||throws -256
-ls||throws -256
-.properties||throws -256
-show-devs||throws -256
 %5 words||5 throws -256
 ";
 
@@ -211,6 +231,11 @@ fn moves(rt: HostRuntime) -> Result<(), Fail> {
 #[test]
 fn bytes(rt: HostRuntime) -> Result<(), Fail> {
     check::<PrintingRows, _>(&rt, rt.alloc(), &[ERASED])
+}
+
+#[test]
+fn trees(rt: HostRuntime) -> Result<(), Fail> {
+    check::<PrintingRows, _>(&rt, rt.alloc(), &[TREE])
 }
 
 #[test]
