@@ -1,5 +1,5 @@
-//! Calls of the data space, the dictionary, the return stack and the device tree, as many as the arguments say, so that
-//! scripts can time them or count their instructions. Without arguments it does nothing.
+//! Calls of the data space, the dictionary, the return stack, the device tree and what is printed of it, as many as the
+//! arguments say, so that scripts can time them or count their instructions. Without arguments it does nothing.
 #![tactic(auto)]
 
 mod dictionary;
@@ -7,6 +7,7 @@ mod nodes;
 mod plain;
 mod returns;
 mod space;
+mod texts;
 
 use std::env;
 use std::process::ExitCode;
@@ -21,6 +22,7 @@ fn calls(rt: &HostRuntime, part: &str, kind: &str, count: u32) -> Option<u32> {
         "returns" => returns::calls(kind, count),
         "one-node" => nodes::calls(rt.alloc(), kind, false, count),
         "many-nodes" => nodes::calls(rt.alloc(), kind, true, count),
+        "texts" => texts::calls(rt.alloc(), kind, count),
         _ => None,
     }
 }

@@ -10,7 +10,7 @@ const NODES: u32 = 1000;
 const PROPERTIES: u32 = 10_000;
 
 /// The name of a property: four digits.
-fn spelt(number: u32) -> [u8; 4] {
+pub fn spelt(number: u32) -> [u8; 4] {
     let thousands = b'0' + (number / 1000 % 10) as u8;
     let hundreds = b'0' + (number / 100 % 10) as u8;
     let tens = b'0' + (number / 10 % 10) as u8;
