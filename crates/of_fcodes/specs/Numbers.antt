@@ -278,6 +278,9 @@ dictionary_number dictionary.Behavior = 197
 dictionary_number dictionary.Instance = 198
 dictionary_number dictionary.Error = 199
 dictionary_number dictionary.ByteLoad = 200
+dictionary_number dictionary.Immediate = 277
+dictionary_number dictionary.EnterCompiling = 278
+dictionary_number dictionary.PrintWords = 284
 
 abbrev pub throws_number : ThrowsWord → ℕ
 throws_number throws.Abort = 201
@@ -364,14 +367,11 @@ console_number console.SingleToDouble = 273
 console_number console.TimesSlash = 274
 console_number console.TimesSlashMod = 275
 console_number console.FcodeDebug = 276
-console_number console.Immediate = 277
-console_number console.EnterCompiling = 278
 console_number console.DeviceEnd = 279
 console_number console.PrintPath = 280
 console_number console.PrintChildren = 281
 console_number console.PrintProperties = 282
 console_number console.ShowDevices = 283
-console_number console.PrintWords = 284
 
 abbrev pub parsing_number : ParsingWord → ℕ
 parsing_number parsing.Colon = 285

@@ -339,14 +339,14 @@ seventh_words =
     written (codes "*/") (Console console.TimesSlash) ∷
     written (codes "*/mod") (Console console.TimesSlashMod) ∷
     written (codes "fcode-debug?") (Console console.FcodeDebug) ∷
-    written (codes "immediate") (Console console.Immediate) ∷
-    written (codes "]") (Console console.EnterCompiling) ∷
+    written (codes "immediate") (Dictionary dictionary.Immediate) ∷
+    written (codes "]") (Dictionary dictionary.EnterCompiling) ∷
     written (codes "device-end") (Console console.DeviceEnd) ∷
     written (codes "pwd") (Console console.PrintPath) ∷
     written (codes "ls") (Console console.PrintChildren) ∷
     written (codes ".properties") (Console console.PrintProperties) ∷
     written (codes "show-devs") (Console console.ShowDevices) ∷
-    written (codes "words") (Console console.PrintWords) ∷
+    written (codes "words") (Dictionary dictionary.PrintWords) ∷
     written (codes ":") (Parsing parsing.Colon) ∷
     written (codes "constant") (Parsing parsing.Constant) ∷
     written (codes "value") (Parsing parsing.Value) ∷

@@ -46,10 +46,6 @@ pub enum ConsoleWord {
     TimesSlashMod = 275,
     /// `fcode-debug?`
     FcodeDebug = 276,
-    /// `immediate`
-    Immediate = 277,
-    /// `]`
-    EnterCompiling = 278,
     /// `device-end`
     DeviceEnd = 279,
     /// `pwd`
@@ -60,8 +56,6 @@ pub enum ConsoleWord {
     PrintProperties = 282,
     /// `show-devs`
     ShowDevices = 283,
-    /// `words`
-    PrintWords = 284,
 }
 
 /// Words of the console that read more of its text.

@@ -538,6 +538,12 @@ pub enum DictionaryWord {
     Error = 199,
     /// `byte-load`
     ByteLoad = 200,
+    /// `immediate`
+    Immediate = 277,
+    /// `]`
+    EnterCompiling = 278,
+    /// `words`
+    PrintWords = 284,
 }
 
 /// `abort`, `catch` and `throw`.
