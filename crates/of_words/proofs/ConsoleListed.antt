@@ -28,7 +28,7 @@ use Rattle.of_console.specs.Texts.{properties_text, pwd_text}
 use Rattle.of_board.specs.declared.board.Board.{Board}
 use Rattle.of_words.specs.ConsoleWords.{allot_entry, console_entry, debug_cell, decreased, doubled, erase_entry}
 use Rattle.of_words.specs.ConsoleWords.{increased, package_shown, text_shown}
-use Rattle.of_words.specs.ConsoleWords.{on_board, scaled, scaled_parts, space_left, spaces_entry}
+use Rattle.of_words.specs.ConsoleWords.{on_board, scaled, scaled_parts, space_changed, spaces_entry}
 use Rattle.of_words.specs.Listed.{ThrowListedNumbers}
 
 stacks : (m : Board) (r : Result (List Cell) Throw) → ThrowsListed r → ThrowsListed (on_board m r)
@@ -82,7 +82,7 @@ prints [] m = refl
 prints (n ∷ s) m = tt
 
 spaces : PrimsThrowListed → (s : List Cell) (r : Result DataSpace MemFault) (m : Board)
-    → ThrowsListed (space_left s r m)
+    → ThrowsListed (space_changed s r m)
 spaces law s (Ok after) m = tt
 spaces law s (Err fault) m = law.faults fault
 
@@ -139,7 +139,6 @@ words calc law console.PrintPath m = shows (pwd_text m.memory m.tree) m.active.p
 words calc law console.PrintChildren m = shows (ls_text m.memory m.tree) m.active.package m
 words calc law console.PrintProperties m = shows (properties_text m.memory m.tree) m.active.package m
 words calc law console.ShowDevices m = tt
-words calc law _ m = refl
 
 pub throw_listed_numbers : CalculationsThrowListed → PrimsThrowListed → ThrowListedNumbers
 throw_listed_numbers calc law = record { console = words calc law }

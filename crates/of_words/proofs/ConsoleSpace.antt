@@ -22,7 +22,7 @@ use Rattle.of_console.specs.Children.{ls_text}
 use Rattle.of_console.specs.Texts.{properties_text, pwd_text}
 use Rattle.of_board.specs.declared.board.Board.{Board}
 use Rattle.of_instances.specs.SpaceKept.{Keeps}
-use Rattle.of_words.specs.ConsoleWords.{allot_entry, console_entry, erase_entry, here_at, on_board, space_left}
+use Rattle.of_words.specs.ConsoleWords.{allot_entry, console_entry, erase_entry, here_at, on_board, space_changed}
 use Rattle.of_words.specs.ConsoleWords.{package_shown, spaces_entry, text_shown, with_base}
 use Rattle.of_words.specs.SpaceKept.{ConsoleWordsKeepTheSpace}
 use Rattle.of_words.proofs.Aligning.{allotted_aligned}
@@ -107,7 +107,7 @@ stacks m (Ok s) sound = same m sound
 stacks m (Err t) sound = tt
 
 spaces : (g : Given) (m : Board) (s : List Cell) (r : Result DataSpace MemFault) → IsSound m.memory
-    → SpaceKept m.memory r → BoardKept m (space_left s r m)
+    → SpaceKept m.memory r → BoardKept m (space_changed s r m)
 spaces g m s (Ok after) sound h = with_space g m after sound h
 spaces g m s (Err fault) sound h = tt
 
@@ -161,7 +161,6 @@ words g console.PrintPath m sound = shows (pwd_text m.memory m.tree) m.active.pa
 words g console.PrintChildren m sound = shows (ls_text m.memory m.tree) m.active.package m sound
 words g console.PrintProperties m sound = shows (properties_text m.memory m.tree) m.active.package m sound
 words g console.ShowDevices m sound = record { sound = sound; images = (refl, refl); stored = λ a. a }
-words g _ m sound = tt
 
 left : (g : Given) (w : ConsoleWord) (m after : Board) → IsSound m.memory → console_entry w m ≡ Ok after
     → Keeps m after

@@ -16,7 +16,7 @@ use Rattle.of_cells.specs.Numbers.{cell_of, flag, signed}
 use Rattle.of_stacks.specs.declared.throws.Throw.{Throw}
 use Rattle.of_stacks.specs.Order.{refused_if}
 use Rattle.of_stacks.specs.Stacks.{within}
-use Rattle.of_stacks.specs.Throws.{division_by_zero, no_node, not_assigned}
+use Rattle.of_stacks.specs.Throws.{division_by_zero, no_node}
 use Rattle.of_stacks.specs.Throws.{stack_overflow, stack_underflow}
 use Rattle.of_fcodes.specs.declared.console_words.ConsoleWord.{ConsoleWord}
 use Rattle.of_fcodes.specs.declared.console_words.ConsoleWord.TheVariants as console
@@ -54,9 +54,9 @@ use Rattle.of_prims.specs.Prims.{in_space, on_stack}
 use Rattle.of_board.specs.Text.{Printed, printed}
 use Rattle.of_board.specs.declared.board.Board.{Board}
 use Rattle.of_words.specs.ConsoleWords.{allot_entry, blanks, console_entry, debug_cell, decreased, doubled, erase_entry}
-use Rattle.of_words.specs.ConsoleWords.{here_at, increased, on_board, scaled, scaled_parts, space_left, spaces_entry}
+use Rattle.of_words.specs.ConsoleWords.{here_at, increased, on_board, scaled, scaled_parts, space_changed, spaces_entry}
 use Rattle.of_words.specs.ConsoleWords.{package_shown, text_shown, with_base}
-use Rattle.of_words.specs.Sequences.{ConsoleWordsAreSequences, Divides, IsNotRun, LiesBehind, Prints, Run, ShowsPackage}
+use Rattle.of_words.specs.Sequences.{ConsoleWordsAreSequences, Divides, LiesBehind, Prints, Run, ShowsPackage}
 use Rattle.of_words.specs.Sequences.{TakesCells}
 use Rattle.of_words.specs.Sequences.{behind, moved_to, on_top, primitive_left}
 use Rattle.of_words.specs.Words.{data_in, grows, with_data}
@@ -226,8 +226,8 @@ full_if true false m n e f l h = refl
 full_if false q m n e f l h = refl
 
 leaves : (m : Board) (s : List Cell) (r : Result DataSpace MemFault) (after : DataSpace) → r ≡ Ok after
-    → space_left s r m ≡ Ok (record m { stack = s; memory = after })
-leaves m s r after e = ap (λ (x : Result DataSpace MemFault). space_left s x m) e
+    → space_changed s r m ≡ Ok (record m { stack = s; memory = after })
+leaves m s r after e = ap (λ (x : Result DataSpace MemFault). space_changed s x m) e
 
 rounds : (m : DataSpace) (a : Cell) → IsSound m → addresses_entry Aligned m.here (number m.here ∷ []) ≡ Ok (a ∷ [])
     → aligned m.here ≡ a.0
@@ -241,7 +241,7 @@ rounds m a sound e =
 -- ---- the data space
 
 space_stored : (x : Cell) (m : Board) (s : List Cell) (r : Result DataSpace MemFault)
-    → space_left s r m ≡ with_data (on_top x m) (in_space (data_in (on_top x m)) (stored s r))
+    → space_changed s r m ≡ with_data (on_top x m) (in_space (data_in (on_top x m)) (stored s r))
 space_stored x m s (Ok after) = refl
 space_stored x m s (Err fault) = refl
 
@@ -313,12 +313,6 @@ empties console.TimesSlash m h e = ap (λ (s : List Cell). on_board m (scaled s)
 empties console.TimesSlashMod m h e = ap (λ (s : List Cell). on_board m (scaled_parts s)) e
 empties w m h e = absurd h
 
-not_run : (w : ConsoleWord) (m : Board) → IsNotRun w → console_entry w m ≡ Err not_assigned
-not_run console.Immediate m h = refl
-not_run console.EnterCompiling m h = refl
-not_run console.PrintWords m h = refl
-not_run w m h = absurd h
-
 growing : (w : ConsoleWord) → Prints w → grows (Console w) ≡ true
 growing console.Space h = refl
 growing console.Spaces h = refl
@@ -384,7 +378,7 @@ console_words_are_sequences divides open_there joins = record {
   allot = λ m n a l h.
       leaves (on_top n m) m.stack (allotted m.memory n.0) (here_at a m.memory) (allots m.memory n a l h);
   no_allot = λ m n l h.
-      ap (λ (r : Result DataSpace MemFault). space_left m.stack r (on_top n m))
+      ap (λ (r : Result DataSpace MemFault). space_changed m.stack r (on_top n m))
       (full_if (nat_le data_start (moved m.memory.here n.0)) (nat_le (moved m.memory.here n.0) data_limit) m.memory n
       refl refl l h);
   align = λ m a sound e. ap (λ (h : ℕ). here_done m h) (rounds m.memory a sound e);
@@ -408,7 +402,6 @@ console_words_are_sequences divides open_there joins = record {
   devices = λ m. refl;
   no_package = no_package;
   device_end = λ m. refl;
-  not_run = not_run;
   growing = growing;
   others = others;
 }

@@ -13,7 +13,7 @@ use Rattle.of_cells.specs.Doubles.{extended}
 use Rattle.of_cells.specs.Numbers.{flag, signed}
 use Rattle.of_stacks.specs.declared.throws.Throw.{Throw}
 use Rattle.of_stacks.specs.Stacks.{within}
-use Rattle.of_stacks.specs.Throws.{no_node, not_assigned, stack_underflow}
+use Rattle.of_stacks.specs.Throws.{no_node, stack_underflow}
 use Rattle.of_fcodes.specs.declared.console_words.ConsoleWord.{ConsoleWord}
 use Rattle.of_fcodes.specs.declared.console_words.ConsoleWord.TheVariants as console
 use Rattle.of_fcodes.specs.declared.words.ArithmeticWord.TheVariants.{Invert, LeftShift, RightShift}
@@ -81,18 +81,18 @@ spaces_entry (n ∷ s) m = Ok (record m { stack = s; console = printed m.console
 -- ---- on the data space
 
 -- the board with a data space that a call left, or the throw of its fault
-abbrev pub space_left : List Cell → Result DataSpace MemFault → Board → Result Board Throw
-space_left s (Ok after) m = Ok (record m { stack = s; memory = after })
-space_left s (Err fault) m = Err (throw_of fault)
+abbrev pub space_changed : List Cell → Result DataSpace MemFault → Board → Result Board Throw
+space_changed s (Ok after) m = Ok (record m { stack = s; memory = after })
+space_changed s (Err fault) m = Err (throw_of fault)
 
 -- `allot` ( n -- )
 abbrev pub allot_entry : List Cell → Board → Result Board Throw
 allot_entry [] m = Err stack_underflow
-allot_entry (n ∷ s) m = space_left s (allotted m.memory n.0) m
+allot_entry (n ∷ s) m = space_changed s (allotted m.memory n.0) m
 
 -- `erase` ( a n -- )
 abbrev pub erase_entry : List Cell → Board → Result Board Throw
-erase_entry (n ∷ a ∷ s) m = space_left s (filled m.memory a.0 n.0 0) m
+erase_entry (n ∷ a ∷ s) m = space_changed s (filled m.memory a.0 n.0 0) m
 erase_entry _ m = Err stack_underflow
 
 -- the data space with `here` at an address
@@ -128,10 +128,10 @@ package_shown text None m = Err no_node
 package_shown text (Some node) m = text_shown (text node) m
 
 -- the board without an active package
-abbrev pub nothing_active : Board → Board
-nothing_active m = record m { active = record m.active { «package» = None } }
+abbrev pub without_package : Board → Board
+without_package m = record m { active = record m.active { «package» = None } }
 
--- ---- the table, a word a line; three are not run yet
+-- ---- the table, a word a line
 abbrev pub console_entry : ConsoleWord → Board → Result Board Throw
 console_entry console.OnePlus m = on_board m (increased (number 1) m.stack)
 console_entry console.OneMinus m = on_board m (decreased (number 1) m.stack)
@@ -154,14 +154,11 @@ console_entry console.SingleToDouble m = on_board m (doubled m.stack)
 console_entry console.TimesSlash m = on_board m (scaled m.stack)
 console_entry console.TimesSlashMod m = on_board m (scaled_parts m.stack)
 console_entry console.FcodeDebug m = on_board m (within (cell_at m.memory debug_cell ∷ m.stack))
-console_entry console.Immediate m = Err not_assigned
-console_entry console.EnterCompiling m = Err not_assigned
-console_entry console.DeviceEnd m = Ok (nothing_active m)
+console_entry console.DeviceEnd m = Ok (without_package m)
 console_entry console.PrintPath m = package_shown (pwd_text m.memory m.tree) m.active.package m
 console_entry console.PrintChildren m = package_shown (ls_text m.memory m.tree) m.active.package m
 console_entry console.PrintProperties m = package_shown (properties_text m.memory m.tree) m.active.package m
 console_entry console.ShowDevices m = text_shown (Ok (devs_text m.memory m.tree)) m
-console_entry console.PrintWords m = Err not_assigned
 
 -- whether the console grows by the word
 abbrev pub console_grows : ConsoleWord → Bool
@@ -186,11 +183,8 @@ console_grows console.SingleToDouble = false
 console_grows console.TimesSlash = false
 console_grows console.TimesSlashMod = false
 console_grows console.FcodeDebug = false
-console_grows console.Immediate = false
-console_grows console.EnterCompiling = false
 console_grows console.DeviceEnd = false
 console_grows console.PrintPath = true
 console_grows console.PrintChildren = true
 console_grows console.PrintProperties = true
 console_grows console.ShowDevices = true
-console_grows console.PrintWords = false

@@ -8,7 +8,7 @@ use Rattle.of_cells.specs.Division.{HasSignOf}
 use Rattle.of_cells.specs.Numbers.{cell_of, signed}
 use Rattle.of_stacks.specs.declared.throws.Throw.{Throw}
 use Rattle.of_stacks.specs.Stacks.{within}
-use Rattle.of_stacks.specs.Throws.{dictionary_overflow, division_by_zero, no_node, not_assigned, stack_underflow}
+use Rattle.of_stacks.specs.Throws.{dictionary_overflow, division_by_zero, no_node, stack_underflow}
 use Rattle.of_fcodes.specs.declared.console_words.ConsoleWord.{ConsoleWord}
 use Rattle.of_fcodes.specs.declared.console_words.ConsoleWord.TheVariants as console
 use Rattle.of_fcodes.specs.declared.words.AddressesWord.TheVariants.{Aligned}
@@ -111,13 +111,6 @@ Prints console.Spaces = Unit {0}
 Prints console.ShowDevices = Unit {0}
 Prints w = ShowsPackage w
 
--- those that are not run yet
-abbrev pub IsNotRun : ConsoleWord → Type 0
-IsNotRun console.Immediate = Unit {0}
-IsNotRun console.EnterCompiling = Unit {0}
-IsNotRun console.PrintWords = Unit {0}
-IsNotRun w = ⊥
-
 -- ---- the law
 
 pub record ConsoleWordsAreSequences : Type 0 where
@@ -203,8 +196,6 @@ pub record ConsoleWordsAreSequences : Type 0 where
   -- `device-end` leaves no package active, and then there is none to show
   pub device_end : (m : Board) → console_entry console.DeviceEnd m
       ≡ Ok (record m { active = record m.active { «package» = None } })
-  -- the others are not run yet
-  pub not_run : (w : ConsoleWord) (m : Board) → IsNotRun w → console_entry w m ≡ Err not_assigned
   -- words that print alone may want memory
   pub growing : (w : ConsoleWord) → Prints w → grows (Console w) ≡ true
   pub others : (w : ConsoleWord) → (Prints w → ⊥) → grows (Console w) ≡ false

@@ -16,7 +16,7 @@ use of_cells::Cell;
 use of_fcodes::{ArithmeticWord, ConsoleWord};
 use of_memory::{Memory, scratch_is_open};
 use of_prims::throw_of;
-use of_stacks::{Stop, Throw};
+use of_stacks::Stop;
 
 /// Where the cell `base` stands.
 const BASE: Cell = Cell(0x50_0000);
@@ -24,8 +24,7 @@ const BASE: Cell = Cell(0x50_0000);
 /// Where the flag of `fcode-debug?` stands.
 const DEBUG: Cell = Cell(0x50_0004);
 
-/// Runs a word of the console; a stop changes nothing. Those that work on more than the board are not run yet, and
-/// throw -256.
+/// Runs a word of the console; a stop changes nothing.
 #[inline(never)]
 pub(crate) fn run_console_word(word: ConsoleWord, board: &mut Board) -> Result<(), Stop>
     ensures value { Makes (console_grows word) (console_entry word board.old) board.old board.new result }
@@ -53,14 +52,11 @@ pub(crate) fn run_console_word(word: ConsoleWord, board: &mut Board) -> Result<(
         ConsoleWord::TimesSlash => scale(board),
         ConsoleWord::TimesSlashMod => scale_with_rest(board),
         ConsoleWord::FcodeDebug => push(debug_flag(&board.memory), board),
-        ConsoleWord::Immediate => Err(Stop::Thrown(Throw::NOT_ASSIGNED)),
-        ConsoleWord::EnterCompiling => Err(Stop::Thrown(Throw::NOT_ASSIGNED)),
         ConsoleWord::DeviceEnd => end_device(board),
         ConsoleWord::PrintPath => print_path(board),
         ConsoleWord::PrintChildren => print_children(board),
         ConsoleWord::PrintProperties => print_properties(board),
         ConsoleWord::ShowDevices => print_devices(board),
-        ConsoleWord::PrintWords => Err(Stop::Thrown(Throw::NOT_ASSIGNED)),
     }
 }
 

@@ -3,7 +3,7 @@
 ghost use Rattle.std.specs.Prelude.{◌≡◌, Ok, false, true};
 ghost use Rattle.of_console.specs.Children.{ls_text};
 ghost use Rattle.of_console.specs.Texts.{devs_text, properties_text, pwd_text};
-ghost use Rattle.of_words.specs.ConsoleWords.{fault_stop, nothing_active, package_shown, text_shown};
+ghost use Rattle.of_words.specs.ConsoleWords.{fault_stop, without_package, package_shown, text_shown};
 ghost use Rattle.of_stacks.specs.Stacks.{Makes};
 
 use of_board::Board;
@@ -23,7 +23,7 @@ fn fault_stop(fault: NodeFault) -> Stop
 
 /// `device-end` ( -- ) leaves no package active
 pub(crate) fn end_device(board: &mut Board) -> Result<(), Stop>
-    ensures value { Makes false (Ok (nothing_active board.old)) board.old board.new result }
+    ensures value { Makes false (Ok (without_package board.old)) board.old board.new result }
     ensures ready { board.old.console.ready ≡ true → board.new.console.ready ≡ true }
 {
     board.active.package = None;

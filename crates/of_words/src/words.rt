@@ -27,8 +27,7 @@ pub fn run_primitive(word: PrimitiveWord, board: &mut Board) -> Result<(), Stop>
     Ok(())
 }
 
-/// Runs an ordinary word; a stop changes nothing. A group that is not run yet throws -256, and so do, of the console's
-/// words, `immediate`, `]`, `device-end`, `pwd`, `ls`, `.properties`, `show-devs` and `words`.
+/// Runs an ordinary word; a stop changes nothing. A group that works on more than the board throws -256.
 #[inline]
 pub fn run_word(word: Word, board: &mut Board) -> Result<(), Stop>
     ensures value { Makes (grows word) (word_entry word board.old) board.old board.new result }
