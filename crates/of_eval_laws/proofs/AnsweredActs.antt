@@ -75,6 +75,7 @@ work_asks c law answer (act.Reaches w) s e =
 work_asks c law answer (act.Moves cells move to) s e = refl
 work_asks c law answer (act.Knows w cells) s e = refl
 work_asks c law answer (act.Stores m cells) s e = refl
+work_asks c law answer act.Compiles s e = refl
 work_asks c law answer (act.Appends x cells) s e = refl
 work_asks c law answer (act.Loads size m cells) s e = refl
 work_asks c law answer (act.Takes cells a) s e = work_asks c law answer a (with_stack cells s) e

@@ -22,14 +22,14 @@ use Rattle.of_compile.specs.Words.{WordsState}
 use Rattle.of_flow.specs.declared.token.Token.{Token}
 use Rattle.of_flow.specs.declared.token.Token.TheVariants as token
 use Rattle.of_eval.specs.declared.tokens.Spot.{Spot}
-use Rattle.of_eval.specs.Acts.{Act, Front, WordAct, front_of}
+use Rattle.of_eval.specs.Acts.{Act, Front, WordAct, front_of, knowing_under}
 use Rattle.of_eval.specs.Acts as act
 use Rattle.of_eval.specs.Doing.{act_grows, executed_grows, work_grows}
 use Rattle.of_eval.specs.Executing.{Plan, entered, guarded, plan_in}
 use Rattle.of_eval.specs.Items.{item_act}
 use Rattle.of_eval.specs.State.{State, with_stack}
 use Rattle.of_eval.specs.Steps.{item_grows_in, typed_grows}
-use Rattle.of_eval.specs.Tokens.{act_of, announcing, compiling_act, token_act}
+use Rattle.of_eval.specs.Tokens.{act_of, compiling_act, token_act}
 use Rattle.of_flow.specs.Tokens.{Plain, typed, typed_word}
 use Rattle.of_eval_laws.specs.Asking.{MemoryIsAsked, Runs}
 use Rattle.of_eval_laws.specs.Listed.{plan_of_item, plan_with}
@@ -181,7 +181,7 @@ still_none t here s e =
 -- ---- tokens with a name
 
 announced : (r : Result WordsState Throw) (s : List Cell) (w : WordsState)
-    → act_grows (act.Does (announcing r s)) w ≡ false
+    → act_grows (act.Does (knowing_under r s)) w ≡ false
 announced (Ok x) s w = refl
 announced (Err t) s w = refl
 

@@ -160,6 +160,7 @@ worked_reads c (act.Moves cells move to) s =
     gone_reads to (with_stack cells (with_items (doing.moved move s.flow.items) s))
 worked_reads c (act.Knows w cells) s = inl refl
 worked_reads c (act.Stores m cells) s = inl refl
+worked_reads c act.Compiles s = inl refl
 worked_reads c (act.Appends e cells) s =
     appended_reads (c.element e s.code).code (c.element e s.code).ended cells s
 worked_reads c (act.Loads size m cells) s = inr refl

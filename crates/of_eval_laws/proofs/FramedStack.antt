@@ -151,6 +151,7 @@ worked_leaves d c (act.Reaches w) s h =
 worked_leaves d c (act.Moves cells move to) s h = moved_leaves d cells move to c s h
 worked_leaves d c (act.Knows w cells) s h = stays d s (worked c (act.Knows w cells) s).state refl
 worked_leaves d c (act.Stores m cells) s h = stays d s (worked c (act.Stores m cells) s).state refl
+worked_leaves d c act.Compiles s h = ([], tt, inl (refl, refl, refl))
 worked_leaves d c (act.Appends e cells) s h =
     stays d s (appended (c.element e s.code) cells s).state
     (appended_flow (c.element e s.code).code (c.element e s.code).ended cells s)

@@ -19,9 +19,10 @@ use Rattle.of_stacks.specs.Returns.{return_on_top}
 use Rattle.of_stacks.specs.Unwinding.{latest_source}
 use Rattle.of_fcodes.specs.declared.codes.FCode.{FCode}
 use Rattle.of_dict.specs.declared.word.Kind.{Kind}
-use Rattle.of_dict.specs.Words.{xt_of}
-use Rattle.of_compile.specs.DictionaryWords.{kind_at, set_token_entry, store_entry, stored_kind, token_set, with_kind}
-use Rattle.of_compile.specs.DictionaryWords.{with_stored}
+use Rattle.of_dict.specs.Calls.{changed}
+use Rattle.of_dict.specs.Words.{newest, xt_of}
+use Rattle.of_compile.specs.DictionaryWords.{kind_at, marked, set_token_entry, store_entry, stored_kind, token_set}
+use Rattle.of_compile.specs.DictionaryWords.{with_kind, with_stored}
 use Rattle.of_compile.specs.Words.{WordsState, number_faults, numbered, own_number}
 use Rattle.of_board.specs.declared.board.Board.{Board}
 use Rattle.of_asking.specs.Devices.{devices_entry}
@@ -68,6 +69,12 @@ set_open w (a ∷ []) x e = absurd cc
 set_open w (a ∷ b ∷ []) x e = absurd cc
 set_open w (a ∷ b ∷ y ∷ cells) x e =
     ap (λ (v : WordsState × List Cell). v.0.defining) (sym (unless_open _ (token_set w a.0 b y.0, cells) x e))
+
+pub mark_open : (o : Option ℕ) (w v : WordsState) → marked o w ≡ Ok v → v.defining ≡ w.defining
+mark_open None w v e = absurd cc
+mark_open (Some n) w v e =
+    let same : record w { dictionary = changed (λ x. record x { immediate = true }) w.dictionary n } ≡ v = cc in
+    ap (λ u. u.defining) (sym same)
 
 pub number_open : (k : FCode) (name : Option (List ℕ)) (w v : WordsState) → numbered k name w ≡ Ok v
     → v.defining ≡ w.defining
@@ -190,6 +197,7 @@ module _ (image : List ℕ) (outer : Reading) where
         aims = λ n s a. tt;
         stores = λ xt x s p e. store_open xt s.words s.board.stack x e;
         waits = λ s p. refl;
+        marks = λ w s p e. mark_open (newest s.words.dictionary) s.words w e;
         sets = λ x s p e. set_open s.words s.board.stack x e;
         announces = λ k name w s p e. number_open k name s.words w e;
         loads = λ a n spread x s p shut e. shut_by s.words.defining shut;
@@ -331,6 +339,7 @@ module _ (image : List ℕ) (outer : Reading) where
   worked_leads code c (act.Moves cells move to) s h p = move_leads code cells move to c s h p
   worked_leads code c (act.Knows w cells) s h p = (p.0.0, (λ o. h ∙ p.0.1 o))
   worked_leads code c (act.Stores m cells) s h p = p.0
+  worked_leads code c act.Compiles s h p = p.0
   worked_leads code c (act.Appends e cells) s h p =
       appended_leads (c.element e s.code).code (c.element e s.code).ended cells s p.0
   worked_leads code c (act.Loads size m cells) s h p =

@@ -26,9 +26,9 @@ use Rattle.of_dict.specs.Words.{capacity, longest_name}
 use Rattle.of_compile.specs.declared.defining.DefiningWord.{DefiningWord}
 use Rattle.of_compile.specs.Defining.{Made, Making, defining_entry, defining_faults, has_no_bytes, made_by}
 use Rattle.of_compile.specs.DictionaryWords.{behavior_entry, behavior_of, body_of, created_at, found_of}
-use Rattle.of_compile.specs.DictionaryWords.{from_body_entry, get_token_entry, kind_at, replaced, set_token_entry}
-use Rattle.of_compile.specs.DictionaryWords.{store_entry, stored_kind, to_body_entry, token_given, with_stored}
-use Rattle.of_compile.specs.DictionaryWords.{xt_found}
+use Rattle.of_compile.specs.DictionaryWords.{from_body_entry, get_token_entry, kind_at, marked, replaced}
+use Rattle.of_compile.specs.DictionaryWords.{set_token_entry, store_entry, stored_kind, to_body_entry, token_given}
+use Rattle.of_compile.specs.DictionaryWords.{with_stored, xt_found}
 use Rattle.of_compile.specs.Words.{WordsState, is_own_code, is_word, name_fault, numbered}
 use Rattle.of_compile.specs.SlotWords.{SlotMaking, slot_entry, slot_given, slot_made}
 use Rattle.of_dict.specs.declared.word.Slot.{Slot}
@@ -170,6 +170,11 @@ unfolding is_listed listed_numbers
 from_body_listed w [] = refl
 from_body_listed w (a ∷ cells) =
     replaced_listed (xt_found (created_at w.dictionary a.0)) cells (xts (created_at w.dictionary a.0))
+
+pub mark_listed : (o : Option ℕ) (w : WordsState) → ThrowsListed (marked o w)
+unfolding is_listed listed_numbers
+mark_listed None w = refl
+mark_listed (Some n) w = tt
 
 given : (e : Option TokenEntry) (cells : List Cell) → ThrowsListed (token_given e cells)
 unfolding is_listed listed_numbers

@@ -16,16 +16,17 @@ use Rattle.of_stacks.specs.Returns.{return_on_top}
 use Rattle.of_dict.specs.declared.word.Kind.{Kind}
 use Rattle.of_dict.specs.declared.word.Kind.TheVariants as kind
 use Rattle.of_dict.specs.declared.word.Slot.TheVariants as slot
-use Rattle.of_dict.specs.Words.{kind_in, word_at, xt_of}
+use Rattle.of_dict.specs.Calls.{changed}
+use Rattle.of_dict.specs.Words.{kind_in, newest, word_at, xt_of}
 use Rattle.of_compile.specs.Structured.{Definitions}
-use Rattle.of_compile.specs.DictionaryWords.{kind_at, set_token_entry, store_entry, stored_kind, token_set, with_kind}
-use Rattle.of_compile.specs.DictionaryWords.{with_stored}
+use Rattle.of_compile.specs.DictionaryWords.{kind_at, marked, set_token_entry, store_entry, stored_kind, token_set}
+use Rattle.of_compile.specs.DictionaryWords.{with_kind, with_stored}
 use Rattle.of_compile.specs.Words.{WordsState, number_faults, own_number}
 use Rattle.of_eval.specs.Executing.{is_opened}
 use Rattle.of_eval.specs.State.{State, open_xt, with_words}
 use Rattle.of_eval_laws.specs.Structured.{IsPlacedIn}
 use Rattle.of_eval_laws.specs.Placed.{AllPlaced, AreItemsIn, IsExitIn, IsItemIn, code_start, finished_end}
-use Rattle.of_eval_laws.proofs.Placed.{kind_placed, own_is}
+use Rattle.of_eval_laws.proofs.Placed.{kind_placed, marked_placed, own_is}
 use Rattle.of_eval_laws.proofs.PlacedEnds.{entered_placed, guarded_placed}
 use Rattle.of_eval_laws.proofs.Walk.{Turns}
 use Rattle.of_eval_laws.proofs.WalkFree.{keeping}
@@ -90,6 +91,14 @@ set_placed (a ∷ []) x s e p = absurd cc
 set_placed (a ∷ b ∷ []) x s e p = absurd cc
 set_placed (code ∷ f ∷ xt ∷ cells) x s e p = set_when _ (token_set s.words code.0 f xt.0) cells x s e p
 
+pub mark_placed : (o : Option ℕ) (w : WordsState) (s : State Definitions) → marked o s.words ≡ Ok w → AllPlaced s
+    → AllPlaced (with_words w s)
+mark_placed None w s e p = absurd cc
+mark_placed (Some n) w s e p =
+    let same :
+    record s.words { dictionary = changed (λ x. record x { immediate = true }) s.words.dictionary n } ≡ w = cc in
+    subst (λ v. AllPlaced (with_words v s)) same (marked_placed s n p)
+
 pub announced_when : (f : Option Throw) (v w : WordsState) (s : State Definitions) → unless f v ≡ Ok w
     → AllPlaced (with_words v s) → AllPlaced (with_words w s)
 announced_when None v w s e p = (let same : v ≡ w = cc in subst (λ u. AllPlaced (with_words u s)) same p)
@@ -133,6 +142,7 @@ placed =
       begins = λ start xt s p e z. own_begins (own_number xt) xt start s refl (ap (λ k. code_start k) e) z p;
       stores = λ xt x s p e. store_placed xt s.board.stack x s e p;
       waits = λ s p. p;
+      marks = λ w s p e. mark_placed (newest s.words.dictionary) w s e p;
       sets = λ x s p e. set_placed s.board.stack x s e p;
       announces = λ k name w s p e.
           announced_when (counting (number_faults s.words k name))

@@ -67,6 +67,7 @@ opening c (act.Reaches w) q s e g = absurd (false≢true g)
 opening c (act.Moves cells move to) q s e g = absurd cc
 opening c (act.Knows w cells) q s e g = absurd cc
 opening c (act.Stores m cells) q s e g = absurd cc
+opening c act.Compiles q s e g = absurd cc
 opening c (act.Appends x cells) q s e g = absurd cc
 opening c (act.Loads size m cells) q s e g = absurd cc
 opening c (act.Takes cells a) q s e g = opening c a q (with_stack cells s) e g

@@ -73,6 +73,7 @@ work_quiet c (act.Reaches w) s h = absurd h
 work_quiet c (act.Moves cells move to) s h = refl
 work_quiet c (act.Knows w cells) s h = refl
 work_quiet c (act.Stores m cells) s h = refl
+work_quiet c act.Compiles s h = refl
 work_quiet c (act.Appends x cells) s h = refl
 work_quiet c (act.Loads size m cells) s h = refl
 work_quiet c (act.Takes cells a) s h = work_quiet c a (with_stack cells s) h

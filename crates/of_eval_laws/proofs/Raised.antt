@@ -155,6 +155,7 @@ worked_raises c l taken ends (act.Reaches w) s h =
 worked_raises c l taken ends (act.Moves cells move to) s h = tt
 worked_raises c l taken ends (act.Knows w cells) s h = tt
 worked_raises c l taken ends (act.Stores m cells) s h = tt
+worked_raises c l taken ends act.Compiles s h = tt
 worked_raises c l taken ends (act.Appends e cells) s h = weaker taken ends _ (l.calls.element e s.code)
 worked_raises c l taken ends (act.Loads size m cells) s h = tt
 worked_raises c l taken ends (act.Takes cells a) s h = worked_raises c l taken ends a (with_stack cells s) h

@@ -377,6 +377,7 @@ worked_reads l c (act.Moves cells move to) s w sound h =
 worked_reads l c (act.Knows x cells) s w sound h = h
 worked_reads l c (act.Stores m cells) s w sound h =
     same_images m.images s (slot_kept l s.board w.0 w.1 m sound w.2).images.0 h
+worked_reads l c act.Compiles s w sound h = h
 worked_reads l c (act.Appends e cells) s w sound h =
     appended_reads (c.element e s.code).code (c.element e s.code).ended cells s h
 worked_reads l c (act.Loads size m cells) s w sound h = ((ap length w.1 ∙ ap suc h.0.0, (inl refl, h.0.1)), h.1)

@@ -312,6 +312,8 @@ worked_leaves l c (act.Moves cells move to) s h sound =
 worked_leaves l c (act.Knows w cells) s h sound = left s.board sound
 worked_leaves l c (act.Stores m cells) s h sound =
     inl (by_space l s.board m sound (slot_kept l s.board h.0 h.1 m sound h.2))
+worked_leaves l c act.Compiles s h sound =
+    inl (by_space l s.board (with_state s.board.memory true) sound (by_state l s.board.memory true sound))
 worked_leaves l c (act.Appends e cells) s h sound =
     appended_leaves (c.element e s.code).code (c.element e s.code).ended cells s sound
 worked_leaves l c (act.Loads size m cells) s h sound = inr (loaded l s.board m sound (h l))

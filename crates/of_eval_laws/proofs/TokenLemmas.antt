@@ -35,9 +35,8 @@ use Rattle.of_flow.specs.declared.control.ControlWord.TheVariants as control
 use Rattle.of_flow.specs.declared.token.Token.{Token}
 use Rattle.of_flow.specs.declared.token.Token.TheVariants as token
 use Rattle.of_eval.specs.declared.tokens.Spot.{Spot}
-use Rattle.of_eval.specs.Acts.{Appends, unless}
-use Rattle.of_eval.specs.Acts.{Act, Behind, Does, Drops, Fails, Keeps, Leaves, Moves, Pushes, Raises, Turns, WordAct}
-use Rattle.of_eval.specs.Acts.{front_of}
+use Rattle.of_eval.specs.Acts.{Act, Appends, Behind, Compiles, Does, Drops, Fails, Keeps, Leaves, Moves, Pushes}
+use Rattle.of_eval.specs.Acts.{Raises, Turns, WordAct, front_of, knowing_under, leaving, unless}
 use Rattle.of_eval.specs.Doing.{acted, appended, executed, worked}
 use Rattle.of_eval.specs.Executing.{Plan, Written, act_of_plan, comma_act, dictionary_act, execution, plan_in}
 use Rattle.of_eval.specs.Executing.{throw_act}
@@ -51,7 +50,8 @@ use Rattle.of_eval.specs.Tokens.{token_act}
 use Rattle.of_flow.specs.Tokens.{typed_word}
 use Rattle.of_eval_laws.specs.Going.{on}
 use Rattle.of_eval_laws.proofs.GoingLemmas.{if_is, if_not, other}
-use Rattle.of_eval_laws.specs.Tokens.{Goes, ThrowTakes, TokensAreTyped, TokensCompile, TokensGo, reading, stream_word}
+use Rattle.of_eval_laws.specs.Tokens.{DictionaryWordsKeep, Goes, ThrowTakes, TokensAreTyped, TokensCompile, TokensGo}
+use Rattle.of_eval_laws.specs.Tokens.{reading, stream_word}
 
 -- ---- FCodes
 
@@ -301,4 +301,19 @@ throw_takes = record {
       throw_of c xt s n cells p e
       ∙ ap (λ a. worked c a s) (if_is (n.0 == 0) (Leaves cells) (Raises (record { 0 = signed n }) cells)
       (eq-eqb n.0 0 z));
+}
+
+-- ---- words on words
+
+pub dictionary_words_keep : {S : Type 0} → DictionaryWordsKeep S
+unfolding written_act dictionary_act worked
+dictionary_words_keep = record {
+  bracket = λ c xt s n p opened.
+      planned c xt s (word.Dictionary dictionary.EnterCompiling) p
+      ∙ ap (λ b. worked c (if b then Fails compile_only else Compiles) s) (ap is_none opened);
+  mark = λ c xt s w p e.
+      planned c xt s (word.Dictionary dictionary.Immediate) p
+      ∙ ap (λ r. worked c (knowing_under r s.board.stack) s) e;
+  find = λ c xt s cells p e.
+      planned c xt s (word.Dictionary dictionary.Find) p ∙ ap (λ r. worked c (leaving r) s) e;
 }

@@ -29,21 +29,22 @@ use Rattle.of_flow.specs.declared.control.ControlWord.TheVariants as control
 use Rattle.of_flow.specs.declared.token.Token.{Token}
 use Rattle.of_flow.specs.declared.token.Token.TheVariants as token
 use Rattle.of_eval.specs.declared.tokens.Spot.{Spot}
-use Rattle.of_eval.specs.Acts.{Act, Move, WordAct, front_of, leaving}
+use Rattle.of_eval.specs.Acts.{Act, Move, WordAct, front_of, knowing_under, leaving}
 use Rattle.of_eval.specs.Acts as act
 use Rattle.of_eval.specs.Executing.{Plan, plan_in}
 use Rattle.of_eval.specs.Items.{Position, Target, There, beginning, control_act, control_item, going, item_act}
 use Rattle.of_eval.specs.Items.{leave_item, there, turning}
 use Rattle.of_flow.specs.Turns.{loop_item, one}
 use Rattle.of_eval.specs.State.{State}
-use Rattle.of_eval.specs.Tokens.{act_of, announcing, at_position, calling, compiling_act, exit_at, exit_in}
+use Rattle.of_eval.specs.Tokens.{act_of, at_position, calling, compiling_act, exit_at, exit_in}
 use Rattle.of_flow.specs.Tokens.{Typed}
 use Rattle.of_eval.specs.Tokens.{leave_act, named, plain_act, storing, string_address, token_act}
 use Rattle.of_flow.specs.Tokens as typed
 use Rattle.of_eval_laws.specs.Listed.{plan_named, plan_of_item}
 use Rattle.of_eval_laws.proofs.ListedFaults.{loop_listed, numbered_listed, return_listed, within_listed}
 use Rattle.of_eval_laws.proofs.WalkWords.{AimsAt, Executes, Fits, IsMove, IsTurn, IsWork, Rules, if_works}
-use Rattle.of_eval_laws.proofs.WalkWords.{leaving_works, pushed_works, pushing_works, returning_works, store_works}
+use Rattle.of_eval_laws.proofs.WalkWords.{knowing_under_works, leaving_works, pushed_works, pushing_works}
+use Rattle.of_eval_laws.proofs.WalkWords.{returning_works, store_works}
 
 -- What a law asks of acts of control and of tokens, beside what it asks of those of words.
 pub record Turns {S : Type 0} (R : Rules S) : Type 1 where
@@ -221,15 +222,10 @@ leave_acts R T size cells (Ok l) s q p e i =
     (T.drop s (T.held s p)) (l, e)
 leave_acts R T size cells (Err t) s q p e i = R.fails t i
 
-announcing_works : {S : Type 0} (R : Rules S) (r : Result WordsState Throw) (cells : List Cell) (s : State S)
-    → ThrowsListed r → ((w : WordsState) → r ≡ Ok w → R.Known s w) → IsWork R s (announcing r cells)
-announcing_works R (Ok w) cells s l h = h w refl
-announcing_works R (Err t) cells s l h = R.fails t l
-
 numbered_works : {S : Type 0} (R : Rules S) (k : FCode) (name : Option (List ℕ)) (s : State S) → R.Held s
-    → IsWork R s (announcing (numbered k name s.words) s.board.stack)
+    → IsWork R s (knowing_under (numbered k name s.words) s.board.stack)
 numbered_works R k name s p =
-    announcing_works R (numbered k name s.words) s.board.stack s (numbered_listed k name s.words)
+    knowing_under_works R (numbered k name s.words) s.board.stack s (numbered_listed k name s.words)
     (λ w e. R.announces k name w s p e)
 
 named_works : {S : Type 0} (R : Rules S) (e : Option TokenEntry) (a : ℕ → WordAct) (s : State S)

@@ -51,6 +51,7 @@ keeping S Held stays = record {
   stores = λ xt x s p e. tt;
   sets = λ x s p e. tt;
   waits = λ s p. tt;
+  marks = λ w s p e. tt;
   announces = λ k name w s p e. tt;
   opens = λ r s p e. tt;
   loads = λ a n spread x s p shut e. tt;

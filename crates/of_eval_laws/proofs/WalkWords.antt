@@ -4,7 +4,7 @@ use Rattle.std.proofs.Common.{length, Option, Some, None, Result, Ok, Err, is_no
 use Rattle.std.proofs.Common.{if◌then◌else◌}
 use Rattle.std.specs.Prelude.{not, slice_get}
 use Rattle.of_cells.specs.declared.cells.Cell.{Cell}
-use Rattle.of_cells.specs.Numbers.{signed}
+use Rattle.of_cells.specs.Numbers.{flag, signed}
 use Rattle.of_stacks.specs.declared.return_item.Continuation.{Continuation}
 use Rattle.of_stacks.specs.declared.return_item.Continuation.TheVariants as continuation
 use Rattle.of_stacks.specs.declared.return_item.LoopParameters.{LoopParameters}
@@ -14,6 +14,7 @@ use Rattle.of_stacks.specs.declared.throws.Throw.{Throw}
 use Rattle.of_stacks.specs.Loops.{loop_on_top, open_loops}
 use Rattle.of_stacks.specs.Order.{counted, counting, fault_if}
 use Rattle.of_stacks.specs.Returns.{has_due_top, return_on_top, user_on_top}
+use Rattle.of_stacks.specs.Stacks.{within}
 use Rattle.of_stacks.specs.Throws.{ThrowsListed, bad_handle, compile_only, is_listed, listed_numbers}
 use Rattle.of_stacks.specs.Throws.{return_stack_overflow, stack_underflow}
 use Rattle.of_fcodes.specs.declared.codes.FCode.{FCode}
@@ -33,18 +34,18 @@ use Rattle.of_memory.specs.Growth.{image_pushed_from}
 use Rattle.of_prims.specs.Data.{throw_of, thrown}
 use Rattle.of_dict.specs.declared.word.Kind.{Kind}
 use Rattle.of_dict.specs.declared.word.Kind.TheVariants as kind
-use Rattle.of_dict.specs.Words.{kind_in}
-use Rattle.of_compile.specs.DictionaryWords.{set_token_entry, store_entry as plain_store, kind_at}
+use Rattle.of_dict.specs.Words.{kind_in, newest}
+use Rattle.of_compile.specs.DictionaryWords.{immediate_entry, kind_at, set_token_entry, store_entry as plain_store}
 use Rattle.of_compile.specs.Words.{WordsState, is_word, numbered, own_word}
-use Rattle.of_eval.specs.Acts.{Front, Move, To, WordAct, front_of, knowing, leaving, keeping}
+use Rattle.of_eval.specs.Acts.{Front, Move, To, WordAct, front_of, keeping, knowing, knowing_under, leaving}
 use Rattle.of_eval.specs.Acts as act
 use Rattle.of_eval.specs.ByteLoading.{copying, length_at, load_act, loading, loading_faults, spread_of, start_at}
 use Rattle.of_eval.specs.Executing.{Call, Catch, Declines, Execute, Open, Own, Plan, Stops, Written, act_of_plan}
-use Rattle.of_eval.specs.Executing.{call_faults, call_plan, callee_plan, catch_plan, comma_act, comma_faults}
-use Rattle.of_eval.specs.Executing.{dictionary_act, dropping, entered, execute_plan, execution, furnished, guarded}
-use Rattle.of_eval.specs.Executing.{is_opened, opening_plan, own_act, plan, plan_at, plan_behind, plan_in, planned}
-use Rattle.of_eval.specs.Executing.{runner_of, unless_stopped, product_entry, pushing, returning, returns_act}
-use Rattle.of_eval.specs.Executing.{throw_act, throws_act, unlooping, written_act}
+use Rattle.of_eval.specs.Executing.{bracket_act, call_faults, call_plan, callee_plan, catch_plan, comma_act}
+use Rattle.of_eval.specs.Executing.{comma_faults, dictionary_act, dropping, entered, execute_plan, execution}
+use Rattle.of_eval.specs.Executing.{furnished, guarded, is_opened, opening_plan, own_act, plan, plan_at, plan_behind}
+use Rattle.of_eval.specs.Executing.{plan_in, planned, product_entry, pushing, returning, returns_act, runner_of}
+use Rattle.of_eval.specs.Executing.{throw_act, throws_act, unless_stopped, unlooping, written_act}
 use Rattle.of_eval.specs.declared.executing.Runner.{Runner}
 use Rattle.of_eval.specs.declared.executing.Runner.TheVariants as runner
 use Rattle.of_instances.specs.declared.calling.CallingWord.{CallingWord}
@@ -65,7 +66,7 @@ use Rattle.of_eval_laws.specs.Frames.{drops_item, last_word}
 use Rattle.of_eval_laws.specs.Listed.{cell_of}
 use Rattle.of_eval_laws.proofs.Callees.{HasCallee, IsCallee, callees}
 use Rattle.of_eval_laws.proofs.ListedFaults.{IsListedFault, counted_listed, fault_listed, from_body_listed}
-use Rattle.of_eval_laws.proofs.ListedFaults.{get_token_listed, index_listed, loop_listed, return_listed}
+use Rattle.of_eval_laws.proofs.ListedFaults.{get_token_listed, index_listed, loop_listed, mark_listed, return_listed}
 use Rattle.of_eval_laws.proofs.ListedFaults.{set_token_listed, store_listed, to_body_listed, user_listed, within_listed}
 use Rattle.of_eval_laws.proofs.ListedWords.{comma_fault, finds, loading_fault, products}
 use Rattle.of_compile.specs.SlotWords.{instance_said}
@@ -73,10 +74,11 @@ use Rattle.of_own.specs.Stores.{in_slot, in_word, into_slot, slot_written, span_
 use Rattle.of_own.specs.Stores.{stored_slot}
 use Rattle.of_own.specs.Slots.{in_instance}
 use Rattle.of_own.specs.Defers.{executable}
+use Rattle.of_own.specs.Finding.{find_of, finding, found_by}
 use Rattle.of_nodes.specs.declared.properties.Span.{Span}
 use Rattle.of_ihandles.specs.declared.instance_fault.InstanceFault.{InstanceFault}
 use Rattle.of_ihandles.specs.Instances.{slot_block}
-use Rattle.of_memory.specs.Access.{write}
+use Rattle.of_memory.specs.Access.{read_bytes, write}
 use Rattle.of_memory.specs.declared.width.Width.TheVariants.{Four}
 use Rattle.of_eval_laws.proofs.ListedWords.{behavior_of_listed, executable_listed}
 
@@ -105,7 +107,7 @@ pub record Rules (S : Type 0) : Type 1 where
   pub Target : State S → Continuation → Type 0
   -- of a place in the code where a word of control goes
   pub Aims : State S → ℕ → Type 0
-  -- of words, where something is appended, and of a data space with one image more
+  -- of words, where something is appended or words are compiled from now on, and of a data space with one image more
   pub Known : State S → WordsState → Type 0
   pub Appends : State S → Type 0
   pub Loads : State S → DataSpace → Type 0
@@ -125,17 +127,18 @@ pub record Rules (S : Type 0) : Type 1 where
       (start xt : ℕ) (s : State S) → Held s → kind_in (own_word s.words.dictionary xt) ≡ Some (kind.Colon start) →
       is_opened (open_xt s) xt ≡ false → Target s (continuation.Code start)
   pub aims : (n : ℕ) (s : State S) → Aims s n → Target s (continuation.Code n)
-  -- words are known that come of a store, of `set-token`, of `instance` or of a number for the next word
+  -- words are known that come of a store, of `set-token`, of `instance` or `immediate`, or of a number for the next one
   pub stores :
       (xt : ℕ) (x : WordsState × List Cell) (s : State S) → Held s → plain_store xt s.words s.board.stack ≡ Ok x →
       Known s x.0
   pub sets :
       (x : WordsState × List Cell) (s : State S) → Held s → set_token_entry s.words s.board.stack ≡ Ok x → Known s x.0
   pub waits : (s : State S) → Held s → Known s (instance_said s.words)
+  pub marks : (w : WordsState) (s : State S) → Held s → immediate_entry s.words ≡ Ok w → Known s w
   pub announces :
       (k : FCode) (name : Option (List ℕ)) (w : WordsState) (s : State S) → Held s → numbered k name s.words ≡ Ok w →
       Known s w
-  -- `compile,` appends where a definition is open
+  -- `compile,` appends where a definition is open, and `]` compiles
   pub opens : Runs → (s : State S) → Held s → is_none s.words.defining ≡ false → Appends s
   -- an image was copied, where no definition is open
   pub loads :
@@ -207,6 +210,7 @@ IsWork R s (act.Reaches w) = R.Asks
 IsWork R s (act.Moves cells move to) = IsMove R s move × IsTo R s to × Fits R s move to
 IsWork R s (act.Knows w cells) = R.Known s w
 IsWork R s (act.Stores m cells) = IsStoring m s
+IsWork R s act.Compiles = R.Appends s
 IsWork R s (act.Appends e cells) = R.Appends s
 IsWork R s (act.Loads size m cells) = R.Loads s m
 IsWork R s (act.Takes cells a) = IsWork R (with_stack cells s) a
@@ -244,6 +248,12 @@ knowing_works : {S : Type 0} (R : Rules S) (r : Result (WordsState × List Cell)
     → ((x : WordsState × List Cell) → r ≡ Ok x → R.Known s x.0) → IsWork R s (knowing r)
 knowing_works R (Ok x) s l h = h x refl
 knowing_works R (Err t) s l h = R.fails t l
+
+-- words alone
+pub knowing_under_works : {S : Type 0} (R : Rules S) (r : Result WordsState Throw) (cells : List Cell) (s : State S)
+    → ThrowsListed r → ((w : WordsState) → r ≡ Ok w → R.Known s w) → IsWork R s (knowing_under r cells)
+knowing_under_works R (Ok w) cells s l h = h w refl
+knowing_under_works R (Err t) cells s l h = R.fails t l
 
 -- a store into a word
 word_stored : {S : Type 0} (R : Rules S) (r : Result (WordsState × List Cell) Throw) (s : State S) → ThrowsListed r
@@ -391,6 +401,37 @@ comma_works R o (xt ∷ cells) s p =
     (none_found (is_none s.words.defining) compile_only
     (counting (fault_if (not (is_word s.words.dictionary xt.0)) bad_handle ∷ [])) e))
 
+-- ---- `]`, `immediate` and `$find`
+
+bracket_works : {S : Type 0} (R : Rules S) → MayAppend R → (s : State S) → R.Held s → IsWork R s (bracket_act s.words)
+unfolding is_listed listed_numbers
+bracket_works R o s p =
+    if_works R (is_none s.words.defining) _ _ s (λ e. R.fails _ refl) (λ e. o s p e)
+
+marking_works : {S : Type 0} (R : Rules S) (s : State S) → R.Held s
+    → IsWork R s (knowing_under (immediate_entry s.words) s.board.stack)
+marking_works R s p =
+    knowing_under_works R (immediate_entry s.words) s.board.stack s (mark_listed (newest s.words.dictionary) s.words)
+    (λ w e. R.marks w s p e)
+
+word_found : {S : Type 0} (R : Rules S) (o : Option Cell) (a n : Cell) (cells : List Cell) (s : State S)
+    → IsWork R s (leaving (finding (Ok o) a n cells))
+word_found R (Some xt) a n cells s = tt
+word_found R None a n cells s =
+    leaving_works R (within (flag false ∷ n ∷ a ∷ cells)) s (within_listed (flag false ∷ n ∷ a ∷ cells))
+
+name_read : {S : Type 0} (R : Rules S) (r : Result (List ℕ) MemFault) (a n : Cell) (cells : List Cell) (s : State S)
+    → IsWork R s (leaving (finding (found_by s.words s.board (thrown r)) a n cells))
+name_read R (Ok name) a n cells s = word_found R _ a n cells s
+name_read R (Err fault) a n cells s = R.faults fault
+
+find_works : {S : Type 0} (R : Rules S) (cells : List Cell) (s : State S)
+    → IsWork R s (leaving (find_of s.words s.board cells))
+unfolding is_listed listed_numbers
+find_works R [] s = R.fails _ refl
+find_works R (n ∷ []) s = R.fails _ refl
+find_works R (n ∷ a ∷ cells) s = name_read R (read_bytes s.board.memory a.0 n.0) a n cells s
+
 -- ---- `byte-load`
 
 loading_works : {S : Type 0} (R : Rules S) (size : OffsetSize) (r : Result (ℕ × DataSpace) MemFault) (cells : List Cell)
@@ -431,7 +472,10 @@ dictionary_works R o dictionary.State s p = pushed_works R _ s.board.stack s
 dictionary_works R o dictionary.CompileComma s p = comma_works R o s.board.stack s p
 dictionary_works R o dictionary.Behavior s p =
     leaving_works R _ s (behavior_of_listed s.words s.board s.board.stack)
+dictionary_works R o dictionary.Find s p = find_works R s.board.stack s
 dictionary_works R o dictionary.Instance s p = R.waits s p
+dictionary_works R o dictionary.Immediate s p = marking_works R s p
+dictionary_works R o dictionary.EnterCompiling s p = bracket_works R o s p
 dictionary_works R o dictionary.ByteLoad s p =
     if_works R (is_some s.words.defining) _ _ s (λ e. R.fails _ refl) (λ e. load_works R s.board.stack s p e)
 dictionary_works R o w s p = R.fails _ refl

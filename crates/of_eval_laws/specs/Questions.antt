@@ -47,6 +47,7 @@ IsOpening (act.Reaches w) = ⊥
 IsOpening (act.Moves cells move to) = ⊥
 IsOpening (act.Knows w cells) = ⊥
 IsOpening (act.Stores m cells) = ⊥
+IsOpening act.Compiles = ⊥
 IsOpening (act.Appends e cells) = ⊥
 IsOpening (act.Loads size m cells) = ⊥
 IsOpening (act.Takes cells a) = IsOpening a

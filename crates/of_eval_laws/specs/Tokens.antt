@@ -25,7 +25,9 @@ use Rattle.of_control.specs.Element as element
 use Rattle.of_compile.specs.declared.defining.DefiningWord.TheVariants as defining
 use Rattle.of_compile.specs.declared.element.PlainItem.{PlainItem}
 use Rattle.of_compile.specs.Tokens.{called, offset_element}
-use Rattle.of_compile.specs.Words.{is_word}
+use Rattle.of_compile.specs.DictionaryWords.{immediate_entry}
+use Rattle.of_compile.specs.Words.{WordsState, is_word}
+use Rattle.of_own.specs.Finding.{find_of}
 use Rattle.of_flow.specs.declared.control.ControlWord.{ControlWord}
 use Rattle.of_flow.specs.declared.control.ControlWord.TheVariants as control
 use Rattle.of_flow.specs.declared.token.Token.{Token}
@@ -34,7 +36,7 @@ use Rattle.of_eval.specs.declared.tokens.Spot.{Spot}
 use Rattle.of_eval.specs.Doing.{executed}
 use Rattle.of_eval.specs.Executing.{Written, plan_in}
 use Rattle.of_flow.specs.Turns.{loop_item, one}
-use Rattle.of_eval.specs.State.{Calls, State, done, failed, with_items, with_stack}
+use Rattle.of_eval.specs.State.{Calls, State, done, failed, with_compiling, with_items, with_stack, with_words}
 use Rattle.of_eval.specs.Steps.{plain_done}
 use Rattle.of_flow.specs.Tokens.{ExternalToken, NamedToken, Plain, Typed, typed_of}
 use Rattle.of_eval_laws.specs.Going.{on}
@@ -179,4 +181,20 @@ pub record ThrowTakes (S : Type 0) : Type 0 where
   pub zero :
       (c : Calls S) (xt : ℕ) (s : State S) (n : Cell) (cells : List Cell) → n.0 ≡ 0 →
       plan_in s xt ≡ Written (word.Throws throws.Throw) → s.board.stack ≡ n ∷ cells →
+      executed c xt s ≡ done (with_stack cells s)
+
+-- `]` changes whether words are compiled and the cell `state` that says so, `immediate` the words and `$find` the data
+-- stack, and nothing else.
+pub record DictionaryWordsKeep (S : Type 0) : Type 0 where
+  pub bracket :
+      (c : Calls S) (xt : ℕ) (s : State S) (n : ℕ) →
+      plan_in s xt ≡ Written (word.Dictionary dictionary.EnterCompiling) → s.words.defining ≡ Some n →
+      executed c xt s ≡ done (with_compiling true s)
+  pub mark :
+      (c : Calls S) (xt : ℕ) (s : State S) (w : WordsState) →
+      plan_in s xt ≡ Written (word.Dictionary dictionary.Immediate) → immediate_entry s.words ≡ Ok w →
+      executed c xt s ≡ done (with_words w s)
+  pub find :
+      (c : Calls S) (xt : ℕ) (s : State S) (cells : List Cell) →
+      plan_in s xt ≡ Written (word.Dictionary dictionary.Find) → find_of s.words s.board s.board.stack ≡ Ok cells →
       executed c xt s ≡ done (with_stack cells s)

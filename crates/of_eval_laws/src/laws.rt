@@ -16,7 +16,7 @@ ghost use Rattle.of_eval_laws.specs.Returning.{StackLeadsBack};
 ghost use Rattle.of_eval_laws.specs.Running.{ImagesRun};
 ghost use Rattle.of_eval_laws.specs.Sound.{SpaceStaysSound};
 ghost use Rattle.of_eval_laws.specs.Throws.{ThrowsSettle};
-ghost use Rattle.of_eval_laws.specs.Tokens.{ThrowTakes, TokensAreTyped, TokensCompile, TokensGo};
+ghost use Rattle.of_eval_laws.specs.Tokens.{DictionaryWordsKeep, ThrowTakes, TokensAreTyped, TokensCompile, TokensGo};
 
 use of_asking::{answers_settle, asking_words_throw_listed, images_stay_asked};
 use of_compile::{compiles_reading, runs_by_structure, structures_are_flat};
@@ -214,6 +214,13 @@ pub fn tokens_go()
 pub fn throw_takes()
     ensures cells { ThrowTakes Coding }
     ensures bodies { ThrowTakes Definitions }
+{}
+
+/// `]` changes whether words are compiled, `immediate` the words and `$find` the data stack, and nothing else.
+#[tactic(auto, using(crate::proofs::TokenLemmas::dictionary_words_keep))]
+pub fn dictionary_words_keep()
+    ensures cells { DictionaryWordsKeep Coding }
+    ensures bodies { DictionaryWordsKeep Definitions }
 {}
 
 /// A definition runs as its structure reads: at each point that is reached in its body the item is done that the
