@@ -3,11 +3,11 @@ ghost use Rattle.std.specs.Prelude.{◌≤◌};
 
 use crate::running::{bytes_of, made_by, number_left, shown};
 use of_eval_laws::{
-    catch_keeps, definitions_run, ends_go_back, frames_hold, images_are_readings, images_run,
-    images_stand, items_go, loads_begin, memory_is_asked, mismatch_is_no_body, names_stay_home,
-    questions_settle, space_stays_sound, stack_leads_back, states_stay_placed, steps_agree,
-    steps_throw_listed, throw_takes, throws_settle, tokens_are_typed, tokens_go,
-    words_throw_listed,
+    catch_keeps, definitions_run, dictionary_words_keep, ends_go_back, frames_hold,
+    images_are_readings, images_run, images_stand, items_go, loads_begin, memory_is_asked,
+    mismatch_is_no_body, names_stay_home, questions_settle, space_stays_sound, stack_leads_back,
+    states_stay_placed, steps_agree, steps_throw_listed, throw_takes, throws_settle,
+    tokens_are_typed, tokens_go, words_throw_listed,
 };
 use of_nodes::Phandle;
 use std::alloc::Global;
@@ -233,4 +233,5 @@ fn laws() {
     tokens_are_typed();
     tokens_go();
     throw_takes();
+    dictionary_words_keep();
 }

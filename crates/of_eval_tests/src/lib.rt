@@ -4,6 +4,10 @@
 #[cfg(test)]
 mod byte_loading;
 #[cfg(test)]
+mod console_words;
+#[cfg(test)]
+mod dictionary_words;
+#[cfg(test)]
 mod flow;
 #[cfg(test)]
 mod going;

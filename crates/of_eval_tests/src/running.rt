@@ -1,5 +1,6 @@
 //! Images are run, and what they make is shown as text.
 use hex::decode;
+use of_cells::Cell;
 use of_code::ListCode;
 use of_eval::{Bar, Eval, Pause};
 use of_fcodes::FCode;
@@ -81,6 +82,12 @@ fn named(eval: &Eval<ListCode>, code: u16) -> Option<u32> {
 pub(crate) fn number_left(alloc: Global, image: &[u8], code: u16) -> Result<Option<u32>, Fail> {
     let (eval, _) = ran(alloc, image, 999)?;
     Ok(named(&eval, code))
+}
+
+/// Whether the own word of an execution token is executed while words are compiled, when an image has run.
+pub(crate) fn is_immediate_left(alloc: Global, image: &[u8], xt: u32) -> Result<bool, Fail> {
+    let (eval, _) = ran(alloc, image, 999)?;
+    Ok(eval.words().is_immediate_at(Cell(xt)))
 }
 
 /// The bytes of an image in hexadecimal digits, among which blanks may stand.
