@@ -7,3 +7,4 @@ mod NodeTexts
 mod ChildLists
 mod Shown
 mod Named
+mod NameLists

@@ -1,4 +1,5 @@
 pub mod Values
 pub mod Texts
 pub mod Children
+pub mod Names
 pub mod Laws
