@@ -1,6 +1,7 @@
 -- Groups: digits in groups of four. Listed: a line for each property. NodeTexts: each node of the tree, in preorder.
 -- ChildLists: a line for each child.
--- Shown, Named: the laws.
+-- NameLists: the names that `words` prints.
+-- Shown, Named, NamesListed: the laws.
 mod Groups
 mod Listed
 mod NodeTexts
@@ -8,3 +9,4 @@ mod ChildLists
 mod Shown
 mod Named
 mod NameLists
+mod NamesListed

@@ -3,3 +3,4 @@ pub mod Texts
 pub mod Children
 pub mod Names
 pub mod Laws
+pub mod NameLaws

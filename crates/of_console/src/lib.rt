@@ -9,7 +9,7 @@ mod tree;
 mod values;
 
 pub use children::ls_text;
-pub use laws::{children_are_listed, properties_are_listed, values_are_shown};
+pub use laws::{children_are_listed, names_are_listed, properties_are_listed, values_are_shown};
 pub use names::words_text;
 pub use properties::properties_text;
 pub use tree::{devs_text, pwd_text, tree_text};
