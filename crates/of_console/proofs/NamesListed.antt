@@ -1,7 +1,8 @@
 -- The law `names_are_listed`.
-use Rattle.std.proofs.Common.{◌≡◌, ◌≢◌, ◌<◌, ◌≤◌, ◌-◌, ◌%◌, ◌/◌, ◌&&◌, ℕ, zero, suc, Bool, true, false, nat_eq, nat_lt, not}
-use Rattle.std.proofs.Common.{List, [], ◌∷◌, ◌++◌, length, map, reverse, Option, Some, None, Result, Ok, Err, refl, ap, sym, ◌∙◌}
-use Rattle.std.proofs.Common.{arith, inl, inr, ◌⊎◌, is_some, if◌then◌else◌, option_and_then, get_or}
+use Rattle.std.proofs.Common.{◌≡◌, ◌≢◌, ◌<◌, ◌≤◌, ◌-◌, ◌%◌, ◌/◌, ◌&&◌, ℕ, zero, suc, Bool, true, false, nat_eq}
+use Rattle.std.proofs.Common.{nat_lt, not, List, [], ◌∷◌, ◌++◌, length, map, reverse, Option, Some, None, Result, Ok}
+use Rattle.std.proofs.Common.{Err, refl, ap, sym, ◌∙◌, arith, inl, inr, ◌⊎◌, is_some, if◌then◌else◌, option_and_then}
+use Rattle.std.proofs.Common.{get_or}
 use Rattle.std.specs.Prelude.{◌==◌}
 use Rattle.std.specs.Char.{to_ascii_lowercase}
 use Rattle.std.specs.Cmp.Lexicographic.{pointwise, same_text}
@@ -303,8 +304,8 @@ found_in : (ns after : List Node) (ph : Phandle) (name : List ℕ) (xt : Cell) (
     → value_in (methods_in ns added.number) (lower name) ≡ v
 found_in ns after ph name xt v added e =
     ap (λ b. if b then value_in (methods_in ns added.number) (lower name) else None) (sym added.good)
-    ∙ same_result _ v (ap (λ o. numbered {A = Option Cell} o (λ i. Ok (method_in (methods_in ns i) name))) (sym added.was)
-    ∙ e)
+    ∙ same_result _ v
+    (ap (λ o. numbered {A = Option Cell} o (λ i. Ok (method_in (methods_in ns i) name))) (sym added.was) ∙ e)
 
 -- a new entry goes last
 goes_last : (es : List (List ℕ × Cell)) (key : List ℕ) (xt : Cell) → value_in es key ≡ None

@@ -1,6 +1,6 @@
-ghost use Rattle.std.specs.Prelude.{◌≡◌, ◌∷◌, ◌++◌, [], ◌<◌, length, map, reverse, slice_get, option_copied, option_map};
+ghost use Rattle.std.specs.Prelude.{◌≡◌, ◌∷◌, ◌++◌, [], length, map, reverse, slice_get, option_copied, option_map};
 ghost use Rattle.std.specs.Prelude.{IfOk, OnOk};
-ghost use Rattle.of_dict.specs.Words.{capacity, listed};
+ghost use Rattle.of_dict.specs.Words.{listed};
 ghost use Rattle.of_nodes.specs.Nodes.{number_of};
 ghost use Rattle.of_console.specs.Names.{listed_below, method_name, methods_of, name_with_xt, names_shown, words_text};
 ghost use Rattle.of_console.specs.Names.{shown_if};
