@@ -23,6 +23,8 @@ mod instance_words;
 #[cfg(test)]
 mod instances;
 #[cfg(test)]
+mod names;
+#[cfg(test)]
 mod nodes;
 #[cfg(test)]
 mod ordinary;

@@ -81,7 +81,7 @@ fn shown_values(rt: HostRuntime) -> Result<(), Fail> {
 }
 
 /// A text in print on one line, each end of a line as `;`.
-fn on_one_line(alloc: Global, text: &[u8]) -> Result<String, AllocError> {
+pub(crate) fn on_one_line(alloc: Global, text: &[u8]) -> Result<String, AllocError> {
     let mut line = String::new(alloc);
     for byte in text {
         line.push(if *byte == b'\n' {
