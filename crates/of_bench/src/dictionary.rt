@@ -15,9 +15,9 @@ fn spelt(number: u32) -> [u8; 8] {
     [b'w', b'o', b'r', b'd', thousands, hundreds, tens, ones]
 }
 
-/// Makes the words.
-fn make_words(dict: &mut Dict) -> Result<(), DictFault> {
-    for number in 0..WORDS {
+/// Makes so many words.
+pub fn make_words(dict: &mut Dict, count: u32) -> Result<(), DictFault> {
+    for number in 0..count {
         let value = Cell(number);
         dict.add(Some(&spelt(number)), Kind::Constant { value })?;
     }
@@ -70,7 +70,7 @@ fn store(dict: &mut Dict, count: u32) -> u32 {
 /// Makes so many calls of a kind, and answers a number that depends on all of them.
 pub fn calls(alloc: Global, kind: &str, count: u32) -> Option<u32> {
     let mut dict = Dict::new(alloc);
-    make_words(&mut dict).ok()?;
+    make_words(&mut dict, WORDS).ok()?;
     match kind {
         "spell" => Some(spell(count)),
         "find" => Some(find(&dict, count)),
