@@ -1,4 +1,4 @@
-use Rattle.std.proofs.Common.{◌≡◌, ◌∙◌, Some, None, refl, arith, sym, get_or}
+use Rattle.std.proofs.Common.{◌≡◌, ◌∙◌, Some, None, refl, arith, rules, sym, get_or}
 use Rattle.std.proofs.lemmas.List.{get_or_read}
 use Rattle.of_dict.specs.Words.{name_in, newest, word_at}
 use Rattle.of_dict.proofs.Indexes.{IsIndexed-set, IsIndexed-taken, head_is_some, newest_is_within}
@@ -39,3 +39,7 @@ invariant_of-self-in-None c =
     let words = c.self.inside.words.items in
     let none : None ≡ name_in (word_at words c.args.word.0) = rw c.self.view_is c.in-None.ensures.name in
     IsIndexed-set words c.self.inside.older.items _ c.args.word.0 None none c.self.invariant
+
+-- The goal at which a wrong body is refused.
+pub returns-in-None : goal.returns-in-None
+returns-in-None c = search rules
