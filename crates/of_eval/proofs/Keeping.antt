@@ -7,7 +7,7 @@ use Rattle.of_board.specs.declared.board.Board.{Board}
 use Rattle.of_own.specs.Stores.{InSlot, InWord, Stored, both, store_left}
 use Rattle.of_eval.specs.Acts.{keeping}
 use Rattle.of_eval.specs.Doing.{worked}
-use Rattle.of_eval.specs.State.{Calls, Leaves, State, done, failed}
+use Rattle.of_state.specs.State.{Calls, Leaves, State, done, failed}
 
 -- words and board, put into a state
 abbrev put : {S : Type 0} → WordsState × Board → State S → State S

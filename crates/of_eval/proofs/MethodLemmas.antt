@@ -17,7 +17,7 @@ use Rattle.of_nodes.specs.declared.tree.Node.{Node}
 use Rattle.of_nodes.specs.declared.phandles.Phandle.{Phandle}
 use Rattle.of_eval.specs.declared.methods.Former.{Former}
 use Rattle.of_eval.specs.Methods.{MayMake, as_method, hidden_if, known, method_made, then_known, with_tree, xt_cell}
-use Rattle.of_eval.specs.State.{Ends, Outcome, State, done, failed, flat_calls}
+use Rattle.of_state.specs.State.{Ends, Outcome, State, done, failed, flat_calls}
 use Rattle.of_eval.specs.Defining.{define_entry, known_at_once, word_defined}
 
 -- ---- a word without a name, or with one

@@ -13,7 +13,7 @@ use Rattle.of_memory.specs.Outcomes.{address_of}
 use Rattle.of_memory.specs.declared.fault.MemFault.{MemFault}
 use Rattle.of_prims.specs.Data.{throw_of}
 use Rattle.of_compile.specs.Coding.{Coding, Outcome as CodingOutcome, compiled, compiling}
-use Rattle.of_eval.specs.State.{State, answer_of, done, failed, flat_calls}
+use Rattle.of_state.specs.State.{State, answer_of, done, failed, flat_calls}
 use Rattle.of_eval.specs.Acts.{Copies}
 use Rattle.of_compile.specs.SlotWords.{rounded, rounded_to}
 use Rattle.of_eval.specs.Defining.{string_element, string_kept}

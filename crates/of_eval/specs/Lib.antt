@@ -1,15 +1,12 @@
-pub mod State
 pub mod Acts
 pub mod ByteLoading
 pub mod Executing
 pub mod Items
 pub mod Tokens
-pub mod Settling
 pub mod Methods
 pub mod Defining
 pub mod Doing
-pub mod Steps
-pub mod Loading
-pub mod Views
+pub mod Reading
 pub mod Registers
 pub mod Unrolled
+pub mod Laws

@@ -10,7 +10,7 @@ use Rattle.of_nodes.specs.declared.phandles.Phandle.{Phandle}
 use Rattle.of_nodes.specs.declared.fault.NodeFault.{NodeFault}
 use Rattle.of_nodes.specs.Nodes.{method_added, method_found}
 use Rattle.of_eval.specs.declared.methods.Former.{Former}
-use Rattle.of_eval.specs.State.{Outcome, State}
+use Rattle.of_state.specs.State.{Outcome, State}
 
 -- the nodes with a method, if it could be added
 abbrev pub nodes_with : Result (List Node) NodeFault → Option (List Node)

@@ -1,18 +1,18 @@
 //! `byte-load`: images whose bytes stand in the data space.
-ghost use Rattle.std.specs.Prelude.{◌≡◌, ◌≤◌, ◌+◌, drop, length, true};
+ghost use Rattle.std.specs.Prelude.{◌≡◌, ◌≤◌, ◌+◌, drop, length};
 ghost use Rattle.of_stacks.specs.Order.{counting, fault_if};
 ghost use Rattle.of_eval.specs.ByteLoading.{begins_image, byte_load_act, copying, has_bad_header, length_at};
 ghost use Rattle.of_eval.specs.ByteLoading.{loading_faults, spread_of, start_at};
-ghost use Rattle.of_eval.specs.State.{Leaves, flat_calls};
+ghost use Rattle.of_state.specs.State.{Leaves, flat_calls};
 ghost use Rattle.of_eval.specs.Acts.{front_of};
 ghost use Rattle.of_eval.specs.Doing.{worked};
 
-use crate::eval::Eval;
 use of_cells::Cell;
 use of_code::CodeStore;
 use of_memory::Memory;
 use of_prims::throw_of;
 use of_stacks::{Continuation, Input, Reading, ReturnItem, Throw};
+use of_state::Eval;
 use of_stream::{HEADER_LENGTH, Stream};
 
 /// Whether an image begins with this byte.
@@ -83,58 +83,56 @@ fn loading_fault(memory: &Memory, at: Cell, fetch: Cell, depth: usize) -> Option
     ])
 }
 
-impl<C: CodeStore> Eval<C> {
-    /// Takes the operands, copies the image at an address behind the images that run, and goes on in it.
-    ///
-    /// -8 where it finds no place among them. A throw changes nothing.
-    #[tactic(auto, unfolding(crate::specs::Doing::worked))]
-    fn load_image(&mut self, at: Cell) -> Result<(), Throw>
-        requires operands { 2 ≤ length self.old.board.stack }
-        requires room { length self.old.flow.items + 2 ≤ 256 }
-        ensures { Leaves (worked flat_calls (copying self.old.board.memory at.0 (drop 2 self.old.board.stack))
-            self.old) self.new result }
+/// Takes the operands, copies the image at an address behind the images that run, and goes on in it.
+///
+/// -8 where it finds no place among them. A throw changes nothing.
+#[tactic(auto, unfolding(crate::specs::Doing::worked))]
+fn load_image<C: CodeStore>(eval: &mut Eval<C>, at: Cell) -> Result<(), Throw>
+    requires operands { 2 ≤ length eval.old.board.stack }
+    requires room { length eval.old.flow.items + 2 ≤ 256 }
+    ensures { Leaves (worked flat_calls (copying eval.old.board.memory at.0 (drop 2 eval.old.board.stack))
+        eval.old) eval.new result }
+{
+    let start = start_at(&eval.board.memory, at);
+    let length = length_at(&eval.board.memory, at);
+    let spread = spread_of(start);
+    if let Err(fault) = eval
+        .board
+        .memory
+        .image_push_from(at, Cell(length), Cell(spread))
     {
-        let start = start_at(&self.board.memory, at);
-        let length = length_at(&self.board.memory, at);
-        let spread = spread_of(start);
-        if let Err(fault) = self
-            .board
-            .memory
-            .image_push_from(at, Cell(length), Cell(spread))
-        {
-            return Err(throw_of(fault));
-        }
-        self.board.stack.drop_top(2);
-        self.flow.items.push(ReturnItem::Return(self.flow.next));
-        self.flow.items.push(ReturnItem::Source(self.flow.reading));
-        self.flow.reading = Reading {
-            input: Input::Image {
-                size: (Stream { image: &[start] }).first_size(),
-                position: HEADER_LENGTH,
-            },
-            opened: self.words.open_xt(),
-        };
-        self.flow.next = Continuation::Source;
-        Ok(())
+        return Err(throw_of(fault));
     }
+    eval.board.stack.drop_top(2);
+    eval.flow.items.push(ReturnItem::Return(eval.flow.next));
+    eval.flow.items.push(ReturnItem::Source(eval.flow.reading));
+    eval.flow.reading = Reading {
+        input: Input::Image {
+            size: (Stream { image: &[start] }).first_size(),
+            position: HEADER_LENGTH,
+        },
+        opened: eval.words.open_xt(),
+    };
+    eval.flow.next = Continuation::Source;
+    Ok(())
+}
 
-    /// `byte-load` ( a 1 -- ) runs the image whose bytes stand at an address, inside what runs now.
-    ///
-    /// -29 while a definition is open; -4 with fewer cells; -9 where the address can't be read; -24 for another fetch
-    /// word than 1; -257 for a bad header; -5 where the return stack has no room for two items. A throw changes
-    /// nothing.
-    #[tactic(auto, unfolding(crate::specs::Doing::worked))]
-    pub(crate) fn byte_load(&mut self) -> Result<(), Throw>
-        ensures { Leaves (worked flat_calls (byte_load_act (front_of self.old)) self.old) self.new result }
-    {
-        if self.words.defining().is_some() {
-            return Err(Throw::COMPILER_NESTING);
-        }
-        let (at, fetch) = self.board.stack.top_two()?;
-        let depth = self.flow.items.depth();
-        if let Some(fault) = loading_fault(&self.board.memory, at, fetch, depth) {
-            return Err(fault);
-        }
-        self.load_image(at)
+/// `byte-load` ( a 1 -- ) runs the image whose bytes stand at an address, inside what runs now.
+///
+/// -29 while a definition is open; -4 with fewer cells; -9 where the address can't be read; -24 for another fetch
+/// word than 1; -257 for a bad header; -5 where the return stack has no room for two items. A throw changes
+/// nothing.
+#[tactic(auto, unfolding(crate::specs::Doing::worked))]
+pub(crate) fn byte_load<C: CodeStore>(eval: &mut Eval<C>) -> Result<(), Throw>
+    ensures { Leaves (worked flat_calls (byte_load_act (front_of eval.old)) eval.old) eval.new result }
+{
+    if eval.words.defining().is_some() {
+        return Err(Throw::COMPILER_NESTING);
     }
+    let (at, fetch) = eval.board.stack.top_two()?;
+    let depth = eval.flow.items.depth();
+    if let Some(fault) = loading_fault(&eval.board.memory, at, fetch, depth) {
+        return Err(fault);
+    }
+    load_image(eval, at)
 }

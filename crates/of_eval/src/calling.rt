@@ -7,13 +7,13 @@ ghost use Rattle.of_instances.specs.Calling.{beneath, operand_cells};
 ghost use Rattle.of_eval.specs.Executing.{call_faults};
 ghost use Rattle.of_eval.specs.Unrolled.{IsCallee, IsKeptFor, IsRefused, IsUnopened, begun, is_new, uncalled};
 
-use crate::eval::Eval;
 use of_cells::Cell;
 use of_code::CodeStore;
 use of_dict::Kind;
 use of_instances::{Callee, MethodCall, Operands, open_instance};
 use of_memory::Memory;
 use of_stacks::{DataStack, Due, ReturnItem, Stop, Throw};
+use of_state::Eval;
 use std::alloc::AllocError;
 
 /// How many cells operands are.
@@ -53,94 +53,97 @@ pub(crate) fn put_back(operands: Operands, stack: &mut DataStack)
     }
 }
 
-impl<C: CodeStore> Eval<C> {
-    /// Whether a method can be called: -263 where the number is no word, -5 where the return stack has no room.
-    #[tactic(auto, using(crate::proofs::Called::no_word))]
-    pub(crate) fn may_call(&self, xt: Cell) -> Result<(), Throw>
-        ensures good { OnOk result (counting (call_faults self.now xt) ≡ None) }
-        ensures room { OnOk result (length self.now.flow.items < 256) }
-        ensures refused { IfErr result (λ t. counting (call_faults self.now xt) ≡ Some t) }
-    {
-        if !self.words.is_word(xt) {
-            return Err(Throw::BAD_HANDLE);
-        }
-        self.flow.items.room_for(1)
+/// Whether a method can be called: -263 where the number is no word, -5 where the return stack has no room.
+#[tactic(auto, using(crate::proofs::Called::no_word))]
+pub(crate) fn may_call<C: CodeStore>(eval: &Eval<C>, xt: Cell) -> Result<(), Throw>
+    ensures good { OnOk result (counting (call_faults eval.now xt) ≡ None) }
+    ensures room { OnOk result (length eval.now.flow.items < 256) }
+    ensures refused { IfErr result (λ t. counting (call_faults eval.now xt) ≡ Some t) }
+{
+    if !eval.words.is_word(xt) {
+        return Err(Throw::BAD_HANDLE);
     }
+    eval.flow.items.room_for(1)
+}
 
-    /// A copy of the data space, if the word of an execution token may ask for memory that is run for a new instance.
-    /// Nothing is copied where that is a definition.
-    pub(crate) fn keep_memory(
-        &self,
-        callee: Callee,
-        xt: Cell,
-    ) -> Result<Option<Box<Memory>>, AllocError>
-        ensures kept { IfOk result (λ kept. IsKeptFor callee xt self.now (option_map box_value kept)) }
-        ensures new { OnErr result (is_new callee ≡ true) }
-    {
-        match callee {
-            Callee::Live { .. } => Ok(None),
-            Callee::New { .. } => match self.words.kind_at(xt) {
-                Some(Kind::Colon { .. }) => Ok(None),
-                _ => {
-                    let memory = self.board.memory.duplicate()?;
-                    Ok(Some(Box::new(self.board.active.new_devices.alloc(), memory)?))
-                }
-            },
-        }
-    }
-
-    /// The instance for which a method runs, and what is due at its end; a new one is opened.
-    fn callee(&mut self, callee: Callee) -> Result<(Cell, Due), Stop>
-        ensures live { IfOk result (λ x. IsCallee callee x.0 x.1 self.old self.new) }
-        ensures refused { IfErr result (λ stop. IsUnopened callee stop self.old) }
-        ensures stays { OnErr result (self.new ≡ self.old) }
-    {
-        match callee {
-            Callee::Live { instance, due } => Ok((instance, due)),
-            Callee::New {
-                package,
-                address,
-                length,
-            } => {
-                let my_self = self.board.active.my_self;
-                let instance = open_instance(&mut self.board, package, address, length)?;
-                Ok((instance, Due::Open { my_self, instance }))
+/// A copy of the data space, if the word of an execution token may ask for memory that is run for a new instance.
+/// Nothing is copied where that is a definition.
+pub(crate) fn keep_memory<C: CodeStore>(
+    eval: &Eval<C>,
+    callee: Callee,
+    xt: Cell,
+) -> Result<Option<Box<Memory>>, AllocError>
+    ensures kept { IfOk result (λ kept. IsKeptFor callee xt eval.now (option_map box_value kept)) }
+    ensures new { OnErr result (is_new callee ≡ true) }
+{
+    match callee {
+        Callee::Live { .. } => Ok(None),
+        Callee::New { .. } => match eval.words.kind_at(xt) {
+            Some(Kind::Colon { .. }) => Ok(None),
+            _ => {
+                let memory = eval.board.memory.duplicate()?;
+                Ok(Some(Box::new(eval.board.active.new_devices.alloc(), memory)?))
             }
+        },
+    }
+}
+
+/// The instance for which a method runs, and what is due at its end; a new one is opened.
+fn callee<C: CodeStore>(eval: &mut Eval<C>, callee: Callee) -> Result<(Cell, Due), Stop>
+    ensures live { IfOk result (λ x. IsCallee callee x.0 x.1 eval.old eval.new) }
+    ensures refused { IfErr result (λ stop. IsUnopened callee stop eval.old) }
+    ensures stays { OnErr result (eval.new ≡ eval.old) }
+{
+    match callee {
+        Callee::Live { instance, due } => Ok((instance, due)),
+        Callee::New {
+            package,
+            address,
+            length,
+        } => {
+            let my_self = eval.board.active.my_self;
+            let instance = open_instance(&mut eval.board, package, address, length)?;
+            Ok((instance, Due::Open { my_self, instance }))
         }
     }
+}
 
-    /// Takes what a word takes that calls a method, and pushes what is due at its end; the method's instance is the
-    /// current one, and is opened before where it is a new one.
-    ///
-    /// What the opening throws, or NoMemory; then nothing has changed.
-    pub(crate) fn begin_call(&mut self, call: MethodCall) -> Result<(), Stop>
-        requires taken { self.old.board.stack ≡ operand_cells call.operands ++ beneath call.operands
-            self.old.board.stack }
-        requires room { length self.old.flow.items < 256 }
-        ensures begun { OnOk result (begun call self.old ≡ Ok self.new) }
-        ensures room { OnOk result (length (operand_cells call.operands) + length self.new.board.stack ≤ 256) }
-        ensures fewer { OnOk result (length self.new.board.stack < length self.old.board.stack) }
-        ensures refused { IfErr result (λ stop. IsRefused call self.old stop) }
-        ensures stays { OnErr result (self.new ≡ self.old) }
-    {
-        let (instance, due) = self.callee(call.callee)?;
-        self.board.stack.drop_top(count(call.operands));
-        self.flow.items.push(ReturnItem::Caller(due));
-        self.board.active.my_self = instance;
-        Ok(())
-    }
+/// Takes what a word takes that calls a method, and pushes what is due at its end; the method's instance is the
+/// current one, and is opened before where it is a new one.
+///
+/// What the opening throws, or NoMemory; then nothing has changed.
+pub(crate) fn begin_call<C: CodeStore>(eval: &mut Eval<C>, call: MethodCall) -> Result<(), Stop>
+    requires taken { eval.old.board.stack ≡ operand_cells call.operands ++ beneath call.operands
+        eval.old.board.stack }
+    requires room { length eval.old.flow.items < 256 }
+    ensures begun { OnOk result (begun call eval.old ≡ Ok eval.new) }
+    ensures room { OnOk result (length (operand_cells call.operands) + length eval.new.board.stack ≤ 256) }
+    ensures fewer { OnOk result (length eval.new.board.stack < length eval.old.board.stack) }
+    ensures refused { IfErr result (λ stop. IsRefused call eval.old stop) }
+    ensures stays { OnErr result (eval.new ≡ eval.old) }
+{
+    let (instance, due) = callee(eval, call.callee)?;
+    eval.board.stack.drop_top(count(call.operands));
+    eval.flow.items.push(ReturnItem::Caller(due));
+    eval.board.active.my_self = instance;
+    Ok(())
+}
 
-    /// The state before a method was called, whose word found no memory.
-    pub(crate) fn undo_call(&mut self, call: MethodCall, my_self: Cell, kept: Option<Box<Memory>>)
-        requires { length (operand_cells call.operands) + length self.old.board.stack ≤ 256 }
-        ensures { self.new ≡ uncalled call my_self (option_map box_value kept) self.old }
-    {
-        if let Some(memory) = kept {
-            self.board.memory = Box::into_inner(memory);
-            self.board.instances.take_back();
-        }
-        let _ = self.flow.items.pop();
-        self.board.active.my_self = my_self;
-        put_back(call.operands, &mut self.board.stack);
+/// The state before a method was called, whose word found no memory.
+pub(crate) fn undo_call<C: CodeStore>(
+    eval: &mut Eval<C>,
+    call: MethodCall,
+    my_self: Cell,
+    kept: Option<Box<Memory>>,
+)
+    requires { length (operand_cells call.operands) + length eval.old.board.stack ≤ 256 }
+    ensures { eval.new ≡ uncalled call my_self (option_map box_value kept) eval.old }
+{
+    if let Some(memory) = kept {
+        eval.board.memory = Box::into_inner(memory);
+        eval.board.instances.take_back();
     }
+    let _ = eval.flow.items.pop();
+    eval.board.active.my_self = my_self;
+    put_back(call.operands, &mut eval.board.stack);
 }

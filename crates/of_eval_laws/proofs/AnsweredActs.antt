@@ -33,8 +33,9 @@ use Rattle.of_eval.specs.Defining.{string_refused, word_defined, word_made_as}
 use Rattle.of_eval.specs.Doing.{acted, worked}
 use Rattle.of_eval.specs.Executing.{entered, furnished, guarded}
 use Rattle.of_eval.specs.Methods.{then_known}
-use Rattle.of_eval.specs.State.{Answered, Calls, Outcome, State, by_asking, by_board, with_stack}
-use Rattle.of_eval.specs.Steps.{asked_by, due, found_token, item_due, replied, token_due}
+use Rattle.of_state.specs.State.{Answered, Calls, Outcome, State, by_asking, by_board, with_stack}
+use Rattle.of_eval.specs.Reading.{found_token, token_due}
+use Rattle.of_steps.specs.Steps.{asked_by, due, item_due, replied}
 
 -- ---- with an answer at hand words don't ask
 
@@ -76,6 +77,7 @@ work_asks c law answer (act.Moves cells move to) s e = refl
 work_asks c law answer (act.Knows w cells) s e = refl
 work_asks c law answer (act.Stores m cells) s e = refl
 work_asks c law answer act.Compiles s e = refl
+work_asks c law answer (act.Prints text) s e = refl
 work_asks c law answer (act.Appends x cells) s e = refl
 work_asks c law answer (act.Loads size m cells) s e = refl
 work_asks c law answer (act.Takes cells a) s e = work_asks c law answer a (with_stack cells s) e

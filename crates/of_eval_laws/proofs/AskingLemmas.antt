@@ -27,8 +27,9 @@ use Rattle.of_eval.specs.Acts as act
 use Rattle.of_eval.specs.Doing.{act_grows, executed_grows, work_grows}
 use Rattle.of_eval.specs.Executing.{Plan, entered, guarded, plan_in}
 use Rattle.of_eval.specs.Items.{item_act}
-use Rattle.of_eval.specs.State.{State, with_stack}
-use Rattle.of_eval.specs.Steps.{item_grows_in, typed_grows}
+use Rattle.of_state.specs.State.{State, with_stack}
+use Rattle.of_eval.specs.Reading.{typed_grows}
+use Rattle.of_steps.specs.Steps.{item_grows_in}
 use Rattle.of_eval.specs.Tokens.{act_of, compiling_act, token_act}
 use Rattle.of_flow.specs.Tokens.{Plain, typed, typed_word}
 use Rattle.of_eval_laws.specs.Asking.{MemoryIsAsked, Runs}
@@ -61,6 +62,7 @@ asking_turns S makes closes =
 work_none : {S : Type 0} (a : WordAct) (s : State S) → IsWork (asking S) s a → work_grows a ≡ false
 work_none (act.Works w) s h = absurd h
 work_none (act.Appends e cells) s h = absurd h
+work_none (act.Prints text) s h = absurd h
 work_none (act.Takes cells a) s h = work_none a (with_stack cells s) h
 work_none (act.Guards cells a) s h = work_none a (guarded cells s) h
 work_none (act.Enters cells d ih a) s h = work_none a (entered cells d ih s) h.1

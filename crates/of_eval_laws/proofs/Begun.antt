@@ -13,9 +13,9 @@ use Rattle.of_ihandles.specs.SpaceKept.{Keeps}
 use Rattle.of_ihandles.specs.Table.{InstanceTable}
 use Rattle.of_ihandles.specs.declared.instance_fault.InstanceFault.{InstanceFault}
 use Rattle.of_board.specs.declared.board.Board.{Board}
-use Rattle.of_eval.specs.Loading.{begun, begun_by, begun_unless, image_begun, image_copied, instance_on}
-use Rattle.of_eval.specs.State.{State}
-use Rattle.of_eval.specs.declared.load_fault.LoadFault.TheVariants.{ImageTooLong, NoInstance}
+use Rattle.of_state.specs.Loading.{begun, begun_by, begun_unless, image_begun, image_copied, instance_on}
+use Rattle.of_state.specs.State.{State}
+use Rattle.of_state.specs.declared.load_fault.LoadFault.TheVariants.{ImageTooLong, NoInstance}
 use Rattle.of_eval_laws.proofs.Bytes.{no_bytes}
 use Rattle.of_eval_laws.proofs.FramedSpace.{Laws}
 use Rattle.of_eval_laws.proofs.RunningBytes.{Pushed, pushed, with_image}

@@ -19,7 +19,7 @@ use Rattle.of_instances.specs.Calling.{open_at, open_found, open_in, open_named,
 use Rattle.of_instances.specs.Calling.{open_package_entry, xt_for}
 use Rattle.of_instances.specs.Faults.{of_instance}
 use Rattle.of_instances.specs.Reading.{package_at, text_at}
-use Rattle.of_eval.specs.Settling.{caller_self}
+use Rattle.of_state.specs.Settling.{caller_self}
 use Rattle.of_eval_laws.specs.Returning.{IsCall}
 
 -- what is due is that at the end of a method, and brings back the current instance

@@ -21,8 +21,8 @@ use Rattle.of_eval.specs.Acts.{front_of}
 use Rattle.of_eval.specs.Doing.{executed, worked}
 use Rattle.of_eval.specs.Executing.{Plan, PlansUnroll, act_of_plan, call_plan, callee_plan, execution}
 use Rattle.of_eval.specs.Executing.{opening_plan, plan_of, unless_stopped}
-use Rattle.of_eval.specs.Settling.{settled}
-use Rattle.of_eval.specs.State.{Calls, State, failed, with_stack}
+use Rattle.of_state.specs.Settling.{settled}
+use Rattle.of_state.specs.State.{Calls, State, failed, with_stack}
 use Rattle.of_eval_laws.specs.Calling.{CallsComeBack, IsCalled, for_instance, released_in, word_of}
 use Rattle.of_eval_laws.specs.Returning.{IsCall}
 use Rattle.of_eval_laws.specs.Going.{Is}

@@ -38,8 +38,9 @@ use Rattle.of_eval.specs.Executing.{entered, furnished, guarded, plan_in}
 use Rattle.of_flow.specs.Returns.{found}
 use Rattle.of_eval.specs.Items.{item_act}
 use Rattle.of_eval.specs.Methods.{then_known}
-use Rattle.of_eval.specs.State.{Answered, Calls, Outcome, State, by_asking, by_board, by_code, with_items, with_stack}
-use Rattle.of_eval.specs.Steps.{found_token, item_done, read_on, token_due}
+use Rattle.of_state.specs.State.{Answered, Calls, Outcome, State, by_asking, by_board, by_code, with_items, with_stack}
+use Rattle.of_eval.specs.Reading.{found_token, read_on, token_due}
+use Rattle.of_steps.specs.Steps.{item_done}
 use Rattle.of_eval.specs.Tokens.{act_of, spot_in}
 use Rattle.of_flow.specs.Tokens.{typed_of}
 use Rattle.of_words.specs.Words.{word_entry}
@@ -161,6 +162,7 @@ worked_reads c (act.Moves cells move to) s =
 worked_reads c (act.Knows w cells) s = inl refl
 worked_reads c (act.Stores m cells) s = inl refl
 worked_reads c act.Compiles s = inl refl
+worked_reads c (act.Prints text) s = inl refl
 worked_reads c (act.Appends e cells) s =
     appended_reads (c.element e s.code).code (c.element e s.code).ended cells s
 worked_reads c (act.Loads size m cells) s = inr refl

@@ -17,7 +17,7 @@ use Rattle.of_eval.specs.Acts.{Move, To, WordAct, front_of}
 use Rattle.of_eval.specs.Acts as act
 use Rattle.of_eval.specs.Doing.{appended, executed, worked}
 use Rattle.of_eval.specs.Executing.{entered, execution, frame_of, furnished, guarded, plan_in}
-use Rattle.of_eval.specs.State.{Calls, State, by_asking, by_board, with_stack}
+use Rattle.of_state.specs.State.{Calls, State, by_asking, by_board, with_stack}
 use Rattle.of_words.specs.Words.{word_entry}
 use Rattle.of_eval_laws.specs.Returning.{IsCall}
 use Rattle.of_eval_laws.specs.Frames.{ExecutingLeaves, drops_item, last_word}
@@ -152,6 +152,7 @@ worked_leaves d c (act.Moves cells move to) s h = moved_leaves d cells move to c
 worked_leaves d c (act.Knows w cells) s h = stays d s (worked c (act.Knows w cells) s).state refl
 worked_leaves d c (act.Stores m cells) s h = stays d s (worked c (act.Stores m cells) s).state refl
 worked_leaves d c act.Compiles s h = ([], tt, inl (refl, refl, refl))
+worked_leaves d c (act.Prints text) s h = ([], tt, inl (refl, refl, refl))
 worked_leaves d c (act.Appends e cells) s h =
     stays d s (appended (c.element e s.code) cells s).state
     (appended_flow (c.element e s.code).code (c.element e s.code).ended cells s)

@@ -32,9 +32,9 @@ use Rattle.of_eval.specs.Executing.{Catch, Execute, Plan, PlansUnroll, Stops, ac
 use Rattle.of_eval.specs.Executing.{plan_at, plan_behind, plan_in, plan_of, planned, pushing, returning, runner_of}
 use Rattle.of_eval.specs.Items.{beginning, control_act, going, item_act, leave_item, staying, there, turning}
 use Rattle.of_flow.specs.Turns.{loop_item, one}
-use Rattle.of_eval.specs.Settling.{ended, going_back, is_same, or_nothing, reading_on, source_ended}
-use Rattle.of_eval.specs.State.{Calls, Outcome, State, done, failed, with_items, with_next, with_stack}
-use Rattle.of_eval.specs.Steps.{item_done, item_due}
+use Rattle.of_state.specs.Settling.{ended, going_back, is_same, or_nothing, reading_on, source_ended}
+use Rattle.of_state.specs.State.{Calls, Outcome, State, done, failed, with_items, with_next, with_stack}
+use Rattle.of_steps.specs.Steps.{item_done, item_due}
 use Rattle.of_eval_laws.specs.Structured.{structured_calls}
 use Rattle.of_eval_laws.specs.Going.{CatchKeeps, DefinitionsRun, EndsGoBack, Is, ItemsGo, ItemsThrow, LoadsBegin}
 use Rattle.of_eval_laws.specs.Going.{Makes, Throws, gone, has_opened, on}

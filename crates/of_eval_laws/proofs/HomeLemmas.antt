@@ -9,7 +9,7 @@ use Rattle.of_compile.specs.declared.defining.DefiningWord.TheVariants as defini
 use Rattle.of_compile.specs.Defining.{Making, defining_entry, making}
 use Rattle.of_eval.specs.Defining.{by_making, closed_if, semicolon_entry, word_made_as}
 use Rattle.of_eval.specs.Methods.{as_method, known, known_if, method_made, xt_cell}
-use Rattle.of_eval.specs.State.{Calls, State}
+use Rattle.of_state.specs.State.{Calls, State}
 use Rattle.of_eval_laws.specs.Homes.{NamesStayHome, with_package}
 
 made_home : {S : Type 0} (r : Result Making Throw) (s : State S) → (by_making defining.Colon r s).ended ≡ Ok tt

@@ -10,12 +10,12 @@ use Rattle.of_nodes.specs.declared.phandles.Phandle.{Phandle}
 use Rattle.of_nodes.specs.declared.tree.Node.{Node}
 use Rattle.of_nodes.specs.Nodes.{first_tree}
 use Rattle.of_board.specs.declared.board.Board.{Board}
-use Rattle.of_eval.specs.Loading.{begun, first_state, image_begun, made_or_none}
+use Rattle.of_state.specs.Loading.{begun, first_state, image_begun, made_or_none}
 use Rattle.of_eval_laws.proofs.Begun.{Opened, begun_is, image_pushes, opened_kept}
 use Rattle.of_eval_laws.proofs.FramedSpace.{Laws}
-use Rattle.of_eval.specs.Settling.{settled, thrown_in}
-use Rattle.of_eval.specs.State.{Calls, State, with_board}
-use Rattle.of_eval.specs.Steps.{due, settled_of, stepped, steps_from}
+use Rattle.of_state.specs.Settling.{settled, thrown_in}
+use Rattle.of_state.specs.State.{Calls, State, with_board}
+use Rattle.of_steps.specs.Steps.{due, settled_of, stepped, steps_from}
 use Rattle.of_words.specs.Words.{word_entry}
 use Rattle.of_eval_laws.specs.Readings.{HasItsImages, ImagesAreReadings, is_image, kept_readings}
 use Rattle.of_eval_laws.specs.Sound.{HasSoundSpace}

@@ -9,11 +9,11 @@ use Rattle.of_memory.specs.DataSpace.{AreStacked, DataSpace, IsSound, free_after
 use Rattle.of_memory.specs.Growth.{image_fits}
 use Rattle.of_nodes.specs.declared.phandles.Phandle.{Phandle}
 use Rattle.of_ihandles.specs.declared.instance_fault.InstanceFault.{InstanceFault}
-use Rattle.of_eval.specs.Loading.{begun, begun_by, begun_unless, image_begun, instance_on, load_fault}
-use Rattle.of_eval.specs.declared.load_fault.LoadFault.TheVariants.{ImageTooLong, NoInstance}
-use Rattle.of_eval.specs.State.{Calls, State}
-use Rattle.of_eval.specs.Settling.{settled, thrown_in}
-use Rattle.of_eval.specs.Steps.{due, settled_of, stepped, steps_from}
+use Rattle.of_state.specs.Loading.{begun, begun_by, begun_unless, image_begun, instance_on, load_fault}
+use Rattle.of_state.specs.declared.load_fault.LoadFault.TheVariants.{ImageTooLong, NoInstance}
+use Rattle.of_state.specs.State.{Calls, State}
+use Rattle.of_state.specs.Settling.{settled, thrown_in}
+use Rattle.of_steps.specs.Steps.{due, settled_of, stepped, steps_from}
 use Rattle.of_eval_laws.specs.Running.{DueLeaves, GoOn, ImagesRun, LatestEnd, OneBegins, OthersRun, RunningImage}
 use Rattle.of_eval_laws.specs.Running.{SomeEnd, is_at_end, running, throws_late}
 use Rattle.of_eval_laws.specs.Sound.{HasSoundSpace}

@@ -32,7 +32,7 @@ use Rattle.of_eval.specs.Acts.{Act, Move, To, WordAct}
 use Rattle.of_eval.specs.Acts as act
 use Rattle.of_eval.specs.Doing.{appended, worked}
 use Rattle.of_eval.specs.Executing.{entered, furnished, guarded}
-use Rattle.of_eval.specs.State.{Calls, State, by_asking, by_board, open_xt, with_stack}
+use Rattle.of_state.specs.State.{Calls, State, by_asking, by_board, open_xt, with_stack}
 use Rattle.of_words.specs.Words.{word_entry}
 use Rattle.of_eval_laws.specs.Returning.{IsCall, IsPosition, Leads, LeadsBack, is_code, is_outer}
 use Rattle.of_eval_laws.proofs.LeadingEnds.{due_too, none_due}
@@ -340,6 +340,7 @@ module _ (image : List ℕ) (outer : Reading) where
   worked_leads code c (act.Knows w cells) s h p = (p.0.0, (λ o. h ∙ p.0.1 o))
   worked_leads code c (act.Stores m cells) s h p = p.0
   worked_leads code c act.Compiles s h p = p.0
+  worked_leads code c (act.Prints text) s h p = p.0
   worked_leads code c (act.Appends e cells) s h p =
       appended_leads (c.element e s.code).code (c.element e s.code).ended cells s p.0
   worked_leads code c (act.Loads size m cells) s h p =

@@ -16,8 +16,8 @@ use Rattle.of_stacks.specs.Throws.{compiler_nesting}
 use Rattle.of_stacks.specs.Unwinding.{beneath_source, latest_source}
 use Rattle.of_dict.specs.Words.{xt_of}
 use Rattle.of_flow.specs.declared.control_state.Flow.{Flow}
-use Rattle.of_eval.specs.State.{Calls, State, done, failed, given_up}
-use Rattle.of_eval.specs.Settling.{ended, going_back, is_same, or_nothing, reading_on, source_ended}
+use Rattle.of_state.specs.State.{Calls, State, done, failed, given_up}
+use Rattle.of_state.specs.Settling.{ended, going_back, is_same, or_nothing, reading_on, source_ended}
 use Rattle.of_eval_laws.specs.Returning.{IsDue, IsRead, Leads, LeadsBack, is_code, is_outer, is_return_top}
 use Rattle.of_eval_laws.specs.Returning.{reads_nothing}
 use Rattle.of_eval_laws.proofs.LeadingEnds.{due_too, given_flow, given_shut}

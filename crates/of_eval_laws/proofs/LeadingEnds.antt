@@ -19,9 +19,9 @@ use Rattle.of_stacks.specs.Throws.{stack_overflow}
 use Rattle.of_stacks.specs.Unwinding.{latest_handler, latest_source}
 use Rattle.of_dict.specs.Words.{xt_of}
 use Rattle.of_board.specs.Active.{with_self}
-use Rattle.of_eval.specs.State.{Calls, State, given_up, open_xt, with_board, with_items}
-use Rattle.of_eval.specs.Settling.{caller_self, caught, due_left, given_up_since, is_full, is_same, resumed, settled}
-use Rattle.of_eval.specs.Settling.{due_throw, open_answered, reading_on}
+use Rattle.of_state.specs.State.{Calls, State, given_up, open_xt, with_board, with_items}
+use Rattle.of_state.specs.Settling.{caller_self, caught, due_left, given_up_since, is_full, is_same, resumed, settled}
+use Rattle.of_state.specs.Settling.{due_throw, open_answered, reading_on}
 use Rattle.of_eval_laws.specs.Throws.{ThrowsSettle}
 use Rattle.of_eval_laws.specs.Returning.{IsBase, IsNested, IsRead, IsShut, LeadsBack, LeadsOn, is_code}
 use Rattle.of_eval_laws.specs.Returning.{is_outer, is_return_top}

@@ -37,11 +37,12 @@ use Rattle.of_eval.specs.Executing.{execution, plan_in}
 use Rattle.of_eval.specs.Items.{item_act}
 use Rattle.of_cells.specs.declared.cells.Cell.{Cell}
 use Rattle.of_ihandles.specs.Table.{InstanceTable}
-use Rattle.of_eval.specs.Loading.{image_begun}
+use Rattle.of_state.specs.Loading.{image_begun}
 use Rattle.of_eval.specs.Methods.{then_known}
-use Rattle.of_eval.specs.Settling.{settled, thrown_in}
-use Rattle.of_eval.specs.State.{Answered, Calls, Outcome, State, by_code, with_next}
-use Rattle.of_eval.specs.Steps.{due, found_token, item_done, item_due, read_on, settled_of, stepped, token_due}
+use Rattle.of_state.specs.Settling.{settled, thrown_in}
+use Rattle.of_state.specs.State.{Answered, Calls, Outcome, State, by_code, with_next}
+use Rattle.of_eval.specs.Reading.{found_token, read_on, token_due}
+use Rattle.of_steps.specs.Steps.{due, item_done, item_due, settled_of, stepped}
 use Rattle.of_eval.specs.Tokens.{act_of, spot_in}
 use Rattle.of_flow.specs.Tokens.{typed_of}
 use Rattle.of_eval_laws.specs.Listed.{plan_of_item}

@@ -22,8 +22,8 @@ use Rattle.of_compile.specs.Structured.{Definitions}
 use Rattle.of_compile.specs.DictionaryWords.{kind_at, marked, set_token_entry, store_entry, stored_kind, token_set}
 use Rattle.of_compile.specs.DictionaryWords.{with_kind, with_stored}
 use Rattle.of_compile.specs.Words.{WordsState, number_faults, own_number}
-use Rattle.of_eval.specs.Executing.{is_opened}
-use Rattle.of_eval.specs.State.{State, open_xt, with_words}
+use Rattle.of_state.specs.Settling.{is_opened}
+use Rattle.of_state.specs.State.{State, open_xt, with_words}
 use Rattle.of_eval_laws.specs.Structured.{IsPlacedIn}
 use Rattle.of_eval_laws.specs.Placed.{AllPlaced, AreItemsIn, IsExitIn, IsItemIn, code_start, finished_end}
 use Rattle.of_eval_laws.proofs.Placed.{kind_placed, marked_placed, own_is}

@@ -17,7 +17,7 @@ use Rattle.of_eval.specs.Acts.{WordAct}
 use Rattle.of_eval.specs.Acts as act
 use Rattle.of_eval.specs.Doing.{executed, work_grows, worked}
 use Rattle.of_eval.specs.Executing.{PlansUnroll, act_of_plan, entered, execution, guarded, written_act}
-use Rattle.of_eval.specs.State.{Calls, Outcome, State, by_asking, by_board, with_stack}
+use Rattle.of_state.specs.State.{Calls, Outcome, State, by_asking, by_board, with_stack}
 use Rattle.of_eval_laws.specs.Going.{Is}
 use Rattle.of_eval_laws.specs.Questions.{IsOpening, QuestionsSettle}
 use Rattle.of_eval_laws.proofs.CallingLemmas.{calls_come_back}
@@ -68,6 +68,7 @@ opening c (act.Moves cells move to) q s e g = absurd cc
 opening c (act.Knows w cells) q s e g = absurd cc
 opening c (act.Stores m cells) q s e g = absurd cc
 opening c act.Compiles q s e g = absurd cc
+opening c (act.Prints text) q s e g = absurd cc
 opening c (act.Appends x cells) q s e g = absurd cc
 opening c (act.Loads size m cells) q s e g = absurd cc
 opening c (act.Takes cells a) q s e g = opening c a q (with_stack cells s) e g

@@ -35,9 +35,10 @@ use Rattle.of_eval.specs.Executing.{Call, Catch, Declines, Execute, Open, Own, P
 use Rattle.of_eval.specs.Executing.{act_of_plan, dictionary_act, entered, execution, furnished, guarded, own_act}
 use Rattle.of_eval.specs.Executing.{plan_in, returns_act, throws_act, written_act}
 use Rattle.of_eval.specs.Items.{item_act}
-use Rattle.of_eval.specs.State.{Calls, Outcome, State, with_next, with_stack}
-use Rattle.of_eval.specs.Steps.{due, due_grows, found_grows, found_token, item_done, item_due, item_grows}
-use Rattle.of_eval.specs.Steps.{read_on, token_done, token_due, token_grows}
+use Rattle.of_state.specs.State.{Calls, Outcome, State, with_next, with_stack}
+use Rattle.of_eval.specs.Reading.{found_grows, found_token}
+use Rattle.of_steps.specs.Steps.{due, due_grows, item_done, item_due, item_grows}
+use Rattle.of_eval.specs.Reading.{read_on, token_done, token_due, token_grows}
 use Rattle.of_eval.specs.Tokens.{act_of, appending, calling, compiling_act, named, plain_act, spot_in, token_act}
 use Rattle.of_eval_laws.specs.Listed.{plan_of_item}
 use Rattle.of_eval_laws.specs.Questions.{Executes, is_asking, runs_asking}
@@ -74,6 +75,7 @@ work_quiet c (act.Moves cells move to) s h = refl
 work_quiet c (act.Knows w cells) s h = refl
 work_quiet c (act.Stores m cells) s h = refl
 work_quiet c act.Compiles s h = refl
+work_quiet c (act.Prints text) s h = refl
 work_quiet c (act.Appends x cells) s h = refl
 work_quiet c (act.Loads size m cells) s h = refl
 work_quiet c (act.Takes cells a) s h = work_quiet c a (with_stack cells s) h
@@ -221,7 +223,7 @@ written_quiet {S} c (word.Returns w) s h =
 written_quiet {S} c (word.Throws w) s h =
     work_quiet c (throws_act w s.board.stack) s (throws_work (quiet S) w s.board.stack s (λ x e. tt))
 written_quiet {S} c (word.Dictionary w) s h =
-    work_quiet c (dictionary_act w (front_of s)) s (dictionary_works (quiet S) (λ t p e. tt) w s tt)
+    work_quiet c (dictionary_act w (front_of s)) s (dictionary_works (quiet S) (λ t p e. tt) tt w s tt)
 written_quiet c (word.Stream w) s h = work_quiet c (act.Fails compile_only) s tt
 written_quiet c (word.Parsing w) s h = work_quiet c (act.Fails compile_only) s tt
 written_quiet c (word.Compiling w) s h = work_quiet c (act.Fails compile_only) s tt

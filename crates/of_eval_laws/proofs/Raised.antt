@@ -53,10 +53,11 @@ use Rattle.of_eval.specs.Doing.{acted, worked}
 use Rattle.of_eval.specs.Executing.{entered, furnished, guarded, plan_in}
 use Rattle.of_eval.specs.Items.{item_act}
 use Rattle.of_eval.specs.Methods.{then_known}
-use Rattle.of_eval.specs.Settling.{ended, is_same}
-use Rattle.of_eval.specs.State.{Answered, Calls, Outcome, State, by_asking, by_board, flat_calls, open_xt, with_next}
-use Rattle.of_eval.specs.State.{with_stack}
-use Rattle.of_eval.specs.Steps.{due, found_token, item_done, item_due, read_on, token_due}
+use Rattle.of_state.specs.Settling.{ended, is_same}
+use Rattle.of_state.specs.State.{Answered, Calls, Outcome, State, by_asking, by_board, flat_calls, open_xt, with_next}
+use Rattle.of_state.specs.State.{with_stack}
+use Rattle.of_eval.specs.Reading.{found_token, read_on, token_due}
+use Rattle.of_steps.specs.Steps.{due, item_done, item_due}
 use Rattle.of_eval.specs.Tokens.{act_of, spot_in}
 use Rattle.of_flow.specs.Tokens.{typed_of}
 use Rattle.of_words.specs.Words.{word_entry}
@@ -156,6 +157,7 @@ worked_raises c l taken ends (act.Moves cells move to) s h = tt
 worked_raises c l taken ends (act.Knows w cells) s h = tt
 worked_raises c l taken ends (act.Stores m cells) s h = tt
 worked_raises c l taken ends act.Compiles s h = tt
+worked_raises c l taken ends (act.Prints text) s h = tt
 worked_raises c l taken ends (act.Appends e cells) s h = weaker taken ends _ (l.calls.element e s.code)
 worked_raises c l taken ends (act.Loads size m cells) s h = tt
 worked_raises c l taken ends (act.Takes cells a) s h = worked_raises c l taken ends a (with_stack cells s) h

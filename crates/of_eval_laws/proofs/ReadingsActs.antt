@@ -49,10 +49,11 @@ use Rattle.of_eval.specs.Doing as doing
 use Rattle.of_eval.specs.Executing.{entered, furnished, guarded, plan_in}
 use Rattle.of_eval.specs.Items.{item_act}
 use Rattle.of_eval.specs.Methods.{as_method, known_if, method_made, then_known, xt_cell}
-use Rattle.of_eval.specs.Settling.{ended, is_same}
-use Rattle.of_eval.specs.State.{Answered, Calls, Outcome, State, by_asking, by_board, open_xt, with_items, with_next}
-use Rattle.of_eval.specs.State.{with_stack}
-use Rattle.of_eval.specs.Steps.{due, found_token, item_due, read_on, token_due}
+use Rattle.of_state.specs.Settling.{ended, is_same}
+use Rattle.of_state.specs.State.{Answered, Calls, Outcome, State, by_asking, by_board, open_xt, with_items, with_next}
+use Rattle.of_state.specs.State.{with_stack}
+use Rattle.of_eval.specs.Reading.{found_token, read_on, token_due}
+use Rattle.of_steps.specs.Steps.{due, item_due}
 use Rattle.of_eval.specs.Tokens.{act_of, spot_in}
 use Rattle.of_flow.specs.Tokens.{typed_of}
 use Rattle.of_words.specs.Words.{word_entry}
@@ -378,6 +379,7 @@ worked_reads l c (act.Knows x cells) s w sound h = h
 worked_reads l c (act.Stores m cells) s w sound h =
     same_images m.images s (slot_kept l s.board w.0 w.1 m sound w.2).images.0 h
 worked_reads l c act.Compiles s w sound h = h
+worked_reads l c (act.Prints text) s w sound h = h
 worked_reads l c (act.Appends e cells) s w sound h =
     appended_reads (c.element e s.code).code (c.element e s.code).ended cells s h
 worked_reads l c (act.Loads size m cells) s w sound h = ((ap length w.1 ∙ ap suc h.0.0, (inl refl, h.0.1)), h.1)

@@ -17,10 +17,10 @@ use Rattle.of_stacks.specs.Unwinding.{beneath_source, latest_handler, latest_sou
 use Rattle.of_memory.specs.DataSpace.{DataSpace}
 use Rattle.of_memory.specs.Growth.{without_image}
 use Rattle.of_flow.specs.declared.control_state.Flow.{Flow}
-use Rattle.of_eval.specs.State.{Calls, State, given_up, open_xt, with_items}
-use Rattle.of_eval.specs.Settling.{caught, due_left, fallen, given_back, going_back, is_full, is_same}
-use Rattle.of_eval.specs.Settling.{load_left, or_nothing, reading_on, resumed, settled, source_ended, uncaught}
-use Rattle.of_eval.specs.Settling.{due_throw, open_answered, released_in, worked_one}
+use Rattle.of_state.specs.State.{Calls, State, given_up, open_xt, with_items}
+use Rattle.of_state.specs.Settling.{caught, due_left, fallen, given_back, going_back, is_full, is_same}
+use Rattle.of_state.specs.Settling.{load_left, or_nothing, reading_on, resumed, settled, source_ended, uncaught}
+use Rattle.of_state.specs.Settling.{due_throw, open_answered, released_in, worked_one}
 use Rattle.of_eval_laws.specs.Readings.{BeganInside, is_image, kept_readings, readings}
 use Rattle.of_eval_laws.specs.Returning.{is_return_top}
 use Rattle.of_eval_laws.specs.Throws.{image_more}

@@ -18,7 +18,7 @@ use Rattle.of_ihandles.specs.declared.instances.Instance.{Instance}
 use Rattle.of_board.specs.Active.{all_finished, finished_from, image_left, since_released}
 use Rattle.of_board.specs.declared.active.NewDevice.{NewDevice}
 use Rattle.of_board.specs.declared.board.Board.{Board}
-use Rattle.of_eval.specs.Settling.{package_of}
+use Rattle.of_state.specs.Settling.{package_of}
 use Rattle.of_eval_laws.specs.Throws.{left_by}
 use Rattle.of_eval_laws.proofs.FramedSpace.{Laws, Stands, by_space, same, stays, then_kept}
 

@@ -16,9 +16,9 @@ use Rattle.of_stacks.specs.Returns.{is_due}
 use Rattle.of_stacks.specs.Throws.{stack_overflow, stack_underflow}
 use Rattle.of_memory.specs.DataSpace.{DataSpace, IsSound}
 use Rattle.of_memory.specs.Growth.{image_popped}
-use Rattle.of_eval.specs.State.{Calls, State, given_up, open_xt, with_items}
-use Rattle.of_eval.specs.Settling.{caught, due_left, fallen, given_back, given_up_since, is_full, is_same, load_left}
-use Rattle.of_eval.specs.Settling.{is_empty, open_answered, reading_on, settled, thrown_at, uncaught, worked_one}
+use Rattle.of_state.specs.State.{Calls, State, given_up, open_xt, with_items}
+use Rattle.of_state.specs.Settling.{caught, due_left, fallen, given_back, given_up_since, is_full, is_same, load_left}
+use Rattle.of_state.specs.Settling.{is_empty, open_answered, reading_on, settled, thrown_at, uncaught, worked_one}
 use Rattle.of_eval_laws.specs.Running.{EndLeaves, LatestEnd, SomeEnd, running, throws_late}
 use Rattle.of_board.specs.declared.board.Board.{Board}
 use Rattle.of_eval_laws.specs.Throws.{image_more, images_ended, left_by, left_through}

@@ -37,9 +37,10 @@ use Rattle.of_eval.specs.Doing as doing
 use Rattle.of_eval.specs.Executing.{entered, furnished, guarded, plan_in}
 use Rattle.of_eval.specs.Items.{item_act}
 use Rattle.of_eval.specs.Methods.{as_method, known_if, method_made, nodes_with, then_known, xt_cell}
-use Rattle.of_eval.specs.Settling.{ended, given_back, is_same}
-use Rattle.of_eval.specs.State.{Answered, Calls, Outcome, State, by_code, open_xt, with_items, with_next, with_stack}
-use Rattle.of_eval.specs.Steps.{due, found_token, item_due, read_on, token_due}
+use Rattle.of_state.specs.Settling.{ended, given_back, is_same}
+use Rattle.of_state.specs.State.{Answered, Calls, Outcome, State, by_code, open_xt, with_items, with_next, with_stack}
+use Rattle.of_eval.specs.Reading.{found_token, read_on, token_due}
+use Rattle.of_steps.specs.Steps.{due, item_due}
 use Rattle.of_eval.specs.Tokens.{act_of, spot_in}
 use Rattle.of_flow.specs.Tokens.{typed_of}
 use Rattle.of_eval_laws.specs.Listed.{plan_of_item}
@@ -314,6 +315,7 @@ worked_leaves l c (act.Stores m cells) s h sound =
     inl (by_space l s.board m sound (slot_kept l s.board h.0 h.1 m sound h.2))
 worked_leaves l c act.Compiles s h sound =
     inl (by_space l s.board (with_state s.board.memory true) sound (by_state l s.board.memory true sound))
+worked_leaves l c (act.Prints text) s h sound = left s.board sound
 worked_leaves l c (act.Appends e cells) s h sound =
     appended_leaves (c.element e s.code).code (c.element e s.code).ended cells s sound
 worked_leaves l c (act.Loads size m cells) s h sound = inr (loaded l s.board m sound (h l))

@@ -17,7 +17,7 @@ use Rattle.of_board.specs.declared.board.Board.{Board}
 use Rattle.of_asking.specs.Devices.{devices_entry}
 use Rattle.of_asking.specs.Keys.{keys_entry}
 use Rattle.of_asking.specs.Questions.{Asking, Asks, Gives}
-use Rattle.of_eval.specs.State.{Outcome, State, by_asking, by_board}
+use Rattle.of_state.specs.State.{Outcome, State, by_asking, by_board}
 use Rattle.of_words.specs.Words.{word_entry}
 use Rattle.of_eval_laws.specs.Running.{LatestEnd, OneBegins}
 use Rattle.of_eval_laws.proofs.FramedSpace.{AskingStands, BoardStands, Laws, Stands, devices_stand, keys_stand, stays}

@@ -15,10 +15,10 @@ use Rattle.of_nodes.specs.declared.tree.Node.{Node}
 use Rattle.of_stacks.specs.declared.return_item.ReturnItem.{ReturnItem}
 use Rattle.of_stacks.specs.declared.throws.Throw.{Throw}
 use Rattle.of_board.specs.declared.board.Board.{Board}
-use Rattle.of_eval.specs.Loading.{begun, image_copied, made_or_none}
-use Rattle.of_eval.specs.Settling.{settled, thrown_in}
-use Rattle.of_eval.specs.State.{Calls, State}
-use Rattle.of_eval.specs.Steps.{asked_by, due, made, settled_of, stepped, steps_from}
+use Rattle.of_state.specs.Loading.{begun, image_copied, made_or_none}
+use Rattle.of_state.specs.Settling.{settled, thrown_in}
+use Rattle.of_state.specs.State.{Calls, State}
+use Rattle.of_steps.specs.Steps.{asked_by, due, made, settled_of, stepped, steps_from}
 use Rattle.of_words.specs.Words.{word_entry}
 use Rattle.of_eval_laws.specs.Running.{is_at_end}
 use Rattle.of_eval_laws.specs.Sound.{HasSoundSpace, SpaceStaysSound, StaysSound}

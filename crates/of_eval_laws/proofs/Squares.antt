@@ -5,7 +5,7 @@ use Rattle.of_compile.specs.Structured.{Definitions}
 use Rattle.of_compile.specs.Coding.{Coding}
 use Rattle.of_board.specs.declared.board.Board.{Board}
 use Rattle.of_asking.specs.Questions.{Asking, Asks, Gives}
-use Rattle.of_eval.specs.State.{Outcome, State, by_asking, by_board}
+use Rattle.of_state.specs.State.{Outcome, State, by_asking, by_board}
 use Rattle.of_eval_laws.specs.Structured.{flat_outcome, flat_state}
 
 pub state_if : (b : Bool) (p q : State Coding) (x y : State Definitions) → p ≡ flat_state x → q ≡ flat_state y

@@ -19,9 +19,9 @@ use Rattle.of_board.specs.declared.active.NewDevice.{NewDevice}
 use Rattle.of_board.specs.declared.board.Board.{Board}
 use Rattle.of_compile.specs.Defining.{abandoned, dropped}
 use Rattle.of_compile.specs.Words.{WordsState}
-use Rattle.of_eval.specs.State.{Calls, State, open_xt, with_board, with_compiling, with_items}
-use Rattle.of_eval.specs.Settling.{caller_self, caught, fallen, given_back, is_full, is_same, reading_on}
-use Rattle.of_eval.specs.Settling.{due_left, due_throw, resumed, settled, uncaught}
+use Rattle.of_state.specs.State.{Calls, State, open_xt, with_board, with_compiling, with_items}
+use Rattle.of_state.specs.Settling.{caller_self, caught, fallen, given_back, is_full, is_same, reading_on}
+use Rattle.of_state.specs.Settling.{due_left, due_throw, resumed, settled, uncaught}
 use Rattle.of_eval_laws.specs.Throws.{EndsAll, GoesOnBehind, IsCaught, LeavesDefinition, ThrowsSettle, above_left}
 use Rattle.of_eval_laws.specs.Throws.{all_left, is_opened_since, is_passed, left_by, left_through}
 

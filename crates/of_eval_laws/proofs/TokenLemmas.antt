@@ -43,8 +43,8 @@ use Rattle.of_eval.specs.Executing.{throw_act}
 use Rattle.of_eval.specs.Executing.{written_act}
 use Rattle.of_eval.specs.Items.{Position, beginning, control_act, going, staying}
 use Rattle.of_flow.specs.Turns.{loop_item, one}
-use Rattle.of_eval.specs.State.{Calls, State, done, failed, with_items, with_stack}
-use Rattle.of_eval.specs.Steps.{plain_done}
+use Rattle.of_state.specs.State.{Calls, State, done, failed, with_items, with_stack}
+use Rattle.of_eval.specs.Reading.{plain_done}
 use Rattle.of_eval.specs.Tokens.{at_position, compiling_act, control_element, exit_at, exit_in}
 use Rattle.of_eval.specs.Tokens.{token_act}
 use Rattle.of_flow.specs.Tokens.{typed_word}
@@ -316,4 +316,5 @@ dictionary_words_keep = record {
       ∙ ap (λ r. worked c (knowing_under r s.board.stack) s) e;
   find = λ c xt s cells p e.
       planned c xt s (word.Dictionary dictionary.Find) p ∙ ap (λ r. worked c (leaving r) s) e;
+  names = λ c xt s p. planned c xt s (word.Dictionary dictionary.PrintWords) p;
 }

@@ -35,7 +35,7 @@ use Rattle.of_eval.specs.Executing.{Plan, plan_in}
 use Rattle.of_eval.specs.Items.{Position, Target, There, beginning, control_act, control_item, going, item_act}
 use Rattle.of_eval.specs.Items.{leave_item, there, turning}
 use Rattle.of_flow.specs.Turns.{loop_item, one}
-use Rattle.of_eval.specs.State.{State}
+use Rattle.of_state.specs.State.{State}
 use Rattle.of_eval.specs.Tokens.{act_of, at_position, calling, compiling_act, exit_at, exit_in}
 use Rattle.of_flow.specs.Tokens.{Typed}
 use Rattle.of_eval.specs.Tokens.{leave_act, named, plain_act, storing, string_address, token_act}

@@ -10,7 +10,7 @@ use Rattle.of_stacks.specs.declared.return_item.ReturnItem.TheVariants.{Loop}
 use Rattle.of_memory.specs.DataSpace.{DataSpace}
 use Rattle.of_ihandles.specs.Table.{InstanceTable}
 use Rattle.of_eval.specs.Executing.{entered, furnished, guarded}
-use Rattle.of_eval.specs.State.{State, with_stack}
+use Rattle.of_state.specs.State.{State, with_stack}
 use Rattle.of_eval_laws.specs.Returning.{IsCall}
 use Rattle.of_eval_laws.proofs.Walk.{IsPlace, Turns}
 use Rattle.of_eval_laws.proofs.WalkWords.{IsOpening, Rules}

@@ -13,7 +13,7 @@ use Rattle.of_compile.specs.declared.defining.DefiningWord.TheVariants as defini
 use Rattle.of_flow.specs.declared.token.Token.{Token}
 use Rattle.of_flow.specs.declared.token.Token.TheVariants as token
 use Rattle.of_eval.specs.Executing.{plan_in}
-use Rattle.of_eval.specs.State.{State}
+use Rattle.of_state.specs.State.{State}
 use Rattle.of_flow.specs.Tokens.{ExternalToken, NamedToken, Plain, Typed, by_name, by_nothing, typed, typed_word}
 use Rattle.of_eval_laws.specs.Frames.{ends_image}
 use Rattle.of_eval_laws.specs.Listed.{is_semicolon, plan_named, plan_with}

@@ -43,7 +43,8 @@ use Rattle.of_eval.specs.ByteLoading.{copying, length_at, load_act, loading, loa
 use Rattle.of_eval.specs.Executing.{Call, Catch, Declines, Execute, Open, Own, Plan, Stops, Written, act_of_plan}
 use Rattle.of_eval.specs.Executing.{bracket_act, call_faults, call_plan, callee_plan, catch_plan, comma_act}
 use Rattle.of_eval.specs.Executing.{comma_faults, dictionary_act, dropping, entered, execute_plan, execution}
-use Rattle.of_eval.specs.Executing.{furnished, guarded, is_opened, opening_plan, own_act, plan, plan_at, plan_behind}
+use Rattle.of_eval.specs.Executing.{furnished, guarded, opening_plan, own_act, plan, plan_at, plan_behind}
+use Rattle.of_state.specs.Settling.{is_opened}
 use Rattle.of_eval.specs.Executing.{plan_in, planned, product_entry, pushing, returning, returns_act, runner_of}
 use Rattle.of_eval.specs.Executing.{throw_act, throws_act, unless_stopped, unlooping, written_act}
 use Rattle.of_eval.specs.declared.executing.Runner.{Runner}
@@ -61,7 +62,7 @@ use Rattle.of_eval_laws.specs.Returning.{IsCall}
 use Rattle.of_board.specs.declared.board.Board.{Board}
 use Rattle.of_fcodes.specs.Finding.{word_with_xt}
 use Rattle.of_flow.specs.Returns.{found, pushed}
-use Rattle.of_eval.specs.State.{State, open_xt, with_stack}
+use Rattle.of_state.specs.State.{State, open_xt, with_stack}
 use Rattle.of_eval_laws.specs.Frames.{drops_item, last_word}
 use Rattle.of_eval_laws.specs.Listed.{cell_of}
 use Rattle.of_eval_laws.proofs.Callees.{HasCallee, IsCallee, callees}
@@ -211,6 +212,7 @@ IsWork R s (act.Moves cells move to) = IsMove R s move × IsTo R s to × Fits R 
 IsWork R s (act.Knows w cells) = R.Known s w
 IsWork R s (act.Stores m cells) = IsStoring m s
 IsWork R s act.Compiles = R.Appends s
+IsWork R s (act.Prints text) = R.Works (word.Dictionary dictionary.PrintWords)
 IsWork R s (act.Appends e cells) = R.Appends s
 IsWork R s (act.Loads size m cells) = R.Loads s m
 IsWork R s (act.Takes cells a) = IsWork R (with_stack cells s) a
@@ -459,26 +461,27 @@ load_works R (fetch ∷ a ∷ cells) s p shut =
 
 -- ---- all words
 
-pub dictionary_works : {S : Type 0} (R : Rules S) → MayAppend R → (w : DictionaryWord) (s : State S) → R.Held s
-    → IsWork R s (dictionary_act w (front_of s))
+pub dictionary_works : {S : Type 0} (R : Rules S) → MayAppend R → R.Works (word.Dictionary dictionary.PrintWords)
+    → (w : DictionaryWord) (s : State S) → R.Held s → IsWork R s (dictionary_act w (front_of s))
 unfolding dictionary_act is_listed listed_numbers
-dictionary_works R o dictionary.FromBody s p = leaving_works R _ s (from_body_listed s.words s.board.stack)
-dictionary_works R o dictionary.ToBody s p = leaving_works R _ s (to_body_listed s.words s.board.stack)
-dictionary_works R o dictionary.GetToken s p = leaving_works R _ s (get_token_listed s.words s.board.stack)
-dictionary_works R o dictionary.SetToken s p =
+dictionary_works R o k dictionary.FromBody s p = leaving_works R _ s (from_body_listed s.words s.board.stack)
+dictionary_works R o k dictionary.ToBody s p = leaving_works R _ s (to_body_listed s.words s.board.stack)
+dictionary_works R o k dictionary.GetToken s p = leaving_works R _ s (get_token_listed s.words s.board.stack)
+dictionary_works R o k dictionary.SetToken s p =
     knowing_works R (set_token_entry s.words s.board.stack) s (set_token_listed s.words s.board.stack)
     (λ x e. R.sets x s p e)
-dictionary_works R o dictionary.State s p = pushed_works R _ s.board.stack s
-dictionary_works R o dictionary.CompileComma s p = comma_works R o s.board.stack s p
-dictionary_works R o dictionary.Behavior s p =
+dictionary_works R o k dictionary.State s p = pushed_works R _ s.board.stack s
+dictionary_works R o k dictionary.CompileComma s p = comma_works R o s.board.stack s p
+dictionary_works R o k dictionary.Behavior s p =
     leaving_works R _ s (behavior_of_listed s.words s.board s.board.stack)
-dictionary_works R o dictionary.Find s p = find_works R s.board.stack s
-dictionary_works R o dictionary.Instance s p = R.waits s p
-dictionary_works R o dictionary.Immediate s p = marking_works R s p
-dictionary_works R o dictionary.EnterCompiling s p = bracket_works R o s p
-dictionary_works R o dictionary.ByteLoad s p =
+dictionary_works R o k dictionary.Find s p = find_works R s.board.stack s
+dictionary_works R o k dictionary.Instance s p = R.waits s p
+dictionary_works R o k dictionary.Immediate s p = marking_works R s p
+dictionary_works R o k dictionary.EnterCompiling s p = bracket_works R o s p
+dictionary_works R o k dictionary.PrintWords s p = k
+dictionary_works R o k dictionary.ByteLoad s p =
     if_works R (is_some s.words.defining) _ _ s (λ e. R.fails _ refl) (λ e. load_works R s.board.stack s p e)
-dictionary_works R o w s p = R.fails _ refl
+dictionary_works R o k w s p = R.fails _ refl
 
 written_works : {S : Type 0} (R : Rules S) → R.Runs → (w : Word) (s : State S) → R.Held s
     → (drops_item (Some w) ≡ true → R.Drops s) → MayRaise R (Some (Written w)) s.board.stack
@@ -486,7 +489,8 @@ written_works : {S : Type 0} (R : Rules S) → R.Runs → (w : Word) (s : State 
 unfolding written_act is_listed listed_numbers
 written_works R r (word.Returns w) s p d h = returns_works R w s.board.stack s p d
 written_works R r (word.Throws w) s p d h = throws_work R w s.board.stack s h
-written_works R r (word.Dictionary w) s p d h = dictionary_works R (R.opens r) w s p
+written_works R r (word.Dictionary w) s p d h =
+    dictionary_works R (R.opens r) (R.works r (word.Dictionary dictionary.PrintWords)) w s p
 written_works R r (word.Stream w) s p d h = R.fails _ refl
 written_works R r (word.Parsing w) s p d h = R.fails _ refl
 written_works R r (word.Compiling w) s p d h = R.fails _ refl

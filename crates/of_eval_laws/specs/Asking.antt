@@ -12,8 +12,9 @@ use Rattle.of_stream.specs.Decoding.{Argument, Named, Nothing}
 use Rattle.of_compile.specs.Defining.{may_define}
 use Rattle.of_eval.specs.declared.tokens.Spot.{Spot}
 use Rattle.of_eval.specs.Doing.{executed_grows}
-use Rattle.of_eval.specs.State.{State}
-use Rattle.of_eval.specs.Steps.{item_grows_in, typed_grows}
+use Rattle.of_state.specs.State.{State}
+use Rattle.of_eval.specs.Reading.{typed_grows}
+use Rattle.of_steps.specs.Steps.{item_grows_in}
 use Rattle.of_flow.specs.Tokens.{typed, typed_of}
 
 -- a token of the stream asks for no memory, whatever the state, compiled or not

@@ -23,8 +23,8 @@ use Rattle.of_instances.specs.declared.calling.CallingWord.TheVariants as callin
 use Rattle.of_instances.specs.declared.calling.MethodCall.{MethodCall}
 use Rattle.of_instances.specs.Calling.{calling_entry, new_instance, operand_cells}
 use Rattle.of_eval.specs.Doing.{executed}
-use Rattle.of_eval.specs.Settling.{caller_self, settled}
-use Rattle.of_eval.specs.State.{Calls, State, failed}
+use Rattle.of_state.specs.Settling.{caller_self, settled}
+use Rattle.of_state.specs.State.{Calls, State, failed}
 use Rattle.of_eval_laws.specs.Going.{Is}
 use Rattle.of_eval_laws.specs.Returning.{IsCall}
 

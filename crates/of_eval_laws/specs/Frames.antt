@@ -31,8 +31,9 @@ use Rattle.of_eval.specs.Acts.{Act, Does, Fails, Goes, Moves, Next}
 use Rattle.of_eval.specs.Doing.{executed}
 use Rattle.of_eval.specs.Executing.{Call, Catch, Declines, Execute, Open, Own, Plan, Stops, Written, plan_in}
 use Rattle.of_eval.specs.Items.{Target, control_act}
-use Rattle.of_eval.specs.State.{Calls, State}
-use Rattle.of_eval.specs.Steps.{item_done, token_due}
+use Rattle.of_state.specs.State.{Calls, State}
+use Rattle.of_eval.specs.Reading.{token_due}
+use Rattle.of_steps.specs.Steps.{item_done}
 use Rattle.of_eval_laws.specs.Returning.{IsCall, IsImage, is_code}
 
 -- ---- the target of a word of control

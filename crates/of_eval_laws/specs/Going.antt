@@ -39,10 +39,10 @@ use Rattle.of_compile.specs.RunsLaw.{IsReached}
 use Rattle.of_compile.specs.Words.{is_word}
 use Rattle.of_eval.specs.Doing.{executed}
 use Rattle.of_flow.specs.Turns.{loop_item, one}
-use Rattle.of_eval.specs.Loading.{begun_by, image_copied, load_caller}
-use Rattle.of_eval.specs.Settling.{ended, is_same}
-use Rattle.of_eval.specs.State.{Calls, State, done, failed, given_up, open_xt, with_items, with_next, with_stack}
-use Rattle.of_eval.specs.Steps.{due, item_done}
+use Rattle.of_state.specs.Loading.{begun_by, image_copied, load_caller}
+use Rattle.of_state.specs.Settling.{ended, is_same}
+use Rattle.of_state.specs.State.{Calls, State, done, failed, given_up, open_xt, with_items, with_next, with_stack}
+use Rattle.of_steps.specs.Steps.{due, item_done}
 use Rattle.of_eval_laws.specs.Structured.{structured_calls}
 use Rattle.of_own.specs.Defers.{executable}
 

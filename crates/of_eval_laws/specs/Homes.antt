@@ -3,7 +3,7 @@ use Rattle.std.specs.Prelude.{◌≡◌, ℕ, Option, Ok}
 use Rattle.of_nodes.specs.declared.phandles.Phandle.{Phandle}
 use Rattle.of_compile.specs.declared.defining.DefiningWord.TheVariants as defining
 use Rattle.of_eval.specs.Defining.{define_entry, semicolon_entry}
-use Rattle.of_eval.specs.State.{Calls, State}
+use Rattle.of_state.specs.State.{Calls, State}
 
 -- the same state while another package is active
 abbrev pub with_package : {S : Type 0} → Option Phandle → State S → State S

@@ -28,8 +28,9 @@ use Rattle.of_compile.specs.Structured.{Definitions}
 use Rattle.of_compile.specs.Coding.{Coding}
 use Rattle.of_board.specs.declared.board.Board.{Board}
 use Rattle.of_eval.specs.Executing.{Call, Catch, Execute, Open, Plan, Written, plan_in}
-use Rattle.of_eval.specs.State.{Calls, State, flat_calls, with_next}
-use Rattle.of_eval.specs.Steps.{due, read_on}
+use Rattle.of_state.specs.State.{Calls, State, flat_calls, with_next}
+use Rattle.of_eval.specs.Reading.{read_on}
+use Rattle.of_steps.specs.Steps.{due}
 use Rattle.of_words.specs.Words.{word_entry}
 use Rattle.of_eval_laws.specs.Structured.{structured_calls}
 

@@ -12,9 +12,9 @@ use Rattle.of_dict.specs.declared.word.Word.{Word}
 use Rattle.of_dict.specs.Words.{kind_in, word_at}
 use Rattle.of_compile.specs.Structured.{Definitions, laid_all}
 use Rattle.of_compile.specs.Words.{IsNewestOpen}
-use Rattle.of_eval.specs.State.{State}
-use Rattle.of_eval.specs.Steps.{stepped}
-use Rattle.of_eval.specs.Loading.{begun, first_state}
+use Rattle.of_state.specs.State.{State}
+use Rattle.of_steps.specs.Steps.{stepped}
+use Rattle.of_state.specs.Loading.{begun, first_state}
 use Rattle.of_eval_laws.specs.Structured.{IsPlaced, IsPlacedIn, structured_calls, no_definitions}
 
 -- the code cell at which the finished definitions end

@@ -31,8 +31,8 @@ use Rattle.of_eval.specs.Acts.{WordAct}
 use Rattle.of_eval.specs.Acts as act
 use Rattle.of_eval.specs.Doing.{executed, executed_grows, work_grows, worked}
 use Rattle.of_eval.specs.Executing.{Call, Catch, Declines, Execute, Open, Own, Plan, Stops, Written, plan_in}
-use Rattle.of_eval.specs.State.{Calls, State, by_board, with_stack}
-use Rattle.of_eval.specs.Steps.{asked_by, due, due_grows, made, replied, stepped}
+use Rattle.of_state.specs.State.{Calls, State, by_board, with_stack}
+use Rattle.of_steps.specs.Steps.{asked_by, due, due_grows, made, replied, stepped}
 use Rattle.of_eval_laws.specs.Calling.{IsCalled, for_instance, with_instance, without}
 use Rattle.of_eval_laws.specs.Going.{Is, on}
 
@@ -48,6 +48,7 @@ IsOpening (act.Moves cells move to) = ⊥
 IsOpening (act.Knows w cells) = ⊥
 IsOpening (act.Stores m cells) = ⊥
 IsOpening act.Compiles = ⊥
+IsOpening (act.Prints text) = ⊥
 IsOpening (act.Appends e cells) = ⊥
 IsOpening (act.Loads size m cells) = ⊥
 IsOpening (act.Takes cells a) = IsOpening a

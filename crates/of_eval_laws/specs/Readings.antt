@@ -11,10 +11,10 @@ use Rattle.of_fcodes.specs.declared.words.Word.{Word}
 use Rattle.of_nodes.specs.declared.phandles.Phandle.{Phandle}
 use Rattle.of_flow.specs.declared.control_state.Flow.{Flow}
 use Rattle.of_board.specs.declared.board.Board.{Board}
-use Rattle.of_eval.specs.Loading.{begun, first_state}
-use Rattle.of_eval.specs.Settling.{settled}
-use Rattle.of_eval.specs.State.{Calls, State, with_board}
-use Rattle.of_eval.specs.Steps.{due, stepped, steps_from}
+use Rattle.of_state.specs.Loading.{begun, first_state}
+use Rattle.of_state.specs.Settling.{settled}
+use Rattle.of_state.specs.State.{Calls, State, with_board}
+use Rattle.of_steps.specs.Steps.{due, stepped, steps_from}
 use Rattle.of_words.specs.Words.{word_entry}
 use Rattle.of_eval_laws.specs.Returning.{is_return_top}
 use Rattle.of_eval_laws.specs.Sound.{HasSoundSpace}

@@ -23,10 +23,10 @@ use Rattle.of_ihandles.specs.Table.{InstanceTable}
 use Rattle.of_nodes.specs.declared.phandles.Phandle.{Phandle}
 use Rattle.of_flow.specs.declared.control_state.Flow.{Flow}
 use Rattle.of_eval.specs.Doing.{executed}
-use Rattle.of_eval.specs.Loading.{image_begun}
-use Rattle.of_eval.specs.Settling.{settled}
-use Rattle.of_eval.specs.State.{Calls, State}
-use Rattle.of_eval.specs.Steps.{item_done, stepped}
+use Rattle.of_state.specs.Loading.{image_begun}
+use Rattle.of_state.specs.Settling.{settled}
+use Rattle.of_state.specs.State.{Calls, State}
+use Rattle.of_steps.specs.Steps.{item_done, stepped}
 
 -- ---- where control is
 

@@ -17,10 +17,10 @@ use Rattle.of_memory.specs.DataSpace.{DataSpace, IsSound, bytes_from, free_after
 use Rattle.of_memory.specs.Images.{latest_image}
 use Rattle.of_nodes.specs.declared.phandles.Phandle.{Phandle}
 use Rattle.of_board.specs.declared.board.Board.{Board}
-use Rattle.of_eval.specs.State.{Calls, State}
-use Rattle.of_eval.specs.Settling.{is_empty, settled}
-use Rattle.of_eval.specs.Steps.{due as due_next, stepped, steps_from}
-use Rattle.of_eval.specs.Loading.{begun, load_fault}
+use Rattle.of_state.specs.State.{Calls, State}
+use Rattle.of_state.specs.Settling.{is_empty, settled}
+use Rattle.of_steps.specs.Steps.{due as due_next, stepped, steps_from}
+use Rattle.of_state.specs.Loading.{begun, load_fault}
 use Rattle.of_eval_laws.specs.Frames.{ends_image}
 use Rattle.of_eval_laws.specs.Throws.{images_ended, left_through}
 

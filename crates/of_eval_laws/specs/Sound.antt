@@ -10,10 +10,10 @@ use Rattle.of_memory.specs.SoundChanges.{AreBytes}
 use Rattle.of_nodes.specs.Stored.{AreStored}
 use Rattle.of_nodes.specs.declared.phandles.Phandle.{Phandle}
 use Rattle.of_board.specs.declared.board.Board.{Board}
-use Rattle.of_eval.specs.Loading.{begun, first_board, first_state}
-use Rattle.of_eval.specs.Settling.{settled}
-use Rattle.of_eval.specs.State.{Calls, State}
-use Rattle.of_eval.specs.Steps.{due, stepped, steps_from}
+use Rattle.of_state.specs.Loading.{begun, first_board, first_state}
+use Rattle.of_state.specs.Settling.{settled}
+use Rattle.of_state.specs.State.{Calls, State}
+use Rattle.of_steps.specs.Steps.{due, stepped, steps_from}
 use Rattle.of_words.specs.Words.{word_entry}
 
 -- a state whose data space is sound

@@ -14,8 +14,8 @@ use Rattle.of_compile.specs.Structured.{laid_all, semicolon_told}
 use Rattle.of_compile.specs.Coding.{Coding}
 use Rattle.of_compile.specs.Elements.{element_cells}
 use Rattle.of_eval.specs.Defining.{semicolon_entry}
-use Rattle.of_eval.specs.State.{Answered, Calls, Outcome, State, flat_calls}
-use Rattle.of_eval.specs.Steps.{asked_by, stepped}
+use Rattle.of_state.specs.State.{Answered, Calls, Outcome, State, flat_calls}
+use Rattle.of_steps.specs.Steps.{asked_by, stepped}
 
 -- no word is finished, and the open definition is empty
 abbrev pub no_definitions : Definitions

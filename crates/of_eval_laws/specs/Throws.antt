@@ -22,9 +22,9 @@ use Rattle.of_compile.specs.Defining.{abandoned}
 use Rattle.of_board.specs.Active.{all_finished, image_left, no_self, with_self}
 use Rattle.of_board.specs.declared.board.Board.{Board}
 use Rattle.of_board.specs.Text.{fault_printed}
-use Rattle.of_eval.specs.State.{Calls, State, open_xt, with_board, with_items}
-use Rattle.of_eval.specs.Settling.{caller_self, given_back, is_full, is_same, due_left, due_throw, nothing_read}
-use Rattle.of_eval.specs.Settling.{package_of, settled}
+use Rattle.of_state.specs.State.{Calls, State, open_xt, with_board, with_items}
+use Rattle.of_state.specs.Settling.{caller_self, given_back, is_full, is_same, due_left, due_throw, nothing_read}
+use Rattle.of_state.specs.Settling.{package_of, settled}
 
 -- ---- what a throw cuts
 

@@ -28,6 +28,8 @@ use Rattle.of_compile.specs.Tokens.{called, offset_element}
 use Rattle.of_compile.specs.DictionaryWords.{immediate_entry}
 use Rattle.of_compile.specs.Words.{WordsState, is_word}
 use Rattle.of_own.specs.Finding.{find_of}
+use Rattle.of_board.specs.Text.{printed}
+use Rattle.of_console.specs.Names.{words_text}
 use Rattle.of_flow.specs.declared.control.ControlWord.{ControlWord}
 use Rattle.of_flow.specs.declared.control.ControlWord.TheVariants as control
 use Rattle.of_flow.specs.declared.token.Token.{Token}
@@ -36,8 +38,9 @@ use Rattle.of_eval.specs.declared.tokens.Spot.{Spot}
 use Rattle.of_eval.specs.Doing.{executed}
 use Rattle.of_eval.specs.Executing.{Written, plan_in}
 use Rattle.of_flow.specs.Turns.{loop_item, one}
-use Rattle.of_eval.specs.State.{Calls, State, done, failed, with_compiling, with_items, with_stack, with_words}
-use Rattle.of_eval.specs.Steps.{plain_done}
+use Rattle.of_state.specs.State.{Calls, State, done, failed, with_board, with_compiling, with_items, with_stack}
+use Rattle.of_state.specs.State.{with_words}
+use Rattle.of_eval.specs.Reading.{plain_done}
 use Rattle.of_flow.specs.Tokens.{ExternalToken, NamedToken, Plain, Typed, typed_of}
 use Rattle.of_eval_laws.specs.Going.{on}
 
@@ -183,8 +186,8 @@ pub record ThrowTakes (S : Type 0) : Type 0 where
       plan_in s xt ≡ Written (word.Throws throws.Throw) → s.board.stack ≡ n ∷ cells →
       executed c xt s ≡ done (with_stack cells s)
 
--- `]` changes whether words are compiled and the cell `state` that says so, `immediate` the words and `$find` the data
--- stack, and nothing else.
+-- `]` changes whether words are compiled and the cell `state` that says so, `immediate` the words, `$find` the data
+-- stack and `words` the printed text, and nothing else.
 pub record DictionaryWordsKeep (S : Type 0) : Type 0 where
   pub bracket :
       (c : Calls S) (xt : ℕ) (s : State S) (n : ℕ) →
@@ -198,3 +201,9 @@ pub record DictionaryWordsKeep (S : Type 0) : Type 0 where
       (c : Calls S) (xt : ℕ) (s : State S) (cells : List Cell) →
       plan_in s xt ≡ Written (word.Dictionary dictionary.Find) → find_of s.words s.board s.board.stack ≡ Ok cells →
       executed c xt s ≡ done (with_stack cells s)
+  pub names :
+      (c : Calls S) (xt : ℕ) (s : State S) → plan_in s xt ≡ Written (word.Dictionary dictionary.PrintWords) →
+      executed c xt s
+      ≡ done (with_board (record s.board {
+        console = printed s.board.console (words_text s.board.tree s.board.active.«package» s.words.dictionary)
+      }) s)

@@ -13,10 +13,10 @@ use Rattle.of_asking.specs.declared.query.Answer.{Answer}
 use Rattle.of_asking.specs.declared.query.Query.{Query}
 use Rattle.of_compile.specs.Structured.{Definitions}
 use Rattle.of_compile.specs.Coding.{Coding}
-use Rattle.of_eval.specs.State.{State, flat_calls}
-use Rattle.of_eval.specs.Steps.{asked_by, made, replied, stepped, steps_from}
-use Rattle.of_eval.specs.Loading.{begun, begun_by, begun_unless, instance_on, load_fault}
-use Rattle.of_eval.specs.declared.load_fault.LoadFault.{LoadFault}
+use Rattle.of_state.specs.State.{State, flat_calls}
+use Rattle.of_steps.specs.Steps.{asked_by, made, replied, stepped, steps_from}
+use Rattle.of_state.specs.Loading.{begun, begun_by, begun_unless, instance_on, load_fault}
+use Rattle.of_state.specs.declared.load_fault.LoadFault.{LoadFault}
 use Rattle.of_eval_laws.specs.Structured.{StepsAgree, structured_calls, flat_state, no_definitions}
 use Rattle.of_eval_laws.specs.Placed.{AllPlaced, StatesStayPlaced}
 use Rattle.of_machine.specs.declared.answers.Refusal.{Refusal}

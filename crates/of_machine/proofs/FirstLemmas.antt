@@ -17,7 +17,7 @@ use Rattle.of_nodes.specs.Properties.{new_property, set_to}
 use Rattle.of_nodes.specs.declared.phandles.Phandle.{Phandle}
 use Rattle.of_ihandles.specs.Instances.{no_instances, opened}
 use Rattle.of_board.specs.Active.{no_self}
-use Rattle.of_eval.specs.Loading.{first_board, instance_on, made_or_none}
+use Rattle.of_state.specs.Loading.{first_board, instance_on, made_or_none}
 
 -- the same images and blocks of instances stand
 abbrev Same : DataSpace → DataSpace → Type 0

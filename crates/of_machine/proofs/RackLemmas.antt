@@ -10,8 +10,8 @@ use Rattle.of_asking.specs.Questions.{fits}
 use Rattle.of_devices.specs.Racks.{Meant, rack_answer, rack_told, told_all}
 use Rattle.of_compile.specs.Coding.{Coding}
 use Rattle.of_compile.specs.Structured.{Definitions, flat_of}
-use Rattle.of_eval.specs.State.{flat_calls}
-use Rattle.of_eval.specs.Steps.{asked_by}
+use Rattle.of_state.specs.State.{flat_calls}
+use Rattle.of_steps.specs.Steps.{asked_by}
 use Rattle.of_eval_laws.specs.Structured.{no_definitions}
 use Rattle.of_machine.specs.declared.answers.End.{End}
 use Rattle.of_machine.specs.declared.answers.End.TheVariants.{AnswersOut}

@@ -11,12 +11,12 @@ use Rattle.of_memory.specs.Growth.{image_fits}
 use Rattle.of_stream.specs.Image.{header_fault}
 use Rattle.of_compile.specs.Structured.{Definitions, flat_of}
 use Rattle.of_compile.specs.Coding.{Coding}
-use Rattle.of_eval.specs.State.{State, flat_calls}
+use Rattle.of_state.specs.State.{State, flat_calls}
 use Rattle.of_asking.specs.Questions.{fits}
 use Rattle.of_asking.specs.declared.query.Answer.{Answer}
 use Rattle.of_asking.specs.declared.query.Query.{Query}
-use Rattle.of_eval.specs.Steps.{answered as eval_answered, asked_by, made, replied, steps_from}
-use Rattle.of_eval.specs.Loading.{first_board, first_state}
+use Rattle.of_steps.specs.Steps.{answered as eval_answered, asked_by, made, replied, steps_from}
+use Rattle.of_state.specs.Loading.{first_board, first_state}
 use Rattle.of_eval_laws.specs.Structured.{StepsAgree, flat_state, structured_calls, no_definitions}
 use Rattle.of_eval_laws.specs.Placed.{AllPlaced, StatesStayPlaced}
 use Rattle.of_machine.specs.declared.answers.Refusal.{Refusal}

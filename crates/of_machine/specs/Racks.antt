@@ -4,7 +4,7 @@ use Rattle.of_asking.specs.declared.query.Answer.{Answer}
 use Rattle.of_asking.specs.declared.query.Query.{Query}
 use Rattle.of_devices.specs.Racks.{Meant, rack_answer, rack_told, told_all}
 use Rattle.of_compile.specs.Coding.{Coding}
-use Rattle.of_eval.specs.State.{flat_calls}
+use Rattle.of_state.specs.State.{flat_calls}
 use Rattle.of_machine.specs.Runs.{Due, Feed, HasGone, States, after}
 use Rattle.of_machine.specs.States.{can_step}
 

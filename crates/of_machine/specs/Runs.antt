@@ -7,8 +7,8 @@ use Rattle.of_asking.specs.declared.query.Answer.{Answer}
 use Rattle.of_asking.specs.declared.query.Query.{Query}
 use Rattle.of_compile.specs.Coding.{Coding}
 use Rattle.of_compile.specs.Structured.{Definitions, flat_of}
-use Rattle.of_eval.specs.State.{Calls, flat_calls}
-use Rattle.of_eval.specs.Steps.{asked_by}
+use Rattle.of_state.specs.State.{Calls, flat_calls}
+use Rattle.of_steps.specs.Steps.{asked_by}
 use Rattle.of_eval_laws.specs.Structured.{structured_calls, no_definitions}
 use Rattle.of_client.specs.Services.{Service, service_of}
 use Rattle.of_client.specs.declared.calls.ClientCall.{ClientCall}

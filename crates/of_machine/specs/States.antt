@@ -15,10 +15,10 @@ use Rattle.of_client.specs.Services.{Reply, Service, reply_to}
 use Rattle.of_client.specs.declared.calls.ClientReply.{ClientReply}
 use Rattle.of_compile.specs.Coding.{Coding}
 use Rattle.of_compile.specs.Structured.{Definitions}
-use Rattle.of_eval.specs.State.{Calls, State, flat_calls}
-use Rattle.of_eval.specs.Steps.{answered as eval_answered, asked_by, due_grows, stepped, steps_from}
+use Rattle.of_state.specs.State.{Calls, State, flat_calls}
+use Rattle.of_steps.specs.Steps.{answered as eval_answered, asked_by, due_grows, stepped, steps_from}
 use Rattle.of_memory.specs.Growth.{image_fits}
-use Rattle.of_eval.specs.Loading.{begun, first_state, instance_on}
+use Rattle.of_state.specs.Loading.{begun, first_state, instance_on}
 use Rattle.of_eval_laws.specs.Structured.{flat_state}
 use Rattle.of_machine.specs.declared.answers.Progress.{Progress}
 use Rattle.of_machine.specs.declared.answers.Progress.TheVariants.{Asks, Done, Ended}

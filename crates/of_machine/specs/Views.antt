@@ -9,7 +9,7 @@ use Rattle.of_memory.specs.DataSpace.{DataSpace}
 use Rattle.of_memory.specs.Access.{read}
 use Rattle.of_compile.specs.Words.{WordsState}
 use Rattle.of_text.specs.Names.{Names, xt_named}
-use Rattle.of_eval.specs.State.{State}
+use Rattle.of_state.specs.State.{State}
 
 -- the number that was read, if it was
 abbrev pub number_or_none : Result ℕ MemFault → Option ℕ

@@ -1,7 +1,7 @@
 ghost use Rattle.std.specs.Prelude.{◌≡◌, ◌<◌, ◌≤◌, IfOk, OnOk, None, is_some, true, false};
 ghost use Rattle.of_machine.specs.Runs.{Advances, AreLater, AreUpto, HasGone, IsCalm, IsOut, IsOver, IsTold, settled};
 ghost use Rattle.of_machine.specs.States.{answer_refusal, answered};
-ghost use Rattle.of_eval.specs.State.{flat_calls};
+ghost use Rattle.of_state.specs.State.{flat_calls};
 
 use crate::answers::{Progress, Refusal};
 use crate::run::ScriptMachine;

@@ -5,10 +5,10 @@ ghost use Rattle.of_machine.specs.States.{MayGrow, RefusesBefore, Steps, answer_
 ghost use Rattle.of_machine.specs.States.{fit_refusal, flat_machine, goes_on, idle, image_refusal, instance_refusal};
 ghost use Rattle.of_machine.specs.States.{loaded, or_next};
 ghost use Rattle.of_client.specs.Services.{service_of};
-ghost use Rattle.of_eval.specs.State.{flat_calls};
-ghost use Rattle.of_eval.specs.Steps.{due_grows};
+ghost use Rattle.of_state.specs.State.{flat_calls};
+ghost use Rattle.of_steps.specs.Steps.{due_grows};
 ghost use Rattle.of_machine.specs.Events.{Answers, Client, Load, Step, done_by};
-ghost use Rattle.of_eval.specs.Loading.{instance_on};
+ghost use Rattle.of_state.specs.Loading.{instance_on};
 ghost use Rattle.of_machine.specs.States.{HasMoved, load_refusal, loaded_for, node_at, served};
 ghost use Rattle.of_memory.specs.Growth.{image_fits};
 
@@ -16,8 +16,9 @@ use crate::answers::{Progress, Refusal};
 use of_asking::{Answer, Query, is_fitting};
 use of_client::{ClientCall, ClientReply, reply_to};
 use of_code::CodeStore;
-use of_eval::{Bar, Eval, LoadFault, Pause};
 use of_nodes::Phandle;
+use of_state::{Eval, LoadFault};
+use of_steps::{Bar, Pause, run, step, step_with};
 use of_stream::{Stream, open};
 use std::alloc::{AllocError, Global};
 use std::marker::Model;
@@ -117,7 +118,7 @@ impl<C: CodeStore> Machine<C> {
         if let Some(query) = self.waiting {
             return Ok(Progress::Asks(query));
         }
-        match self.eval.step() {
+        match step(&mut self.eval) {
             Ok(()) => {
                 self.steps += 1;
                 Ok(Progress::Done)
@@ -150,7 +151,7 @@ impl<C: CodeStore> Machine<C> {
         if !is_fitting(query, answer) {
             return Err(Refusal::WrongAnswer);
         }
-        if self.eval.answer(answer).is_err() {
+        if step_with(&mut self.eval, answer).is_err() {
             return Err(Refusal::NoMemory);
         }
         self.steps += 1;
@@ -173,7 +174,7 @@ impl<C: CodeStore> Machine<C> {
             return Ok(());
         }
         let countable = u64::MAX - self.steps;
-        let (made, pause) = self.eval.run(limit.min(countable));
+        let (made, pause) = run(&mut self.eval, limit.min(countable));
         self.steps += made;
         match pause {
             Pause::LimitReached | Pause::Idle | Pause::Barred(Bar::Asks(_)) => Ok(()),

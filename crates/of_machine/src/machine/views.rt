@@ -1,5 +1,5 @@
 ghost use Rattle.std.specs.Prelude.{◌≡◌, length, map, reverse};
-ghost use Rattle.of_eval.specs.Views.{items_of_word, next_item, next_token};
+ghost use Rattle.of_state.specs.Views.{items_of_word, next_item, next_token};
 ghost use Rattle.of_machine.specs.States.{is_running, reply_shown};
 ghost use Rattle.of_machine.specs.Views.{byte_of, word_named, xt_numbered};
 

@@ -2,7 +2,7 @@ use Rattle.std.proofs.Common.{rules, ◌≡◌, [], map, true, ap, subst, sym}
 use Rattle.of_asking.specs.declared.query.Query.{Query}
 use Rattle.of_asking.specs.Questions.{fits}
 use Rattle.of_devices.specs.Racks.{Meant, rack_answer, rack_told}
-use Rattle.of_eval.specs.State.{flat_calls}
+use Rattle.of_state.specs.State.{flat_calls}
 use Rattle.of_machine.specs.declared.feeder.Advance.TheVariants.{Asks, Further, Over}
 use Rattle.of_machine.specs.States.{answered}
 use Rattle.of_machine.specs.Racks.{IsLeftWith, Rounds}

@@ -2,7 +2,7 @@ use Rattle.std.proofs.Common.{rules, ◌≡◌, ◌≤◌, ◌<◌, ◌^◌, fal
 use Rattle.std.proofs.lemmas.Bool.{leb-false, leb-true}
 use Rattle.of_asking.specs.declared.query.Query.{Query}
 use Rattle.of_compile.specs.Coding.{Coding}
-use Rattle.of_eval.specs.State.{flat_calls}
+use Rattle.of_state.specs.State.{flat_calls}
 use Rattle.of_machine.specs.declared.answers.Progress.TheVariants.{Asks, Done, Ended}
 use Rattle.of_machine.specs.States.{HasMoved, Steps, goes_on}
 use Rattle.of_machine.specs.Runs.{AreUpto, Feed, IsCalm, settled}

@@ -1,7 +1,7 @@
 use Rattle.std.proofs.Common.{rules, ◌≡◌, ◌∷◌, None, refl}
 use Rattle.of_asking.specs.declared.query.Answer.{Answer}
 use Rattle.of_compile.specs.Coding.{Coding}
-use Rattle.of_eval.specs.State.{flat_calls}
+use Rattle.of_state.specs.State.{flat_calls}
 use Rattle.of_machine.specs.States.{answer_refusal, answered}
 use Rattle.of_machine.specs.Runs.{Feed, settled}
 use Rattle.of_machine.proofs.RunLemmas.{is_told}

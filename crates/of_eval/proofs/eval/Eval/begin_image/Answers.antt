@@ -1,5 +1,0 @@
-use Rattle.std.proofs.Common.{rules}
-use Rattle.of_eval.proofs.eval.Eval.begin_image.Goals as goal
-
-pub returns-clause-begun : goal.returns-clause-begun
-returns-clause-begun g c = search rules

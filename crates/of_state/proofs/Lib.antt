@@ -1,0 +1,2 @@
+-- Settled: the end of a step, item by item.
+pub mod Settled

@@ -1,0 +1,4 @@
+pub mod State
+pub mod Settling
+pub mod Loading
+pub mod Views
