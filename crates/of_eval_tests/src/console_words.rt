@@ -31,7 +31,8 @@ fn numbers(rt: HostRuntime) -> Result<(), Fail> {
     Ok(())
 }
 
-/// `space`, `spaces`, `allot`, `align`, `erase`, `hex`, `decimal`, `device-end`, `pwd`, `ls` and `show-devs`.
+/// `space`, `spaces`, `allot`, `align`, `erase`, `hex`, `decimal`, `device-end`, `pwd`, `ls`,
+/// `.properties`, `show-devs` and `fcode-debug?`.
 const BOARD: &str = "\
 10c0000428 1d a6 9d 00|5 0/0  1 
 a8 10c000042c 1d a6 9d 00|6 0/0    1 
@@ -44,6 +45,10 @@ a4 ad 72 ad a7 10c0000438 1d ad 6d 9b 00|11 0/0 ffff
 10c0000440 1d 10c000043c 1d 100000000c 9d 00|7 0/0 c 
 10c0000460 1d 00|3 0/0 /slot$
 10c0000464 1d 00|3 0/0 
+10c0000468 1d 00|3 0/0 name \"slot\"$
+10c000045c 1d 10c0000468 1d|4 0/0 fault -259: no such node$
+10c0000450 1d 9d 00|4 0/0 0 
+a4 1000500004 72 10c0000450 1d 9d 00|7 0/0 -1 
 011f 12046469736b 0201 0127 10c0000464 1d 00|7 0/0 d000000c disk$
 10c000046c 1d 00|3 0/0 /$/packages$/slot$
 10c000045c 1d 10c0000460 1d|4 0/0 fault -259: no such node$

@@ -1,4 +1,4 @@
-//! `$find`, `immediate` and `]`, which images run by their tokens or by their execution tokens.
+//! `$find`, `immediate`, `]` and `words`, which images run by their tokens or by their execution tokens.
 
 use crate::running::{bytes_of, is_immediate_left};
 use crate::tokens::differing;
@@ -32,8 +32,7 @@ fn finding(rt: HostRuntime) -> Result<(), Fail> {
     Ok(())
 }
 
-/// `immediate` touches no token, so one of its word is appended as before; `]` goes on where a definition is open. The
-/// words that are not run yet are as unassigned.
+/// `immediate` touches no token, so one of its word is appended as before; `]` goes on where a definition is open.
 const COMPILING: &str = "\
 10c0000454 1d|2 0/0 fault -263: bad handle$
 b50800 b7 a6 9d c2 10c0000454 1d b50801 b7 0800 c2 a7 9d 0801 00|20 0/0 2 1 
@@ -42,12 +41,33 @@ b50800 b9 10c0000454 1d 1000000800 da 9d 46 00|9 0/0 0
 10c0000458 0217 9d dc 6d 9d 00|7 0/0 -e 0 
 10c0000458 a4 1000000800 db b50801 b7 0800 a6 9d c2 a7 9d 0801 00|17 0/0 2 1 
 b50800 b7 10c0000458 1d dc 6d 9d c2 110800 a4 1000000800 db b50801 b7 0800 c2 00|23 0/0 -1 
-10c0000470 1d|2 0/0 fault -256: fcode not assigned$
 ";
 
 #[test]
 fn compiling(rt: HostRuntime) -> Result<(), Fail> {
     assert_eq!(rt; differing(rt.alloc(), COMPILING)?.as_str(), "");
+    Ok(())
+}
+
+/// `words` prints the methods of the active package, or else the global words: each name once, at the place where it
+/// was first given, the newest place first, and as it was spelt last. A nameless word has none, and a method is no
+/// global word.
+const NAMES: &str = "\
+10c0000470 1d 00|3 0/0 $
+a6 ca01780800 ba 10c0000470 1d 00|6 0/0 x $
+a6 ca01780800 ba a7 ca01790801 ba 10c0000470 1d 00|9 0/0 y x $
+a6 ca01780800 ba a7 ca01790801 ba a8 ca01580802 ba 10c0000470 1d 00|12 0/0 y X $
+a6 b50800 ba 10c0000470 1d 00|6 0/0 $
+ca01780800 b7 10c0000470 1d c2 0800 00|10 0/0 x $
+10c000045c 1d 10c0000470 1d 00|5 0/0 $
+10c000045c 1d a6 ca01780800 ba a7 ca01790801 ba 10c0000470 1d 00|11 0/0 y x $
+10c000045c 1d a6 ca01780800 ba a7 ca01790801 ba a8 ca01580802 ba 10c0000470 1d 00|14 0/0 y X $
+a6 ca01780800 ba 10c000045c 1d 10c0000470 1d 00|8 0/0 $
+";
+
+#[test]
+fn names(rt: HostRuntime) -> Result<(), Fail> {
+    assert_eq!(rt; differing(rt.alloc(), NAMES)?.as_str(), "");
     Ok(())
 }
 

@@ -2,9 +2,10 @@
 use hex::decode;
 use of_cells::Cell;
 use of_code::ListCode;
-use of_eval::{Bar, Eval, Pause};
 use of_fcodes::FCode;
 use of_nodes::Phandle;
+use of_state::Eval;
+use of_steps::{Bar, Pause, step};
 use std::alloc::{AllocError, Global};
 use std::test::Fail;
 
@@ -13,12 +14,12 @@ fn run(eval: &mut Eval<ListCode>, limit: u64) -> Result<u64, Fail> {
     if limit == 0 || !eval.is_running() {
         return Ok(0);
     }
-    match eval.step() {
+    match step(eval) {
         Ok(()) => {}
         Err(Bar::NoMemory) => return Err(AllocError.into()),
         Err(Bar::Asks(_)) => return Ok(0),
     }
-    match eval.run(limit - 1) {
+    match of_steps::run(eval, limit - 1) {
         (_, Pause::Barred(Bar::NoMemory)) => Err(AllocError.into()),
         (made, _) => Ok(made + 1),
     }
