@@ -1,4 +1,5 @@
-//! Tests of the public calls of the compiler of definitions and of the reader of texts, a file for each part of them.
+//! Tests of the public calls of the compiler of definitions, of the reader of texts and of `see`, a file for each part
+//! of them.
 #![tactic(auto)]
 
 #[cfg(test)]
@@ -7,5 +8,7 @@ mod compiling;
 mod defining;
 #[cfg(test)]
 mod naming;
+#[cfg(test)]
+mod see;
 #[cfg(test)]
 mod texts;

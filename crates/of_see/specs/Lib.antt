@@ -1,0 +1,3 @@
+pub mod SeeItems
+pub mod Begins
+pub mod SeeText
