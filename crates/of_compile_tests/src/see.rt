@@ -11,7 +11,9 @@ use of_fcodes::{CompilingWord, FCode};
 use of_memory::Memory;
 use of_nodes::{Phandle, Tree};
 use of_scan::Rest;
-use of_see::see_text;
+use of_see::{
+    begins_are_counted, plain_items_are_listed, see_text, strings_read_back, words_read_back,
+};
 use of_stacks::DataStack;
 use of_text::{Found, Names, Part, TextWord, read};
 use std::alloc::Global;
@@ -346,7 +348,7 @@ impl Scene {
     /// Does what a text says.
     fn text(&mut self, text: &[u8], alloc: Global) -> Result<(), Fail> {
         let mut at = 0;
-        while at < text.len() {
+        for _ in 0..text.len() {
             let found = read(&self.names(), &self.memory, text, at);
             if !matches!(found.word, TextWord::End) {
                 self.word(text, found, alloc)?;
@@ -474,6 +476,15 @@ fn words_and_literals(rt: HostRuntime) -> Result<(), Fail> {
 #[test]
 fn stores_and_kinds(rt: HostRuntime) -> Result<(), Fail> {
     run(&rt, rt.alloc(), STORES)
+}
+
+/// The laws hold.
+#[test]
+fn laws() {
+    plain_items_are_listed();
+    begins_are_counted();
+    words_read_back();
+    strings_read_back();
 }
 
 #[test]

@@ -1,3 +1,5 @@
 pub mod SeeItems
 pub mod Begins
 pub mod SeeText
+pub mod Counts
+pub mod Laws

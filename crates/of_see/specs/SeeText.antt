@@ -1,6 +1,6 @@
 -- What `see` prints of a word (IEEE 1275-1994, annex A, `see`; Forth 2012, 15.6.1.2194).
 use Rattle.std.specs.Prelude.{ℕ, ◌/◌, ◌%◌, ◌&&◌, ◌||◌, ◌==◌, Bool, true, false, not, nat_le, nat_lt, if◌then◌else◌}
-use Rattle.std.specs.Prelude.{List, [], ◌∷◌, ◌++◌, drop, Option, Some, None, Result, Ok, Err, codes}
+use Rattle.std.specs.Prelude.{List, [], ◌∷◌, ◌++◌, drop, length, Option, Some, None, Result, Ok, Err, codes}
 use Rattle.std.specs.Char.{digit_char}
 use Rattle.std.specs.List.{list_all}
 use Rattle.of_cells.specs.declared.cells.Cell.{Cell}
@@ -66,9 +66,13 @@ name_or_own None own = own
 abbrev pub name_at : List (Option Word) → ℕ → Option (List ℕ)
 name_at words xt = name_or_own (word_with_xt xt) (name_in (own_word words xt))
 
+-- no byte separates words
+abbrev pub are_solid : List ℕ → Bool
+are_solid name = list_all (λ b. nat_lt 0x20 b) name
+
 -- a name is one word of a line
 abbrev pub is_one_word : List ℕ → Bool
-is_one_word name = list_all (λ b. nat_lt 0x20 b) name
+is_one_word name = nat_lt 0 (length name) && are_solid name
 
 abbrev pub is_xt : ℕ → Option Cell → Bool
 is_xt xt None = false

@@ -5,9 +5,11 @@ mod begins;
 mod cases;
 mod definition;
 mod elements;
+mod laws;
 mod names;
 mod open;
 mod printing;
 mod text;
 
+pub use laws::{begins_are_counted, plain_items_are_listed, strings_read_back, words_read_back};
 pub use text::see_text;

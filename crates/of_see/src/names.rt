@@ -3,8 +3,8 @@ ghost use Rattle.std.specs.Prelude.{◌≡◌, option_copied};
 ghost use Rattle.of_compile.specs.Words.{own_word};
 ghost use Rattle.of_dict.specs.Words.{name_in};
 ghost use Rattle.of_fcodes.specs.Finding.{word_with_xt};
-ghost use Rattle.of_see.specs.SeeText.{acts, acts_at_once, compiling_name, finds, found_name, is_one_word, is_xt};
-ghost use Rattle.of_see.specs.SeeText.{name_at, name_if, stored_name};
+ghost use Rattle.of_see.specs.SeeText.{acts, acts_at_once, are_solid, compiling_name, finds, found_name, is_one_word};
+ghost use Rattle.of_see.specs.SeeText.{is_xt, name_at, name_if, stored_name};
 
 use of_cells::Cell;
 use of_dict::{Dict, OwnWord};
@@ -32,11 +32,18 @@ pub(crate) fn name_at<'a>(names: &Names<'a>, xt: Cell) -> Option<&'a [u8]>
     }
 }
 
+/// Whether no byte separates words.
+fn are_solid(name: &[u8]) -> bool
+    ensures { result ≡ are_solid name.now }
+{
+    name.iter().all(|byte| *byte > b' ')
+}
+
 /// Whether a name is one word of a line.
 fn is_one_word(name: &[u8]) -> bool
     ensures { result ≡ is_one_word name.now }
 {
-    name.iter().all(|byte| *byte > b' ')
+    name.len() > 0 && are_solid(name)
 }
 
 /// Whether what was found is an execution token.
