@@ -12,7 +12,7 @@ use Rattle.of_scan.specs.Groups.{HasNoGroup, QuotedPartsAreRead, SayBytes}
 use Rattle.of_scan.specs.Parts.{quoted_part}
 use Rattle.of_scan.specs.Scan.{byte_of}
 use Rattle.of_scan.specs.Strings.{Byte}
-use Rattle.of_see.specs.SeeText.{bytes_shown, is_plain}
+use Rattle.of_see.specs.SeeText.{bytes_or_none, bytes_shown, is_plain, string_shown}
 use Rattle.of_see.specs.Laws.{StringsReadBack}
 
 -- a digit is read as what it stands for, and is no blank
@@ -87,5 +87,10 @@ module _ (law : QuotedPartsAreRead) where
           ∙ ap (λ x. (x, 32 ∷ more)) (append_assoc before (b ∷ []) bytes)
 
 pub strings_read_back : QuotedPartsAreRead → StringsReadBack
-strings_read_back law bytes more small =
-    read_on law [] bytes more (All-nil (λ b. b ≢ 34)) (recursion_from_All (λ b. b < 256) bytes small)
+strings_read_back law n m self address count bytes read small = (
+  bytes_shown bytes ++ 34 ∷ [],
+  ap (λ r. string_shown (bytes_or_none r)) read,
+  λ more.
+      ap quoted_part (append_assoc (bytes_shown bytes) (34 ∷ []) (32 ∷ more))
+      ∙ read_on law [] bytes more (All-nil (λ b. b ≢ 34)) (recursion_from_All (λ b. b < 256) bytes small),
+)

@@ -1,10 +1,11 @@
 -- Words by their names and numbers by their digits, read again.
 use Rattle.std.proofs.Common.{◌≡◌, ℕ, ◌≤◌, ◌+◌, ◌||◌, Bool, true, false, nat_eq, nat_lt, List, [], ◌∷◌}
 use Rattle.std.proofs.Common.{◌++◌, length, Option, Some, None, Result, Ok, refl, ap, sym, ◌∙◌, arith, if◌then◌else◌}
-use Rattle.std.proofs.Common.{option_map, subst, get_or}
+use Rattle.std.proofs.Common.{option_map, subst, get_or, ◌⊎◌, inl, inr}
+use Rattle.std.specs.Prelude.{codes}
 use Rattle.std.specs.List.{list_all}
 use Rattle.std.specs.Option.{option_or, ok_or}
-use Rattle.std.proofs.lemmas.Bool.{and_parts, eqb-true, ltb-true}
+use Rattle.std.proofs.lemmas.Bool.{and_parts, eq-eqb, eqb-true, false_from_ne_true, ltb-true}
 use Rattle.std.proofs.lemmas.List.Elements.{All-nil}
 use Rattle.std.proofs.lemmas.List.Sums.{AllPass-from_list_all}
 use Rattle.of_cells.specs.declared.cells.Cell.{Cell}
@@ -16,6 +17,7 @@ use Rattle.of_fcodes.specs.Finding.{FindsEachWord, word_with_xt}
 use Rattle.of_fcodes.specs.Finding.{xt_of as written_xt}
 use Rattle.of_dict.specs.Words.{is_immediate_in}
 use Rattle.of_compile.specs.Words.{own_word}
+use Rattle.of_format.specs.Digits.{unsigned_text}
 use Rattle.of_format.specs.Reading.{ReadsBack}
 use Rattle.of_scan.specs.Laws.{WordsAreRead}
 use Rattle.of_scan.specs.Scan.{next_word, rest_at}
@@ -23,9 +25,11 @@ use Rattle.of_scan.specs.Words.{IsWord}
 use Rattle.of_text.specs.declared.words.TextWord.TheVariants as text
 use Rattle.of_text.specs.Names.{Names, known_name, own_named, written_named, xt_named}
 use Rattle.of_text.specs.Reading.{Named, own_or_written, word_or_end, word_read, written_read}
+use Rattle.of_compile.specs.declared.element.PlainItem.TheVariants as P
+use Rattle.of_see.specs.SeeText.{name_or_number, number_shown, plain_shown}
 use Rattle.of_see.specs.SeeText.{acts, compiling_name, finds, found_name, is_one_word, is_xt, name_at}
 use Rattle.of_see.specs.SeeText.{name_if, stored_name}
-use Rattle.of_see.specs.Laws.{WordsReadBack}
+use Rattle.of_see.specs.Laws.{IsReadAs, WordsReadBack}
 
 -- ---- a name that is printed finds its word
 
@@ -156,10 +160,47 @@ module _ (law : FindsEachWord) (n : Names) (base : Result ℕ Throw) (xt : ℕ) 
       by_tests false true is_a is_i e = absurd (no_name name e)
       by_tests false false is_a is_i e = called at name more words is_a is_i (found_served n xt name e)
 
+-- what is printed of a call of another word
+call_shown_back : WordsAreRead → FindsEachWord → (n : Names) (xt : Cell) (o : Option (List ℕ))
+    → compiling_name n xt.0 ≡ o
+    → IsReadAs n xt (name_or_number xt.0 o [] (codes " compile, ]"))
+    ⊎ (name_or_number xt.0 o [] (codes " compile, ]") ≡ codes "[ " ++ number_shown xt.0 ++ codes " compile, ]")
+call_shown_back words written n xt (Some name) e =
+    inl (λ base at more. call_back written n base xt.0 at name more words e)
+call_shown_back words written n xt None e = inr refl
+
+store_shown_back : (n : Names) (self : ℕ) (xt : Cell) (o : Option (List ℕ)) → stored_name n self xt.0 ≡ o
+    → ((name : List ℕ) × (name_or_number xt.0 o (codes "to ") (codes " ] to,") ≡ codes "to " ++ name)
+    × (known_name n name ≡ Ok xt))
+    ⊎ (name_or_number xt.0 o (codes "to ") (codes " ] to,") ≡ codes "[ " ++ number_shown xt.0 ++ codes " ] to,")
+store_shown_back n self xt (Some name) e = inl (name, refl, known n xt.0 name (stored n self xt.0 name e))
+store_shown_back n self xt None e = inr refl
+
+recursion : (n : Names) (xt : ℕ) (b : Bool) → b ≡ true
+    → (if b then codes "recurse" else name_or_number xt (compiling_name n xt) [] (codes " compile, ]"))
+    ≡ codes "recurse"
+recursion n xt true e = refl
+recursion n xt false e = absurd cc
+
+another : WordsAreRead → FindsEachWord → (n : Names) (xt : Cell) (b : Bool) → b ≡ false
+    → (shown : List ℕ) → shown ≡ (if b then codes "recurse"
+    else name_or_number xt.0 (compiling_name n xt.0) [] (codes " compile, ]"))
+    → IsReadAs n xt shown ⊎ (shown ≡ codes "[ " ++ number_shown xt.0 ++ codes " compile, ]")
+another words written n xt true e shown s = absurd cc
+another words written n xt false e shown s =
+    subst (λ x. IsReadAs n xt x ⊎ (x ≡ codes "[ " ++ number_shown xt.0 ++ codes " compile, ]")) (sym s)
+    (call_shown_back words written n xt (compiling_name n xt.0) refl)
+
 pub words_read_back : WordsAreRead → FindsEachWord → ReadsBack → WordsReadBack
 words_read_back words written numbers = record {
-  call = λ n base xt at name more e. call_back written n base xt at name more words e;
-  store = λ n self xt name e. known n xt name (stored n self xt name e);
-  number = λ x l.
-      ap (λ o. ok_or o undefined_word) (numbers.unsigned 16 (record { 0 = x }) (omega arith) (omega arith) l);
+  itself = λ n m xt. recursion n xt.0 (nat_eq xt.0 xt.0) (eq-eqb xt.0 xt.0 refl);
+  call = λ n m self xt other.
+      another words written n xt (nat_eq xt.0 self) (false_from_ne_true (nat_eq xt.0 self) (λ e.
+      other (eqb-true xt.0 self e))) (plain_shown n m self (P.Call xt)) refl;
+  store = λ n m self xt. store_shown_back n self xt (stored_name n self xt.0) refl;
+  literal = λ n m self x l. (
+    unsigned_text 16 x.0,
+    refl,
+    ap (λ o. ok_or o undefined_word) (numbers.unsigned 16 x (omega arith) (omega arith) l),
+  );
 }

@@ -31,7 +31,6 @@ pub fn words_read_back()
 }
 
 /// What is printed of a string is read as its bytes.
-#[tactic(auto, using(crate::proofs::StringsBack::strings_read_back))]
 pub fn strings_read_back()
     ensures { StringsReadBack }
 {
