@@ -200,6 +200,21 @@ see t
 = : t ping ;
 ";
 
+/// What lines are done on.
+trait Lines {
+    /// What is there before the first line.
+    fn new(alloc: Global) -> Result<Self, Fail>;
+
+    /// Does what a line says that prints nothing.
+    fn line(&mut self, line: &str, alloc: Global) -> Result<(), Fail>;
+
+    /// What a line prints, if it prints something.
+    fn printed(&self, line: &str, alloc: Global) -> Result<Option<String>, Fail>;
+
+    /// What is printed of a definition that is compiled from a text.
+    fn again(&mut self, text: &str, alloc: Global) -> Result<String, Fail>;
+}
+
 /// What the lines work on.
 #[derive(Drop)]
 struct Scene {
@@ -213,19 +228,6 @@ struct Scene {
 }
 
 impl Scene {
-    fn new(alloc: Global) -> Result<Scene, Fail> {
-        let mut memory = Memory::new(alloc)?;
-        Ok(Scene {
-            tree: Tree::new(alloc, &mut memory)?,
-            home: None,
-            words: Words::new(alloc)?,
-            memory,
-            coding: Coding::new(ListCode::new(alloc)),
-            stack: DataStack::new(),
-            compiling: true,
-        })
-    }
-
     fn names(&self) -> Names<'_> {
         Names {
             tree: &self.tree,
@@ -383,7 +385,36 @@ impl Scene {
         Ok(())
     }
 
-    /// Does what a line says that prints nothing.
+    /// The execution token that a line prints a word of, if it does.
+    fn shown(&self, line: &str) -> Result<Option<Cell>, Fail> {
+        match line.split_once(' ').unwrap_or((line, "")) {
+            ("see", name) => Ok(self.names().xt(name.as_bytes())),
+            ("xt", digits) => Ok(Some(Cell(u32::from_str_radix(digits, 16)?))),
+            _ => Ok(None),
+        }
+    }
+
+    /// What `see` prints of a word.
+    fn see(&self, xt: Cell, alloc: Global) -> Result<String, Fail> {
+        let text = see_text(alloc, &self.names(), &self.memory, self.coding.code(), xt)?;
+        Ok(String::from_utf8(text)?)
+    }
+}
+
+impl Lines for Scene {
+    fn new(alloc: Global) -> Result<Scene, Fail> {
+        let mut memory = Memory::new(alloc)?;
+        Ok(Scene {
+            tree: Tree::new(alloc, &mut memory)?,
+            home: None,
+            words: Words::new(alloc)?,
+            memory,
+            coding: Coding::new(ListCode::new(alloc)),
+            stack: DataStack::new(),
+            compiling: true,
+        })
+    }
+
     fn line(&mut self, line: &str, alloc: Global) -> Result<(), Fail> {
         match line.split_once(' ').unwrap_or((line, "")) {
             ("base", digits) => {
@@ -405,59 +436,61 @@ impl Scene {
         }
     }
 
-    /// The execution token that a line prints a word of, if it does.
-    fn shown(&self, line: &str) -> Result<Option<Cell>, Fail> {
-        match line.split_once(' ').unwrap_or((line, "")) {
-            ("see", name) => Ok(self.names().xt(name.as_bytes())),
-            ("xt", digits) => Ok(Some(Cell(u32::from_str_radix(digits, 16)?))),
-            _ => Ok(None),
+    fn printed(&self, line: &str, alloc: Global) -> Result<Option<String>, Fail> {
+        match self.shown(line)? {
+            Some(xt) => Ok(Some(self.see(xt, alloc)?)),
+            None => Ok(None),
         }
     }
 
-    /// What `see` prints of a word.
-    fn see(&self, xt: Cell, alloc: Global) -> Result<String, Fail> {
-        let text = see_text(alloc, &self.names(), &self.memory, self.coding.code(), xt)?;
-        Ok(String::from_utf8(text)?)
+    fn again(&mut self, text: &str, alloc: Global) -> Result<String, Fail> {
+        self.text(text.as_bytes(), alloc)?;
+        match self.words.dictionary().newest() {
+            Some(word) => self.see(word.xt(), alloc),
+            None => Err(Fail::new("no word")),
+        }
     }
 }
 
 /// What the first lines of a script leave.
-fn replayed(alloc: Global, script: &str, count: usize) -> Result<Scene, Fail> {
-    let mut scene = Scene::new(alloc)?;
+fn replayed<T: Lines + Drop>(alloc: Global, script: &str, count: usize) -> Result<T, Fail> {
+    let mut scene = T::new(alloc)?;
     for line in script.lines().take(count) {
         scene.line(line, alloc)?;
     }
     Ok(scene)
 }
 
-/// Sees that a definition that is compiled from what was printed of it prints the same.
-fn again(rt: &impl Abort, alloc: Global, scene: &mut Scene, text: &str) -> Result<(), Fail> {
-    scene.text(text.as_bytes(), alloc)?;
-    let Some(word) = scene.words.dictionary().newest() else {
-        return Err(Fail::new("no word"));
-    };
-    let printed = scene.see(word.xt(), alloc)?;
-    assert_eq!(rt; printed.as_str(), text);
+/// Sees that a text is what a line wants, and that a definition prints the same when that is compiled.
+fn check<T: Lines>(
+    rt: &impl Abort,
+    alloc: Global,
+    scene: &mut T,
+    text: &str,
+    wanted: &str,
+) -> Result<(), Fail> {
+    assert_eq!(rt; text.trim_end(), wanted.trim_start());
+    assert_eq!(rt; text.ends_with('\n'), !wanted.is_empty(), "{wanted}");
+    if text.starts_with(": ") {
+        let again = scene.again(text, alloc)?;
+        assert_eq!(rt; again.as_str(), text);
+    }
     Ok(())
 }
 
-/// Sees that each line prints what stands below it, and that a definition prints the same when that is compiled.
-fn run(rt: &impl Abort, alloc: Global, script: &str) -> Result<(), Fail> {
-    let mut scene = Scene::new(alloc)?;
-    let mut seen = None;
+/// Sees that each line prints what stands below it.
+fn run<T: Lines + Drop>(rt: &impl Abort, alloc: Global, script: &str) -> Result<(), Fail> {
+    let mut scene: T = replayed(alloc, script, 0)?;
+    let mut printed: Option<String> = None;
     for (index, line) in script.lines().enumerate() {
         if let Some(wanted) = line.strip_prefix('=') {
-            let Some(xt) = seen else {
-                return Err(Fail::new("nothing is seen"));
+            let Some(text) = &printed else {
+                return Err(Fail::new("nothing was printed"));
             };
-            let text = scene.see(xt, alloc)?;
-            assert_eq!(rt; text.trim_end(), wanted.trim_start(), "{line}");
-            assert_eq!(rt; text.ends_with('\n'), !wanted.is_empty(), "{line}");
-            if text.starts_with(": ") {
-                again(rt, alloc, &mut replayed(alloc, script, index)?, &text)?;
-            }
+            let mut before: T = replayed(alloc, script, index)?;
+            check(rt, alloc, &mut before, text, wanted)?;
         }
-        seen = scene.shown(line)?;
+        printed = scene.printed(line, alloc)?;
         scene.line(line, alloc)?;
     }
     Ok(())
@@ -465,17 +498,17 @@ fn run(rt: &impl Abort, alloc: Global, script: &str) -> Result<(), Fail> {
 
 #[test]
 fn structures(rt: HostRuntime) -> Result<(), Fail> {
-    run(&rt, rt.alloc(), STRUCTURES)
+    run::<Scene>(&rt, rt.alloc(), STRUCTURES)
 }
 
 #[test]
 fn words_and_literals(rt: HostRuntime) -> Result<(), Fail> {
-    run(&rt, rt.alloc(), WORDS)
+    run::<Scene>(&rt, rt.alloc(), WORDS)
 }
 
 #[test]
 fn stores_and_kinds(rt: HostRuntime) -> Result<(), Fail> {
-    run(&rt, rt.alloc(), STORES)
+    run::<Scene>(&rt, rt.alloc(), STORES)
 }
 
 /// The laws hold.
@@ -489,5 +522,5 @@ fn laws() {
 
 #[test]
 fn methods(rt: HostRuntime) -> Result<(), Fail> {
-    run(&rt, rt.alloc(), METHODS)
+    run::<Scene>(&rt, rt.alloc(), METHODS)
 }
