@@ -12,7 +12,8 @@ use of_memory::Memory;
 use of_nodes::{Phandle, Tree};
 use of_scan::Rest;
 use of_see::{
-    begins_are_counted, plain_items_are_listed, see_text, strings_read_back, words_read_back,
+    begins_are_counted, plain_items_are_listed, see_text, strings_read_back, thens_are_counted,
+    words_read_back,
 };
 use of_stacks::DataStack;
 use of_text::{Found, Names, Part, TextWord, read};
@@ -516,6 +517,7 @@ fn stores_and_kinds(rt: HostRuntime) -> Result<(), Fail> {
 fn laws() {
     plain_items_are_listed();
     begins_are_counted();
+    thens_are_counted();
     words_read_back();
     strings_read_back();
 }

@@ -1,10 +1,12 @@
 -- OwnNumbers: own words by their execution tokens.
 -- BeginCounts: how many items go back to each cell. CellByCell: what is printed, cell by cell.
--- PlainItems, CountedBegins, StringsBack, WordsBack: the laws, on items that go on, `begin`s, strings and names.
+-- PlainItems, CountedBegins, CountedThens: laws on items that go on, `begin`s and `then`s.
+-- StringsBack, WordsBack: the laws on strings and names.
 mod OwnNumbers
 mod BeginCounts
 mod CellByCell
 mod PlainItems
 mod CountedBegins
+mod CountedThens
 mod StringsBack
 mod WordsBack

@@ -1,6 +1,6 @@
 // A law has no parameters and does nothing: its contract is the law.
 
-ghost use Rattle.of_see.specs.Counts.{BeginsAreCounted};
+ghost use Rattle.of_see.specs.Counts.{BeginsAreCounted, ThensAreCounted};
 ghost use Rattle.of_see.specs.Laws.{PlainItemsAreListed, StringsReadBack, WordsReadBack};
 
 use of_fcodes::written_words_are_found;
@@ -17,6 +17,12 @@ pub fn plain_items_are_listed()
 #[tactic(auto, using(crate::proofs::CountedBegins::begins_are_counted))]
 pub fn begins_are_counted()
     ensures { BeginsAreCounted }
+{}
+
+/// As many `then`s are printed as branches go forward, where each goes to an item or to the end.
+#[tactic(auto, using(crate::proofs::CountedThens::thens_are_counted))]
+pub fn thens_are_counted()
+    ensures { ThensAreCounted }
 {}
 
 /// A name that is printed of a call is read as that word, and compiles it; one that is printed behind `to` finds the

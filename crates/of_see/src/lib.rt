@@ -11,5 +11,8 @@ mod open;
 mod printing;
 mod text;
 
-pub use laws::{begins_are_counted, plain_items_are_listed, strings_read_back, words_read_back};
+pub use laws::{
+    begins_are_counted, plain_items_are_listed, strings_read_back, thens_are_counted,
+    words_read_back,
+};
 pub use text::see_text;
