@@ -205,5 +205,5 @@ pub record DictionaryWordsKeep (S : Type 0) : Type 0 where
       (c : Calls S) (xt : ℕ) (s : State S) → plan_in s xt ≡ Written (word.Dictionary dictionary.PrintWords) →
       executed c xt s
       ≡ done (with_board (record s.board {
-        console = printed s.board.console (words_text s.board.tree s.board.active.«package» s.words.dictionary)
+        console = printed s.board.console (words_text s.board.tree s.board.active.«package» s.words.dictionary);
       }) s)
