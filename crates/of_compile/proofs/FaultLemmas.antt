@@ -81,7 +81,7 @@ text_late : (e l : Bool) → IsLate compiler_nesting (if e then Some empty_name 
 text_late true l = nesting_empty
 text_late false l = late_if compiler_nesting long_name l nesting_long
 
-name_late : (name : Option (List ℕ)) → IsLate compiler_nesting (name_fault name)
+pub name_late : (name : Option (List ℕ)) → IsLate compiler_nesting (name_fault name)
 name_late None = tt
 name_late (Some name) = text_late (nat_eq (length name) 0) (nat_lt longest_name (length name))
 
@@ -189,11 +189,11 @@ underflow_long : nat_le (rank stack_underflow.0) (rank long_name.0) ≡ true
 unfolding rank later_rank
 underflow_long = refl
 
-empty_overflow : nat_le (rank empty_name.0) (rank dictionary_overflow.0) ≡ true
+pub empty_overflow : nat_le (rank empty_name.0) (rank dictionary_overflow.0) ≡ true
 unfolding rank later_rank
 empty_overflow = refl
 
-long_overflow : nat_le (rank long_name.0) (rank dictionary_overflow.0) ≡ true
+pub long_overflow : nat_le (rank long_name.0) (rank dictionary_overflow.0) ≡ true
 unfolding rank later_rank
 long_overflow = refl
 
@@ -201,7 +201,7 @@ text_short : (e l : Bool) → IsLate stack_underflow (if e then Some empty_name 
 text_short true l = underflow_empty
 text_short false l = late_if stack_underflow long_name l underflow_long
 
-name_short : (name : List ℕ) → IsLate stack_underflow (name_fault (Some name))
+pub name_short : (name : List ℕ) → IsLate stack_underflow (name_fault (Some name))
 name_short name = text_short (nat_eq (length name) 0) (nat_lt longest_name (length name))
 
 naming_nested : (u a b : Bool) (name : List ℕ)

@@ -60,6 +60,11 @@ newest_pushed words w =
     let len : length (words ++ Some w ∷ []) ≡ suc (length words) = omega (arith, length-append words (Some w ∷ [])) in
     rw (len, at-push words (Some w) None) refl
 
+-- the word that was added has its name
+pub name_pushed : (words : List (Option Word)) (w : Word)
+    → name_in (word_at (words ++ Some w ∷ []) (length words)) ≡ w.name
+name_pushed words w = ap name_in (at-push words (Some w) None)
+
 -- the word that was added is taken back
 pub taken_back : (words : List (Option Word)) (w : Option Word)
     → take (length (words ++ w ∷ []) - 1) (words ++ w ∷ []) ≡ words

@@ -1,6 +1,6 @@
 -- Words of which each instance of a package has one of its own: what `instance` leaves for the next word that can be
 -- such a one, and what a defining word makes then (IEEE 1275-1994, annex A, `instance`).
-use Rattle.std.specs.Prelude.{ℕ, true, false, nat_le, List, [], ◌∷◌, length, Option, Some, None, Result, Ok, Err}
+use Rattle.std.specs.Prelude.{ℕ, true, false, nat_le, List, [], ◌∷◌, ◌++◌, length, Option, Some, None, Result, Ok, Err}
 use Rattle.std.specs.Prelude.{is_err, is_none, is_some, if◌then◌else◌}
 use Rattle.of_cells.specs.declared.cells.Cell.{Cell}
 use Rattle.of_stacks.specs.declared.throws.Throw.{Throw}
@@ -12,6 +12,7 @@ use Rattle.of_memory.specs.declared.fault.MemFault.{MemFault}
 use Rattle.of_dict.specs.declared.word.Kind.TheVariants as kind
 use Rattle.of_dict.specs.declared.word.Slot.{Slot}
 use Rattle.of_dict.specs.declared.word.Slot.TheVariants as slot
+use Rattle.of_dict.specs.Calls.{made}
 use Rattle.of_dict.specs.Words.{capacity}
 use Rattle.of_nodes.specs.declared.phandles.Phandle.{Phandle}
 use Rattle.of_ihandles.specs.declared.instance_fault.InstanceFault.{InstanceFault}
@@ -24,7 +25,7 @@ use Rattle.of_compile.specs.declared.defining.DefiningWord.{DefiningWord}
 use Rattle.of_compile.specs.declared.defining.DefiningWord.TheVariants as word
 use Rattle.of_compile.specs.declared.words.Pending.{Pending}
 use Rattle.of_compile.specs.Defining.{cell, made_word}
-use Rattle.of_compile.specs.Words.{WordsState}
+use Rattle.of_compile.specs.Words.{WordsState, name_fault}
 
 -- ---- `instance`
 
@@ -128,3 +129,44 @@ slot_defined s home x r g =
 abbrev pub slot_entry : Slot → Option Phandle → SlotMaking → Result SlotMaking Throw
 slot_entry s home g =
     let x = slot_made s g.stack in slot_defined s home x (slot_given home x g) g
+
+-- ---- the same of a word that a text names, which neither needs nor takes a pending number
+
+-- the faults of such a word, in their order
+abbrev pub slot_naming_faults :
+    List ℕ → Option Phandle → Option SlotMade → Result (ℕ × (InstanceTable × DataSpace)) InstanceFault → SlotMaking
+    → List (Option Throw)
+slot_naming_faults name home x r g =
+    fault_if (is_some g.words.defining) compiler_nesting
+    ∷ fault_if (is_none x) stack_underflow
+    ∷ fault_if (is_none home) no_node
+    ∷ name_fault (Some name)
+    ∷ fault_if (nat_le capacity (length g.words.dictionary)) dictionary_overflow
+    ∷ fault_if (nat_le capacity (length g.instances.slots)) dictionary_overflow
+    ∷ fault_if (is_err r) dictionary_overflow
+    ∷ []
+
+-- the words with one more, of this name, for which `instance` waited
+abbrev pub with_named_slot : Slot → ℕ → List ℕ → WordsState → WordsState
+with_named_slot s n name w = record w {
+  dictionary = w.dictionary ++ Some (made (Some name) (kind.PerInstance s n)) ∷ [];
+  waiting = false;
+}
+
+-- what the word leaves; without a cell that it takes, or a slot, none is made
+abbrev pub slot_word_named :
+    Slot → List ℕ → Option SlotMade → Result (ℕ × (InstanceTable × DataSpace)) InstanceFault → SlotMaking → SlotMaking
+slot_word_named s name (Some x) (Ok r) g =
+    slot_making (with_named_slot s r.0 name g.words) x.stack (rounded r.1.1) r.1.0
+slot_word_named s name None r g = g
+slot_word_named s name (Some x) (Err fault) g = g
+
+-- what it leaves, or throws
+abbrev pub slot_named :
+    Slot → List ℕ → Option Phandle → Option SlotMade → Result (ℕ × (InstanceTable × DataSpace)) InstanceFault
+    → SlotMaking → Result SlotMaking Throw
+slot_named s name home x r g = unless (counting (slot_naming_faults name home x r g)) (slot_word_named s name x r g)
+
+abbrev pub slot_naming_entry : Slot → List ℕ → Option Phandle → SlotMaking → Result SlotMaking Throw
+slot_naming_entry s name home g =
+    let x = slot_made s g.stack in slot_named s name home x (slot_given home x g) g

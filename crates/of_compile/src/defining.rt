@@ -1,12 +1,12 @@
 //! The words that define, and the open definition's word.
-ghost use Rattle.std.specs.Prelude.{◌≡◌, ◌≤◌, ◌<◌, ◌⊎◌, length, is_ok, false, true, IfOk, IfErr, OnErr, OnOk, None};
-ghost use Rattle.std.specs.Prelude.{Some, Err};
+ghost use Rattle.std.specs.Prelude.{◌≡◌, ◌≤◌, ◌<◌, ◌⊎◌, length, is_none, is_ok, false, true, IfOk, IfErr, OnErr, OnOk};
+ghost use Rattle.std.specs.Prelude.{None, Some, Err};
 ghost use Rattle.of_stacks.specs.Stacks.{Makes};
 ghost use Rattle.of_stacks.specs.Throws.{compiler_nesting, stack_underflow};
 ghost use Rattle.of_stacks.specs.declared.stop.Stop.TheVariants.{NoMemory, Thrown};
 ghost use Rattle.of_code.specs.Code.{end_of};
 ghost use Rattle.of_memory.specs.Growth.{aligned};
-ghost use Rattle.of_dict.specs.Words.{capacity};
+ghost use Rattle.of_dict.specs.Words.{capacity, name_in, word_at};
 ghost use Rattle.of_compile.specs.Defining.{abandoned, closed, defining_entry, hidden_word, made_by, making};
 ghost use Rattle.of_compile.specs.Defining.{may_define, naming_entry, opens, with_named};
 ghost use Rattle.of_compile.specs.Products.{made_of, with_pending};
@@ -196,6 +196,10 @@ impl Words {
         ensures made { let old = making self.old stack.old memory.old in
             let entry = naming_entry word name.now (end_of (C.code code.now)).cell old in
             Makes (is_ok entry) entry old (making self.new stack.new memory.new) result }
+        ensures named { OnOk result (name_in (word_at self.new.dictionary (length self.old.dictionary))
+            ≡ Some name.now) }
+        ensures closed { OnOk result (is_none self.old.defining ≡ true) }
+        ensures room { OnOk result (length self.old.dictionary < capacity) }
     {
         if self.defining.is_some() {
             return Err(Stop::Thrown(Throw::COMPILER_NESTING));
@@ -217,12 +221,14 @@ impl Words {
     }
 
     /// Adds a word of a name. A refusal is one of memory.
-    #[tactic(auto, using(crate::proofs::WordsLemmas::newest_pushed, crate::proofs::WordsLemmas::changed_pushed))]
+    #[tactic(auto, using(crate::proofs::WordsLemmas::newest_pushed, crate::proofs::WordsLemmas::changed_pushed, crate::proofs::WordsLemmas::name_pushed))]
     fn add_named(&mut self, word: DefiningWord, name: &[u8], kind: Kind) -> Result<(), AllocError>
         requires closed { self.old.defining ≡ None }
         requires room { length self.old.dictionary < capacity }
         requires fit { name_fault (Some name.now) ≡ None }
         ensures ok { IfOk result (λ _. self.new ≡ with_named word kind name.now self.old) }
+        ensures named { OnOk result (name_in (word_at self.new.dictionary (length self.old.dictionary))
+            ≡ Some name.now) }
         ensures err { OnErr result (self.new ≡ self.old) }
     {
         let Ok(number) = self.dictionary.add(Some(name), kind) else {
