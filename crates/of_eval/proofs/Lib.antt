@@ -12,3 +12,4 @@ pub mod Called
 pub mod Endings
 pub mod MethodLemmas
 pub mod Strings
+mod NamingLemmas

@@ -10,3 +10,4 @@ pub mod Reading
 pub mod Registers
 pub mod Unrolled
 pub mod Laws
+pub mod Naming

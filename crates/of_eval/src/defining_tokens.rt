@@ -118,7 +118,7 @@ pub(crate) fn define<C: CodeStore>(eval: &mut Eval<C>, word: DefiningWord) -> Re
 }
 
 /// Leaves a word that became a method out of every search of the dictionary.
-fn hide_method<C: CodeStore>(eval: &mut Eval<C>, word: OwnWord, former: Option<Former>)
+pub(crate) fn hide_method<C: CodeStore>(eval: &mut Eval<C>, word: OwnWord, former: Option<Former>)
     ensures { eval.new ≡ hidden_if (is_some former) word.0 eval.old }
 {
     if former.is_some() {
@@ -146,9 +146,12 @@ fn end_open<C: CodeStore>(eval: &mut Eval<C>) -> Result<(), Stop>
     }
 }
 
-/// `b(;)` ( -- ) ends the open definition, whose word becomes a method of the package that was active at its
-/// `b(:)`.
-pub(crate) fn semicolon<C: CodeStore>(eval: &mut Eval<C>) -> Result<(), Stop>
+/// `b(;)` and `;` ( -- ) end the open definition, whose word becomes a method of the package that was active where it
+/// was opened.
+///
+/// -29 where none is open, -22 exactly where its control isn't matched, -8 where the return would pass the last code
+/// cell. Where that is thrown or no memory is found nothing has changed.
+pub fn semicolon<C: CodeStore>(eval: &mut Eval<C>) -> Result<(), Stop>
     ensures { Ends (is_some eval.old.words.defining)
         (semicolon_entry flat_calls eval.old.words.defining eval.old) eval.old eval.new result }
 {
@@ -174,9 +177,11 @@ pub(crate) fn semicolon<C: CodeStore>(eval: &mut Eval<C>) -> Result<(), Stop>
     }
 }
 
-/// Appends an element to the open definition.
+/// Appends an element to the open definition, for which memory is asked only where it has an item.
+///
+/// -8 where its item would pass the last code cell. Where that is thrown or no memory is found nothing has changed.
 #[tactic(auto, unfolding(crate::specs::Doing::worked))]
-pub(crate) fn compile<C: CodeStore>(eval: &mut Eval<C>, element: Element) -> Result<(), Stop>
+pub fn compile<C: CodeStore>(eval: &mut Eval<C>, element: Element) -> Result<(), Stop>
     requires storable { CanBeStored (own_item (element_of element)) }
     ensures outcome { IsWorked (Appends (element_of element) eval.old.board.stack) eval.old eval.new result }
     ensures board { eval.new.board ≡ eval.old.board }

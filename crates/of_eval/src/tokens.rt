@@ -173,7 +173,7 @@ fn run_token<C: CodeStore>(eval: &mut Eval<C>, token: Token, here: Spot) -> Resu
         }
         Token::Define(word) => Ok(define(eval, word)?),
         Token::Semicolon => Ok(semicolon(eval)?),
-        Token::End => Ok(eval.end_image()?),
+        Token::End => Ok(eval.end_reading()?),
         Token::Word(code) => run_named(eval, code),
         Token::Stray => Err(Halt::Thrown(Throw::NOT_ASSIGNED)),
     }

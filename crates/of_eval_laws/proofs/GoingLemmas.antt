@@ -32,12 +32,13 @@ use Rattle.of_eval.specs.Executing.{Catch, Execute, Plan, PlansUnroll, Stops, ac
 use Rattle.of_eval.specs.Executing.{plan_at, plan_behind, plan_in, plan_of, planned, pushing, returning, runner_of}
 use Rattle.of_eval.specs.Items.{beginning, control_act, going, item_act, leave_item, staying, there, turning}
 use Rattle.of_flow.specs.Turns.{loop_item, one}
-use Rattle.of_state.specs.Settling.{ended, going_back, is_same, or_nothing, reading_on, source_ended}
-use Rattle.of_state.specs.State.{Calls, Outcome, State, done, failed, with_items, with_next, with_stack}
+use Rattle.of_state.specs.Settling.{ended, ends_inside, going_back, is_line, is_same, or_nothing, reading_on}
+use Rattle.of_state.specs.Settling.{source_ended}
+use Rattle.of_state.specs.State.{Calls, Outcome, State, done, failed, open_xt, with_items, with_next, with_stack}
 use Rattle.of_steps.specs.Steps.{item_done, item_due}
 use Rattle.of_eval_laws.specs.Structured.{structured_calls}
 use Rattle.of_eval_laws.specs.Going.{CatchKeeps, DefinitionsRun, EndsGoBack, Is, ItemsGo, ItemsThrow, LoadsBegin}
-use Rattle.of_eval_laws.specs.Going.{Makes, Throws, gone, has_opened, on}
+use Rattle.of_eval_laws.specs.Going.{Makes, Throws, gone, on}
 use Rattle.of_own.specs.Defers.{executable}
 
 pub if_is : {A : Type 0} (b : Bool) (x y : A) → b ≡ true → (if b then x else y) ≡ x
@@ -380,7 +381,7 @@ went_back x r s =
     record (reading_on (or_nothing x) s) { flow = going_back r (reading_on (or_nothing x) s).flow }
 
 back_is : {S : Type 0} (c : Calls S) (s : State S) (above beneath : List ReturnItem) (r : Reading) (to : Continuation)
-    → s.flow.items ≡ above ++ Source r ∷ Return to ∷ beneath → latest_source above ≡ None → has_opened s ≡ false
+    → s.flow.items ≡ above ++ Source r ∷ Return to ∷ beneath → latest_source above ≡ None → ends_inside s ≡ false
     → ended c s ≡ done (went_back (Some r) (Return to ∷ beneath) s)
 unfolding went_back
 back_is c s above beneath r to e none b =
@@ -390,6 +391,12 @@ back_is c s above beneath r to e none b =
     if_not _ _ (done (source_ended s)) b
     ∙ (ap (λ x. done (went_back x (beneath_source s.flow.items) s)) found
     ∙ ap (λ x. done (went_back (Some r) x s)) left)
+
+none_ends : (a b l : Bool) → l ≡ true → (a && b && not l) ≡ false
+none_ends false b true e = refl
+none_ends true false true e = refl
+none_ends true true true e = refl
+none_ends a b false e = absurd cc
 
 pub ends_go_back : {S : Type 0} → EndsGoBack S
 unfolding went_back
@@ -409,7 +416,10 @@ ends_go_back = record {
         ap (λ o. o.state.words) is,
         ap (λ o. o.state.code) is,
       );
-  gives_up = λ c s b. if_is (has_opened s) _ _ b;
+  gives_up = λ c s b. if_is (ends_inside s) _ _ b;
+  stays_open = λ c s l.
+      if_not (ends_inside s) _ _ (none_ends (is_some s.words.defining)
+      (not (is_same (open_xt s) s.flow.reading.opened)) (is_line s.flow.reading.input s.flow.items) l);
 }
 
 -- ---- an image that begins
@@ -418,9 +428,9 @@ abbrev xt_in : ℕ → Cell
 xt_in n = record { 0 = xt_of n }
 
 none_opened : (o : Option ℕ)
-    → (is_some o && not (is_same (option_map xt_in o) (option_map xt_in o))) ≡ false
+    → (is_some o && not (is_same (option_map xt_in o) (option_map xt_in o)) && true) ≡ false
 none_opened None = refl
-none_opened (Some n) = ap not (eq-eqb (xt_of n) (xt_of n) refl)
+none_opened (Some n) = ap (λ b. not b && true) (eq-eqb (xt_of n) (xt_of n) refl)
 
 pub loads_begin : {S : Type 0} → LoadsBegin S
 loads_begin = record {

@@ -17,8 +17,8 @@ use Rattle.of_stacks.specs.Unwinding.{beneath_source, latest_source}
 use Rattle.of_dict.specs.Words.{xt_of}
 use Rattle.of_flow.specs.declared.control_state.Flow.{Flow}
 use Rattle.of_state.specs.State.{Calls, State, done, failed, given_up}
-use Rattle.of_state.specs.Settling.{ended, going_back, is_same, or_nothing, reading_on, source_ended}
-use Rattle.of_eval_laws.specs.Returning.{IsDue, IsRead, Leads, LeadsBack, is_code, is_outer, is_return_top}
+use Rattle.of_state.specs.Settling.{ended, going_back, is_line, is_same, or_nothing, reading_on, source_ended}
+use Rattle.of_eval_laws.specs.Returning.{IsDue, IsImage, IsRead, Leads, LeadsBack, is_code, is_outer, is_return_top}
 use Rattle.of_eval_laws.specs.Returning.{reads_nothing}
 use Rattle.of_eval_laws.proofs.LeadingEnds.{due_too, given_flow, given_shut}
 
@@ -121,15 +121,24 @@ module _ (image : List ℕ) (outer : Reading) where
       (d, (λ o. given_shut image outer c s.words.defining s refl))
 
   -- `end0` and `end1`
-  ended_by : {S : Type 0} (c : Calls S) (s : State S) (o : Option ℕ) (at : Option Cell) → s.words.defining ≡ o
-      → at ≡ None
-      → InImage s
+  ended_by : {S : Type 0} (c : Calls S) (s : State S) (o : Option ℕ) (at : Option Cell) (line : Bool)
+      → s.words.defining ≡ o → at ≡ None → line ≡ false → InImage s
       → Leads image outer
       (if is_some o && not (is_same (option_map (λ (m : ℕ). (let x : Cell = record { 0 = xt_of m } in x)) o) at)
+      && not line
       then failed compiler_nesting (given_up c s) else done (source_ended s)).state
-  ended_by c s None at e f h = goes_back s (below s.flow.reading s.flow.items h.leads h.inner) e
-  ended_by c s (Some n) None e f h = given_both c s h
-  ended_by c s (Some n) (Some x) e f h = absurd cc
+  ended_by c s None at line e f g h = goes_back s (below s.flow.reading s.flow.items h.leads h.inner) e
+  ended_by c s (Some n) None false e f g h = given_both c s h
+  ended_by c s (Some n) None true e f g h = absurd cc
+  ended_by c s (Some n) (Some x) line e f g h = absurd cc
+
+  -- an image is no line
+  image_line : (i : Input) (items : List ReturnItem) → IsImage i → is_line i items ≡ false
+  image_line input.Nothing items h = absurd h
+  image_line (input.Text n) items h = absurd h
+  image_line (input.Image size n) items h = refl
 
   pub ended_due : {S : Type 0} (c : Calls S) (s : State S) → InImage s → Leads image outer (ended c s).state
-  ended_due c s h = ended_by c s s.words.defining s.flow.reading.opened refl h.read.1 h
+  ended_due c s h =
+      ended_by c s s.words.defining s.flow.reading.opened (is_line s.flow.reading.input s.flow.items) refl h.read.1
+      (image_line s.flow.reading.input s.flow.items h.read.0) h

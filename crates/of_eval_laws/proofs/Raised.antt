@@ -53,7 +53,7 @@ use Rattle.of_eval.specs.Doing.{acted, worked}
 use Rattle.of_eval.specs.Executing.{entered, furnished, guarded, plan_in}
 use Rattle.of_eval.specs.Items.{item_act}
 use Rattle.of_eval.specs.Methods.{then_known}
-use Rattle.of_state.specs.Settling.{ended, is_same}
+use Rattle.of_state.specs.Settling.{ended, ends_inside}
 use Rattle.of_state.specs.State.{Answered, Calls, Outcome, State, by_asking, by_board, flat_calls, open_xt, with_next}
 use Rattle.of_state.specs.State.{with_stack}
 use Rattle.of_eval.specs.Reading.{found_token, read_on, token_due}
@@ -230,7 +230,7 @@ ends_if false o p ho hp = hp
 
 ends : {S : Type 0} (c : Calls S) (s : State S) → Lists (ended c s)
 unfolding is_listed listed_numbers
-ends c s = ends_if (is_some s.words.defining && not (is_same (open_xt s) s.flow.reading.opened)) _ _ refl tt
+ends c s = ends_if (ends_inside s) _ _ refl tt
 
 -- ---- acts
 

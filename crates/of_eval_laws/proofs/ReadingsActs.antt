@@ -49,7 +49,7 @@ use Rattle.of_eval.specs.Doing as doing
 use Rattle.of_eval.specs.Executing.{entered, furnished, guarded, plan_in}
 use Rattle.of_eval.specs.Items.{item_act}
 use Rattle.of_eval.specs.Methods.{as_method, known_if, method_made, then_known, xt_cell}
-use Rattle.of_state.specs.Settling.{ended, is_same}
+use Rattle.of_state.specs.Settling.{ended, ends_inside}
 use Rattle.of_state.specs.State.{Answered, Calls, Outcome, State, by_asking, by_board, open_xt, with_items, with_next}
 use Rattle.of_state.specs.State.{with_stack}
 use Rattle.of_eval.specs.Reading.{found_token, read_on, token_due}
@@ -400,7 +400,7 @@ either false x y h k = k
 
 ended_reads : {S : Type 0} (c : Calls S) (s : State S) → Goes s → Reads (ended c s).state
 ended_reads c s h =
-    either (is_some s.words.defining && not (is_same (open_xt s) s.flow.reading.opened)) _ _
+    either (ends_inside s) _ _
     (given_up_reads c s (rests s h)) (source_reads s h)
 
 acted_reads : {S : Type 0} (l : Laws) (c : Calls S) (a : Act) (s : State S)

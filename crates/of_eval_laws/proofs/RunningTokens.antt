@@ -37,7 +37,7 @@ use Rattle.of_eval.specs.Doing as doing
 use Rattle.of_eval.specs.Executing.{entered, furnished, guarded, plan_in}
 use Rattle.of_eval.specs.Items.{item_act}
 use Rattle.of_eval.specs.Methods.{as_method, known_if, method_made, nodes_with, then_known, xt_cell}
-use Rattle.of_state.specs.Settling.{ended, given_back, is_same}
+use Rattle.of_state.specs.Settling.{ended, ends_inside, given_back}
 use Rattle.of_state.specs.State.{Answered, Calls, Outcome, State, by_code, open_xt, with_items, with_next, with_stack}
 use Rattle.of_eval.specs.Reading.{found_token, read_on, token_due}
 use Rattle.of_steps.specs.Steps.{due, item_due}
@@ -245,7 +245,7 @@ back_kept l (input.Image size n) w r =
 ended_leaves : {S : Type 0} (l : Laws) (c : Calls S) (s : State S) → IsSound s.board.memory
     → Leaves true s.board (ended c s)
 ended_leaves l c s r =
-    either true s.board (is_some s.words.defining && not (is_same (open_xt s) s.flow.reading.opened)) _ _
+    either true s.board (ends_inside s) _ _
     (given_up_stands l c s r) (back_kept l s.flow.reading.input s.board r)
 
 -- ---- acts

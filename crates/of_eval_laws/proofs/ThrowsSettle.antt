@@ -23,7 +23,7 @@ use Rattle.of_state.specs.State.{Calls, State, open_xt, with_board, with_compili
 use Rattle.of_state.specs.Settling.{caller_self, caught, fallen, given_back, is_full, is_same, reading_on}
 use Rattle.of_state.specs.Settling.{due_left, due_throw, resumed, settled, uncaught}
 use Rattle.of_eval_laws.specs.Throws.{EndsAll, GoesOnBehind, IsCaught, LeavesDefinition, ThrowsSettle, above_left}
-use Rattle.of_eval_laws.specs.Throws.{all_left, is_opened_since, is_passed, left_by, left_through}
+use Rattle.of_eval_laws.specs.Throws.{all_left, is_opened_since, is_passed, left_by, left_through, texts_through}
 
 -- ---- nothing is due
 
@@ -71,7 +71,11 @@ reads_lowest (Caller d ∷ higher) lower r now e = reads_lowest higher lower r n
 abbrev cut_state : {S : Type 0} → List ReturnItem → List ReturnItem → State S → State S
 cut_state above rest s = record s {
   board = above_left above s;
-  flow = record s.flow { items = rest; reading = reading_then above s.flow.reading };
+  flow = record s.flow {
+    items = rest;
+    reading = reading_then above s.flow.reading;
+    texts = texts_through s.flow.reading.input above s.flow.texts;
+  };
 }
 
 -- what a cut leaves of the board as it was
@@ -207,6 +211,7 @@ ends_all c t s =
       running = either (λ x. x.flow.is_running) b (closed c m) m _ refl refl;
       next = either (λ x. x.flow.next) b (closed c m) m _ refl refl;
       reading = either (λ x. x.flow.reading) b (closed c m) m _ refl refl;
+      texts = either (λ x. x.flow.texts) b (closed c m) m _ refl refl;
       closed = ap (λ w. w.defining) left.words ∙ all_closed s.words.defining s.words refl;
       console =
           let said = ap (λ x. fault_printed x t) cut.console in
@@ -254,6 +259,7 @@ goes_on c t above h beneath s =
       reads_on = λ none.
           let kept = reads_on above s.flow.reading none in
           either (λ x. x.flow.reading) b (closed c m) m s.flow.reading kept kept;
+      texts = either (λ x. x.flow.texts) b (closed c m) m _ refl refl;
       opened =
           ap (λ w. w.defining) left.words
           ∙ given_closed (is_same (open_xt s) h.opened) s.words.defining s.words refl;

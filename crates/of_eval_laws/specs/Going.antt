@@ -40,7 +40,7 @@ use Rattle.of_compile.specs.Words.{is_word}
 use Rattle.of_eval.specs.Doing.{executed}
 use Rattle.of_flow.specs.Turns.{loop_item, one}
 use Rattle.of_state.specs.Loading.{begun_by, image_copied, load_caller}
-use Rattle.of_state.specs.Settling.{ended, is_same}
+use Rattle.of_state.specs.Settling.{ended, ends_inside, is_line, source_ended}
 use Rattle.of_state.specs.State.{Calls, State, done, failed, given_up, open_xt, with_items, with_next, with_stack}
 use Rattle.of_steps.specs.Steps.{due, item_done}
 use Rattle.of_eval_laws.specs.Structured.{structured_calls}
@@ -211,24 +211,22 @@ pub record CatchKeeps (S : Type 0) : Type 0 where
 
 -- ---- the end of an image
 
--- whether a definition is open that was opened since what is read began
-abbrev pub has_opened : {S : Type 0} → State S → Bool
-has_opened s = is_some s.words.defining && not (is_same (open_xt s) s.flow.reading.opened)
-
 -- `end0`: the items above the latest source are dropped, and control goes on behind what began the image, with what
--- was read there; all that words work on is as it was. Where a definition is open that was opened since, it is given
--- up, and -29 thrown.
+-- was read there; all that words work on is as it was. Where what is read ends inside a definition, that is given up,
+-- and -29 thrown; a console line, which began where nothing was read, leaves it open.
 pub record EndsGoBack (S : Type 0) : Type 0 where
   pub back :
       (c : Calls S) (s : State S) (above beneath : List ReturnItem) (r : Reading) (to : Continuation) →
-      s.flow.items ≡ above ++ Source r ∷ Return to ∷ beneath → latest_source above ≡ None → has_opened s ≡ false →
+      s.flow.items ≡ above ++ Source r ∷ Return to ∷ beneath → latest_source above ≡ None → ends_inside s ≡ false →
       let o = ended c s in
       (o.ended ≡ Ok tt) × (o.state.flow.items ≡ beneath) × (o.state.flow.next ≡ to) × (o.state.flow.reading ≡ r)
       × (o.state.flow.is_running ≡ s.flow.is_running) × (o.state.board.stack ≡ s.board.stack)
       × (o.state.board.pictured ≡ s.board.pictured) × (o.state.board.console ≡ s.board.console)
       × (o.state.board.tree ≡ s.board.tree) × (o.state.board.active ≡ s.board.active) × (o.state.words ≡ s.words)
       × (o.state.code ≡ s.code)
-  pub gives_up : (c : Calls S) (s : State S) → has_opened s ≡ true → ended c s ≡ failed compiler_nesting (given_up c s)
+  pub gives_up : (c : Calls S) (s : State S) → ends_inside s ≡ true → ended c s ≡ failed compiler_nesting (given_up c s)
+  pub stays_open :
+      (c : Calls S) (s : State S) → is_line s.flow.reading.input s.flow.items ≡ true → ended c s ≡ done (source_ended s)
 
 -- ---- an image that begins
 
@@ -246,4 +244,4 @@ pub record LoadsBegin (S : Type 0) : Type 0 where
       × (o.board.console.text ≡ s.board.console.text) × (o.words ≡ s.words) × (o.code ≡ s.code)
       × (o.flow.is_compiling ≡ s.flow.is_compiling) × (o.flow.home ≡ s.flow.home)
       × (o.board.active.new_devices ≡ s.board.active.new_devices)
-      × (has_opened o ≡ false)
+      × (ends_inside o ≡ false)

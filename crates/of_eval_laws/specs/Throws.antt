@@ -24,7 +24,7 @@ use Rattle.of_board.specs.declared.board.Board.{Board}
 use Rattle.of_board.specs.Text.{fault_printed}
 use Rattle.of_state.specs.State.{Calls, State, open_xt, with_board, with_items}
 use Rattle.of_state.specs.Settling.{caller_self, given_back, is_full, is_same, due_left, due_throw, nothing_read}
-use Rattle.of_state.specs.Settling.{package_of, settled}
+use Rattle.of_state.specs.Settling.{package_of, settled, texts_left}
 
 -- ---- what a throw cuts
 
@@ -72,6 +72,16 @@ left_through now (Loop l ∷ items) b = left_through now items b
 left_through now (User x ∷ items) b = left_through now items b
 left_through now (Handler h ∷ items) b = left_through now items b
 
+-- the texts that are read when these items were cut: each source ends the text that is read above it
+abbrev pub texts_through : Input → List ReturnItem → List (List ℕ) → List (List ℕ)
+texts_through now [] texts = texts
+texts_through now (Source r ∷ items) texts = texts_through r.input items (texts_left now texts)
+texts_through now (Caller d ∷ items) texts = texts_through now items texts
+texts_through now (Return to ∷ items) texts = texts_through now items texts
+texts_through now (Loop l ∷ items) texts = texts_through now items texts
+texts_through now (User x ∷ items) texts = texts_through now items texts
+texts_through now (Handler h ∷ items) texts = texts_through now items texts
+
 -- ---- the open definition
 
 -- whether a definition is open that was opened since
@@ -107,6 +117,7 @@ pub record EndsAll {S : Type 0} (c : Calls S) (t : Throw) (before after : State 
   pub next : after.flow.next ≡ continuation.Source
   -- nothing is read
   pub reading : after.flow.reading ≡ nothing_read
+  pub texts : after.flow.texts ≡ []
   -- no definition is open
   pub closed : after.words.defining ≡ None
   -- the console has the text of the throw
@@ -145,6 +156,8 @@ pub record GoesOnBehind {S : Type 0} (c : Calls S) (t : Throw) (above : List Ret
       latest_source lower ≡ None → after.flow.reading ≡ r
   -- or as it was where none was cut
   pub reads_on : latest_source above ≡ None → after.flow.reading ≡ before.flow.reading
+  -- and no text is read any more whose reading ended
+  pub texts : after.flow.texts ≡ texts_through before.flow.reading.input above before.flow.texts
   -- a definition that was open at the `catch` is open, and no other
   pub opened :
       after.words.defining ≡ (if is_same (open_xt before) h.opened then before.words.defining else None)

@@ -3,7 +3,7 @@
 use of_cells::Cell;
 use of_fcodes::{FCode, ReturnsWord};
 use of_flow::{
-    ControlWord, Flow, Token, Typed, enter, exit, keeps_rest, run_control, run_stacks_word,
+    ControlWord, Flow, Texts, Token, Typed, enter, exit, keeps_rest, run_control, run_stacks_word,
     typed_of,
 };
 use of_stacks::{Continuation, DataStack, Input, LoopExit, Reading, ReturnStack, Throw};
@@ -68,12 +68,28 @@ fn words_end(rt: HostRuntime) -> Result<(), Fail> {
         next: Continuation::Code(9),
         is_compiling: false,
         home: None,
+        texts: Texts::new(rt.alloc()),
+        strings: 0,
     };
     enter(40, &mut flow)?;
     assert_eq!(rt; flow.next, Continuation::Code(40));
     exit(&mut flow)?;
     assert_eq!(rt; flow.next, Continuation::Code(9));
     assert_eq!(rt; exit(&mut flow), Err(Throw::RETURN_STACK_IMBALANCE));
+    Ok(())
+}
+
+/// The latest text is read, and then the one around it.
+#[test]
+fn texts_are_nested(rt: HostRuntime) -> Result<(), Fail> {
+    let mut texts = Texts::new(rt.alloc());
+    texts.push(b"evaluate")?;
+    texts.push(b"1 +")?;
+    assert_eq!(rt; texts.latest(), b"1 +".as_slice());
+    texts.pop();
+    assert_eq!(rt; texts.latest(), b"evaluate".as_slice());
+    texts.clear();
+    assert_eq!(rt; texts.latest(), b"".as_slice());
     Ok(())
 }
 

@@ -1,3 +1,4 @@
+use crate::texts::Texts;
 use of_nodes::Phandle;
 use of_stacks::{Continuation, Reading, ReturnStack};
 
@@ -16,4 +17,8 @@ pub struct Flow {
     pub is_compiling: bool,
     /// The package that was active where the latest definition was opened, if one was: its word becomes a method there.
     pub home: Option<Phandle>,
+    /// The texts that are being read.
+    pub texts: Texts,
+    /// How many bytes of the scratch region interpreted strings have taken, one after another.
+    pub strings: u32,
 }

@@ -4,9 +4,11 @@
 mod control;
 mod control_state;
 mod returns;
+mod texts;
 mod token;
 
 pub use control::{ControlWord, keeps_rest, run_control};
 pub use control_state::Flow;
 pub use returns::{enter, exit, run_stacks_word};
+pub use texts::Texts;
 pub use token::{Token, Typed, typed_of};

@@ -57,6 +57,8 @@ first_flow = record {
   next = continuation.Source;
   is_compiling = false;
   home = None;
+  texts = [];
+  strings = 0;
 }
 
 abbrev pub first_state : {S : Type 0} → S → State S
@@ -126,3 +128,19 @@ begun_unless (Some fault) image node s = s
 
 abbrev pub begun : {S : Type 0} → List ℕ → Phandle → State S → State S
 begun image node s = begun_unless (load_fault image node s) image node s
+
+-- ---- a console line
+
+-- A line begins to be read, where nothing has run; beneath it stands what was read, and it keeps the definition that an
+-- earlier line left open.
+abbrev pub line_begun : {S : Type 0} → List ℕ → State S → State S
+line_begun text s = record s {
+  board = record s.board { console = made_ready s.board.console };
+  flow = record s.flow {
+    items = Source s.flow.reading ∷ [];
+    reading = record { input = input.Text 0; opened = open_xt s };
+    is_running = true;
+    next = continuation.Source;
+    texts = text ∷ s.flow.texts;
+  };
+}

@@ -3,7 +3,7 @@ ghost use Rattle.std.specs.Prelude.{◌≡◌, ◌⊎◌, [], Some, None, Ok, tr
 ghost use Rattle.of_memory.specs.Growth.{image_fits};
 ghost use Rattle.of_compile.specs.Coding.{coding_of};
 ghost use Rattle.of_board.specs.Text.{made_ready};
-ghost use Rattle.of_state.specs.Loading.{begun, cell_of, first_state, instance_on, load_fault};
+ghost use Rattle.of_state.specs.Loading.{begun, cell_of, first_state, instance_on, line_begun, load_fault};
 
 use crate::eval::Eval;
 use crate::load_fault::LoadFault;
@@ -12,7 +12,7 @@ use of_board::{Active, Board, Console};
 use of_cells::Cell;
 use of_code::CodeStore;
 use of_compile::{Coding, Words};
-use of_flow::Flow;
+use of_flow::{Flow, Texts};
 use of_format::Pictured;
 use of_ihandles::{InstanceFault, Instances};
 use of_memory::Memory;
@@ -60,6 +60,8 @@ impl<C: CodeStore + Drop> Eval<C> {
                 next: Continuation::Source,
                 is_compiling: false,
                 home: None,
+                texts: Texts::new(alloc),
+                strings: 0,
             },
             words,
             coding: Coding::new(code),
@@ -136,6 +138,32 @@ impl<C: CodeStore> Eval<C> {
                 size: (Stream { image }).first_size(),
                 position: HEADER_LENGTH,
             },
+            opened: self.words.open_xt(),
+        };
+        self.flow.is_running = true;
+        self.flow.next = Continuation::Source;
+        Ok(())
+    }
+
+    /// Begins to read a console line, where nothing runs: a copy of it is kept, and room is made for the text of a
+    /// throw. Words are compiled on, where an earlier line left a definition open.
+    ///
+    /// An error is for memory alone. It changes nothing.
+    pub fn begin_line(&mut self, text: &[u8]) -> Result<(), AllocError>
+        ensures begun { OnOk result (self.new ≡ line_begun text.now self.old) }
+        ensures unchanged { OnErr result (self.new ≡ self.old) }
+    {
+        let keep = self.board.console.is_ready();
+        self.board.console.make_ready()?;
+        if self.flow.texts.push(text).is_err() {
+            self.board.console.keep_ready(keep);
+            return Err(AllocError);
+        }
+        let before = self.flow.reading;
+        self.flow.items = ReturnStack::new();
+        self.flow.items.push(ReturnItem::Source(before));
+        self.flow.reading = Reading {
+            input: Input::Text { position: 0 },
             opened: self.words.open_xt(),
         };
         self.flow.is_running = true;

@@ -1,18 +1,19 @@
 //! The end of a step: what is worked off beneath a finished word, and what a throw cuts.
-ghost use Rattle.std.specs.Prelude.{◌≡◌, [], true, false, is_some};
+ghost use Rattle.std.specs.Prelude.{◌≡◌, [], true, false, is_some, reverse};
 ghost use Rattle.of_stacks.specs.Returns.{has_due_top};
+ghost use Rattle.of_stacks.specs.Unwinding.{latest_source};
 ghost use Rattle.of_state.specs.State.{Leaves, flat_calls, given_up, open_xt, with_compiling};
 ghost use Rattle.of_state.specs.Settling.{caller_self, caught, cut_one, due_left, ended, given_back, given_up_since};
-ghost use Rattle.of_state.specs.Settling.{going_back, is_opened, is_same, load_left, open_answered};
+ghost use Rattle.of_state.specs.Settling.{going_back, is_line, is_opened, is_same, load_left, open_answered};
 ghost use Rattle.of_state.specs.Settling.{package_of, reading_on, released_in, settled, source_ended};
-ghost use Rattle.of_state.specs.Settling.{still_thrown};
+ghost use Rattle.of_state.specs.Settling.{still_thrown, texts_left};
 ghost use Rattle.of_state.specs.Settling.{thrown_at, uncaught, worked_one};
 
 use crate::eval::Eval;
 use of_cells::Cell;
 use of_code::CodeStore;
 use of_compile::abandon_definition;
-use of_flow::Flow;
+use of_flow::{Flow, Texts};
 use of_memory::Memory;
 use of_nodes::Phandle;
 use of_stacks::{
@@ -76,6 +77,49 @@ fn give_back(ended: Input, memory: &mut Memory)
     }
 }
 
+/// Reads a text no more that ends.
+fn leave_text(ended: Input, texts: &mut Texts)
+    ensures { texts.new ≡ texts_left ended texts.old }
+{
+    if let Input::Text { .. } = ended {
+        texts.pop();
+    }
+}
+
+/// What the latest source keeps, if something is read.
+#[tactic(auto, using(crate::proofs::Reversed::reverse_snoc), unfolding(of_stacks::specs::Unwinding::latest_source))]
+fn latest_source(items: &[ReturnItem]) -> Option<Reading>
+    ensures { result ≡ latest_source (reverse items.now) }
+{
+    let [beneath @ .., item] = items else {
+        return None;
+    };
+    match item {
+        ReturnItem::Source(reading) => Some(*reading),
+        ReturnItem::Return(_) => latest_source(beneath),
+        ReturnItem::Loop(_) => latest_source(beneath),
+        ReturnItem::User(_) => latest_source(beneath),
+        ReturnItem::Handler(_) => latest_source(beneath),
+        ReturnItem::Caller(_) => latest_source(beneath),
+    }
+}
+
+/// Whether a console line is read: a text that began where nothing was read.
+fn is_line(flow: &Flow) -> bool
+    ensures { result ≡ is_line flow.now.reading.input flow.now.items }
+{
+    let Input::Text { .. } = flow.reading.input else {
+        return false;
+    };
+    match latest_source(flow.items.items()) {
+        Some(before) => match before.input {
+            Input::Nothing => true,
+            Input::Text { .. } | Input::Image { .. } => false,
+        },
+        None => false,
+    }
+}
+
 /// Goes on at the return on top, where the end of an image left one; else nothing runs.
 fn go_back(flow: &mut Flow)
     ensures { flow.new ≡ going_back flow.old.items flow.old }
@@ -129,6 +173,7 @@ impl<C: CodeStore> Eval<C> {
         ensures running { self.new.flow.is_running ≡ self.old.flow.is_running }
     {
         give_back(self.flow.reading.input, &mut self.board.memory);
+        leave_text(self.flow.reading.input, &mut self.flow.texts);
         self.flow.reading = reading;
     }
 
@@ -215,6 +260,7 @@ impl<C: CodeStore> Eval<C> {
         self.flow.reading = NOTHING_READ;
         self.flow.is_running = false;
         self.flow.next = Continuation::Source;
+        self.flow.texts.clear();
         self.board.active.my_self = Cell::ZERO;
         self.give_up();
     }
@@ -337,14 +383,15 @@ impl<C: CodeStore> Eval<C> {
         go_back(&mut self.flow);
     }
 
-    /// `end0` and `end1` ( -- ): the end of an image.
+    /// The end of an image, as `end0` and `end1` ( -- ) make it, and of a text.
     ///
-    /// -29 where a definition is open that was opened since it began; that is given up then.
-    pub fn end_image(&mut self) -> Result<(), Throw>
+    /// -29 where a definition is open that was opened since it began; that is given up then. But a console line leaves
+    /// it open for the next one.
+    pub fn end_reading(&mut self) -> Result<(), Throw>
         ensures { Leaves (ended flat_calls self.old) self.new result }
     {
         let opened = self.words.open_xt();
-        if opened.is_some() && !is_same(opened, self.flow.reading.opened) {
+        if opened.is_some() && !is_same(opened, self.flow.reading.opened) && !is_line(&self.flow) {
             self.give_up();
             return Err(Throw::COMPILER_NESTING);
         }
