@@ -1,0 +1,4 @@
+mod Alone
+mod Appended
+mod TextLaws
+mod Spelt

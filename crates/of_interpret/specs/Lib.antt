@@ -1,0 +1,5 @@
+pub mod TextActs
+pub mod Strings
+pub mod TextWords
+pub mod Reading
+pub mod Laws

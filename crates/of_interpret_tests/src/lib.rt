@@ -1,0 +1,7 @@
+//! Tests of the text interpreter, by lines of text and what they leave.
+#![tactic(auto)]
+
+#[cfg(test)]
+mod lines;
+#[cfg(test)]
+mod reading;
