@@ -3,3 +3,4 @@ pub mod Said
 pub mod Calls
 pub mod Answers
 pub mod Boards
+pub mod ConsoleLines

@@ -2,7 +2,7 @@ use of_source::Place;
 use std::alloc::AllocError;
 use thiserror::Error;
 
-/// Why a text has no calls, no answers or no devices: the first word that fits nowhere.
+/// Why a text has no calls, no answers or no devices: the first word that fits nowhere; or no console lines.
 #[derive(Clone, Copy, Debug, PartialEq, Eq, Error)]
 pub enum TextFault {
     /// Here stands the first word of a line, or none, and it names no service, no answer or no device.
@@ -21,6 +21,10 @@ pub enum TextFault {
     /// Here a word stands behind the last that the line takes.
     #[error("a word too many")]
     TooMany(Place),
+
+    /// Here the first byte stands that a console line has no room for.
+    #[error("line too long")]
+    TooLong(Place),
 
     /// A growth was refused.
     #[error("no memory")]

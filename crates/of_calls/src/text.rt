@@ -5,9 +5,11 @@ ghost use Rattle.of_calls.specs.Said.{and_next};
 ghost use Rattle.of_calls.specs.Calls.{call_in, parsed};
 ghost use Rattle.of_calls.specs.Answers.{answer_in, parsed_answers};
 ghost use Rattle.of_calls.specs.Boards.{parsed_board, part_in};
+ghost use Rattle.of_calls.specs.ConsoleLines.{line_in, parsed_lines};
 
 use crate::answer::answer_in;
 use crate::call::call_in;
+use crate::console_line::line_in;
 use crate::fault::TextFault;
 use crate::line::Line;
 use crate::part::part_in;
@@ -169,4 +171,44 @@ pub fn parse_board(alloc: Global, text: &[u8]) -> Result<Vec<Part>, TextFault>
         left = left_behind(left);
     }
     Ok(parts)
+}
+
+/// Appends a line.
+fn take_line(alloc: Global, line: Line<'_>, lines: &mut Vec<Vec<u8>>) -> Result<(), TextFault>
+    ensures ok { OnOk result (and_next (map (λ l. l.items) lines.old.items)
+        (line_in line.entry.number line.entry.text.now) ≡ Ok (map (λ l. l.items) lines.new.items)) }
+    ensures err { IfErr result (λ f. (f ≡ TextFault.NoMemory)
+        ⊎ (line_in line.entry.number line.entry.text.now ≡ Err f)) }
+{
+    let bytes = line_in(alloc, line)?;
+    match lines.push(bytes) {
+        Ok(()) => Ok(()),
+        Err(_) => Err(TextFault::NoMemory),
+    }
+}
+
+/// The console lines that a text says: its lines, which are those of `parse`, as they stand.
+///
+/// An error is for the first line that is too long, or for memory: TooLong where a line has more than 255 bytes.
+#[tactic(auto, using(crate::proofs::Reading::none_read))]
+pub fn parse_lines(alloc: Global, text: &[u8]) -> Result<Vec<Vec<u8>>, TextFault>
+    ensures ok { IfOk result (λ lines. parsed_lines text.now ≡ Ok (map (λ l. l.items) lines.items)) }
+    ensures err { IfErr result (λ f. (f ≡ TextFault.NoMemory) ⊎ (parsed_lines text.now ≡ Err f)) }
+{
+    let mut lines = Vec::new(alloc);
+    let mut number = 1usize;
+    let mut left = text;
+    while left.len() > 0 {
+        let line = Line {
+            number,
+            text: first_line(left),
+        };
+        match take_line(alloc, line, &mut lines) {
+            Ok(()) => {}
+            Err(fault) => return Err(fault),
+        }
+        number += 1;
+        left = left_behind(left);
+    }
+    Ok(lines)
 }
