@@ -1,5 +1,6 @@
 pub mod Acts
 pub mod ByteLoading
+pub mod Evaluating
 pub mod Executing
 pub mod Items
 pub mod Tokens

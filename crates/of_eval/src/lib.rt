@@ -4,6 +4,7 @@
 mod byte_loading;
 mod calling;
 mod defining_tokens;
+mod evaluating;
 mod executing;
 mod laws;
 mod methods;

@@ -1,5 +1,5 @@
 ghost use Rattle.std.specs.Prelude.{◌≡◌, length, reverse};
-ghost use Rattle.of_state.specs.Views.{items_of_word, next_item, next_token};
+ghost use Rattle.of_state.specs.Views.{items_of_word, next_item, next_token, next_word};
 
 use crate::eval::Eval;
 use of_cells::Cell;
@@ -94,6 +94,21 @@ impl<C: CodeStore> Eval<C> {
         match (Stream { image }).token_at(position, size) {
             Ok((token, _)) => Some((position, token.code)),
             Err(_) => None,
+        }
+    }
+
+    /// The position in the text that is read at which its next word is looked for. None where nothing runs, where a
+    /// definition goes on, and where no text is read.
+    pub fn next_word(&self) -> Option<usize>
+        ensures { result ≡ next_word self.now }
+    {
+        match (
+            self.flow.is_running,
+            self.flow.next,
+            self.flow.reading.input,
+        ) {
+            (true, Continuation::Source, Input::Text { position }) => Some(position),
+            _ => None,
         }
     }
 
