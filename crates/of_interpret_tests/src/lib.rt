@@ -5,3 +5,5 @@
 mod lines;
 #[cfg(test)]
 mod reading;
+#[cfg(test)]
+mod standard;

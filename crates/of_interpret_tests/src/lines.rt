@@ -59,7 +59,7 @@ const DEFINITIONS: &str = "\
 : k case 1 of 61 emit endof 2 of 62 emit endof 3f emit endcase ; ~ 1 k 2 k 3 k||ab?
 : t 9 0 do i dup 3 = if leave then drop loop ; t|3 |
 : fact dup 1 > if dup 1- recurse * then ; 5 fact|78 |
-: t .\" hi\" s\" yo\" type ; t||hiyo
+: t .\" hi\" s\" yo\" type ; t t||hiyohiyo
 here : t s\" abc\" ; here swap -|4 |
 : t s\" abc\" ; t swap here 4 - =|3 ffffffff |
 : t s\" a\" s\" b\" ; t drop c@ nip nip|62 |
@@ -77,7 +77,7 @@ create d 1 , d @|1 |
 8 buffer: q q here swap -|8 |
 defer x ' x to x x||fault -263: bad handle$
 defer x ' dup to x 1 x|1 1 |
-: imm 1 . ; immediate : t imm 2 . ; t||1 2 
+: imm 1 . ; immediate : t imm 2 . ; t t||1 2 2 
 : t if||
 : t ~ : u||fault -29: compiler nesting$
 : t then ;||fault -22: control structure mismatch$
