@@ -1,5 +1,5 @@
 -- The law `questions_settle`: with an answer at hand nothing asks.
-use Rattle.std.proofs.Common.{◌≡◌, ◌∙◌, ℕ, Bool, true, false, [], Option, Some, None, Result, Ok, Err, refl, ap}
+use Rattle.std.proofs.Common.{◌≡◌, ◌∙◌, ℕ, Bool, true, false, List, [], Option, Some, None, Result, Ok, Err, refl, ap}
 use Rattle.std.proofs.Common.{if◌then◌else◌}
 use Rattle.std.specs.Prelude.{◌&&◌, is_none}
 use Rattle.of_stacks.specs.declared.return_item.Continuation.{Continuation}
@@ -34,8 +34,13 @@ use Rattle.of_eval.specs.Doing.{acted, worked}
 use Rattle.of_eval.specs.Executing.{entered, furnished, guarded}
 use Rattle.of_eval.specs.Methods.{then_known}
 use Rattle.of_state.specs.State.{Answered, Calls, Outcome, State, by_asking, by_board, with_stack}
+use Rattle.of_eval.specs.Naming.{word_named, word_named_as}
 use Rattle.of_eval.specs.Reading.{found_token, token_due}
-use Rattle.of_steps.specs.Steps.{asked_by, due, item_due, replied}
+use Rattle.of_text.specs.declared.words.Found.{Found}
+use Rattle.of_interpret.specs.Reading.{word_at, word_done}
+use Rattle.of_interpret.specs.Strings.{by_spelling, by_string, string_said, string_spelt}
+use Rattle.of_interpret.specs.TextActs.{Acts, AppendsAll, Interprets, Names, Says, Selects, Spells, TextAct, text_acted}
+use Rattle.of_steps.specs.Steps.{asked_by, due, item_due, reading_due, replied}
 
 -- ---- with an answer at hand words don't ask
 
@@ -80,6 +85,7 @@ work_asks c law answer act.Compiles s e = refl
 work_asks c law answer (act.Prints text) s e = refl
 work_asks c law answer (act.Appends x cells) s e = refl
 work_asks c law answer (act.Loads size m cells) s e = refl
+work_asks c law answer (act.Reads text cells) s e = refl
 work_asks c law answer (act.Takes cells a) s e = work_asks c law answer a (with_stack cells s) e
 work_asks c law answer (act.Guards cells a) s e = work_asks c law answer a (guarded cells s) e
 work_asks c law answer (act.Enters cells d ih a) s e = work_asks c law answer a (entered cells d ih s) e
@@ -146,6 +152,33 @@ act_asks : {S : Type 0} (c : Calls S) (law : AnswersSettle) (answer : Answer) (a
     → s.reply ≡ Some answer → (acted c a s).asks ≡ None
 act_asks c law answer a s e = act_told c a s (λ w i. work_asks c law answer w s e)
 
+-- ---- words of a text
+
+named_asks : {S : Type 0} (c : Calls S) (d : DefiningWord) (name : List ℕ) (o : Option Slot) (s : State S)
+    → (word_named_as c d name o s).asks ≡ None
+named_asks c d name None s = making_asks d _ s
+named_asks c d name (Some k) s = slot_asks _ s
+
+said_asks : {S : Type 0} (r : Result (ℕ × Board) Throw) (s : State S) → (by_string r s).asks ≡ None
+said_asks (Ok x) s = refl
+said_asks (Err t) s = refl
+
+spelt_asks : {S : Type 0} (r : Result (S × DataSpace) Throw) (s : State S) → (by_spelling r s).asks ≡ None
+spelt_asks (Ok x) s = refl
+spelt_asks (Err t) s = refl
+
+pub text_told : {S : Type 0} (c : Calls S) (a : TextAct) (s : State S)
+    → ((w : Act) → a ≡ Acts w → (acted c w s).asks ≡ None) → (text_acted c a s).asks ≡ None
+unfolding text_acted
+text_told c (Acts a) s h = h a refl
+text_told c (AppendsAll es cells) s h = refl
+text_told c (Names d name) s h =
+    then_asks _ _ (word_named c d name s) ∙ named_asks c d name (awaited d s.words) s
+text_told c (Says bytes) s h = said_asks (string_said bytes s.flow.strings s.board) s
+text_told c (Spells bytes es) s h = spelt_asks (string_spelt c bytes es s.board.memory s.code) s
+text_told c Interprets s h = refl
+text_told c (Selects node) s h = refl
+
 -- ---- what comes next
 
 item_asks : {S : Type 0} (c : Calls S) (law : AnswersSettle) (answer : Answer) (o : Option (Item × Place))
@@ -165,9 +198,20 @@ token_asks c law answer (input.Image size position) s e = found_asks c law answe
 token_asks c law answer (input.Text position) s e = refl
 token_asks c law answer input.Nothing s e = refl
 
+text_asks : {S : Type 0} (c : Calls S) (law : AnswersSettle) (answer : Answer) (x : Found) (s : State S)
+    → s.reply ≡ Some answer → (word_done c x s).asks ≡ None
+text_asks c law answer x s e = text_told c _ _ (λ a i. act_asks c law answer a _ e)
+
+reading_asks : {S : Type 0} (c : Calls S) (law : AnswersSettle) (answer : Answer) (i : Input) (s : State S)
+    → s.reply ≡ Some answer → (reading_due c i s).asks ≡ None
+reading_asks c law answer (input.Image size position) s e =
+    token_asks c law answer (input.Image size position) s e
+reading_asks c law answer (input.Text position) s e = text_asks c law answer (word_at position s) s e
+reading_asks c law answer input.Nothing s e = refl
+
 due_asks : {S : Type 0} (c : Calls S) (law : AnswersSettle) (answer : Answer) (to : Continuation) (s : State S)
     → s.reply ≡ Some answer → (due c to s).asks ≡ None
-due_asks c law answer continuation.Source s e = token_asks c law answer s.flow.reading.input s e
+due_asks c law answer continuation.Source s e = reading_asks c law answer s.flow.reading.input s e
 due_asks c law answer (continuation.Code n) s e = item_asks c law answer _ s e
 
 pub nothing_asked : {S : Type 0} (c : Calls S) (law : AnswersSettle) (answer : Answer) (s : State S)

@@ -2,12 +2,14 @@
 use Rattle.std.proofs.Common.{◌≡◌, ◌⊎◌, ℕ, Bool, true, false, List, Option, Some, None, Result, Ok, Err, inl, inr}
 use Rattle.std.proofs.Common.{refl, sym, ◌∙◌, if◌then◌else◌}
 use Rattle.std.proofs.lemmas.Bool.{false≢true}
-use Rattle.std.specs.Prelude.{is_some}
+use Rattle.std.specs.Prelude.{◌&&◌, [], ◌∷◌, is_some, length, nat_lt, not}
 use Rattle.of_cells.specs.declared.cells.Cell.{Cell}
 use Rattle.of_code.specs.declared.item.Item.{Item}
 use Rattle.of_code.specs.declared.item.Item.TheVariants as item
 use Rattle.of_code.specs.Items.{target_of}
 use Rattle.of_stacks.specs.declared.throws.Throw.{Throw}
+use Rattle.of_stacks.specs.Throws.{compile_only, invalid_argument}
+use Rattle.of_nodes.specs.declared.phandles.Phandle.{Phandle}
 use Rattle.of_fcodes.specs.declared.codes.FCode.{FCode}
 use Rattle.of_fcodes.specs.declared.token_table.TokenEntry.{TokenEntry}
 use Rattle.of_fcodes.specs.declared.words.StreamWord.{StreamWord}
@@ -22,7 +24,9 @@ use Rattle.of_compile.specs.Words.{WordsState}
 use Rattle.of_flow.specs.declared.token.Token.{Token}
 use Rattle.of_flow.specs.declared.token.Token.TheVariants as token
 use Rattle.of_eval.specs.declared.tokens.Spot.{Spot}
-use Rattle.of_eval.specs.Acts.{Act, Front, WordAct, front_of, knowing_under}
+use Rattle.of_own.specs.Stores.{InSlot, InWord, Stored, store_entry}
+use Rattle.of_eval.specs.Acts.{Act, Fails, Front, WordAct, front_of, knowing_under, leaving}
+use Rattle.of_eval.specs.Acts.{keeping as keeping_stored}
 use Rattle.of_eval.specs.Acts as act
 use Rattle.of_eval.specs.Doing.{act_grows, executed_grows, work_grows}
 use Rattle.of_eval.specs.Executing.{Plan, entered, guarded, plan_in}
@@ -32,6 +36,10 @@ use Rattle.of_eval.specs.Reading.{typed_grows}
 use Rattle.of_steps.specs.Steps.{item_grows_in}
 use Rattle.of_eval.specs.Tokens.{act_of, compiling_act, token_act}
 use Rattle.of_flow.specs.Tokens.{Plain, typed, typed_word}
+use Rattle.of_flow.specs.Returns.{pushed}
+use Rattle.of_interpret.specs.TextActs.{Acts, Says, Spells, TextAct, text_grows}
+use Rattle.of_interpret.specs.TextWords.{literal_act, longest_string, only_compiling, selecting, stored_act, string_act}
+use Rattle.of_interpret.specs.TextWords.{text_act, to_act, with_found}
 use Rattle.of_eval_laws.specs.Asking.{MemoryIsAsked, Runs}
 use Rattle.of_eval_laws.specs.Listed.{plan_of_item, plan_with}
 use Rattle.of_eval_laws.proofs.Walk.{IsAct, Turns, item_acts, typed_acts}
@@ -47,11 +55,13 @@ asking S = record (keeping S (λ s. Unit {0}) ((λ cells d ih s k p. (tt, tt, tt
   Runs = ⊥;
   Works = λ w. ⊥;
   Appends = λ s. ⊥;
+  Reads = λ s text. ⊥;
   Opening = ⊥;
   asks = λ r. tt;
   works = λ r w. absurd r;
   may_open = λ r. absurd r;
   opens = λ r s p e. absurd r;
+  reads = λ r a n text s p shut e. absurd r;
 }
 
 -- it may make a word, or end a definition
@@ -63,6 +73,7 @@ work_none : {S : Type 0} (a : WordAct) (s : State S) → IsWork (asking S) s a �
 work_none (act.Works w) s h = absurd h
 work_none (act.Appends e cells) s h = absurd h
 work_none (act.Prints text) s h = absurd h
+work_none (act.Reads text cells) s h = absurd h
 work_none (act.Takes cells a) s h = work_none a (with_stack cells s) h
 work_none (act.Guards cells a) s h = work_none a (guarded cells s) h
 work_none (act.Enters cells d ih a) s h = work_none a (entered cells d ih s) h.1
@@ -211,8 +222,82 @@ runs (item.Operation xt) s e = (xt, inl refl, e)
 runs (item.Call xt) s e = (xt, inr refl, e)
 runs i s e = absurd (item_none i s refl e)
 
+-- ---- words of a text
+
+-- a choice that isn't taken
+other_none : (b : Bool) (p q : WordAct) → b ≡ false → work_grows q ≡ false
+    → work_grows (if b then p else q) ≡ false
+other_none true p q e h = absurd cc
+other_none false p q e h = h
+
+other_act_none : (b : Bool) (p q : TextAct) (w : WordsState) → b ≡ false → text_grows q w ≡ false
+    → text_grows (if b then p else q) w ≡ false
+other_act_none true p q w e h = absurd cc
+other_act_none false p q w e h = h
+
+leaving_none : (r : Result (List Cell) Throw) → work_grows (leaving r) ≡ false
+leaving_none (Ok cells) = refl
+leaving_none (Err t) = refl
+
+keeping_none : (r : Result Stored Throw) → work_grows (keeping_stored r) ≡ false
+keeping_none (Ok (InWord w cells)) = refl
+keeping_none (Ok (InSlot m cells)) = refl
+keeping_none (Err t) = refl
+
+pushed_none : (r : Result Cell Throw) (cells : List Cell)
+    → work_grows (with_found r (λ x. leaving (pushed x cells))) ≡ false
+pushed_none (Ok x) cells = leaving_none (pushed x cells)
+pushed_none (Err t) cells = refl
+
+char_none : (b : Bool) (r : Result Cell Throw) (cells : List Cell)
+    → work_grows (if b then Fails compile_only else with_found r (λ x. leaving (pushed x cells))) ≡ false
+char_none true r cells = refl
+char_none false r cells = pushed_none r cells
+
+selecting_none : (r : Result Phandle Throw) (w : WordsState) → text_grows (selecting r) w ≡ false
+selecting_none (Ok node) w = refl
+selecting_none (Err t) w = refl
+
+literal_none : {S : Type 0} (r : Result Cell Throw) (s : State S) → s.flow.is_compiling ≡ false
+    → work_grows (with_found r (λ x. literal_act x (front_of s))) ≡ false
+literal_none (Ok x) s e =
+    other_none s.flow.is_compiling _ (leaving (pushed x s.board.stack)) e (leaving_none (pushed x s.board.stack))
+literal_none (Err t) s e = refl
+
+long_none : (b : Bool) (a : TextAct) (w : WordsState) → text_grows a w ≡ false
+    → text_grows (if b then Acts (act.Does (Fails invalid_argument)) else a) w ≡ false
+long_none true a w h = refl
+long_none false a w h = h
+
+string_none : {S : Type 0} (bytes : List ℕ) (s : State S) → s.flow.is_compiling ≡ false
+    → text_grows (string_act bytes (front_of s)) s.words ≡ false
+string_none bytes s e =
+    long_none (nat_lt longest_string (length bytes)) _ s.words
+    (other_act_none s.flow.is_compiling (Spells bytes []) (Says bytes) s.words e refl)
+
+stored_none : {S : Type 0} (r : Result Cell Throw) (cells : List Cell) (s : State S)
+    → work_grows (stored_act r cells (front_of s)) ≡ false
+stored_none (Ok xt) cells s = keeping_none (store_entry xt.0 s.words s.board)
+stored_none (Err t) [] s = refl
+stored_none (Err t) (x ∷ cells) s = refl
+
+to_none : {S : Type 0} (r : Result Cell Throw) (s : State S) → s.flow.is_compiling ≡ false
+    → work_grows (to_act r (front_of s)) ≡ false
+to_none r s e =
+    other_none s.flow.is_compiling _ (stored_act r s.board.stack (front_of s)) e (stored_none r s.board.stack s)
+
+only_none : {S : Type 0} (a : TextAct) (s : State S) → s.flow.is_compiling ≡ false
+    → text_grows (only_compiling (front_of s) a) s.words ≡ false
+only_none a s e =
+    other_act_none s.flow.is_compiling a (Acts (act.Does (Fails compile_only))) s.words e refl
+
+found_grows : (b c : Bool) (p q : WordAct) → work_grows (if b && c then p else q) ≡ true
+    → (work_grows q ≡ true) ⊎ (b ≡ true)
+found_grows true c p q e = inr refl
+found_grows false c p q e = inl e
+
 pub memory_is_asked : {S : Type 0} → MemoryIsAsked S
-unfolding typed_word
+unfolding typed_word text_act
 memory_is_asked = record {
   end0 = λ k here s. still_none token.End here s refl;
   end1 = λ k here s. still_none token.End here s refl;
@@ -224,4 +309,18 @@ memory_is_asked = record {
   held = λ w k a here s h e. held_none w k a here s h e;
   bare = λ w k here s e grows. bare w k here s e grows;
   item = λ i s e. runs i s e;
+  text_end = λ s. refl;
+  comment = λ s. refl;
+  tick = λ r s. pushed_none r s.board.stack;
+  char = λ r s. char_none s.flow.is_compiling r s.board.stack;
+  device = λ p s. selecting_none _ s.words;
+  number = λ r s e. literal_none r s e;
+  plain = λ p s e. string_none _ s e;
+  quoted = λ at s e. string_none _ s e;
+  store = λ r s e. to_none r s e;
+  compiling = λ w s e. only_none _ s e;
+  bracket_tick = λ r s e. only_none _ s e;
+  bracket_char = λ r s e. only_none _ s e;
+  found = λ xt i s e. found_grows s.flow.is_compiling (not i) _ _ e;
+  defining = λ d p s e. e;
 }

@@ -1,6 +1,6 @@
 -- What words that define, and stores into slots, leave of the data space: a sound one, with the same images and
 -- properties.
-use Rattle.std.proofs.Common.{◌≡◌, ℕ, ◌+◌, true, false, Option, Some, None, Result, Ok, Err, refl}
+use Rattle.std.proofs.Common.{◌≡◌, ℕ, ◌+◌, true, false, List, Option, Some, None, Result, Ok, Err, refl}
 use Rattle.std.proofs.Common.{subst, arith, nat_le, nat_lt}
 use Rattle.std.proofs.lemmas.Bool.Decides.{nat_tests}
 use Rattle.of_cells.specs.declared.cells.Cell.{Cell}
@@ -21,6 +21,7 @@ use Rattle.of_ihandles.specs.Table.{InstanceTable}
 use Rattle.of_board.specs.declared.board.Board.{Board}
 use Rattle.of_compile.specs.declared.words.Pending.{Pending}
 use Rattle.of_compile.specs.SlotWords.{SlotMade, SlotMaking, rounded, rounded_to, slot_given, slot_word_made}
+use Rattle.of_compile.specs.SlotWords.{slot_word_named}
 use Rattle.of_own.specs.Slots.{slot_span}
 use Rattle.of_own.specs.Stores.{slot_written, span_written}
 use Rattle.of_eval_laws.proofs.FramedSpace.{Laws, Left, by_write, by_zeros, same, then_kept}
@@ -60,6 +61,16 @@ slot_word_kept l k None home x r g sound e = same g.memory sound
 slot_word_kept l k (Some q) home None r g sound e = same g.memory sound
 slot_word_kept l k (Some q) home (Some x) (Err fault) g sound e = same g.memory sound
 slot_word_kept l k (Some q) home (Some x) (Ok r) g sound e =
+    let given = slot_space l home (Some x) g r sound e in
+    then_kept g.memory r.1.1 (rounded r.1.1) given (rounded_kept l r.1.1 given.sound)
+
+-- a word that a text names
+pub slot_named_kept : (l : Laws) (k : Slot) (name : List ℕ) (home : Option Phandle) (x : Option SlotMade)
+    (r : Result (ℕ × (InstanceTable × DataSpace)) InstanceFault) (g : SlotMaking) → IsSound g.memory
+    → slot_given home x g ≡ r → Keeps g.memory (slot_word_named k name x r g).memory
+slot_named_kept l k name home None r g sound e = same g.memory sound
+slot_named_kept l k name home (Some x) (Err fault) g sound e = same g.memory sound
+slot_named_kept l k name home (Some x) (Ok r) g sound e =
     let given = slot_space l home (Some x) g r sound e in
     then_kept g.memory r.1.1 (rounded r.1.1) given (rounded_kept l r.1.1 given.sound)
 

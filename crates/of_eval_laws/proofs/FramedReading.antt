@@ -22,7 +22,7 @@ use Rattle.of_memory.specs.Images.{latest_image}
 use Rattle.of_nodes.specs.declared.phandles.Phandle.{Phandle}
 use Rattle.of_dict.specs.Words.{xt_of}
 use Rattle.of_compile.specs.declared.defining.DefiningWord.{DefiningWord}
-use Rattle.of_compile.specs.Defining.{Making, defining_entry, making, opens}
+use Rattle.of_compile.specs.Defining.{Making, defining_entry, making, naming_entry, opens}
 use Rattle.of_flow.specs.declared.control_state.Flow.{Flow}
 use Rattle.of_board.specs.declared.board.Board.{Board}
 use Rattle.of_asking.specs.Devices.{devices_entry}
@@ -34,6 +34,7 @@ use Rattle.of_eval.specs.Defining.{by_making, closed_if, define_entry, definitio
 use Rattle.of_eval.specs.Defining.{semicolon_entry, string_kept, string_put, string_refused, word_defined}
 use Rattle.of_eval.specs.Doing.{acted, appended, executed, gone, input_at, worked}
 use Rattle.of_eval.specs.Doing as doing
+use Rattle.of_eval.specs.Naming.{naming_done, word_named, word_named_as}
 use Rattle.of_eval.specs.Executing.{entered, furnished, guarded, plan_in}
 use Rattle.of_flow.specs.Returns.{found}
 use Rattle.of_eval.specs.Items.{item_act}
@@ -44,18 +45,24 @@ use Rattle.of_steps.specs.Steps.{item_done}
 use Rattle.of_eval.specs.Tokens.{act_of, spot_in}
 use Rattle.of_flow.specs.Tokens.{typed_of}
 use Rattle.of_words.specs.Words.{word_entry}
-use Rattle.of_eval_laws.specs.Frames.{KeepsReading, KeepsSize, ends_image, size_aside, size_in}
+use Rattle.of_interpret.specs.Reading.{read_from, text_due, word_at}
+use Rattle.of_interpret.specs.Strings.{all_appended, by_spelling, by_string, string_said, string_spelt}
+use Rattle.of_interpret.specs.TextActs.{Acts, AppendsAll, Interprets, Names, Says, Selects, Spells, TextAct, text_acted}
+use Rattle.of_interpret.specs.TextWords.{text_act}
+use Rattle.of_eval_laws.specs.Frames.{KeepsReading, KeepsSize, ends_image, is_text_end, size_aside, size_in}
 use Rattle.of_eval_laws.specs.Listed.{plan_of_item}
 use Rattle.of_eval_laws.proofs.MethodLemmas.{known_flow}
+use Rattle.of_eval_laws.proofs.TextFaults.{word_said}
 use Rattle.of_eval_laws.proofs.Walk.{IsAct, Turns, item_acts, typed_acts}
 use Rattle.of_eval_laws.proofs.WalkFree.{anywhere, free, free_turns}
+use Rattle.of_eval_laws.proofs.WalkTexts.{AnyBytes, IsTextAct, text_acts}
 use Rattle.of_eval_laws.proofs.WalkTyped.{typed_may}
 use Rattle.of_eval_laws.proofs.WalkWords.{all_executed}
 use Rattle.of_compile.specs.SlotWords.{SlotMaking, awaited}
 use Rattle.of_dict.specs.declared.word.Slot.{Slot}
 use Rattle.of_eval.specs.Defining.{by_slot_making, word_made_as}
 
--- what is read stays, or is set aside for an image that begins
+-- what is read stays, or is set aside for an image or a text that begins
 abbrev Reads : {S : Type 0} → Reading → Outcome S → Type 0
 Reads r o = KeepsReading r o.state.flow
 
@@ -166,6 +173,7 @@ worked_reads c (act.Prints text) s = inl refl
 worked_reads c (act.Appends e cells) s =
     appended_reads (c.element e s.code).code (c.element e s.code).ended cells s
 worked_reads c (act.Loads size m cells) s = inr refl
+worked_reads c (act.Reads text cells) s = inr refl
 worked_reads c (act.Takes cells a) s = worked_reads c a (with_stack cells s)
 worked_reads c (act.Guards cells a) s = worked_reads c a (guarded cells s)
 worked_reads c (act.Enters cells d ih a) s = worked_reads c a (entered cells d ih s)
@@ -181,6 +189,61 @@ acted_reads c (act.Copies a n) s h = kept_reads s.flow.reading _ (append_copied 
 acted_reads c (act.Makes d) s h = define_reads s.flow.reading c d s refl
 acted_reads c act.Closes s h = semicolon_reads s.flow.reading c s.words.defining s refl
 acted_reads c act.Ends s h = absurd h
+
+-- ---- words of a text
+
+named_reads : {S : Type 0} (r : Reading) (c : Calls S) (d : DefiningWord) (name : List ℕ) (o : Option Slot)
+    (s : State S) → s.flow.reading ≡ r → Reads r (word_named_as c d name o s)
+named_reads r c d name None s h =
+    making_reads r d (naming_entry d name (c.ends_at s.code) (making s.words s.board.stack s.board.memory)) s h
+named_reads r c d name (Some k) s h = slot_reads r _ s h
+
+naming_reads : {S : Type 0} (c : Calls S) (d : DefiningWord) (name : List ℕ) (s : State S)
+    → Reads s.flow.reading (naming_done c d name s)
+naming_reads c d name s =
+    known_reads s.flow.reading s.board.active.«package» (known_at_once d s.words.dictionary) (word_named c d name s)
+    (named_reads s.flow.reading c d name (awaited d s.words) s refl)
+
+said_reads : {S : Type 0} (r : Result (ℕ × Board) Throw) (s : State S) → Reads s.flow.reading (by_string r s)
+said_reads (Ok x) s = inl refl
+said_reads (Err t) s = inl refl
+
+spelt_reads : {S : Type 0} (r : Result (S × DataSpace) Throw) (s : State S) → Reads s.flow.reading (by_spelling r s)
+spelt_reads (Ok x) s = inl refl
+spelt_reads (Err t) s = inl refl
+
+spoken_reads : {S : Type 0} (c : Calls S) (a : TextAct) (s : State S)
+    → IsTextAct (free S) (reading_turns S ⊥) AnyBytes s a → Reads s.flow.reading (text_acted c a s)
+unfolding text_acted
+spoken_reads c (Acts a) s h = acted_reads c a s h
+spoken_reads c (AppendsAll es cells) s h =
+    let a = all_appended c es s.code in appended_reads a.code a.ended cells s
+spoken_reads c (Names d name) s h = naming_reads c d name s
+spoken_reads c (Says bytes) s h = said_reads (string_said bytes s.flow.strings s.board) s
+spoken_reads c (Spells bytes es) s h = spelt_reads (string_spelt c bytes es s.board.memory s.code) s
+spoken_reads c Interprets s h = inl refl
+spoken_reads c (Selects node) s h = inl refl
+
+pub text_reads_on : {S : Type 0} (c : Calls S) (position : ℕ) (s : State S)
+    → is_text_end (word_at position s).word ≡ false
+    → KeepsReading (record s.flow.reading { input = input.Text (word_at position s).next })
+    (text_due c position s).state.flow
+text_reads_on {S} c position s goes_on =
+    let x = word_at position s in
+    let on = read_from x.next s in
+    spoken_reads c (text_act x.word (front_of on)) on
+    (text_acts (free S) (reading_turns S ⊥) AnyBytes x.word on tt
+    (record {
+      said = word_said position s;
+      ends = λ e. absurd (false≢true (sym goes_on ∙ e));
+      makes = tt;
+      closes = λ e. tt;
+      appends = λ e. tt;
+      prints = tt;
+      executes = all_executed (free S) tt _ on tt tt (λ y e. tt);
+      strings = λ n. tt;
+      quotes = λ at. tt;
+    }))
 
 -- ---- items
 

@@ -157,6 +157,7 @@ worked_leaves d c (act.Appends e cells) s h =
     stays d s (appended (c.element e s.code) cells s).state
     (appended_flow (c.element e s.code).code (c.element e s.code).ended cells s)
 worked_leaves d c (act.Loads size m cells) s h = ([], tt, inr (inr (inr (inl (refl, refl, tt)))))
+worked_leaves d c (act.Reads text cells) s h = ([], tt, inr (inr (inr (inl (refl, refl, tt)))))
 worked_leaves d c (act.Takes cells a) s h = worked_leaves d c a (with_stack cells s) h
 worked_leaves d c (act.Guards cells a) s h =
     guards d cells s (worked c a (guarded cells s)).state (worked_leaves d c a (guarded cells s) h)

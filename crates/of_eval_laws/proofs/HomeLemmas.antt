@@ -6,9 +6,10 @@ use Rattle.of_nodes.specs.declared.phandles.Phandle.{Phandle}
 use Rattle.of_nodes.specs.declared.tree.Node.{Node}
 use Rattle.of_dict.specs.Words.{name_in, word_at, xt_of}
 use Rattle.of_compile.specs.declared.defining.DefiningWord.TheVariants as defining
-use Rattle.of_compile.specs.Defining.{Making, defining_entry, making}
+use Rattle.of_compile.specs.Defining.{Making, defining_entry, making, naming_entry}
 use Rattle.of_eval.specs.Defining.{by_making, closed_if, semicolon_entry, word_made_as}
 use Rattle.of_eval.specs.Methods.{as_method, known, known_if, method_made, xt_cell}
+use Rattle.of_eval.specs.Naming.{word_named_as}
 use Rattle.of_state.specs.State.{Calls, State}
 use Rattle.of_eval_laws.specs.Homes.{NamesStayHome, with_package}
 
@@ -24,6 +25,14 @@ word_home true c s e =
     made_home (defining_entry defining.Colon (c.ends_at s.code) (making s.words s.board.stack s.board.memory)) s e
 word_home false c s e =
     made_home (defining_entry defining.Colon (c.ends_at s.code) (making s.words s.board.stack s.board.memory)) s e
+
+named_home : {S : Type 0} (b : Bool) (c : Calls S) (name : List ℕ) (s : State S)
+    → (word_named_as c defining.Colon name (if b then None else None) s).ended ≡ Ok tt
+    → (word_named_as c defining.Colon name (if b then None else None) s).state.flow.home ≡ s.board.active.«package»
+named_home true c name s e =
+    made_home (naming_entry defining.Colon name (c.ends_at s.code) (making s.words s.board.stack s.board.memory)) s e
+named_home false c name s e =
+    made_home (naming_entry defining.Colon name (c.ends_at s.code) (making s.words s.board.stack s.board.memory)) s e
 
 -- two states with the same words and nodes have the same when a word becomes a method
 method_same : {S : Type 0} (o : Option (List Node)) (n : ℕ) (other : Option Phandle) (s : State S)
@@ -58,6 +67,7 @@ ends_same c (Some n) other s = refl
 pub names_stay_home : {S : Type 0} → NamesStayHome S
 names_stay_home = record {
   kept = λ c s e. word_home s.words.waiting c s e;
+  kept_named = λ c name s e. named_home s.words.waiting c name s e;
   anywhere = λ c o other s.
       let same = semicolon_same c o other s in (
         ends_same c o other s,

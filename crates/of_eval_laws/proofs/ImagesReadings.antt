@@ -10,7 +10,7 @@ use Rattle.of_nodes.specs.declared.phandles.Phandle.{Phandle}
 use Rattle.of_nodes.specs.declared.tree.Node.{Node}
 use Rattle.of_nodes.specs.Nodes.{first_tree}
 use Rattle.of_board.specs.declared.board.Board.{Board}
-use Rattle.of_state.specs.Loading.{begun, first_state, image_begun, made_or_none}
+use Rattle.of_state.specs.Loading.{begun, first_state, image_begun, line_begun, made_or_none}
 use Rattle.of_eval_laws.proofs.Begun.{Opened, begun_is, image_pushes, opened_kept}
 use Rattle.of_eval_laws.proofs.FramedSpace.{Laws}
 use Rattle.of_state.specs.Settling.{settled, thrown_in}
@@ -23,7 +23,7 @@ use Rattle.of_eval_laws.specs.Throws.{image_more}
 use Rattle.of_eval_laws.proofs.FramedWriting.{left_stands}
 use Rattle.of_eval_laws.proofs.ReadingsActs.{due_reads}
 use Rattle.of_eval_laws.proofs.ReadingsEnds.{Counted, Reads, none_left, none_more, settled_reads}
-use Rattle.of_eval_laws.proofs.SoundSteps.{step_sound, steps_keep}
+use Rattle.of_eval_laws.proofs.SoundSteps.{step_has, steps_keep}
 
 -- ---- at first
 
@@ -60,10 +60,21 @@ begun_reads : {S : Type 0} (l : Laws) (image : List ℕ) (node : Phandle) (s : S
 begun_reads l image node s sound h stopped =
     begun_is (λ x. Reads x) image node s h
     (λ x e fits.
-    let kept = opened_kept l s.board node x sound e in
+    let kept = opened_kept l s.board node x sound.0 e in
     more_reads image node x s h stopped
     (ap length (image_pushes l s.board.memory x.1.1 image kept fits).images
     ∙ ap (λ (ends : List ℕ). suc (length ends)) kept.images.0))
+
+-- ---- a line
+
+line_reads : {S : Type 0} (text : List ℕ) (s : State S) → Reads s → s.flow.is_running ≡ false
+    → Reads (line_begun text s)
+line_reads text s h stopped =
+    let i = s.flow.reading.input in
+    let none = h.1 stopped in
+    let shut = no_image i (kept_readings s.flow.items) none in
+    let one = none_more i 0 shut in
+    ((h.0.0 ∙ none ∙ sym one, (inr one, shut)), (λ e. absurd cc))
 
 -- ---- steps
 
@@ -85,7 +96,7 @@ IsLater s = HasSoundSpace s × Reads s
 steps_read : {S : Type 0} (l : Laws) (c : Calls S) (n : ℕ) (s after : State S) → HasSoundSpace s → Reads s
     → steps_from c n s ≡ Some after → Reads after
 steps_read l c n s after sound h e =
-    (steps_keep (λ x. IsLater x) c (λ x k. ((step_sound l c x k.0).sound, step_reads l c x k.0 k.1)) n s after
+    (steps_keep (λ x. IsLater x) c (λ x k. (step_has l c x k.0, step_reads l c x k.0 k.1)) n s after
     (sound, h) e).1
 
 -- ---- the law
@@ -99,7 +110,7 @@ heard s h = ((h.as_many, h.inside), h.idle)
 word_reads : {S : Type 0} (l : Laws) (w : Word) (after : Board) (s : State S) → HasSoundSpace s → Reads s
     → word_entry w s.board ≡ Ok after → Reads (with_board after s)
 word_reads l w after s sound h e =
-    let kept = left_stands l w s.board after sound e in
+    let kept = left_stands l w s.board after sound.0 e in
     (subst (λ x. Counted x s.flow.reading.input s.flow.items) (sym kept.0.0) h.0, h.1)
 
 pub images_are_readings : Laws → (S : Type 0) → ImagesAreReadings S
@@ -107,6 +118,7 @@ images_are_readings l S = record {
   first = λ code. told (first_state code) (first_reads l code);
   begun = λ image node s sound h stopped.
       told (begun image node s) (begun_reads l image node s sound (heard s h) stopped);
+  line = λ text s h stopped. told (line_begun text s) (line_reads text s (heard s h) stopped);
   words = λ w after s sound h e. told (with_board after s) (word_reads l w after s sound (heard s h) e);
   done = λ c s sound h run.
       told (due c s.flow.next s).state (due_reads l c s.flow.next s sound ((heard s h).0, run));

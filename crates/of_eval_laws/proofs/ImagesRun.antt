@@ -22,7 +22,7 @@ use Rattle.of_eval_laws.proofs.FramedSpace.{Laws, Stands, then_stands}
 use Rattle.of_eval_laws.proofs.Begun.{Opened, image_pushes, opened_kept}
 use Rattle.of_eval_laws.proofs.RunningBytes.{all_run}
 use Rattle.of_eval_laws.proofs.RunningEnds.{end_leaves, left_ends, settles_ends, then_end, worked_off}
-use Rattle.of_eval_laws.proofs.SoundSteps.{kept_sound, step_sound, steps_keep}
+use Rattle.of_eval_laws.proofs.SoundSteps.{kept_sound, step_has, steps_keep}
 use Rattle.of_eval_laws.proofs.RunningTokens.{due_leaves}
 use Rattle.of_eval_laws.proofs.RunningWords.{Kept, KeptBy}
 
@@ -93,17 +93,17 @@ either : {S : Type 0} (P : DataSpace → Type 0) (b : Bool) (x y : State S) → 
 either P true x y hx hy = hx
 either P false x y hx hy = hy
 
-step_leaves : {S : Type 0} (l : Laws) (c : Calls S) (s : State S) → IsSound s.board.memory
+step_leaves : {S : Type 0} (l : Laws) (c : Calls S) (s : State S) → HasSoundSpace s
     → StepLeaves s.board.memory (stepped c s).board.memory
 unfolding stepped
 step_leaves l c s sound =
     let o = due c s.flow.next s in
     either (λ x. StepLeaves s.board.memory x) s.flow.is_running (settled_of c o) s
-    (settles l (is_at_end s.flow.next s) c s.board o.ended o.state sound
+    (settles l (is_at_end s.flow.next s) c s.board o.ended o.state sound.0
     (due_leaves l c s.flow.next s sound))
     (inr (inl refl))
 
-step_goes_on : {S : Type 0} (l : Laws) (c : Calls S) (s : State S) → IsSound s.board.memory
+step_goes_on : {S : Type 0} (l : Laws) (c : Calls S) (s : State S) → HasSoundSpace s
     → is_at_end s.flow.next s ≡ false
     → (let o = due c s.flow.next s in
     (o.ended ≡ Ok tt → throws_late o.state.flow.items o.state.board.stack ≡ false
@@ -112,7 +112,7 @@ unfolding stepped
 step_goes_on l c s sound inside done late =
     let o = due c s.flow.next s in
     either (λ x. GoOn s.board.memory x) s.flow.is_running (settled_of c o) s
-    (nothing_ends l c s.board o.ended o.state sound done late
+    (nothing_ends l c s.board o.ended o.state sound.0 done late
     (subst (λ b. KeptBy b s.board o.state.board o.ended) inside (due_leaves l c s.flow.next s sound)))
     (inl refl)
 
@@ -140,7 +140,7 @@ steps_run : {S : Type 0} (l : Laws) (c : Calls S) (n : ℕ) (s after : State S) 
 steps_run l c n s after sound e =
     (steps_keep (λ x. IsLater s.board.memory x) c
     (λ x h. (
-      (step_sound l c x h.0).sound,
+      step_has l c x h.0,
       run_then s.board.memory x.board.memory (stepped c x).board.memory h.1 (step_leaves l c x h.0),
     ))
     n s after (sound, (0, [], refl)) e).1
@@ -189,7 +189,7 @@ images_run l S = record {
   given_back = λ now items b sound. left_ends l now items b sound;
   done = λ c s sound.
       let o = due c s.flow.next s in
-      due_left (is_at_end s.flow.next s) s.board o.state.board o.ended sound.images
+      due_left (is_at_end s.flow.next s) s.board o.state.board o.ended sound.0.images
       (due_leaves l c s.flow.next s sound);
   settled = λ c items thrown s sound. end_leaves l c items thrown s sound;
   go_on = λ c s sound inside done late. step_goes_on l c s sound inside done late;

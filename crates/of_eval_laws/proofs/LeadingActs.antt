@@ -194,6 +194,7 @@ module _ (image : List ℕ) (outer : Reading) where
         Aims = λ s n. (code ≡ true) × Rests code s;
         Known = λ s w. w.defining ≡ s.words.defining;
         Loads = λ s m. s.words.defining ≡ None;
+        Reads = λ s text. s.words.defining ≡ None;
         aims = λ n s a. tt;
         stores = λ xt x s p e. store_open xt s.words s.board.stack x e;
         waits = λ s p. refl;
@@ -201,6 +202,7 @@ module _ (image : List ℕ) (outer : Reading) where
         sets = λ x s p e. set_open s.words s.board.stack x e;
         announces = λ k name w s p e. number_open k name s.words w e;
         loads = λ a n spread x s p shut e. shut_by s.words.defining shut;
+        reads = λ r a n text s p shut e. shut_by s.words.defining shut;
       }
 
   pub top_exit : (now : Reading) (code : Bool) (due : Option Continuation) (l : LoopParameters) (r : List ReturnItem)
@@ -322,7 +324,7 @@ module _ (image : List ℕ) (outer : Reading) where
   asking_leads (Gives r) s h = board_lead r s h
   asking_leads (Asks q) s h = h
 
-  appended_leads : {S : Type 0} (code : S) (e : Result (Unit {0}) Throw) (cells : List Cell) (s : State S)
+  pub appended_leads : {S : Type 0} (code : S) (e : Result (Unit {0}) Throw) (cells : List Cell) (s : State S)
       → Leads image outer s → Leads image outer (appended (record { code = code; ended = e }) cells s).state
   appended_leads code (Ok x) cells s h = h
   appended_leads code (Err t) cells s h = h
@@ -344,6 +346,8 @@ module _ (image : List ℕ) (outer : Reading) where
   worked_leads code c (act.Appends e cells) s h p =
       appended_leads (c.element e s.code).code (c.element e s.code).ended cells s p.0
   worked_leads code c (act.Loads size m cells) s h p =
+      (((tt, none_open s h), (refl, inr (p.0.0.0, refl, (refl, p.0.0.1)))), (λ o. h))
+  worked_leads code c (act.Reads text cells) s h p =
       (((tt, none_open s h), (refl, inr (p.0.0.0, refl, (refl, p.0.0.1)))), (λ o. h))
   worked_leads code c (act.Takes cells a) s h p = worked_leads code c a (with_stack cells s) h p
   worked_leads code c (act.Guards cells a) s h p =

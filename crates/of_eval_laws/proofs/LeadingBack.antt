@@ -1,4 +1,4 @@
--- The law `stack_leads_back`: the end of an image that runs inside the outermost leads back, and leaves no definition
+-- The law `stack_leads_back`: the end of what is read inside the outermost image leads back, and leaves no definition
 -- open.
 use Rattle.std.proofs.Common.{◌≡◌, inl, inr, ℕ, Bool, true, false, List, [], ◌∷◌, Option, Some, None}
 use Rattle.std.proofs.Common.{is_some, refl, sym, ap, ◌∙◌, subst, if◌then◌else◌}
@@ -18,15 +18,17 @@ use Rattle.of_dict.specs.Words.{xt_of}
 use Rattle.of_flow.specs.declared.control_state.Flow.{Flow}
 use Rattle.of_state.specs.State.{Calls, State, done, failed, given_up}
 use Rattle.of_state.specs.Settling.{ended, going_back, is_line, is_same, or_nothing, reading_on, source_ended}
-use Rattle.of_eval_laws.specs.Returning.{IsDue, IsImage, IsRead, Leads, LeadsBack, is_code, is_outer, is_return_top}
-use Rattle.of_eval_laws.specs.Returning.{reads_nothing}
+use Rattle.of_state.specs.Settling.{was_first}
+use Rattle.of_state.specs.Settling as settling
+use Rattle.of_eval_laws.specs.Returning.{IsDue, IsRead, Leads, LeadsBack, is_code, is_outer, is_outermost}
+use Rattle.of_eval_laws.specs.Returning.{is_return_top, reads_nothing}
 use Rattle.of_eval_laws.proofs.LeadingEnds.{due_too, given_flow, given_shut}
 
 module _ (image : List ℕ) (outer : Reading) where
   abbrev Back : Reading → Bool → Option Continuation → List ReturnItem → Type 0
   Back = LeadsBack image outer
 
-  -- what an image that runs inside stands on
+  -- what an image or a text that is read inside stands on
   record Below (r : List ReturnItem) : Type 0 where
     pub before : Reading
     pub to : Continuation
@@ -78,7 +80,7 @@ module _ (image : List ℕ) (outer : Reading) where
   below now (Source s ∷ r) (h, inr i) e = on_return s r i.0 i.1 i.2
   below now (Caller d ∷ r) h e = absurd (no (sym h.1))
 
-  -- an image that runs inside is read
+  -- an image or a text is read inside
   pub record InImage {S : Type 0} (s : State S) : Type 0 where
     pub read : IsRead s.flow.reading
     pub next : s.flow.next ≡ continuation.Source
@@ -120,7 +122,7 @@ module _ (image : List ℕ) (outer : Reading) where
       ) in
       (d, (λ o. given_shut image outer c s.words.defining s refl))
 
-  -- `end0` and `end1`
+  -- `end0` and `end1`, and the end of a text
   ended_by : {S : Type 0} (c : Calls S) (s : State S) (o : Option ℕ) (at : Option Cell) (line : Bool)
       → s.words.defining ≡ o → at ≡ None → line ≡ false → InImage s
       → Leads image outer
@@ -132,13 +134,22 @@ module _ (image : List ℕ) (outer : Reading) where
   ended_by c s (Some n) None true e f g h = absurd cc
   ended_by c s (Some n) (Some x) line e f g h = absurd cc
 
-  -- an image is no line
-  image_line : (i : Input) (items : List ReturnItem) → IsImage i → is_line i items ≡ false
-  image_line input.Nothing items h = absurd h
-  image_line (input.Text n) items h = absurd h
-  image_line (input.Image size n) items h = refl
+  same_nothing : (i : Input) → settling.reads_nothing i ≡ reads_nothing i
+  same_nothing input.Nothing = refl
+  same_nothing (input.Text n) = refl
+  same_nothing (input.Image size n) = refl
+
+  same_first : (o : Option Reading) → was_first o ≡ is_outermost o
+  same_first None = refl
+  same_first (Some r) = same_nothing r.input
+
+  -- what is read inside the outermost image is no line
+  no_line : (i : Input) (items : List ReturnItem) → is_outer items ≡ false → is_line i items ≡ false
+  no_line input.Nothing items h = refl
+  no_line (input.Text n) items h = same_first (latest_source items) ∙ h
+  no_line (input.Image size n) items h = refl
 
   pub ended_due : {S : Type 0} (c : Calls S) (s : State S) → InImage s → Leads image outer (ended c s).state
   ended_due c s h =
       ended_by c s s.words.defining s.flow.reading.opened (is_line s.flow.reading.input s.flow.items) refl h.read.1
-      (image_line s.flow.reading.input s.flow.items h.read.0) h
+      (no_line s.flow.reading.input s.flow.items h.inner) h

@@ -25,14 +25,15 @@ use Rattle.of_memory.specs.Images.{latest_image}
 use Rattle.of_nodes.specs.declared.phandles.Phandle.{Phandle}
 use Rattle.of_dict.specs.Words.{xt_of}
 use Rattle.of_compile.specs.declared.defining.DefiningWord.{DefiningWord}
-use Rattle.of_compile.specs.Defining.{Making, defining_entry, making, opens}
+use Rattle.of_compile.specs.Defining.{Making, defining_entry, making, naming_entry, opens}
 use Rattle.of_flow.specs.declared.control_state.Flow.{Flow}
 use Rattle.of_eval.specs.Acts.{Act, Move, front_of}
 use Rattle.of_eval.specs.Acts as act
 use Rattle.of_eval.specs.Defining.{by_making, closed_if, define_entry, definition_ended, known_at_once, opened}
 use Rattle.of_eval.specs.Defining.{semicolon_entry, string_kept, string_put, string_refused, word_defined}
 use Rattle.of_eval.specs.Defining.{by_slot_making, word_made_as}
-use Rattle.of_eval.specs.Doing.{acted, executed, input_at, moved}
+use Rattle.of_eval.specs.Doing.{acted, appended, executed, input_at, moved}
+use Rattle.of_eval.specs.Naming.{naming_done, word_named, word_named_as}
 use Rattle.of_eval.specs.Executing.{execution, plan_in}
 use Rattle.of_eval.specs.Items.{item_act}
 use Rattle.of_cells.specs.declared.cells.Cell.{Cell}
@@ -41,20 +42,28 @@ use Rattle.of_state.specs.Loading.{image_begun}
 use Rattle.of_eval.specs.Methods.{then_known}
 use Rattle.of_state.specs.Settling.{settled, thrown_in}
 use Rattle.of_state.specs.State.{Answered, Calls, Outcome, State, by_code, with_next}
-use Rattle.of_eval.specs.Reading.{found_token, read_on, token_due}
-use Rattle.of_steps.specs.Steps.{due, item_done, item_due, settled_of, stepped}
+use Rattle.of_eval.specs.Reading.{found_token, read_on}
+use Rattle.of_steps.specs.Steps.{due, item_done, item_due, reading_due, settled_of, stepped}
+use Rattle.of_board.specs.declared.board.Board.{Board}
+use Rattle.of_text.specs.declared.words.Found.{Found}
+use Rattle.of_interpret.specs.Reading.{read_from, word_at, word_done}
+use Rattle.of_interpret.specs.Strings.{all_appended, by_spelling, by_string, string_said, string_spelt}
+use Rattle.of_interpret.specs.TextActs.{Acts, AppendsAll, Interprets, Names, Says, Selects, Spells, TextAct, text_acted}
+use Rattle.of_interpret.specs.TextWords.{text_act}
 use Rattle.of_eval.specs.Tokens.{act_of, spot_in}
 use Rattle.of_flow.specs.Tokens.{typed_of}
 use Rattle.of_eval_laws.specs.Listed.{plan_of_item}
-use Rattle.of_eval_laws.specs.Returning.{IsImage, IsRead, Leads, LeadsOn, StackLeadsBack, is_back}
+use Rattle.of_eval_laws.specs.Returning.{IsRead, IsSource, Leads, LeadsOn, StackLeadsBack, is_back}
 use Rattle.of_eval_laws.specs.Returning.{is_code, is_outer, is_read_on, reads_nothing}
 use Rattle.of_eval_laws.proofs.LeadingActs.{Back, BackAs, IsInner, Rests, Runs, leading, leading_turns, looped, no}
-use Rattle.of_eval_laws.proofs.LeadingActs.{turned, none_open, worked_leads}
+use Rattle.of_eval_laws.proofs.LeadingActs.{appended_leads, turned, none_open, worked_leads}
 use Rattle.of_eval_laws.proofs.LeadingBack.{InImage, ended_due}
 use Rattle.of_eval_laws.proofs.LeadingEnds.{IsSettled, due_too, settles}
 use Rattle.of_eval_laws.proofs.MethodLemmas.{known_flow}
+use Rattle.of_eval_laws.proofs.TextFaults.{IsSaid, word_said}
 use Rattle.of_eval_laws.proofs.ThrowsSettle.{throws_settle}
 use Rattle.of_eval_laws.proofs.Walk.{IsAct, IsPlace, item_acts, typed_acts}
+use Rattle.of_eval_laws.proofs.WalkTexts.{AnyBytes, IsTextAct, text_acts}
 use Rattle.of_eval_laws.proofs.WalkTyped.{typed_may}
 use Rattle.of_eval_laws.proofs.WalkWords.{IsMove, IsTurn, all_executed, execution_works}
 use Rattle.of_compile.specs.SlotWords.{SlotMaking, awaited}
@@ -118,6 +127,18 @@ ended_goes c (Some n) s =
 semicolon_goes : {S : Type 0} (c : Calls S) (o : Option ℕ) (s : State S) → GoesOn s (semicolon_entry c o s).state
 semicolon_goes c o s = known_goes s.flow.home o s (definition_ended c o s) (ended_goes c o s)
 
+named_goes : {S : Type 0} (c : Calls S) (d : DefiningWord) (name : List ℕ) (o : Option Slot) (s : State S)
+    → GoesOn s (word_named_as c d name o s).state
+named_goes c d name None s =
+    making_goes d (naming_entry d name (c.ends_at s.code) (making s.words s.board.stack s.board.memory)) s
+named_goes c d name (Some k) s = slot_goes _ s
+
+naming_goes : {S : Type 0} (c : Calls S) (d : DefiningWord) (name : List ℕ) (s : State S)
+    → GoesOn s (naming_done c d name s).state
+naming_goes c d name s =
+    known_goes s.board.active.«package» (known_at_once d s.words.dictionary) s (word_named c d name s)
+    (named_goes c d name (awaited d s.words) s)
+
 module _ (image : List ℕ) (outer : Reading) where
   -- ---- an image inside
 
@@ -134,10 +155,10 @@ module _ (image : List ℕ) (outer : Reading) where
   now_free now after code behind (Source s ∷ r) e (h, inr i) = (h, inr i)
   now_free now after code behind (Caller d ∷ r) e h = (h.0, h.1, now_free now after code behind r e h.2)
 
-  still_image : (n : ℕ) (i : Input) → IsImage i → IsImage (input_at n i)
-  still_image n (input.Image size p) h = h
-  still_image n (input.Text p) h = h
-  still_image n input.Nothing h = h
+  still_source : (n : ℕ) (i : Input) → IsSource i → IsSource (input_at n i)
+  still_source n (input.Image size p) h = h
+  still_source n (input.Text p) h = h
+  still_source n input.Nothing h = h
 
   -- control goes on as it did, inside the outermost image
   goes_on : {S : Type 0} (s u : State S) → Leads image outer s → is_outer s.flow.items ≡ false → GoesOn s u
@@ -216,7 +237,7 @@ module _ (image : List ℕ) (outer : Reading) where
   acted_leads code c (act.Does a) s h p r i = worked_leads image outer code c a s h p
   acted_leads code c (act.Goes cells move n) s h p r i =
       on_with s (acted c (act.Goes cells move n) s).state code p i h.0
-      (still_image n s.flow.reading.input p.0.0.0.0, p.0.0.0.1) refl (turn_leads code move s h.1 h.2 r)
+      (still_source n s.flow.reading.input p.0.0.0.0, p.0.0.0.1) refl (turn_leads code move s h.1 h.2 r)
   acted_leads code c (act.Copies a n) s h p r i = kept_leads _ (append_copied s.board.memory a n []) s p.0
   acted_leads code c (act.Makes d) s h p r i = goes_on s (define_entry c d s).state p.0 (i h) (define_goes c d s)
   acted_leads code c act.Closes s h p r i =
@@ -267,7 +288,7 @@ module _ (image : List ℕ) (outer : Reading) where
       item_leads c x.0 (with_next (continuation.Code x.1.cell) s) refl
       ((h.0.0, subst (λ b. Back image outer s.flow.reading b None s.flow.items) e h.0.1), h.1)
 
-  -- a state in an image inside
+  -- a state in an image or a text inside
   record Inner {S : Type 0} (s : State S) : Type 0 where
     pub read : IsRead s.flow.reading
     pub next : is_code s.flow.next ≡ false
@@ -317,12 +338,69 @@ module _ (image : List ℕ) (outer : Reading) where
       })))
       p.0 p.1 p.2
 
-  token_leads : {S : Type 0} (c : Calls S) (i : Input) (s : State S) → Inner s
-      → Leads image outer (token_due c i s).state
-  token_leads c (input.Image size position) s h =
+  -- ---- words of a text
+
+  all_lead : {S : Type 0} (a : Answered S) (cells : List Cell) (s : State S) → Leads image outer s
+      → Leads image outer (appended a cells s).state
+  all_lead a cells s h = appended_leads image outer a.code a.ended cells s h
+
+  said_leads : {S : Type 0} (r : Result (ℕ × Board) Throw) (s : State S) → Leads image outer s
+      → Leads image outer (by_string r s).state
+  said_leads (Ok x) s h = h
+  said_leads (Err t) s h = h
+
+  spelt_leads : {S : Type 0} (r : Result (S × DataSpace) Throw) (s : State S) → Leads image outer s
+      → Leads image outer (by_spelling r s).state
+  spelt_leads (Ok x) s h = h
+  spelt_leads (Err t) s h = h
+
+  text_leads : {S : Type 0} (c : Calls S) (a : TextAct) (s : State S)
+      → IsTextAct (leading image outer S false) (leading_turns image outer S false) AnyBytes s a
+      → Runs image outer false s → Rests image outer false s → IsInner image outer false s
+      → Leads image outer (text_acted c a s).state
+  unfolding text_acted
+  text_leads c (Acts a) s h p r i = acted_leads false c a s h p r i
+  text_leads c (AppendsAll es cells) s h p r i = all_lead (all_appended c es s.code) cells s p.0
+  text_leads c (Names d name) s h p r i = goes_on s (naming_done c d name s).state p.0 (i refl) (naming_goes c d name s)
+  text_leads c (Says bytes) s h p r i = said_leads (string_said bytes s.flow.strings s.board) s p.0
+  text_leads c (Spells bytes es) s h p r i = spelt_leads (string_spelt c bytes es s.board.memory s.code) s p.0
+  text_leads c Interprets s h p r i = p.0
+  text_leads c (Selects node) s h p r i = p.0
+
+  spoken_leads : {S : Type 0} (c : Calls S) (x : Found) (s : State S) → IsSaid x.word → Inner s
+      → Leads image outer (word_done c x s).state
+  spoken_leads {S} c x s said h =
+      let on = read_from x.next s in
+      let R = leading image outer S false in
+      let T = leading_turns image outer S false in
+      let inner : Inner on = record {
+        read = (tt, h.read.1);
+        next = h.next;
+        leads = now_free s.flow.reading on.flow.reading false None s.flow.items h.inner h.leads;
+        inner = h.inner;
+      } in
+      let p = inner_runs on inner in
+      text_leads c (text_act x.word (front_of on)) on
+      (text_acts R T AnyBytes x.word on p.0
+      (record {
+        said = said;
+        ends = λ e. refl;
+        makes = refl;
+        closes = λ e. refl;
+        appends = λ e. tt;
+        prints = tt;
+        executes = all_executed R tt _ on p.0 tt (λ y e. tt);
+        strings = λ n. tt;
+        quotes = λ at. tt;
+      }))
+      p.0 p.1 p.2
+
+  reading_leads : {S : Type 0} (c : Calls S) (i : Input) (s : State S) → s.flow.reading.input ≡ i → Inner s
+      → Leads image outer (reading_due c i s).state
+  reading_leads c (input.Image size position) s e h =
       found_leads c (token_from (latest_image s.board.memory) position size) size position s h
-  token_leads c (input.Text position) s h = (inner_runs s h).0.0
-  token_leads c input.Nothing s h = (inner_runs s h).0.0
+  reading_leads c (input.Text position) s e h = spoken_leads c (word_at position s) s (word_said position s) h
+  reading_leads c input.Nothing s e h = (inner_runs s h).0.0
 
   -- ---- a step
 
@@ -338,7 +416,7 @@ module _ (image : List ℕ) (outer : Reading) where
   due_leads : {S : Type 0} (c : Calls S) (to : Continuation) (s : State S) → s.flow.next ≡ to → is_back s ≡ false
       → LeadsOn image outer s → Leads image outer (due c to s).state
   due_leads c continuation.Source s e away h =
-      token_leads c s.flow.reading.input s
+      reading_leads c s.flow.reading.input s refl
       (record {
         read = h.0.0;
         next = ap is_code e;

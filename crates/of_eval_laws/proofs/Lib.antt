@@ -1,8 +1,10 @@
 -- WalkWords, Walk, WalkTyped, WalkFree: one walk of the tables of words, items and tokens, for what a law asks of an
 -- act, and the rules that ask nothing. Each law below that asks something has rules of its own, and a row for each act.
+-- WalkTexts: the walk of the table of texts. TextFaults, TextBytes, TextsKept: what the words of a text throw by what
+-- they parse, that their strings are of bytes, and that texts stay so.
 -- Squares, SquareEnds, Square: the law `steps_agree`, from what a part leaves up to a step.
--- Placed, PlacedEnds, PlacedRules, PlacedActs, PlacedSteps: the law `states_stay_placed`, from what stays placed up to
--- a step.
+-- Placed, PlacedEnds, PlacedRules, PlacedActs, PlacedTexts, PlacedSteps: the law `states_stay_placed`, from what stays
+-- placed up to a step.
 -- ListedLemmas: the law `words_throw_listed`.
 -- ListedFaults, ListedWords, Raised: the law `steps_throw_listed`, from one fault of several up to a step.
 -- Mismatch: the law `mismatch_is_no_body`.
@@ -35,6 +37,8 @@ pub mod WalkWords
 pub mod Walk
 pub mod WalkTyped
 pub mod WalkFree
+pub mod TextFaults
+pub mod WalkTexts
 pub mod Raised
 pub mod Squares
 pub mod SquareEnds
@@ -43,6 +47,7 @@ pub mod Placed
 pub mod PlacedEnds
 pub mod PlacedRules
 pub mod PlacedActs
+pub mod PlacedTexts
 pub mod PlacedSteps
 pub mod Mismatch
 pub mod GoingLemmas
@@ -55,6 +60,7 @@ pub mod FramedTurns
 pub mod FramedReading
 pub mod FramedStack
 pub mod Bytes
+pub mod TextBytes
 pub mod FramedSpace
 pub mod FramedMemory
 pub mod DefinedSpace
@@ -68,6 +74,7 @@ pub mod LeadingSteps
 pub mod Released
 pub mod RunningBytes
 pub mod Begun
+pub mod TextsKept
 pub mod RunningEnds
 pub mod RunningWords
 pub mod RunningTokens

@@ -25,12 +25,13 @@ use Rattle.of_dict.specs.declared.word.Slot.TheVariants as slot
 use Rattle.of_dict.specs.Words.{capacity, longest_name}
 use Rattle.of_compile.specs.declared.defining.DefiningWord.{DefiningWord}
 use Rattle.of_compile.specs.Defining.{Made, Making, defining_entry, defining_faults, has_no_bytes, made_by}
+use Rattle.of_compile.specs.Defining.{naming_entry}
 use Rattle.of_compile.specs.DictionaryWords.{behavior_entry, behavior_of, body_of, created_at, found_of}
 use Rattle.of_compile.specs.DictionaryWords.{from_body_entry, get_token_entry, kind_at, marked, replaced}
 use Rattle.of_compile.specs.DictionaryWords.{set_token_entry, store_entry, stored_kind, to_body_entry, token_given}
 use Rattle.of_compile.specs.DictionaryWords.{with_stored, xt_found}
 use Rattle.of_compile.specs.Words.{WordsState, is_own_code, is_word, name_fault, numbered}
-use Rattle.of_compile.specs.SlotWords.{SlotMaking, slot_entry, slot_given, slot_made}
+use Rattle.of_compile.specs.SlotWords.{SlotMaking, slot_entry, slot_given, slot_made, slot_naming_entry}
 use Rattle.of_dict.specs.declared.word.Slot.{Slot}
 use Rattle.of_nodes.specs.declared.phandles.Phandle.{Phandle}
 
@@ -261,6 +262,32 @@ slot_word_listed k home g =
     (counted_listed _ _ (fault_listed (is_none g.words.pending) compiler_nesting refl)
     (counted_listed _ _ (fault_listed (is_none x) stack_underflow refl)
     (counted_listed _ _ (fault_listed (is_none home) no_node refl)
+    (counted_listed _ _ (fault_listed (nat_le capacity (length g.words.dictionary)) dictionary_overflow refl)
+    (counted_listed _ _ (fault_listed (nat_le capacity (length g.instances.slots)) dictionary_overflow refl)
+    (counted_listed _ None (fault_listed (is_err (slot_given home x g)) dictionary_overflow refl) tt)))))))
+
+-- ---- words that a text names
+
+pub naming_listed : (d : DefiningWord) (name : List ℕ) (start : ℕ) (g : Making)
+    → ThrowsListed (naming_entry d name start g)
+unfolding is_listed listed_numbers
+naming_listed d name start g =
+    let x = made_by d start (aligned g.memory.here) g.stack in
+    unless_listed _ _ (counted_listed _ _ (fault_listed (is_some g.words.defining) compiler_nesting refl)
+    (counted_listed _ _ (fault_listed (is_none x) stack_underflow refl)
+    (counted_listed _ _ (name_listed (Some name))
+    (counted_listed _ _ (fault_listed (nat_le capacity (length g.words.dictionary)) dictionary_overflow refl)
+    (counted_listed _ None (fault_listed (has_no_bytes g.memory x) dictionary_overflow refl) tt)))))
+
+pub slot_naming_listed : (k : Slot) (name : List ℕ) (home : Option Phandle) (g : SlotMaking)
+    → ThrowsListed (slot_naming_entry k name home g)
+unfolding is_listed listed_numbers
+slot_naming_listed k name home g =
+    let x = slot_made k g.stack in
+    unless_listed _ _ (counted_listed _ _ (fault_listed (is_some g.words.defining) compiler_nesting refl)
+    (counted_listed _ _ (fault_listed (is_none x) stack_underflow refl)
+    (counted_listed _ _ (fault_listed (is_none home) no_node refl)
+    (counted_listed _ _ (name_listed (Some name))
     (counted_listed _ _ (fault_listed (nat_le capacity (length g.words.dictionary)) dictionary_overflow refl)
     (counted_listed _ _ (fault_listed (nat_le capacity (length g.instances.slots)) dictionary_overflow refl)
     (counted_listed _ None (fault_listed (is_err (slot_given home x g)) dictionary_overflow refl) tt)))))))

@@ -71,6 +71,7 @@ opening c act.Compiles q s e g = absurd cc
 opening c (act.Prints text) q s e g = absurd cc
 opening c (act.Appends x cells) q s e g = absurd cc
 opening c (act.Loads size m cells) q s e g = absurd cc
+opening c (act.Reads text cells) q s e g = absurd cc
 opening c (act.Takes cells a) q s e g = opening c a q (with_stack cells s) e g
 opening c (act.Guards cells a) q s e g = opening c a q (guarded cells s) e g
 opening c (act.Enters cells d ih a) q s e g = opening c a q (entered cells d ih s) e g

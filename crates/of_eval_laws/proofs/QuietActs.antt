@@ -1,5 +1,7 @@
 -- The law `questions_settle`: nothing asks but words over keys, devices and time.
-use Rattle.std.proofs.Common.{◌≡◌, ℕ, Bool, true, false, Option, Some, None, refl, ap, subst, if◌then◌else◌}
+use Rattle.std.proofs.Common.{◌≡◌, ◌&&◌, ℕ, Bool, true, false, Option, Some, None, refl, ap, subst, if◌then◌else◌}
+use Rattle.std.specs.Prelude.{not}
+use Rattle.of_cells.specs.declared.cells.Cell.{Cell}
 use Rattle.of_stacks.specs.declared.return_item.Continuation.{Continuation}
 use Rattle.of_stacks.specs.declared.return_item.Continuation.TheVariants as continuation
 use Rattle.of_stacks.specs.declared.return_item.Input.{Input}
@@ -37,15 +39,23 @@ use Rattle.of_eval.specs.Executing.{plan_in, returns_act, throws_act, written_ac
 use Rattle.of_eval.specs.Items.{item_act}
 use Rattle.of_state.specs.State.{Calls, Outcome, State, with_next, with_stack}
 use Rattle.of_eval.specs.Reading.{found_grows, found_token}
-use Rattle.of_steps.specs.Steps.{due, due_grows, item_done, item_due, item_grows}
+use Rattle.of_text.specs.declared.words.Found.{Found as FoundWord}
+use Rattle.of_text.specs.declared.words.TextWord.{TextWord}
+use Rattle.of_text.specs.declared.words.TextWord.TheVariants as text
+use Rattle.of_interpret.specs.Reading.{read_from, word_at, word_done, word_grows}
+use Rattle.of_interpret.specs.TextActs.{Acts, TextAct, text_acted, text_grows}
+use Rattle.of_interpret.specs.TextWords.{call_act, text_act}
+use Rattle.of_steps.specs.Steps.{due, due_grows, item_done, item_due, item_grows, reading_due, reading_grows}
 use Rattle.of_eval.specs.Reading.{read_on, token_done, token_due, token_grows}
 use Rattle.of_eval.specs.Tokens.{act_of, appending, calling, compiling_act, named, plain_act, spot_in, token_act}
-use Rattle.of_eval_laws.specs.Listed.{plan_of_item}
+use Rattle.of_eval_laws.specs.Listed.{plan_of_item, plan_said}
 use Rattle.of_eval_laws.specs.Questions.{Executes, is_asking, runs_asking}
 use Rattle.of_eval_laws.proofs.Walk.{IsAct, Turns, item_acts, plan_plain, typed_acts}
 use Rattle.of_eval_laws.proofs.WalkFree.{anywhere, free_turns, keeping}
 use Rattle.of_eval_laws.proofs.WalkWords.{IsWork, Rules, dictionary_works, own_works, returns_works, throws_work}
-use Rattle.of_eval_laws.proofs.AnsweredActs.{act_told, board_asks}
+use Rattle.of_eval_laws.proofs.AnsweredActs.{act_told, board_asks, text_told}
+use Rattle.of_eval_laws.proofs.TextFaults.{IsSaid, word_said}
+use Rattle.of_eval_laws.proofs.WalkTexts.{AnyBytes, IsTextAct, text_acts}
 
 -- ---- nothing else asks
 
@@ -58,6 +68,7 @@ quiet S = record (keeping S (λ s. Unit {0}) ((λ cells d ih s k p. (tt, tt, tt)
   works = λ r w. tt;
   opens = λ r s p e. tt;
   may_open = λ r. tt;
+  reads = λ r a n text s p shut e. tt;
 }
 
 abbrev quiet_turns : (S : Type 0) → Turns (quiet S)
@@ -78,6 +89,7 @@ work_quiet c act.Compiles s h = refl
 work_quiet c (act.Prints text) s h = refl
 work_quiet c (act.Appends x cells) s h = refl
 work_quiet c (act.Loads size m cells) s h = refl
+work_quiet c (act.Reads text cells) s h = refl
 work_quiet c (act.Takes cells a) s h = work_quiet c a (with_stack cells s) h
 work_quiet c (act.Guards cells a) s h = work_quiet c a (guarded cells s) h
 work_quiet c (act.Enters cells d ih a) s h = work_quiet c a (entered cells d ih s) h.1
@@ -196,9 +208,72 @@ input_found c (input.Image size position) q s e =
 input_found c (input.Text position) q s e = absurd cc
 input_found c input.Nothing q s e = absurd cc
 
+-- ---- words of a text
+
+-- a word of a text executes a word
+abbrev SaysToExecute : {S : Type 0} → TextAct → State S → Type 0
+SaysToExecute a s = (xt : ℕ) × (a ≡ Acts (act.Does (execution xt (front_of s))))
+
+text_quiet : {S : Type 0} (c : Calls S) (w : TextWord) (s : State S) → IsSaid w
+    → plan_said w s.flow.is_compiling (plan_in s) ≡ None → (text_acted c (text_act w (front_of s)) s).asks ≡ None
+text_quiet {S} c w s said e =
+    text_told c (text_act w (front_of s)) s
+    (λ a i.
+    act_quiet c a s
+    (subst (λ x. IsTextAct (quiet S) (quiet_turns S) AnyBytes s x) i
+    (text_acts (quiet S) (quiet_turns S) AnyBytes w s tt
+    (record {
+      said = said;
+      ends = λ z. tt;
+      makes = tt;
+      closes = λ z. tt;
+      appends = λ z. tt;
+      prints = tt;
+      executes = λ xt z. absurd (none_is _ _ e z);
+      strings = λ n. tt;
+      quotes = λ at. tt;
+    }))))
+
+-- while words are compiled, only an immediate one is executed
+spoken_executes : {S : Type 0} (c : Calls S) (later known : Bool) (xt : Cell) (q : Query) (s : State S)
+    → (let a = if later
+    then (if known then appending (element.Plain (called xt)) (front_of s) else act.Fails bad_handle)
+    else execution xt.0 (front_of s)
+    in (worked c a s).asks ≡ Some q → SaysToExecute (Acts (act.Does a)) s)
+unfolding worked
+spoken_executes c true true xt q s e = absurd cc
+spoken_executes c true false xt q s e = absurd cc
+spoken_executes c false known xt q s e = (xt.0, refl)
+
+text_executes : {S : Type 0} (c : Calls S) (w : TextWord) (q : Query) (s : State S) → IsSaid w
+    → (text_acted c (text_act w (front_of s)) s).asks ≡ Some q → SaysToExecute (text_act w (front_of s)) s
+unfolding text_acted text_act acted
+text_executes c (text.Found xt immediate) q s said e =
+    spoken_executes c (s.flow.is_compiling && not immediate) (is_word s.words.dictionary xt.0) xt q s e
+text_executes c w q s said e = absurd (none_is _ _ (text_quiet c w s said refl) e)
+
+found_text : {S : Type 0} (c : Calls S) (a : TextAct) (n s : State S) → SaysToExecute a n → n.board ≡ s.board
+    → n.reply ≡ s.reply → Found c (text_acted c a n) (text_grows a n.words) s
+unfolding text_acted acted
+found_text c a n s h e f = (h.0, n, e, f, ap (λ x. text_acted c x n) h.1, ap (λ x. text_grows x n.words) h.1)
+
+text_found : {S : Type 0} (c : Calls S) (x : FoundWord) (q : Query) (s : State S) → IsSaid x.word
+    → (word_done c x s).asks ≡ Some q → Found c (word_done c x s) (word_grows x s) s
+text_found c x q s said e =
+    let on = read_from x.next s in
+    found_text c (text_act x.word (front_of on)) on s (text_executes c x.word q on said e) refl refl
+
+reading_found : {S : Type 0} (c : Calls S) (i : Input) (q : Query) (s : State S) → (reading_due c i s).asks ≡ Some q
+    → Found c (reading_due c i s) (reading_grows i s) s
+reading_found c (input.Image size position) q s e = input_found c (input.Image size position) q s e
+reading_found c (input.Text position) q s e = text_found c (word_at position s) q s (word_said position s) e
+reading_found c input.Nothing q s e = absurd cc
+
+-- ---- what comes next
+
 pub next_found : {S : Type 0} (c : Calls S) (to : Continuation) (q : Query) (s : State S) → (due c to s).asks ≡ Some q
     → Found c (due c to s) (due_grows c to s) s
-next_found c continuation.Source q s e = input_found c s.flow.reading.input q s e
+next_found c continuation.Source q s e = reading_found c s.flow.reading.input q s e
 next_found c (continuation.Code n) q s e = item_found c (c.fetch s.code (record { cell = n })) q s e
 
 pub executes_next : {S : Type 0} (c : Calls S) (to : Continuation) (s : State S)
@@ -223,7 +298,8 @@ written_quiet {S} c (word.Returns w) s h =
 written_quiet {S} c (word.Throws w) s h =
     work_quiet c (throws_act w s.board.stack) s (throws_work (quiet S) w s.board.stack s (λ x e. tt))
 written_quiet {S} c (word.Dictionary w) s h =
-    work_quiet c (dictionary_act w (front_of s)) s (dictionary_works (quiet S) (λ t p e. tt) tt w s tt)
+    work_quiet c (dictionary_act w (front_of s)) s
+    (dictionary_works (quiet S) (λ t p e. tt) (λ a n text t p shut e. tt) tt w s tt)
 written_quiet c (word.Stream w) s h = work_quiet c (act.Fails compile_only) s tt
 written_quiet c (word.Parsing w) s h = work_quiet c (act.Fails compile_only) s tt
 written_quiet c (word.Compiling w) s h = work_quiet c (act.Fails compile_only) s tt

@@ -1,5 +1,6 @@
 -- What a step throws has a listed number, or is the number of a cell that `throw` takes.
-use Rattle.std.proofs.Common.{◌≡◌, ℕ, Bool, true, false, [], ◌∷◌, Option, Some, None, Result, Ok, Err, inl, inr, refl}
+use Rattle.std.proofs.Common.{◌≡◌, ℕ, ◌+◌, Bool, true, false, List, [], ◌∷◌, length, Option, Some, None, Result, Ok}
+use Rattle.std.proofs.Common.{Err, inl, inr, refl}
 use Rattle.std.proofs.Common.{if◌then◌else◌, ◌⊎◌, subst}
 use Rattle.std.specs.Prelude.{◌&&◌, not, is_some}
 use Rattle.of_cells.specs.declared.cells.Cell.{Cell}
@@ -14,6 +15,7 @@ use Rattle.of_stacks.specs.declared.return_item.Continuation.TheVariants as cont
 use Rattle.of_stacks.specs.declared.return_item.Input.{Input}
 use Rattle.of_stacks.specs.declared.return_item.Input.TheVariants as input
 use Rattle.of_stacks.specs.declared.throws.Throw.{Throw}
+use Rattle.of_stacks.specs.Stacks.{within}
 use Rattle.of_stacks.specs.Throws.{ThrowsListed, control_mismatch, dictionary_overflow, is_listed, listed_numbers}
 use Rattle.of_fcodes.specs.Lookup.{word_numbered}
 use Rattle.of_fcodes.specs.Tokens.{entry_in}
@@ -22,7 +24,8 @@ use Rattle.of_stream.specs.Decoding.{Token, token_from}
 use Rattle.of_stream.specs.Sizes.{size_behind}
 use Rattle.of_memory.specs.declared.fault.MemFault.{MemFault}
 use Rattle.of_memory.specs.DataSpace.{DataSpace}
-use Rattle.of_memory.specs.Growth.{append_copied}
+use Rattle.of_memory.specs.Access.{bytes_written}
+use Rattle.of_memory.specs.Growth.{append_copied, appended as with_bytes}
 use Rattle.of_memory.specs.Images.{latest_image}
 use Rattle.of_prims.specs.Data.{throw_of}
 use Rattle.of_prims.specs.Listed.{ThrowListedNumbers}
@@ -56,18 +59,28 @@ use Rattle.of_eval.specs.Methods.{then_known}
 use Rattle.of_state.specs.Settling.{ended, ends_inside}
 use Rattle.of_state.specs.State.{Answered, Calls, Outcome, State, by_asking, by_board, flat_calls, open_xt, with_next}
 use Rattle.of_state.specs.State.{with_stack}
-use Rattle.of_eval.specs.Reading.{found_token, read_on, token_due}
-use Rattle.of_steps.specs.Steps.{due, item_done, item_due}
+use Rattle.of_eval.specs.Naming.{naming_done, word_named, word_named_as}
+use Rattle.of_eval.specs.Reading.{found_token, read_on}
+use Rattle.of_text.specs.declared.words.Found.{Found}
+use Rattle.of_interpret.specs.Reading.{read_from, word_at, word_done}
+use Rattle.of_interpret.specs.Strings.{all_appended, by_spelling, by_string, bytes_put, place_for, said, spelt}
+use Rattle.of_interpret.specs.Strings.{string_left, string_left_in, strings_start, unless_thrown}
+use Rattle.of_interpret.specs.TextActs.{Acts, AppendsAll, Interprets, Names, Says, Selects, Spells, TextAct, text_acted}
+use Rattle.of_interpret.specs.TextWords.{text_act}
+use Rattle.of_steps.specs.Steps.{due, item_done, item_due, reading_due}
 use Rattle.of_eval.specs.Tokens.{act_of, spot_in}
 use Rattle.of_flow.specs.Tokens.{typed_of}
 use Rattle.of_words.specs.Words.{word_entry}
 use Rattle.of_eval_laws.specs.Structured.{structured_calls}
 use Rattle.of_eval_laws.specs.Listed.{Raises, StepsThrowListed, WordsThrowListed, cell_next, cell_of, closes}
-use Rattle.of_eval_laws.specs.Listed.{closes_next, plan_fetched, plan_of_item, plan_read, plan_token, plan_with}
-use Rattle.of_eval_laws.specs.Listed.{token_of, token_read}
-use Rattle.of_eval_laws.proofs.ListedFaults.{defining_listed, slot_word_listed}
+use Rattle.of_eval_laws.specs.Listed.{closes_next, closes_reading, is_text_semicolon, plan_fetched, plan_of_item}
+use Rattle.of_eval_laws.specs.Listed.{plan_read, plan_reading, plan_said, plan_spoken, plan_with, token_of}
+use Rattle.of_eval_laws.proofs.ListedFaults.{defining_listed, naming_listed, slot_naming_listed, slot_word_listed}
+use Rattle.of_eval_laws.proofs.ListedFaults.{within_listed}
+use Rattle.of_eval_laws.proofs.TextFaults.{IsSaid, word_said}
 use Rattle.of_eval_laws.proofs.Walk.{IsAct, Turns, item_acts, typed_acts}
 use Rattle.of_eval_laws.proofs.WalkFree.{anywhere, free, free_turns}
+use Rattle.of_eval_laws.proofs.WalkTexts.{AnyBytes, IsTextAct, text_acts}
 use Rattle.of_eval_laws.proofs.WalkTyped.{typed_may}
 use Rattle.of_eval_laws.proofs.WalkWords.{IsWork, Rules, all_executed}
 use Rattle.of_compile.specs.SlotWords.{SlotMaking, awaited, slot_making}
@@ -160,6 +173,7 @@ worked_raises c l taken ends act.Compiles s h = tt
 worked_raises c l taken ends (act.Prints text) s h = tt
 worked_raises c l taken ends (act.Appends e cells) s h = weaker taken ends _ (l.calls.element e s.code)
 worked_raises c l taken ends (act.Loads size m cells) s h = tt
+worked_raises c l taken ends (act.Reads text cells) s h = tt
 worked_raises c l taken ends (act.Takes cells a) s h = worked_raises c l taken ends a (with_stack cells s) h
 worked_raises c l taken ends (act.Guards cells a) s h = worked_raises c l taken ends a (guarded cells s) h
 worked_raises c l taken ends (act.Enters cells d ih a) s h =
@@ -280,14 +294,117 @@ founds {S} c l (Some x) size position s =
           on tt tt (λ y e. (y, e, refl));
     })))
 
-tokens : {S : Type 0} (c : Calls S) → Laws S c → (i : Input) (s : State S)
-    → Raised (cell_of (plan_token i s) s.board.stack)
-    (closes (token_read i s)) (token_due c i s)
+-- ---- words of a text
+
+named : {S : Type 0} (c : Calls S) (d : DefiningWord) (name : List ℕ) (o : Option Slot) (s : State S)
+    → Lists (word_named_as c d name o s)
+named c d name None s =
+    makings d _ s (naming_listed d name (c.ends_at s.code) (making s.words s.board.stack s.board.memory))
+named c d name (Some k) s =
+    slot_makings _ s
+    (slot_naming_listed k name s.board.active.«package»
+    (slot_making s.words s.board.stack s.board.memory s.board.instances))
+
+names : {S : Type 0} (c : Calls S) (d : DefiningWord) (name : List ℕ) (s : State S) → Lists (naming_done c d name s)
+names c d name s =
+    knows s.board.active.«package» (known_at_once d s.words.dictionary) (word_named c d name s)
+    (named c d name (awaited d s.words) s)
+
+rests : {S : Type 0} (r : Result (Unit {0}) Throw) (a : Answered S) (f : S → Answered S) → ThrowsListed a.ended
+    → ((code : S) → ThrowsListed (f code).ended) → ThrowsListed (unless_thrown r a f).ended
+rests (Ok x) a f h k = k a.code
+rests (Err t) a f h k = h
+
+all_appends : {S : Type 0} (c : Calls S) → CallsThrowListed S c → (es : List (Element PlainItem)) (code : S)
+    → ThrowsListed (all_appended c es code).ended
+all_appends c h [] code = tt
+all_appends c h (e ∷ es) code =
+    let a = c.element e code in
+    rests a.ended a (λ x. all_appended c es x) (h.element e code) (λ x. all_appends c h es x)
+
+string_lefts : ThrowListedNumbers → (r : Result (List Cell) Throw) (m : Result DataSpace MemFault) (n : ℕ) (b : Board)
+    → ThrowsListed r → ThrowsListed (string_left r m n b)
+string_lefts law (Ok cells) (Ok m) n b h = tt
+string_lefts law (Ok cells) (Err fault) n b h = law.faults fault
+string_lefts law (Err t) m n b h = h
+
+by_strings : {S : Type 0} (r : Result (ℕ × Board) Throw) (s : State S) → ThrowsListed r → Lists (by_string r s)
+by_strings (Ok x) s h = tt
+by_strings (Err t) s h = h
+
+says : {S : Type 0} → ThrowListedNumbers → (bytes : List ℕ) (s : State S) → Lists (said bytes s)
+says law bytes s =
+    let at = place_for s.flow.strings (length bytes) in
+    let cells = record { 0 = length bytes } ∷ record { 0 = strings_start + at } ∷ s.board.stack in
+    let written = bytes_written s.board.memory (strings_start + at) bytes in
+    by_strings _ s
+    (string_lefts law (within cells) written (at + length bytes) s.board (within_listed cells))
+
+bytes_puts : ThrowListedNumbers → (r : Result (ℕ × DataSpace) MemFault) → ThrowsListed (bytes_put r)
+bytes_puts law (Ok x) = tt
+bytes_puts law (Err fault) = law.faults fault
+
+left_ins : {S : Type 0} (r : Result (Unit {0}) Throw) (code : S) (m : Result DataSpace Throw) → ThrowsListed r
+    → ThrowsListed m → ThrowsListed (string_left_in r code m)
+left_ins (Ok x) code (Ok m) h k = tt
+left_ins (Ok x) code (Err t) h k = k
+left_ins (Err t) code m h k = h
+
+spellings : {S : Type 0} (r : Result (S × DataSpace) Throw) (s : State S) → ThrowsListed r → Lists (by_spelling r s)
+spellings (Ok x) s h = tt
+spellings (Err t) s h = h
+
+spells : {S : Type 0} (c : Calls S) → CallsThrowListed S c → ThrowListedNumbers → (bytes : List ℕ)
+    (es : List (Element PlainItem)) (s : State S) → Lists (spelt c bytes es s)
+spells c h law bytes es s =
+    let all = string_element s.board.memory.here (length bytes) ∷ es in
+    let a = all_appended c all s.code in
+    spellings _ s
+    (left_ins a.ended a.code (bytes_put (with_bytes s.board.memory bytes)) (all_appends c h all s.code)
+    (bytes_puts law (with_bytes s.board.memory bytes)))
+
+text_raises : {S : Type 0} (c : Calls S) (l : Laws S c) (taken : Option Cell) (last : Bool) (a : TextAct) (s : State S)
+    → IsTextAct (listing S l.faults l.methods taken) (listing_turns S l.faults l.methods taken last) AnyBytes s a
+    → Raised taken last (text_acted c a s)
+unfolding text_acted
+text_raises c l taken last (Acts a) s h = acted_raises c l taken last a s h
+text_raises c l taken last (AppendsAll es cells) s h = weaker taken last _ (all_appends c l.calls es s.code)
+text_raises c l taken last (Names d name) s h = weaker taken last _ (names c d name s)
+text_raises c l taken last (Says bytes) s h = weaker taken last _ (says l.faults bytes s)
+text_raises c l taken last (Spells bytes es) s h = weaker taken last _ (spells c l.calls l.faults bytes es s)
+text_raises c l taken last Interprets s h = tt
+text_raises c l taken last (Selects node) s h = tt
+
+texts : {S : Type 0} (c : Calls S) → Laws S c → (x : Found) (s : State S) → IsSaid x.word
+    → Raised (cell_of (plan_spoken x s) s.board.stack) (is_text_semicolon x.word) (word_done c x s)
+texts {S} c l x s said =
+    let on = read_from x.next s in
+    let taken = cell_of (plan_spoken x s) s.board.stack in
+    let last = is_text_semicolon x.word in
+    let R = listing S l.faults l.methods taken in
+    let T = listing_turns S l.faults l.methods taken last in
+    text_raises c l taken last (text_act x.word (front_of on)) on
+    (text_acts R T AnyBytes x.word on tt
+    (record {
+      said = said;
+      ends = λ e. tt;
+      makes = tt;
+      closes = λ e. e;
+      appends = λ e. tt;
+      prints = tt;
+      executes =
+          all_executed R tt (plan_said x.word on.flow.is_compiling (plan_in on)) on tt tt (λ y e. (y, e, refl));
+      strings = λ n. tt;
+      quotes = λ at. tt;
+    }))
+
+readings : {S : Type 0} (c : Calls S) → Laws S c → (i : Input) (s : State S)
+    → Raised (cell_of (plan_reading i s) s.board.stack) (closes_reading i s) (reading_due c i s)
 unfolding is_listed listed_numbers
-tokens c l (input.Image size position) s =
+readings c l (input.Image size position) s =
     founds c l (token_from (latest_image s.board.memory) position size) size position s
-tokens c l (input.Text position) s = inl refl
-tokens c l input.Nothing s = inl refl
+readings c l (input.Text position) s = texts c l (word_at position s) s (word_said position s)
+readings c l input.Nothing s = inl refl
 
 -- ---- items
 
@@ -310,7 +427,7 @@ fetches c l (Some x) s = items c l x.0 (with_next (continuation.Code x.1.cell) s
 
 dues : {S : Type 0} (c : Calls S) → Laws S c → (to : Continuation) (s : State S)
     → Raised (cell_next c to s) (closes_next to s) (due c to s)
-dues c l continuation.Source s = tokens c l s.flow.reading.input s
+dues c l continuation.Source s = readings c l s.flow.reading.input s
 dues c l (continuation.Code n) s = fetches c l (c.fetch s.code (record { cell = n })) s
 
 -- ---- definitions as cells

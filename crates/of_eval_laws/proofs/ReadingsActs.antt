@@ -33,7 +33,8 @@ use Rattle.of_nodes.specs.declared.tree.Node.{Node}
 use Rattle.of_dict.specs.Words.{name_in, word_at, xt_of}
 use Rattle.of_compile.specs.declared.defining.DefiningWord.{DefiningWord}
 use Rattle.of_compile.specs.declared.words.Pending.{Pending}
-use Rattle.of_compile.specs.Defining.{Made, defining_faults, made_by, making, opens, word_made}
+use Rattle.of_compile.specs.Defining.{Made, defining_faults, made_by, making, named_made, naming_faults, opens}
+use Rattle.of_compile.specs.Defining.{word_made}
 use Rattle.of_compile.specs.Words.{WordsState}
 use Rattle.of_board.specs.declared.board.Board.{Board}
 use Rattle.of_asking.specs.Devices.{devices_entry}
@@ -52,27 +53,40 @@ use Rattle.of_eval.specs.Methods.{as_method, known_if, method_made, then_known, 
 use Rattle.of_state.specs.Settling.{ended, ends_inside}
 use Rattle.of_state.specs.State.{Answered, Calls, Outcome, State, by_asking, by_board, open_xt, with_items, with_next}
 use Rattle.of_state.specs.State.{with_stack}
+use Rattle.of_text.specs.declared.words.Found.{Found}
+use Rattle.of_eval.specs.Naming.{naming_done, word_named, word_named_as}
 use Rattle.of_eval.specs.Reading.{found_token, read_on, token_due}
-use Rattle.of_steps.specs.Steps.{due, item_due}
+use Rattle.of_interpret.specs.Reading.{read_from, word_at as said_at, word_done}
+use Rattle.of_interpret.specs.Strings.{all_appended, by_spelling, by_string, said, spelt, string_said, string_spelt}
+use Rattle.of_interpret.specs.TextActs.{Acts, AppendsAll, Interprets, Names, Says, Selects, Spells, TextAct, text_acted}
+use Rattle.of_interpret.specs.TextWords.{text_act}
+use Rattle.of_steps.specs.Steps.{due, item_due, reading_due}
 use Rattle.of_eval.specs.Tokens.{act_of, spot_in}
 use Rattle.of_flow.specs.Tokens.{typed_of}
 use Rattle.of_words.specs.Words.{word_entry}
 use Rattle.of_eval_laws.specs.Listed.{plan_of_item}
 use Rattle.of_eval_laws.specs.Readings.{BeganInside, is_image, kept_readings}
+use Rattle.of_eval_laws.specs.Sound.{HasSoundSpace}
 use Rattle.of_eval_laws.specs.Throws.{image_more}
 use Rattle.of_eval_laws.proofs.FramedWriting.{word_stands}
 use Rattle.of_eval_laws.proofs.ReadingsEnds.{Counted, Goes, Reads, given_up_reads, rests, source_reads}
-use Rattle.of_eval_laws.proofs.FramedSpace.{AskingStands, BoardStands, Laws, devices_stand, keys_stand}
+use Rattle.of_eval_laws.proofs.FramedSpace.{AskingStands, BoardStands, Laws, Stands, devices_stand, keys_stand}
 use Rattle.of_eval_laws.proofs.Walk.{IsAct, Turns, item_acts, typed_acts}
 use Rattle.of_eval_laws.proofs.WalkFree.{anywhere, free, free_turns}
+use Rattle.of_eval_laws.proofs.RunningTokens.{said_stands, spelt_stands}
+use Rattle.of_eval_laws.proofs.TextBytes.{quotes_are, strings_are}
+use Rattle.of_eval_laws.proofs.TextFaults.{IsSaid, word_said}
+use Rattle.of_eval_laws.proofs.WalkTexts.{IsTextAct, text_acts}
 use Rattle.of_eval_laws.proofs.WalkTyped.{typed_may}
+use Rattle.of_memory.specs.SoundChanges.{AreBytes}
 use Rattle.of_eval_laws.proofs.WalkWords.{Fits, IsCellOnTop, IsLoopOnTop, IsMove, IsTurn, IsWork, Rules, all_executed}
 use Rattle.of_compile.specs.SlotWords.{SlotMade, awaited, rounded, rounded_to, slot_faults, slot_given, slot_made}
 use Rattle.of_compile.specs.SlotWords.{slot_making, slot_word_made}
 use Rattle.of_dict.specs.declared.word.Slot.{Slot}
 use Rattle.of_ihandles.specs.declared.instance_fault.InstanceFault.{InstanceFault}
 use Rattle.of_ihandles.specs.Table.{InstanceTable}
-use Rattle.of_eval_laws.proofs.DefinedSpace.{slot_kept, slot_word_kept}
+use Rattle.of_compile.specs.SlotWords.{slot_naming_faults, slot_word_named}
+use Rattle.of_eval_laws.proofs.DefinedSpace.{slot_kept, slot_named_kept, slot_word_kept}
 
 -- ---- one image more
 
@@ -383,6 +397,7 @@ worked_reads l c (act.Prints text) s w sound h = h
 worked_reads l c (act.Appends e cells) s w sound h =
     appended_reads (c.element e s.code).code (c.element e s.code).ended cells s h
 worked_reads l c (act.Loads size m cells) s w sound h = ((ap length w.1 ∙ ap suc h.0.0, (inl refl, h.0.1)), h.1)
+worked_reads l c (act.Reads text cells) s w sound h = ((h.0.0, (inl refl, h.0.1)), h.1)
 worked_reads l c (act.Takes cells a) s w sound h = worked_reads l c a (with_stack cells s) w sound h
 worked_reads l c (act.Guards cells a) s w sound h = worked_reads l c a (guarded cells s) w sound h
 worked_reads l c (act.Enters cells d ih a) s w sound h = worked_reads l c a (entered cells d ih s) w.1 sound h
@@ -425,6 +440,104 @@ acted_reads l c act.Closes s w sound h =
     (then_reads s.flow.home s.words.defining (definition_ended c s.words.defining s)
     (definition_reads c s.words.defining s h))
 acted_reads l c act.Ends s w sound h = ended_reads c s h
+
+-- ---- words of a text
+
+named_images : (d : DefiningWord) (name : List ℕ) (x : Option Made) (w : WordsState) (cells : List Cell)
+    (m : DataSpace) → (named_made d name (making w cells m) x).memory.images ≡ m.images
+named_images d name None w cells m = refl
+named_images d name (Some x) w cells m = refl
+
+named_reads : {S : Type 0} (d : DefiningWord) (name : List ℕ) (f : Option Throw) (x : Option Made) (s : State S)
+    → Goes s
+    → Goes (by_making d (unless f (named_made d name (making s.words s.board.stack s.board.memory) x)) s).state
+named_reads d name (Some t) x s h = h
+named_reads d name None x s h =
+    opened_reads (opens d) _
+    (same_images _ s (named_images d name x s.words s.board.stack s.board.memory) h)
+
+slot_named_reads : {S : Type 0} (l : Laws) (k : Slot) (name : List ℕ) (f : Option Throw) (home : Option Phandle)
+    (x : Option SlotMade) (r : Result (ℕ × (InstanceTable × DataSpace)) InstanceFault) (s : State S)
+    → slot_given home x (slot_making s.words s.board.stack s.board.memory s.board.instances) ≡ r
+    → IsSound s.board.memory → Goes s
+    → Goes
+    (by_slot_making
+    (unless f
+    (slot_word_named k name x r (slot_making s.words s.board.stack s.board.memory s.board.instances)))
+    s).state
+slot_named_reads l k name (Some t) home x r s e sound h = h
+slot_named_reads l k name None home x r s e sound h =
+    same_images _ s
+    (slot_named_kept l k name home x r
+    (slot_making s.words s.board.stack s.board.memory s.board.instances) sound e).images.0
+    h
+
+word_named_reads : {S : Type 0} (l : Laws) (c : Calls S) (d : DefiningWord) (name : List ℕ) (o : Option Slot)
+    (s : State S) → IsSound s.board.memory → Goes s → Goes (word_named_as c d name o s).state
+word_named_reads l c d name None s sound h =
+    let x = made_by d (c.ends_at s.code) (aligned s.board.memory.here) s.board.stack in
+    named_reads d name (counting (naming_faults name (making s.words s.board.stack s.board.memory) x)) x s h
+word_named_reads l c d name (Some k) s sound h =
+    let g = slot_making s.words s.board.stack s.board.memory s.board.instances in
+    let home = s.board.active.«package» in
+    let x = slot_made k s.board.stack in
+    slot_named_reads l k name (counting (slot_naming_faults name home x (slot_given home x g) g)) home x
+    (slot_given home x g) s refl sound h
+
+naming_reads : {S : Type 0} (l : Laws) (c : Calls S) (d : DefiningWord) (name : List ℕ) (s : State S)
+    → IsSound s.board.memory → Goes s → Goes (naming_done c d name s).state
+naming_reads l c d name s sound h =
+    then_reads s.board.active.«package» (known_at_once d s.words.dictionary) (word_named c d name s)
+    (word_named_reads l c d name (awaited d s.words) s sound h)
+
+said_reads : {S : Type 0} (r : Result (ℕ × Board) Throw) (s : State S) → Stands s.board (by_string r s).state.board
+    → Goes s → Goes (by_string r s).state
+said_reads (Ok x) s stands h = same_images x.1.memory.images s stands.0.0 h
+said_reads (Err t) s stands h = h
+
+spelt_reads : {S : Type 0} (r : Result (S × DataSpace) Throw) (s : State S)
+    → Stands s.board (by_spelling r s).state.board → Goes s → Goes (by_spelling r s).state
+spelt_reads (Ok x) s stands h = same_images x.1.images s stands.0.0 h
+spelt_reads (Err t) s stands h = h
+
+text_reads : {S : Type 0} (l : Laws) (c : Calls S) (a : TextAct) (s : State S)
+    → IsTextAct (counting_rules S) (counting_turns S) AreBytes s a → IsSound s.board.memory → Goes s
+    → Reads (text_acted c a s).state
+unfolding text_acted
+text_reads l c (Acts a) s w sound h = acted_reads l c a s w sound h
+text_reads l c (AppendsAll es cells) s w sound h =
+    let a = all_appended c es s.code in
+    rests (appended a cells s).state (appended_reads a.code a.ended cells s h)
+text_reads l c (Names d name) s w sound h = rests (naming_done c d name s).state (naming_reads l c d name s sound h)
+text_reads l c (Says bytes) s w sound h =
+    rests (said bytes s).state
+    (said_reads (string_said bytes s.flow.strings s.board) s (said_stands l bytes s sound w) h)
+text_reads l c (Spells bytes es) s w sound h =
+    rests (spelt c bytes es s).state
+    (spelt_reads (string_spelt c bytes es s.board.memory s.code) s (spelt_stands l c bytes es s sound w.1) h)
+text_reads l c Interprets s w sound h = rests (text_acted c Interprets s).state h
+text_reads l c (Selects node) s w sound h = rests (text_acted c (Selects node) s).state h
+
+word_done_reads : {S : Type 0} (l : Laws) (c : Calls S) (x : Found) (s : State S)
+    → is_image s.flow.reading.input ≡ false → IsSaid x.word → HasSoundSpace s → Goes s → Reads (word_done c x s).state
+word_done_reads {S} l c x s e said sound h =
+    let on = read_from x.next s in
+    let R = counting_rules S in
+    text_reads l c (text_act x.word (front_of on)) on
+    (text_acts R (counting_turns S) AreBytes x.word on tt
+    (record {
+      said = said;
+      ends = λ z. tt;
+      makes = tt;
+      closes = λ z. tt;
+      appends = λ z. tt;
+      prints = tt;
+      executes = all_executed R tt _ on tt tt (λ y z. tt);
+      strings = λ n. strings_are s.flow.texts n sound.1;
+      quotes = λ at. quotes_are s.flow.texts at sound.1;
+    }))
+    sound.0
+    (alike_kept s.board.memory.images on.flow.reading.input s.flow.reading.input s.flow.items (sym e) h.0, h.1)
 
 -- ---- what comes next
 
@@ -469,7 +582,15 @@ token_reads l c (input.Image size position) s e sound h =
 token_reads l c (input.Text position) s e sound h = rests s h
 token_reads l c input.Nothing s e sound h = rests s h
 
-pub due_reads : {S : Type 0} (l : Laws) (c : Calls S) (to : Continuation) (s : State S) → IsSound s.board.memory
-    → Goes s → Reads (due c to s).state
-due_reads l c continuation.Source s sound h = token_reads l c s.flow.reading.input s refl sound h
-due_reads l c (continuation.Code n) s sound h = item_reads l c (c.fetch s.code (record { cell = n })) s sound h
+reading_reads : {S : Type 0} (l : Laws) (c : Calls S) (i : Input) (s : State S) → s.flow.reading.input ≡ i
+    → HasSoundSpace s → Goes s → Reads (reading_due c i s).state
+reading_reads l c (input.Image size position) s e sound h =
+    token_reads l c (input.Image size position) s e sound.0 h
+reading_reads l c (input.Text position) s e sound h =
+    word_done_reads l c (said_at position s) s (ap is_image e) (word_said position s) sound h
+reading_reads l c input.Nothing s e sound h = token_reads l c input.Nothing s e sound.0 h
+
+pub due_reads : {S : Type 0} (l : Laws) (c : Calls S) (to : Continuation) (s : State S) → HasSoundSpace s → Goes s
+    → Reads (due c to s).state
+due_reads l c continuation.Source s sound h = reading_reads l c s.flow.reading.input s refl sound h
+due_reads l c (continuation.Code n) s sound h = item_reads l c (c.fetch s.code (record { cell = n })) s sound.0 h

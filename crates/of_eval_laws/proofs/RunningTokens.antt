@@ -1,6 +1,6 @@
 -- The law `images_run`: what an item and a token leave of the images that run.
 use Rattle.std.proofs.Common.{◌≡◌, inl, inr, ℕ, Bool, true, false, ◌&&◌, not, List, [], ◌∷◌, length, Option}
-use Rattle.std.proofs.Common.{Some, None, Result, Ok, Err, is_none, is_some, refl, subst, ap, nat_le, ◌∙◌}
+use Rattle.std.proofs.Common.{Some, None, Result, Ok, Err, is_none, is_some, refl, subst, ap, nat_le, ◌∙◌, ◌+◌}
 use Rattle.of_cells.specs.declared.cells.Cell.{Cell}
 use Rattle.of_code.specs.declared.item.Item.{Item}
 use Rattle.of_code.specs.declared.item.Place.{Place}
@@ -10,7 +10,8 @@ use Rattle.of_stacks.specs.declared.return_item.Continuation.TheVariants as cont
 use Rattle.of_stacks.specs.declared.return_item.Input.{Input}
 use Rattle.of_stacks.specs.declared.return_item.Input.TheVariants as input
 use Rattle.of_stacks.specs.declared.throws.Throw.{Throw}
-use Rattle.of_stacks.specs.Order.{counting, fault_if, unless}
+use Rattle.of_stacks.specs.Order.{counted, counting, fault_if, unless}
+use Rattle.of_stacks.specs.Stacks.{within}
 use Rattle.of_stacks.specs.Throws.{compiler_nesting, dictionary_overflow, stack_underflow}
 use Rattle.of_fcodes.specs.Lookup.{word_numbered}
 use Rattle.of_stream.specs.declared.stream.OffsetSize.{OffsetSize}
@@ -18,20 +19,23 @@ use Rattle.of_stream.specs.Decoding.{Token, token_from}
 use Rattle.of_stream.specs.Sizes.{size_behind}
 use Rattle.of_memory.specs.declared.fault.MemFault.{MemFault}
 use Rattle.of_memory.specs.DataSpace.{DataSpace, IsSound}
-use Rattle.of_memory.specs.Growth.{aligned, append_copied, image_popped, with_state}
+use Rattle.of_memory.specs.Access.{bytes_written}
+use Rattle.of_memory.specs.Growth.{aligned, append_copied, appended as with_bytes, image_popped, with_state}
+use Rattle.of_memory.specs.SoundChanges.{AreBytes}
 use Rattle.of_memory.specs.Images.{latest_image}
 use Rattle.of_nodes.specs.declared.phandles.Phandle.{Phandle}
 use Rattle.of_nodes.specs.declared.tree.Node.{Node}
 use Rattle.of_dict.specs.Words.{capacity, name_in, word_at, xt_of}
 use Rattle.of_compile.specs.declared.defining.DefiningWord.{DefiningWord}
 use Rattle.of_compile.specs.declared.words.Pending.{Pending}
-use Rattle.of_compile.specs.Defining.{Made, defining_faults, has_no_bytes, made_by, making, opens, word_made}
-use Rattle.of_compile.specs.Words.{WordsState}
+use Rattle.of_compile.specs.Defining.{Made, defining_faults, has_no_bytes, made_by, making, named_made, naming_faults}
+use Rattle.of_compile.specs.Defining.{opens, word_made}
+use Rattle.of_compile.specs.Words.{WordsState, name_fault}
 use Rattle.of_eval.specs.Acts.{Act, Ends, Loads, To, WordAct, front_of}
 use Rattle.of_eval.specs.Acts as act
 use Rattle.of_eval.specs.Defining.{by_making, closed_if, define_entry, definition_ended, known_at_once, opened}
 use Rattle.of_eval.specs.Defining.{semicolon_entry, string_compiled, string_kept, string_put, string_refused}
-use Rattle.of_eval.specs.Defining.{word_defined, by_slot_making, word_made_as}
+use Rattle.of_eval.specs.Defining.{string_element, word_defined, by_slot_making, word_made_as}
 use Rattle.of_eval.specs.Doing.{acted, appended, gone, worked}
 use Rattle.of_eval.specs.Doing as doing
 use Rattle.of_eval.specs.Executing.{entered, furnished, guarded, plan_in}
@@ -39,18 +43,31 @@ use Rattle.of_eval.specs.Items.{item_act}
 use Rattle.of_eval.specs.Methods.{as_method, known_if, method_made, nodes_with, then_known, xt_cell}
 use Rattle.of_state.specs.Settling.{ended, ends_inside, given_back}
 use Rattle.of_state.specs.State.{Answered, Calls, Outcome, State, by_code, open_xt, with_items, with_next, with_stack}
+use Rattle.of_control.specs.Element.{Element}
+use Rattle.of_compile.specs.declared.element.PlainItem.{PlainItem}
+use Rattle.of_text.specs.declared.words.Found.{Found}
+use Rattle.of_text.specs.declared.words.TextWord.{TextWord}
+use Rattle.of_text.specs.declared.words.TextWord.TheVariants as text
+use Rattle.of_eval.specs.Naming.{naming_done, word_named, word_named_as}
 use Rattle.of_eval.specs.Reading.{found_token, read_on, token_due}
-use Rattle.of_steps.specs.Steps.{due, item_due}
+use Rattle.of_interpret.specs.Reading.{read_from, word_at as said_at, word_done}
+use Rattle.of_interpret.specs.Strings.{all_appended, by_spelling, by_string, bytes_put, place_for, said, spelt}
+use Rattle.of_interpret.specs.Strings.{string_left, string_left_in, strings_start}
+use Rattle.of_interpret.specs.TextActs.{Acts, AppendsAll, Interprets, Names, Says, Selects, Spells, TextAct, text_acted}
+use Rattle.of_interpret.specs.TextWords.{text_act}
+use Rattle.of_steps.specs.Steps.{due, item_due, reading_due}
 use Rattle.of_eval.specs.Tokens.{act_of, spot_in}
 use Rattle.of_flow.specs.Tokens.{typed_of}
 use Rattle.of_eval_laws.specs.Listed.{plan_of_item}
 use Rattle.of_eval_laws.specs.Running.{is_at_end, reading_ends, token_ends}
+use Rattle.of_eval_laws.specs.Sound.{HasSoundSpace}
 use Rattle.of_ihandles.specs.SpaceKept.{Keeps}
 use Rattle.of_board.specs.declared.board.Board.{Board}
 use Rattle.of_nodes.specs.Nodes.{method_added}
 use Rattle.of_nodes.specs.Stored.{AreStored}
 use Rattle.of_nodes.specs.declared.fault.NodeFault.{NodeFault}
-use Rattle.of_eval_laws.proofs.FramedSpace.{Answered as IsAnswered, Laws, Stands, by_append_copy, by_space, by_state}
+use Rattle.of_eval_laws.proofs.FramedSpace.{Answered as IsAnswered, Laws, Stands, by_append, by_append_copy, by_space}
+use Rattle.of_eval_laws.proofs.FramedSpace.{by_state}
 use Rattle.of_eval_laws.proofs.FramedSpace.{by_words, same, stays, then_kept, then_stands}
 use Rattle.of_eval_laws.proofs.RunningBytes.{all_run, popped}
 use Rattle.of_ihandles.specs.Table.{InstanceTable}
@@ -61,33 +78,39 @@ use Rattle.of_eval_laws.proofs.RunningWords.{Begins, Changes, Kept, KeptBy, Leav
 use Rattle.of_eval_laws.proofs.RunningWords.{listens, ordinary, reaches, stands_by}
 use Rattle.of_eval_laws.proofs.Walk.{IsAct, Turns, item_acts, typed_acts}
 use Rattle.of_eval_laws.proofs.WalkFree.{anywhere, free_turns, keeping}
+use Rattle.of_eval_laws.proofs.TextBytes.{quotes_are, read_are, strings_are}
+use Rattle.of_eval_laws.proofs.TextFaults.{IsSaid, word_said}
+use Rattle.of_eval_laws.proofs.WalkTexts.{IsTextAct, text_acts}
 use Rattle.of_eval_laws.proofs.WalkTyped.{typed_may}
 use Rattle.of_eval_laws.proofs.WalkWords.{IsOpening, IsWork, Rules, all_executed}
 use Rattle.of_compile.specs.SlotWords.{SlotMade, awaited, rounded, slot_faults, slot_given, slot_made, slot_making}
 use Rattle.of_compile.specs.SlotWords.{slot_word_made}
 use Rattle.of_dict.specs.declared.word.Slot.{Slot}
 use Rattle.of_ihandles.specs.declared.instance_fault.InstanceFault.{InstanceFault}
-use Rattle.of_eval_laws.proofs.DefinedSpace.{rounded_kept, slot_kept, slot_word_kept, zeros_kept}
+use Rattle.of_compile.specs.SlotWords.{slot_naming_faults, slot_word_named}
+use Rattle.of_eval_laws.proofs.DefinedSpace.{rounded_kept, slot_kept, slot_named_kept, slot_word_kept, zeros_kept}
 
 -- the images stand while an instance is opened
-instance_stands : {S : Type 0} (l : Laws) (x : InstanceTable × DataSpace) (s : State S) → IsOpening x s
+pub instance_stands : {S : Type 0} (l : Laws) (x : InstanceTable × DataSpace) (s : State S) → IsOpening x s
     → IsSound s.board.memory → Stands s.board (furnished x s).board
 instance_stands l x s o sound =
     by_words s.board (furnished x s).board (l.words.opened s.board o.0 o.1 o.2 o.3 x sound o.4)
 
 -- ---- the rules
 
--- a data space that is sound stays so while words run, and one image more may run
-abbrev running_rules : (S : Type 0) → Rules S
+-- a data space that is sound stays so while words run, one image more may run, and a text that is read is of bytes
+abbrev pub running_rules : (S : Type 0) → Rules S
 running_rules S =
     record (keeping S (λ s. (Laws → IsSound s.board.memory))
     ((λ cells d ih s k p. (p, p, p)), (λ x s o p l. (instance_stands l x s o (p l)).1))) {
       Loads = λ s m. Laws → Begins s.board.memory m;
+      Reads = λ s text. Laws → AreBytes text;
       loads = λ a n spread x s p shut e l. image_begins l s.board.memory a n spread x (p l) e;
+      reads = λ r a n text s p shut e l. read_are s.board.memory a n text (p l) e;
     }
 
 -- and where an image ends, that is by `end0` or `end1`
-abbrev running_turns : (S : Type 0) → Bool → Turns (running_rules S)
+abbrev pub running_turns : (S : Type 0) → Bool → Turns (running_rules S)
 running_turns S at_end =
     record (free_turns (running_rules S) (λ s p. tt) (λ l s. tt) (λ n s. tt)) { Ends = at_end ≡ true }
 
@@ -319,6 +342,7 @@ worked_leaves l c (act.Prints text) s h sound = left s.board sound
 worked_leaves l c (act.Appends e cells) s h sound =
     appended_leaves (c.element e s.code).code (c.element e s.code).ended cells s sound
 worked_leaves l c (act.Loads size m cells) s h sound = inr (loaded l s.board m sound (h l))
+worked_leaves l c (act.Reads text cells) s h sound = left s.board sound
 worked_leaves l c (act.Takes cells a) s h sound = worked_leaves l c a (with_stack cells s) h sound
 worked_leaves l c (act.Guards cells a) s h sound = worked_leaves l c a (guarded cells s) h sound
 worked_leaves l c (act.Enters cells d ih a) s h sound = worked_leaves l c a (entered cells d ih s) h.1 sound
@@ -395,9 +419,169 @@ token_leaves l c (input.Image size position) s sound =
 token_leaves l c (input.Text position) s sound = stays s.board sound
 token_leaves l c input.Nothing s sound = stays s.board sound
 
+-- ---- words that a text names
+
+named_kept : (l : Laws) (d : DefiningWord) (name : List ℕ) (x : Option Made) (w : WordsState) (cells : List Cell)
+    (m : DataSpace) → IsSound m → has_no_bytes m x ≡ false → Keeps m (named_made d name (making w cells m) x).memory
+named_kept l d name None w cells m sound e = same m sound
+named_kept l d name (Some x) w cells m sound e = zeros_kept l m x.bytes sound e
+
+named_stands : {S : Type 0} (l : Laws) (d : DefiningWord) (name : List ℕ) (f : Option Throw) (x : Option Made)
+    (s : State S) → IsSound s.board.memory → (f ≡ None → has_no_bytes s.board.memory x ≡ false)
+    → Stands s.board
+    (by_making d (unless f (named_made d name (making s.words s.board.stack s.board.memory) x)) s).state.board
+named_stands l d name (Some t) x s r h = stays s.board r
+named_stands l d name None x s r h =
+    opened_stands l s.board (opens d) _
+    (by_space l s.board _ r (named_kept l d name x s.words s.board.stack s.board.memory r (h refl)))
+
+second_none : (f g : Option Throw) → counted f g ≡ None → g ≡ None
+second_none None g e = e
+second_none (Some t) None e = refl
+second_none (Some t) (Some u) e = absurd cc
+
+named_bytes : {S : Type 0} (name : List ℕ) (s : State S) (x : Option Made)
+    → counting (naming_faults name (making s.words s.board.stack s.board.memory) x) ≡ None
+    → has_no_bytes s.board.memory x ≡ false
+named_bytes name s x e =
+    let fifth = fault_if (has_no_bytes s.board.memory x) dictionary_overflow ∷ [] in
+    let fourth = fault_if (nat_le capacity (length s.words.dictionary)) dictionary_overflow ∷ fifth in
+    let third = name_fault (Some name) ∷ fourth in
+    let second = fault_if (is_none x) stack_underflow ∷ third in
+    let rest = found_none (is_some s.words.defining) compiler_nesting second e in
+    let after = found_none (is_none x) stack_underflow third rest.1 in
+    let later = second_none (name_fault (Some name)) (counting fourth) after.1 in
+    let last = found_none (nat_le capacity (length s.words.dictionary)) dictionary_overflow fifth later in
+    (found_none (has_no_bytes s.board.memory x) dictionary_overflow [] last.1).0
+
+slot_named_stands : {S : Type 0} (l : Laws) (k : Slot) (name : List ℕ) (f : Option Throw) (home : Option Phandle)
+    (x : Option SlotMade) (r : Result (ℕ × (InstanceTable × DataSpace)) InstanceFault) (s : State S)
+    → slot_given home x (slot_making s.words s.board.stack s.board.memory s.board.instances) ≡ r
+    → IsSound s.board.memory
+    → Stands s.board
+    (by_slot_making
+    (unless f
+    (slot_word_named k name x r (slot_making s.words s.board.stack s.board.memory s.board.instances)))
+    s).state.board
+slot_named_stands l k name (Some t) home x r s e sound = stays s.board sound
+slot_named_stands l k name None home x r s e sound =
+    by_space l s.board _ sound
+    (slot_named_kept l k name home x r
+    (slot_making s.words s.board.stack s.board.memory s.board.instances) sound e)
+
+word_named_stands : {S : Type 0} (l : Laws) (c : Calls S) (d : DefiningWord) (name : List ℕ) (o : Option Slot)
+    (s : State S) → IsSound s.board.memory → Stands s.board (word_named_as c d name o s).state.board
+word_named_stands l c d name None s r =
+    let x = made_by d (c.ends_at s.code) (aligned s.board.memory.here) s.board.stack in
+    named_stands l d name (counting (naming_faults name (making s.words s.board.stack s.board.memory) x)) x s r
+    (named_bytes name s x)
+word_named_stands l c d name (Some k) s r =
+    let g = slot_making s.words s.board.stack s.board.memory s.board.instances in
+    let home = s.board.active.«package» in
+    let x = slot_made k s.board.stack in
+    slot_named_stands l k name (counting (slot_naming_faults name home x (slot_given home x g) g)) home x
+    (slot_given home x g) s refl r
+
+naming_stands : {S : Type 0} (l : Laws) (c : Calls S) (d : DefiningWord) (name : List ℕ) (s : State S)
+    → IsSound s.board.memory → Stands s.board (naming_done c d name s).state.board
+naming_stands l c d name s r =
+    then_known_stands l s.board s.board.active.«package» (known_at_once d s.words.dictionary) (word_named c d name s)
+    (word_named_stands l c d name (awaited d s.words) s r)
+
+-- ---- strings of a text
+
+written_kept : (l : Laws) (m : DataSpace) (a : ℕ) (xs : List ℕ) (after : DataSpace) → IsSound m → AreBytes xs
+    → bytes_written m a xs ≡ Ok after → Keeps m after
+written_kept l m a xs after sound small e = record {
+  sound = l.sound.by_bytes m after a xs sound small e;
+  images = l.images.by_bytes m after a xs sound e;
+  properties = l.properties.by_bytes m after a xs sound e;
+}
+
+left_string : {S : Type 0} (l : Laws) (r : Result (List Cell) Throw) (m : Result DataSpace MemFault) (n : ℕ)
+    (s : State S) → IsSound s.board.memory → ((x : DataSpace) → m ≡ Ok x → Keeps s.board.memory x)
+    → Stands s.board (by_string (string_left r m n s.board) s).state.board
+left_string l (Err t) m n s sound h = stays s.board sound
+left_string l (Ok cells) (Err fault) n s sound h = stays s.board sound
+left_string l (Ok cells) (Ok m) n s sound h = by_space l s.board m sound (h m refl)
+
+pub said_stands : {S : Type 0} (l : Laws) (bytes : List ℕ) (s : State S) → IsSound s.board.memory → AreBytes bytes
+    → Stands s.board (said bytes s).state.board
+said_stands l bytes s sound small =
+    let at = place_for s.flow.strings (length bytes) in
+    let cells = record { 0 = length bytes } ∷ record { 0 = strings_start + at } ∷ s.board.stack in
+    left_string l (within cells) (bytes_written s.board.memory (strings_start + at) bytes) (at + length bytes) s sound
+    (λ x e. written_kept l s.board.memory (strings_start + at) bytes x sound small e)
+
+left_spelt : {S : Type 0} (l : Laws) (r : Result (Unit {0}) Throw) (code : S) (m : Result (ℕ × DataSpace) MemFault)
+    (s : State S) → IsSound s.board.memory → IsAnswered s.board.memory m
+    → Stands s.board (by_spelling (string_left_in r code (bytes_put m)) s).state.board
+left_spelt l (Ok x) code (Ok m) s sound h =
+    by_space l s.board (rounded m.1) sound
+    (then_kept s.board.memory m.1 (rounded m.1) h (rounded_kept l m.1 h.sound))
+left_spelt l (Ok x) code (Err fault) s sound h = stays s.board sound
+left_spelt l (Err t) code m s sound h = stays s.board sound
+
+pub spelt_stands : {S : Type 0} (l : Laws) (c : Calls S) (bytes : List ℕ) (es : List (Element PlainItem)) (s : State S)
+    → IsSound s.board.memory → AreBytes bytes → Stands s.board (spelt c bytes es s).state.board
+spelt_stands l c bytes es s sound small =
+    let m = s.board.memory in
+    let a = all_appended c (string_element m.here (length bytes) ∷ es) s.code in
+    left_spelt l a.ended a.code (with_bytes m bytes) s sound (by_append l m bytes (with_bytes m bytes) sound small refl)
+
+-- ---- words of a text
+
+text_leaves : {S : Type 0} (l : Laws) (c : Calls S) (a : TextAct) (s : State S)
+    → IsTextAct (running_rules S) (running_turns S false) AreBytes s a → IsSound s.board.memory
+    → Leaves false s.board (text_acted c a s)
+unfolding text_acted
+text_leaves l c (Acts a) s h sound = acted_leaves l c false a s h sound
+text_leaves l c (AppendsAll es cells) s h sound =
+    let a = all_appended c es s.code in appended_leaves a.code a.ended cells s sound
+text_leaves l c (Names d name) s h sound =
+    stands false s.board (naming_done c d name s) (naming_stands l c d name s sound)
+text_leaves l c (Says bytes) s h sound = stands false s.board (said bytes s) (said_stands l bytes s sound h)
+text_leaves l c (Spells bytes es) s h sound =
+    stands false s.board (spelt c bytes es s) (spelt_stands l c bytes es s sound h.1)
+text_leaves l c Interprets s h sound =
+    inl (by_space l s.board (with_state s.board.memory false) sound (by_state l s.board.memory false sound))
+text_leaves l c (Selects node) s h sound = left s.board sound
+
+-- a text that ends gives nothing back
+word_leaves : {S : Type 0} (l : Laws) (c : Calls S) (w : TextWord) (next : ℕ) (s : State S) → IsSaid w → HasSoundSpace s
+    → Leaves false s.board (word_done c (record { word = w; next = next }) s)
+unfolding text_acted text_act acted
+word_leaves l c text.End next s said sound =
+    let on = read_from next s in
+    either false s.board (ends_inside on) _ _ (given_up_stands l c on sound.0) (left s.board sound.0)
+word_leaves {S} l c w next s said sound =
+    let on = read_from next s in
+    let R = running_rules S in
+    text_leaves l c (text_act w (front_of on)) on
+    (text_acts R (running_turns S false) AreBytes w on (λ m. sound.0)
+    (record {
+      said = said;
+      ends = λ e. absurd cc;
+      makes = tt;
+      closes = λ e. tt;
+      appends = λ e. tt;
+      prints = tt;
+      executes = all_executed R tt _ on (λ m. sound.0) tt (λ y e. tt);
+      strings = λ n. strings_are s.flow.texts n sound.1;
+      quotes = λ at. quotes_are s.flow.texts at sound.1;
+    }))
+    sound.0
+
+reading_leaves : {S : Type 0} (l : Laws) (c : Calls S) (i : Input) (s : State S) → HasSoundSpace s
+    → Leaves (reading_ends s.board.memory i) s.board (reading_due c i s)
+reading_leaves l c (input.Image size position) s sound = token_leaves l c (input.Image size position) s sound.0
+reading_leaves l c (input.Text position) s sound =
+    let x = said_at position s in word_leaves l c x.word x.next s (word_said position s) sound
+reading_leaves l c input.Nothing s sound = token_leaves l c input.Nothing s sound.0
+
 -- ---- what comes next
 
-pub due_leaves : {S : Type 0} (l : Laws) (c : Calls S) (to : Continuation) (s : State S) → IsSound s.board.memory
+pub due_leaves : {S : Type 0} (l : Laws) (c : Calls S) (to : Continuation) (s : State S) → HasSoundSpace s
     → Leaves (is_at_end to s) s.board (due c to s)
-due_leaves l c continuation.Source s sound = token_leaves l c s.flow.reading.input s sound
-due_leaves l c (continuation.Code n) s sound = item_due_leaves l c (c.fetch s.code (record { cell = n })) s sound
+due_leaves l c continuation.Source s sound = reading_leaves l c s.flow.reading.input s sound
+due_leaves l c (continuation.Code n) s sound = item_due_leaves l c (c.fetch s.code (record { cell = n })) s sound.0

@@ -15,19 +15,20 @@ use Rattle.of_nodes.specs.declared.tree.Node.{Node}
 use Rattle.of_stacks.specs.declared.return_item.ReturnItem.{ReturnItem}
 use Rattle.of_stacks.specs.declared.throws.Throw.{Throw}
 use Rattle.of_board.specs.declared.board.Board.{Board}
-use Rattle.of_state.specs.Loading.{begun, image_copied, made_or_none}
+use Rattle.of_state.specs.Loading.{begun, image_copied, line_begun, made_or_none}
 use Rattle.of_state.specs.Settling.{settled, thrown_in}
-use Rattle.of_state.specs.State.{Calls, State}
+use Rattle.of_state.specs.State.{Calls, State, with_board}
 use Rattle.of_steps.specs.Steps.{asked_by, due, made, settled_of, stepped, steps_from}
 use Rattle.of_words.specs.Words.{word_entry}
 use Rattle.of_eval_laws.specs.Running.{is_at_end}
-use Rattle.of_eval_laws.specs.Sound.{HasSoundSpace, SpaceStaysSound, StaysSound}
+use Rattle.of_eval_laws.specs.Sound.{AreTexts, HasSoundSpace, SpaceStaysSound, StaysSound}
 use Rattle.of_eval_laws.proofs.Begun.{begun_is, image_pushes, opened_kept}
 use Rattle.of_eval_laws.proofs.FramedSpace.{Laws, Stands}
 use Rattle.of_eval_laws.proofs.FramedWriting.{left_stands}
 use Rattle.of_eval_laws.proofs.RunningEnds.{settles_ends}
 use Rattle.of_eval_laws.proofs.RunningTokens.{due_leaves}
 use Rattle.of_eval_laws.proofs.RunningWords.{Kept, KeptBy}
+use Rattle.of_eval_laws.proofs.TextsKept.{begun_texts, due_texts, settled_texts, step_texts}
 
 -- ---- at first
 
@@ -51,42 +52,47 @@ first_is l = first_of l (first_tree fresh) refl
 
 -- ---- what comes next
 
-same_sound : (w : Board) → IsSound w.memory → StaysSound w w
+-- what is left of a board has a sound data space, and its properties are stored if they were
+pub record BoardStays (w after : Board) : Type 0 where
+  pub sound : IsSound after.memory
+  pub stored : AreStored w.memory w.tree → AreStored after.memory after.tree
+
+same_sound : (w : Board) → IsSound w.memory → BoardStays w w
 same_sound w sound = record { sound = sound; stored = λ a. a }
 
-then_sound : (w between after : Board) → StaysSound w between → StaysSound between after → StaysSound w after
+then_sound : (w between after : Board) → BoardStays w between → BoardStays between after → BoardStays w after
 then_sound w between after f g = record { sound = g.sound; stored = λ a. g.stored (f.stored a) }
 
-stands_sound : (w after : Board) → Stands w after → StaysSound w after
+stands_sound : (w after : Board) → Stands w after → BoardStays w after
 stands_sound w after h = record { sound = h.1; stored = h.2 }
 
-pub kept_sound : (b : Bool) (w after : Board) → Kept b w after → StaysSound w after
+pub kept_sound : (b : Bool) (w after : Board) → Kept b w after → BoardStays w after
 kept_sound b w after (inl h) = stands_sound w after h
 kept_sound b w after (inr h) = record { sound = h.0; stored = h.1 }
 
-left_sound : (b : Bool) (w after : Board) (e : Result (Unit {0}) Throw) → KeptBy b w after e → StaysSound w after
+left_sound : (b : Bool) (w after : Board) (e : Result (Unit {0}) Throw) → KeptBy b w after e → BoardStays w after
 left_sound b w after (Ok x) h = kept_sound b w after h
 left_sound b w after (Err t) h = stands_sound w after h
 
 due_sound : {S : Type 0} (l : Laws) (c : Calls S) (s : State S) → HasSoundSpace s
-    → StaysSound s.board (due c s.flow.next s).state.board
+    → BoardStays s.board (due c s.flow.next s).state.board
 due_sound l c s sound =
     let o = due c s.flow.next s in
     left_sound (is_at_end s.flow.next s) s.board o.state.board o.ended (due_leaves l c s.flow.next s sound)
 
 settled_sound : {S : Type 0} (l : Laws) (c : Calls S) (items : List ReturnItem) (thrown : Option Throw) (s : State S)
-    → HasSoundSpace s → StaysSound s.board (settled c items thrown s).board
+    → IsSound s.board.memory → BoardStays s.board (settled c items thrown s).board
 settled_sound l c items thrown s sound =
     let h = settles_ends l c items thrown s sound in record { sound = h.0; stored = h.1 }
 
 -- ---- a load
 
-begun_sound : {S : Type 0} (l : Laws) (image : List ℕ) (node : Phandle) (s : State S) → HasSoundSpace s
-    → AreBytes image → StaysSound s.board (begun image node s).board
+begun_sound : {S : Type 0} (l : Laws) (image : List ℕ) (node : Phandle) (s : State S) → IsSound s.board.memory
+    → AreBytes image → BoardStays s.board (begun image node s).board
 begun_sound l image node s sound small =
     let m = s.board.memory in
     let ns = s.board.tree in
-    begun_is (λ x. StaysSound s.board x.board) image node s (same_sound s.board sound)
+    begun_is (λ x. BoardStays s.board x.board) image node s (same_sound s.board sound)
     (λ x e fits.
     let kept = opened_kept l s.board node x sound e in
     let one = image_pushes l m x.1.1 image kept fits in
@@ -99,13 +105,13 @@ begun_sound l image node s sound small =
 
 -- ---- steps
 
-either : {S : Type 0} (w : Board) (b : Bool) (x y : State S) → StaysSound w x.board → StaysSound w y.board
-    → StaysSound w (if b then x else y).board
+either : {S : Type 0} (w : Board) (b : Bool) (x y : State S) → BoardStays w x.board → BoardStays w y.board
+    → BoardStays w (if b then x else y).board
 either w true x y h k = h
 either w false x y h k = k
 
-pub step_sound : {S : Type 0} (l : Laws) (c : Calls S) (s : State S) → HasSoundSpace s
-    → StaysSound s.board (stepped c s).board
+step_sound : {S : Type 0} (l : Laws) (c : Calls S) (s : State S) → HasSoundSpace s
+    → BoardStays s.board (stepped c s).board
 unfolding stepped
 step_sound l c s sound =
     let o = due c s.flow.next s in
@@ -113,7 +119,10 @@ step_sound l c s sound =
     either s.board s.flow.is_running (settled_of c o) s
     (then_sound s.board o.state.board (settled_of c o).board one
     (settled_sound l c o.state.flow.items (thrown_in o.ended) o.state one.sound))
-    (same_sound s.board sound)
+    (same_sound s.board sound.0)
+
+pub step_has : {S : Type 0} (l : Laws) (c : Calls S) (s : State S) → HasSoundSpace s → HasSoundSpace (stepped c s)
+step_has l c s sound = ((step_sound l c s sound).sound, step_texts l c s sound)
 
 one_keeps : {S : Type 0} (P : State S → Type 0) (c : Calls S) (b : Bool) (s after : State S) → P (stepped c s)
     → (if b then Some (stepped c s) else None) ≡ Some after → P after
@@ -137,24 +146,40 @@ steps_keep P c step (suc n) s after h e =
 
 -- ---- the law
 
-word_sound : (l : Laws) (w : Word) (b after : Board) → IsSound b.memory → word_entry w b ≡ Ok after → StaysSound b after
+-- of a state
+left_so : {S : Type 0} (s after : State S) → BoardStays s.board after.board → AreTexts after.flow.texts
+    → StaysSound s after
+left_so s after h t = record { sound = (h.sound, t); stored = h.stored }
+
+word_sound : (l : Laws) (w : Word) (b after : Board) → IsSound b.memory → word_entry w b ≡ Ok after → BoardStays b after
 word_sound l w b after sound e = stands_sound b after (left_stands l w b after sound e)
 
 steps_sound : {S : Type 0} (l : Laws) (c : Calls S) (n : ℕ) (s after : State S) → HasSoundSpace s
-    → steps_from c n s ≡ Some after → StaysSound s.board after.board
+    → steps_from c n s ≡ Some after → StaysSound s after
 steps_sound l c n s after sound e =
-    steps_keep (λ x. StaysSound s.board x.board) c
-    (λ x h. then_sound s.board x.board (stepped c x).board h (step_sound l c x h.sound))
-    n s after (same_sound s.board sound) e
+    steps_keep (λ x. StaysSound s x) c
+    (λ x h.
+    left_so s (stepped c x)
+    (then_sound s.board x.board (stepped c x).board (record { sound = h.sound.0; stored = h.stored })
+    (step_sound l c x h.sound))
+    (step_texts l c x h.sound))
+    n s after (left_so s s (same_sound s.board sound.0) sound.1) e
 
 pub space_stays_sound : Laws → (S : Type 0) → SpaceStaysSound S
 space_stays_sound l S = record {
-  first = λ code. (first_is l).sound;
+  first = λ code. ((first_is l).sound, tt);
   first_stored = (first_is l).stored;
-  begun = λ image node s sound small. begun_sound l image node s sound small;
-  words = λ w b after sound e. word_sound l w b after sound e;
-  done = λ c s sound. due_sound l c s sound;
-  settled = λ c items thrown s sound. settled_sound l c items thrown s sound;
-  step = λ c s sound. step_sound l c s sound;
+  begun = λ image node s sound small.
+      left_so s (begun image node s) (begun_sound l image node s sound.0 small) (begun_texts image node s sound.1);
+  line = λ text s sound small.
+      left_so s (line_begun text s) (record { sound = sound.0; stored = λ a. a }) (small, sound.1);
+  words = λ w after s sound e.
+      left_so s (with_board after s) (word_sound l w s.board after sound.0 e) sound.1;
+  done = λ c s sound.
+      left_so s (due c s.flow.next s).state (due_sound l c s sound) (due_texts l c s.flow.next s sound);
+  settled = λ c items thrown s sound.
+      left_so s (settled c items thrown s) (settled_sound l c items thrown s sound.0)
+      (settled_texts c items thrown s sound.1);
+  step = λ c s sound. left_so s (stepped c s) (step_sound l c s sound) (step_texts l c s sound);
   steps = λ c n s after sound e. steps_sound l c n s after sound e;
 }

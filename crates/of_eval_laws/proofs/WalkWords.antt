@@ -1,6 +1,6 @@
 -- One walk of the tables of words: what a word comes to is what a law asks of it, by the rules of the law.
-use Rattle.std.proofs.Common.{◌⊎◌, inl, inr, ◌≡◌, ◌==◌, ℕ, zero, suc, nat_le, nat_lt, Bool, true, false, List, [], ◌∷◌}
-use Rattle.std.proofs.Common.{length, Option, Some, None, Result, Ok, Err, is_none, is_some, refl, ap, subst, ◌∙◌}
+use Rattle.std.proofs.Common.{◌⊎◌, inl, inr, ◌≡◌, ◌==◌, ◌+◌, ℕ, zero, suc, nat_le, nat_lt, Bool, true, false, List, []}
+use Rattle.std.proofs.Common.{◌∷◌, length, Option, Some, None, Result, Ok, Err, is_none, is_some, refl, ap, subst, ◌∙◌}
 use Rattle.std.proofs.Common.{if◌then◌else◌}
 use Rattle.std.specs.Prelude.{not, slice_get}
 use Rattle.of_cells.specs.declared.cells.Cell.{Cell}
@@ -39,6 +39,7 @@ use Rattle.of_compile.specs.DictionaryWords.{immediate_entry, kind_at, set_token
 use Rattle.of_compile.specs.Words.{WordsState, is_word, numbered, own_word}
 use Rattle.of_eval.specs.Acts.{Front, Move, To, WordAct, front_of, keeping, knowing, knowing_under, leaving}
 use Rattle.of_eval.specs.Acts as act
+use Rattle.of_eval.specs.Evaluating.{reading_act, string_act}
 use Rattle.of_eval.specs.ByteLoading.{copying, length_at, load_act, loading, loading_faults, spread_of, start_at}
 use Rattle.of_eval.specs.Executing.{Call, Catch, Declines, Execute, Open, Own, Plan, Stops, Written, act_of_plan}
 use Rattle.of_eval.specs.Executing.{bracket_act, call_faults, call_plan, callee_plan, catch_plan, comma_act}
@@ -108,10 +109,12 @@ pub record Rules (S : Type 0) : Type 1 where
   pub Target : State S → Continuation → Type 0
   -- of a place in the code where a word of control goes
   pub Aims : State S → ℕ → Type 0
-  -- of words, where something is appended or words are compiled from now on, and of a data space with one image more
+  -- of words, where something is appended or words are compiled from now on, of a data space with one image more, and
+  -- of a text that is read
   pub Known : State S → WordsState → Type 0
   pub Appends : State S → Type 0
   pub Loads : State S → DataSpace → Type 0
+  pub Reads : State S → List ℕ → Type 0
   -- where an instance is opened
   pub Opening : Type 0
   -- one may ask, and an ordinary word runs; what the tables throw is listed, or a fault of memory
@@ -145,6 +148,10 @@ pub record Rules (S : Type 0) : Type 1 where
   pub loads :
       (a n spread : ℕ) (x : ℕ × DataSpace) (s : State S) → Held s → is_some s.words.defining ≡ false →
       image_pushed_from s.board.memory a n spread ≡ Ok x → Loads s x.1
+  -- the bytes of a text could be read, likewise
+  pub reads :
+      Runs → (a n : ℕ) (text : List ℕ) (s : State S) → Held s → is_some s.words.defining ≡ false →
+      read_bytes s.board.memory a n ≡ Ok text → Reads s text
   -- what the words throw that call a method
   pub calls : (k : CallingWord) (w : Board) (t : Throw) → calling_entry k w ≡ Err t → Fails t
   -- an instance is opened, or that is refused
@@ -215,6 +222,7 @@ IsWork R s act.Compiles = R.Appends s
 IsWork R s (act.Prints text) = R.Works (word.Dictionary dictionary.PrintWords)
 IsWork R s (act.Appends e cells) = R.Appends s
 IsWork R s (act.Loads size m cells) = R.Loads s m
+IsWork R s (act.Reads text cells) = R.Reads s text
 IsWork R s (act.Takes cells a) = IsWork R (with_stack cells s) a
 IsWork R s (act.Guards cells a) = IsWork R (guarded cells s) a
 IsWork R s (act.Enters cells d ih a) = IsCall d × IsWork R (entered cells d ih s) a
@@ -459,29 +467,56 @@ load_works R (fetch ∷ a ∷ cells) s p shut =
     (copying s.board.memory a.0 cells) s (loading_fault s.board.memory a fetch (length s.flow.items))
     (λ e. copying_works R a.0 cells s p shut)
 
+-- ---- `evaluate`
+
+-- it may read a text that could be read, where no definition is open
+abbrev pub MayRead : {S : Type 0} → Rules S → Type 0
+MayRead {S} R =
+    (a n : ℕ) (text : List ℕ) (s : State S) → R.Held s → is_some s.words.defining ≡ false
+    → read_bytes s.board.memory a n ≡ Ok text → R.Reads s text
+
+reading_works : {S : Type 0} (R : Rules S) → MayRead R → (a n : ℕ) (r : Result (List ℕ) MemFault) (depth : ℕ)
+    (cells : List Cell) (s : State S) → R.Held s → is_some s.words.defining ≡ false
+    → read_bytes s.board.memory a n ≡ r → IsWork R s (reading_act r depth cells)
+unfolding is_listed listed_numbers
+reading_works R may a n (Ok text) depth cells s p shut e =
+    if_works R (nat_lt 256 (depth + 2)) _ _ s (λ f. R.fails _ refl) (λ f. may a n text s p shut e)
+reading_works R may a n (Err fault) depth cells s p shut e = R.faults fault
+
+string_works : {S : Type 0} (R : Rules S) → MayRead R → (cells : List Cell) (s : State S) → R.Held s
+    → is_some s.words.defining ≡ false → IsWork R s (string_act cells (front_of s))
+unfolding is_listed listed_numbers
+string_works R may [] s p shut = R.fails _ refl
+string_works R may (n ∷ []) s p shut = R.fails _ refl
+string_works R may (n ∷ a ∷ cells) s p shut =
+    reading_works R may a.0 n.0 (read_bytes s.board.memory a.0 n.0) (length s.flow.items) cells s p shut refl
+
 -- ---- all words
 
-pub dictionary_works : {S : Type 0} (R : Rules S) → MayAppend R → R.Works (word.Dictionary dictionary.PrintWords)
+pub dictionary_works : {S : Type 0} (R : Rules S) → MayAppend R → MayRead R
+    → R.Works (word.Dictionary dictionary.PrintWords)
     → (w : DictionaryWord) (s : State S) → R.Held s → IsWork R s (dictionary_act w (front_of s))
 unfolding dictionary_act is_listed listed_numbers
-dictionary_works R o k dictionary.FromBody s p = leaving_works R _ s (from_body_listed s.words s.board.stack)
-dictionary_works R o k dictionary.ToBody s p = leaving_works R _ s (to_body_listed s.words s.board.stack)
-dictionary_works R o k dictionary.GetToken s p = leaving_works R _ s (get_token_listed s.words s.board.stack)
-dictionary_works R o k dictionary.SetToken s p =
+dictionary_works R o may k dictionary.FromBody s p = leaving_works R _ s (from_body_listed s.words s.board.stack)
+dictionary_works R o may k dictionary.ToBody s p = leaving_works R _ s (to_body_listed s.words s.board.stack)
+dictionary_works R o may k dictionary.GetToken s p = leaving_works R _ s (get_token_listed s.words s.board.stack)
+dictionary_works R o may k dictionary.SetToken s p =
     knowing_works R (set_token_entry s.words s.board.stack) s (set_token_listed s.words s.board.stack)
     (λ x e. R.sets x s p e)
-dictionary_works R o k dictionary.State s p = pushed_works R _ s.board.stack s
-dictionary_works R o k dictionary.CompileComma s p = comma_works R o s.board.stack s p
-dictionary_works R o k dictionary.Behavior s p =
+dictionary_works R o may k dictionary.State s p = pushed_works R _ s.board.stack s
+dictionary_works R o may k dictionary.CompileComma s p = comma_works R o s.board.stack s p
+dictionary_works R o may k dictionary.Behavior s p =
     leaving_works R _ s (behavior_of_listed s.words s.board s.board.stack)
-dictionary_works R o k dictionary.Find s p = find_works R s.board.stack s
-dictionary_works R o k dictionary.Instance s p = R.waits s p
-dictionary_works R o k dictionary.Immediate s p = marking_works R s p
-dictionary_works R o k dictionary.EnterCompiling s p = bracket_works R o s p
-dictionary_works R o k dictionary.PrintWords s p = k
-dictionary_works R o k dictionary.ByteLoad s p =
+dictionary_works R o may k dictionary.Find s p = find_works R s.board.stack s
+dictionary_works R o may k dictionary.Instance s p = R.waits s p
+dictionary_works R o may k dictionary.Immediate s p = marking_works R s p
+dictionary_works R o may k dictionary.EnterCompiling s p = bracket_works R o s p
+dictionary_works R o may k dictionary.PrintWords s p = k
+dictionary_works R o may k dictionary.ByteLoad s p =
     if_works R (is_some s.words.defining) _ _ s (λ e. R.fails _ refl) (λ e. load_works R s.board.stack s p e)
-dictionary_works R o k w s p = R.fails _ refl
+dictionary_works R o may k dictionary.Evaluate s p =
+    if_works R (is_some s.words.defining) _ _ s (λ e. R.fails _ refl) (λ e. string_works R may s.board.stack s p e)
+dictionary_works R o may k w s p = R.fails _ refl
 
 written_works : {S : Type 0} (R : Rules S) → R.Runs → (w : Word) (s : State S) → R.Held s
     → (drops_item (Some w) ≡ true → R.Drops s) → MayRaise R (Some (Written w)) s.board.stack
@@ -490,7 +525,7 @@ unfolding written_act is_listed listed_numbers
 written_works R r (word.Returns w) s p d h = returns_works R w s.board.stack s p d
 written_works R r (word.Throws w) s p d h = throws_work R w s.board.stack s h
 written_works R r (word.Dictionary w) s p d h =
-    dictionary_works R (R.opens r) (R.works r (word.Dictionary dictionary.PrintWords)) w s p
+    dictionary_works R (R.opens r) (R.reads r) (R.works r (word.Dictionary dictionary.PrintWords)) w s p
 written_works R r (word.Stream w) s p d h = R.fails _ refl
 written_works R r (word.Parsing w) s p d h = R.fails _ refl
 written_works R r (word.Compiling w) s p d h = R.fails _ refl

@@ -27,6 +27,9 @@ use Rattle.of_memory.specs.Images.{latest_image}
 use Rattle.of_flow.specs.declared.control.ControlWord.{ControlWord}
 use Rattle.of_flow.specs.declared.control.ControlWord.TheVariants as control
 use Rattle.of_flow.specs.declared.control_state.Flow.{Flow}
+use Rattle.of_text.specs.declared.words.TextWord.{TextWord}
+use Rattle.of_text.specs.declared.words.TextWord.TheVariants as text
+use Rattle.of_interpret.specs.Reading.{text_due, word_at}
 use Rattle.of_eval.specs.Acts.{Act, Does, Fails, Goes, Moves, Next}
 use Rattle.of_eval.specs.Doing.{executed}
 use Rattle.of_eval.specs.Executing.{Call, Catch, Declines, Execute, Open, Own, Plan, Stops, Written, plan_in}
@@ -34,7 +37,7 @@ use Rattle.of_eval.specs.Items.{Target, control_act}
 use Rattle.of_state.specs.State.{Calls, State}
 use Rattle.of_eval.specs.Reading.{token_due}
 use Rattle.of_steps.specs.Steps.{item_done}
-use Rattle.of_eval_laws.specs.Returning.{IsCall, IsImage, is_code}
+use Rattle.of_eval_laws.specs.Returning.{IsCall, IsSource, is_code}
 
 -- ---- the target of a word of control
 
@@ -73,7 +76,7 @@ pub record TargetsCountLast : Type 0 where
 
 -- ---- what is read
 
--- it is read on, or set aside, on top of the return stack, for an image that begins inside it
+-- it is read on, or set aside, on top of the return stack, for an image or a text that begins inside it
 abbrev pub KeepsReading : Reading → Flow → Type 0
 KeepsReading r f = (f.reading ≡ r) ⊎ (top_item f.items ≡ Some (Source r))
 
@@ -97,6 +100,11 @@ abbrev pub ends_image : Option Word → Bool
 ends_image (Some (word.Stream stream.End0)) = true
 ends_image (Some (word.Stream stream.End1)) = true
 ends_image w = false
+
+-- a text ends where none of its words is left
+abbrev pub is_text_end : TextWord → Bool
+is_text_end text.End = true
+is_text_end w = false
 
 -- ---- the return stack
 
@@ -132,11 +140,11 @@ abbrev pub BeginsDefinition : Flow → Flow → Type 0
 BeginsDefinition f after =
     (after.items ≡ Return f.next ∷ f.items) × (is_code after.next ≡ true) × (after.reading ≡ f.reading)
 
--- an image begins; when it has ended, control goes on behind the word, in what was read
-abbrev pub BeginsImage : Flow → Flow → Type 0
-BeginsImage f after =
+-- an image or a text begins; when it has ended, control goes on behind the word, in what was read
+abbrev pub BeginsSource : Flow → Flow → Type 0
+BeginsSource f after =
     (after.items ≡ Source f.reading ∷ Return f.next ∷ f.items) × (after.next ≡ continuation.Source)
-    × IsImage after.reading.input
+    × IsSource after.reading.input
 
 -- the item on top is dropped; control goes on behind the word, or where that says, if it is a return
 abbrev pub DropsItem : Flow → Flow → Type 0
@@ -148,7 +156,7 @@ DropsItem f after =
 abbrev pub WordLeaves : Bool → Flow → Flow → Type 0
 WordLeaves drops f after =
     Stays f after
-    ⊎ (PushesCell f after ⊎ (BeginsDefinition f after ⊎ (BeginsImage f after ⊎ ((drops ≡ true) × DropsItem f after))))
+    ⊎ (PushesCell f after ⊎ (BeginsDefinition f after ⊎ (BeginsSource f after ⊎ ((drops ≡ true) × DropsItem f after))))
 
 -- each `catch` pushes a handler, each word that calls a method a caller, and on these the word that runs at last leaves
 -- that
@@ -180,13 +188,19 @@ drops_item w = false
 -- What board of a step leave as it was, over any code of definitions.
 pub record FramesHold (S : Type 0) : Type 0 where
   -- Executing a word leaves the items and what is read as they were, but for handlers, callers and one item on top, or
-  -- begins an image; it drops one item only where the word that runs at last drops one.
+  -- begins an image or a text; it drops one item only where the word that runs at last drops one.
   pub words :
       (c : Calls S) (xt : ℕ) (s : State S) →
       ExecutingLeaves (drops_item (last_word (plan_in s xt))) s.flow (executed c xt s).state.flow
-  -- An item of a definition goes on in what is read, or begins an image inside it.
+  -- An item of a definition goes on in what is read, or begins an image or a text inside it.
   pub items_read_on :
       (c : Calls S) (i : Item) (s : State S) → KeepsReading s.flow.reading (item_done c i s).state.flow
+  -- The word at which the reading of a text stands is read on behind, with all that it parses, or the reading is set
+  -- aside so, unless it is the end; so the words of a text are read one behind the other, whatever they do.
+  pub texts_read_on :
+      (c : Calls S) (position : ℕ) (s : State S) → is_text_end (word_at position s).word ≡ false →
+      KeepsReading (record s.flow.reading { input = input.Text (word_at position s).next })
+      (text_due c position s).state.flow
   -- The token at which the reading of an image stands, interpreted or compiled, keeps the size of offsets that is read
   -- on with behind it, unless it ends the image.
   pub tokens_keep_size :

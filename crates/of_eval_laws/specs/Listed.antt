@@ -13,6 +13,7 @@ use Rattle.of_stacks.specs.declared.return_item.Input.{Input}
 use Rattle.of_stacks.specs.declared.return_item.Input.TheVariants as input
 use Rattle.of_stacks.specs.declared.throws.Throw.{Throw}
 use Rattle.of_stacks.specs.Throws.{ThrowsListed, control_mismatch, is_listed}
+use Rattle.of_fcodes.specs.declared.console_words.CompilingWord.TheVariants as compiled
 use Rattle.of_fcodes.specs.declared.token_table.TokenEntry.{TokenEntry}
 use Rattle.of_fcodes.specs.declared.words.StreamWord.TheVariants as stream
 use Rattle.of_fcodes.specs.declared.words.ThrowsWord.TheVariants as throws
@@ -24,12 +25,16 @@ use Rattle.of_stream.specs.declared.stream.OffsetSize.{OffsetSize}
 use Rattle.of_stream.specs.Sizes.{size_behind}
 use Rattle.of_stream.specs.Decoding.{Argument, Nothing, Token, token_from}
 use Rattle.of_memory.specs.Images.{latest_image}
+use Rattle.of_text.specs.declared.words.Found.{Found}
+use Rattle.of_text.specs.declared.words.TextWord.{TextWord}
+use Rattle.of_text.specs.declared.words.TextWord.TheVariants as text
 use Rattle.of_compile.specs.Structured.{Definitions}
 use Rattle.of_compile.specs.Coding.{Coding}
 use Rattle.of_board.specs.declared.board.Board.{Board}
 use Rattle.of_eval.specs.Executing.{Call, Catch, Execute, Open, Plan, Written, plan_in}
 use Rattle.of_state.specs.State.{Calls, State, flat_calls, with_next}
 use Rattle.of_eval.specs.Reading.{read_on}
+use Rattle.of_interpret.specs.Reading.{read_from, word_at}
 use Rattle.of_steps.specs.Steps.{due}
 use Rattle.of_words.specs.Words.{word_entry}
 use Rattle.of_eval_laws.specs.Structured.{structured_calls}
@@ -70,10 +75,20 @@ plan_read (Some x) size s =
     plan_with x.0.argument (word_numbered x.0.code.0) (entry_in s.words.table x.0.code.0) s.flow.is_compiling
     (plan_in (read_on (size_behind x.0.code.0 size) x.1 s))
 
-abbrev pub plan_token : {S : Type 0} → Input → State S → Option Plan
-plan_token (input.Image size position) s = plan_read (token_from (latest_image s.board.memory) position size) size s
-plan_token (input.Text position) s = None
-plan_token input.Nothing s = None
+-- of a word of a text, if it executes a word
+abbrev pub plan_said : TextWord → Bool → (ℕ → Plan) → Option Plan
+plan_said (text.Found xt immediate) compiling plans = if compiling && not immediate then None else Some (plans xt.0)
+plan_said w compiling plans = None
+
+-- the same with what it parses, in the state in which the text is read on behind it
+abbrev pub plan_spoken : {S : Type 0} → Found → State S → Option Plan
+plan_spoken x s = plan_said x.word s.flow.is_compiling (plan_in (read_from x.next s))
+
+-- and of what stands next in what is read
+abbrev pub plan_reading : {S : Type 0} → Input → State S → Option Plan
+plan_reading (input.Image size position) s = plan_read (token_from (latest_image s.board.memory) position size) size s
+plan_reading (input.Text position) s = plan_spoken (word_at position s) s
+plan_reading input.Nothing s = None
 
 -- and of an item
 abbrev pub plan_of_item : Item → (ℕ → Plan) → Option Plan
@@ -87,7 +102,7 @@ plan_fetched (Some x) s = plan_of_item x.0 (plan_in (with_next (continuation.Cod
 
 -- the plan that is carried out next, if one is
 abbrev pub plan_next : {S : Type 0} → Calls S → Continuation → State S → Option Plan
-plan_next c continuation.Source s = plan_token s.flow.reading.input s
+plan_next c continuation.Source s = plan_reading s.flow.reading.input s
 plan_next c (continuation.Code n) s = plan_fetched (c.fetch s.code (record { cell = n })) s
 
 -- the cell that `throw` takes where a plan comes to it, with these cells on the data stack (Forth 2012, 9.6.1.2275)
@@ -116,9 +131,19 @@ abbrev pub closes : Option Token → Bool
 closes None = false
 closes (Some x) = is_semicolon (word_numbered x.code.0)
 
--- whether `b(;)` comes next
+-- so does `;` of a text
+abbrev pub is_text_semicolon : TextWord → Bool
+is_text_semicolon (text.Compiling compiled.Semicolon) = true
+is_text_semicolon w = false
+
+abbrev pub closes_reading : {S : Type 0} → Input → State S → Bool
+closes_reading (input.Image size position) s = closes (token_read (input.Image size position) s)
+closes_reading (input.Text position) s = is_text_semicolon (word_at position s).word
+closes_reading input.Nothing s = false
+
+-- whether `b(;)` or `;` comes next
 abbrev pub closes_next : {S : Type 0} → Continuation → State S → Bool
-closes_next continuation.Source s = closes (token_read s.flow.reading.input s)
+closes_next continuation.Source s = closes_reading s.flow.reading.input s
 closes_next (continuation.Code n) s = false
 
 -- ---- what is thrown
@@ -135,7 +160,8 @@ abbrev pub Raises : Option Cell → Bool → Result (Unit {0}) Throw → Type 0
 Raises taken ends (Ok x) = Unit {0}
 Raises taken ends (Err t) = IsRaised taken ends t
 
--- The throws of tokens and items are listed, but for -22 at `b(;)`, and for what `throw` throws where it runs.
+-- The throws of tokens, of the words of a text and of items are listed, but for -22 at `b(;)` and `;`, and for what
+-- `throw` throws where it runs.
 pub record StepsThrowListed : Type 0 where
   -- where definitions are cells
   pub flat :

@@ -1,5 +1,5 @@
 -- Control goes on in what is read or in a finished definition, and each step keeps it so.
-use Rattle.std.specs.Prelude.{◌≡◌, ◌⊎◌, ℕ, ◌<◌, Bool, List, [], ◌∷◌, length, Option, Some, None, is_some}
+use Rattle.std.specs.Prelude.{◌≡◌, ◌⊎◌, ℕ, ◌<◌, Bool, false, List, [], ◌∷◌, length, Option, Some, None}
 use Rattle.of_stacks.specs.declared.return_item.Continuation.{Continuation}
 use Rattle.of_stacks.specs.declared.return_item.LoopExit.{LoopExit}
 use Rattle.of_stacks.specs.declared.return_item.LoopExit.TheVariants as exit
@@ -14,7 +14,7 @@ use Rattle.of_compile.specs.Structured.{Definitions, laid_all}
 use Rattle.of_compile.specs.Words.{IsNewestOpen}
 use Rattle.of_state.specs.State.{State}
 use Rattle.of_steps.specs.Steps.{stepped}
-use Rattle.of_state.specs.Loading.{begun, first_state}
+use Rattle.of_state.specs.Loading.{begun, first_state, line_begun}
 use Rattle.of_eval_laws.specs.Structured.{IsPlaced, IsPlacedIn, structured_calls, no_definitions}
 
 -- the code cell at which the finished definitions end
@@ -68,8 +68,8 @@ pub record ArePlaced
   pub opened : (n : ℕ) → defining ≡ Some n → start_at words n ≡ Some (finished_end code)
   -- and is the newest word
   pub newest : IsNewestOpen words defining
-  -- words are compiled exactly while a definition is open
-  pub compiles : is_compiling ≡ is_some defining
+  -- words are compiled only while a definition is open
+  pub compiles : defining ≡ None → is_compiling ≡ false
   -- and only an open one has elements
   pub closed : defining ≡ None → code.elements ≡ []
 
@@ -85,6 +85,8 @@ pub record StatesStayPlaced : Type 0 where
   pub first : AllPlaced (first_state no_definitions)
   -- an image that begins
   pub begun : (image : List ℕ) (node : Phandle) (s : State Definitions) → AllPlaced s → AllPlaced (begun image node s)
+  -- a console line that begins
+  pub line : (text : List ℕ) (s : State Definitions) → AllPlaced s → AllPlaced (line_begun text s)
   -- a step
   pub step : (s : State Definitions) → AllPlaced s → AllPlaced (stepped structured_calls s)
   -- control goes on in what is read or in a finished definition

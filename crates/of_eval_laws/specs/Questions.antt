@@ -51,6 +51,7 @@ IsOpening act.Compiles = ⊥
 IsOpening (act.Prints text) = ⊥
 IsOpening (act.Appends e cells) = ⊥
 IsOpening (act.Loads size m cells) = ⊥
+IsOpening (act.Reads text cells) = ⊥
 IsOpening (act.Takes cells a) = IsOpening a
 IsOpening (act.Guards cells a) = IsOpening a
 IsOpening (act.Enters cells d ih a) = IsOpening a

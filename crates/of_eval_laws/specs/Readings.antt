@@ -11,7 +11,7 @@ use Rattle.of_fcodes.specs.declared.words.Word.{Word}
 use Rattle.of_nodes.specs.declared.phandles.Phandle.{Phandle}
 use Rattle.of_flow.specs.declared.control_state.Flow.{Flow}
 use Rattle.of_board.specs.declared.board.Board.{Board}
-use Rattle.of_state.specs.Loading.{begun, first_state}
+use Rattle.of_state.specs.Loading.{begun, first_state, line_begun}
 use Rattle.of_state.specs.Settling.{settled}
 use Rattle.of_state.specs.State.{Calls, State, with_board}
 use Rattle.of_steps.specs.Steps.{due, stepped, steps_from}
@@ -74,6 +74,9 @@ pub record ImagesAreReadings (S : Type 0) : Type 0 where
   pub begun :
       (image : List ℕ) (node : Phandle) (s : State S) → HasSoundSpace s → HasItsImages s → s.flow.is_running ≡ false →
       HasItsImages (begun image node s)
+  -- a console line that begins where nothing runs
+  pub line :
+      (text : List ℕ) (s : State S) → HasItsImages s → s.flow.is_running ≡ false → HasItsImages (line_begun text s)
   -- an ordinary word
   pub words :
       (w : Word) (after : Board) (s : State S) → HasSoundSpace s → HasItsImages s →

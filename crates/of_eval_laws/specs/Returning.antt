@@ -1,4 +1,4 @@
--- Where control goes back to: while words and images run that an image began, the return stack leads back to that image
+-- Where control goes back to: while words, images and texts run that an image began, the return stack leads back to it
 -- (IEEE 1275-1994, 5.2.2.5, 5.3.3.1; Forth 2012, 3.2.3.3, 9.6.1.0875).
 use Rattle.std.specs.Prelude.{◌≡◌, ◌⊎◌, ℕ, Bool, true, false, ◌&&◌, is_some, List, [], ◌∷◌, length, Option}
 use Rattle.std.specs.Prelude.{Some, None}
@@ -59,14 +59,15 @@ is_outer items = is_outermost (latest_source items)
 abbrev pub is_back : {S : Type 0} → State S → Bool
 is_back s = is_read_on s.flow.next && is_outer s.flow.items
 
-abbrev pub IsImage : Input → Type 0
-IsImage input.Nothing = ⊥
-IsImage (input.Text position) = ⊥
-IsImage (input.Image size position) = Unit {0}
+-- an image or a text
+abbrev pub IsSource : Input → Type 0
+IsSource input.Nothing = ⊥
+IsSource (input.Text position) = Unit {0}
+IsSource (input.Image size position) = Unit {0}
 
--- an image is read that began while no definition was open
+-- one is read that began while no definition was open
 abbrev pub IsRead : Reading → Type 0
-IsRead r = IsImage r.input × (r.opened ≡ None)
+IsRead r = IsSource r.input × (r.opened ≡ None)
 
 -- ---- the return stack
 
@@ -110,7 +111,7 @@ module _ (image : List ℕ) (outer : Reading) where
       ⊎ (IsRead s × (is_return_top r ≡ true) × LeadsBack s true None r))
   LeadsBack now code due (Caller d ∷ r) = IsCall d × (is_some due ≡ true) × LeadsBack now code due r
 
-  -- an image is read, and the items lead back, with what is due on top
+  -- an image or a text is read, and the items lead back, with what is due on top
   abbrev pub IsDue : Flow → Type 0
   IsDue f = IsRead f.reading × LeadsBack f.reading (is_code f.next) (Some f.next) f.items
 

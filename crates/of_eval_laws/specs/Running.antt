@@ -22,6 +22,7 @@ use Rattle.of_state.specs.Settling.{is_empty, settled}
 use Rattle.of_steps.specs.Steps.{due as due_next, stepped, steps_from}
 use Rattle.of_state.specs.Loading.{begun, load_fault}
 use Rattle.of_eval_laws.specs.Frames.{ends_image}
+use Rattle.of_eval_laws.specs.Sound.{HasSoundSpace}
 use Rattle.of_eval_laws.specs.Throws.{images_ended, left_through}
 
 -- an image that runs: where it begins, and its bytes
@@ -128,9 +129,10 @@ pub record ImagesRun (S : Type 0) : Type 0 where
   pub given_back :
       (now : Input) (items : List ReturnItem) (b : Board) → IsSound b.memory →
       LatestEnd (images_ended now items) b.memory (left_through now items b).memory
-  -- What a token or an item does leaves the images as they were; it may begin one, and at its end it ends the latest.
+  -- What a token, a word of a text or an item does leaves the images as they were; it may begin one, and at the end of
+  -- an image it ends the latest.
   pub done :
-      (c : Calls S) (s : State S) → IsSound s.board.memory →
+      (c : Calls S) (s : State S) → HasSoundSpace s →
       let o = due_next c s.flow.next s in
       DueLeaves (is_at_end s.flow.next s) s.board.memory o.state.board.memory o.ended
   -- The end of a step leaves them as they were, but for those that a throw ends.
@@ -139,16 +141,16 @@ pub record ImagesRun (S : Type 0) : Type 0 where
       EndLeaves (throws_late items s.board.stack) s.board.memory (settled c items thrown s).board.memory thrown
   -- In a step that isn't the end of an image and throws nothing, at its end either, they go on.
   pub go_on :
-      (c : Calls S) (s : State S) → IsSound s.board.memory →
+      (c : Calls S) (s : State S) → HasSoundSpace s →
       is_at_end s.flow.next s ≡ false →
       let o = due_next c s.flow.next s in
       o.ended ≡ Ok tt → throws_late o.state.flow.items o.state.board.stack ≡ false →
       GoOn s.board.memory (stepped c s).board.memory
   -- In each step they go on, or some of the latest end: an image that still runs has the bytes that it had.
   pub step :
-      (c : Calls S) (s : State S) → IsSound s.board.memory →
+      (c : Calls S) (s : State S) → HasSoundSpace s →
       SomeEnd s.board.memory (stepped c s).board.memory ⊎ GoOn s.board.memory (stepped c s).board.memory
   -- So it is over any number of steps.
   pub steps :
-      (c : Calls S) (n : ℕ) (s after : State S) → IsSound s.board.memory → steps_from c n s ≡ Some after →
+      (c : Calls S) (n : ℕ) (s after : State S) → HasSoundSpace s → steps_from c n s ≡ Some after →
       OthersRun s.board.memory after.board.memory

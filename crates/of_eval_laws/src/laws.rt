@@ -41,8 +41,8 @@ pub fn words_throw_listed()
     console_words_throw_listed();
 }
 
-/// What a token or an item throws has one of these numbers, too, but for -22 where `b(;)` ends a definition, and for
-/// the number of the cell that `throw` takes where that runs.
+/// What a token, a word of a text or an item throws has one of these numbers, too, but for -22 where `b(;)` or `;` ends
+/// a definition, and for the number of the cell that `throw` takes where that runs.
 #[tactic(auto, using(crate::proofs::Raised::steps_throw_listed))]
 pub fn steps_throw_listed()
     ensures { StepsThrowListed }
@@ -62,8 +62,8 @@ pub fn steps_agree()
     compiles_reading();
 }
 
-/// From the beginning on, and whatever image begins, control goes on in what is read or in a finished definition: each
-/// step leaves all items of the return stack and all own words so that it does.
+/// From the beginning on, and whatever image or console line begins, control goes on in what is read or in a finished
+/// definition: each step leaves all items of the return stack and all own words so that it does.
 pub fn states_stay_placed()
     ensures { StatesStayPlaced }
 {
@@ -77,9 +77,9 @@ pub fn mismatch_is_no_body()
     ensures { MismatchIsNoBody }
 {}
 
-/// Board of a step leave as it was what is read, the size of its offsets, and the items of the return stack, but for
-/// what executing a word pushes or drops, which is said exactly, and the target of a word of control counts only where
-/// control goes there, after all else.
+/// The acts of a step leave as they were what is read, the size of its offsets, and the items of the return stack, but
+/// for what executing a word pushes or drops, which is said exactly, and the target of a word of control counts only
+/// where control goes there, after all else.
 #[tactic(auto, using(crate::proofs::Frames::targets, crate::proofs::Frames::frames_hold))]
 pub fn frames_hold()
     ensures cells { FramesHold Coding }
@@ -121,8 +121,8 @@ pub fn throws_settle()
     ensures bodies { ThrowsSettle Definitions }
 {}
 
-/// The data space is sound at first, and a load and each step leave it so, whatever is done or thrown; and so the
-/// properties of the tree stay stored in it.
+/// The data space is sound at first, and a load, a console line and each step leave it so, whatever is done or thrown;
+/// and so the properties of the tree stay stored in it.
 pub fn space_stays_sound()
     ensures cells { SpaceStaysSound Coding }
     ensures bodies { SpaceStaysSound Definitions }
@@ -275,14 +275,14 @@ pub fn questions_settle()
     plans_unroll();
 }
 
-/// Which tokens and items ask for no memory.
+/// Which tokens, items and words of a text ask for no memory.
 pub fn memory_is_asked()
     ensures cells { MemoryIsAsked Coding }
     ensures bodies { MemoryIsAsked Definitions }
 {}
 
-/// The name of a definition belongs to the package that was active at its `b(:)`, whatever package is active at its
-/// `b(;)`.
+/// The name of a definition belongs to the package that was active at its `b(:)` or `:`, whatever package is active at
+/// its `b(;)` or `;`.
 #[tactic(auto, using(crate::proofs::HomeLemmas::names_stay_home))]
 pub fn names_stay_home()
     ensures cells { NamesStayHome Coding }
