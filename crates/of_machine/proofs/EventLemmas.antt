@@ -20,10 +20,10 @@ use Rattle.of_state.specs.declared.load_fault.LoadFault.{LoadFault}
 use Rattle.of_eval_laws.specs.Structured.{StepsAgree, structured_calls, flat_state, no_definitions}
 use Rattle.of_eval_laws.specs.Placed.{AllPlaced, StatesStayPlaced}
 use Rattle.of_machine.specs.declared.answers.Refusal.{Refusal}
-use Rattle.of_machine.specs.Events.{Answers, CallsAgree, Client, Event, Load, Step, after_events, done_by}
-use Rattle.of_machine.specs.Events.{loaded_unless}
+use Rattle.of_machine.specs.Events.{Answers, CallsAgree, Client, Event, Line, Load, Step, after_events, done_by}
+use Rattle.of_machine.specs.Events.{lined_unless, loaded_unless}
 use Rattle.of_machine.specs.States.{HasMoved, MachineState, answer_refusal, answered_unless, can_step, flat_machine}
-use Rattle.of_machine.specs.States.{idle, load_refusal, loaded_for, made_or_opened, node_at, tried}
+use Rattle.of_machine.specs.States.{idle, line_refusal, load_refusal, loaded_for, made_or_opened, node_at, tried}
 
 -- ---- an image
 
@@ -62,6 +62,18 @@ unless_placed : (o : Option Refusal) (m : MachineState Definitions) (image path 
     → AllPlaced m.eval → AllPlaced (loaded_unless o m image path).eval
 unless_placed (Some e) m image path stay placed = placed
 unless_placed None m image path stay placed = loaded_placed (node_at m path) image m stay placed
+
+-- ---- a line
+
+line_flat : (o : Option Refusal) (text : List ℕ) (m : MachineState Definitions)
+    → lined_unless o (flat_machine m) text ≡ flat_machine (lined_unless o m text)
+line_flat (Some e) text m = refl
+line_flat None text m = refl
+
+line_placed : (o : Option Refusal) (text : List ℕ) (m : MachineState Definitions) → StatesStayPlaced
+    → AllPlaced m.eval → AllPlaced (lined_unless o m text).eval
+line_placed (Some e) text m stay placed = placed
+line_placed None text m stay placed = stay.line text m.eval placed
 
 -- ---- a step
 
@@ -121,6 +133,7 @@ answer_placed (Some e) answer m stay placed = placed
 event_flat : (e : Event) (m : MachineState Definitions) → StepsAgree → StatesStayPlaced → AllPlaced m.eval
     → done_by flat_calls e (flat_machine m) ≡ flat_machine (done_by structured_calls e m)
 event_flat (Load image path) m agree stay placed = unless_flat (load_refusal m image path) m image path
+event_flat (Line text) m agree stay placed = line_flat (line_refusal m text) text m
 event_flat Step m agree stay placed = turned (can_step m) m agree stay placed
 event_flat (Answers answer) m agree stay placed =
     answer_flat (answer_refusal m.waiting answer) answer m agree stay placed
@@ -129,6 +142,7 @@ event_flat (Client call) m agree stay placed = refl
 event_placed : (e : Event) (m : MachineState Definitions) → StatesStayPlaced → AllPlaced m.eval
     → AllPlaced (done_by structured_calls e m).eval
 event_placed (Load image path) m stay placed = unless_placed (load_refusal m image path) m image path stay placed
+event_placed (Line text) m stay placed = line_placed (line_refusal m text) text m stay placed
 event_placed Step m stay placed = stays (can_step m) m stay placed
 event_placed (Answers answer) m stay placed =
     answer_placed (answer_refusal m.waiting answer) answer m stay placed

@@ -20,10 +20,11 @@ use Rattle.of_machine.specs.States.{MachineState, answer_refusal, answered, can_
 use Rattle.of_machine.specs.States.{is_running}
 use Rattle.of_machine.specs.States.{loaded, moved, slot}
 use Rattle.of_machine.specs.Runs.{Advances, AreLater, Due, Feed, HasAdvanced, HasGone, IsCalm, RunsAgree, RunsTo}
-use Rattle.of_machine.specs.Runs.{States, after, asking, beginning, end_of, fitting, next, settled, told, turned}
+use Rattle.of_machine.specs.Runs.{States, after, asking, beginning, clients_heard, end_of, fed_by, fitting, next}
+use Rattle.of_machine.specs.Runs.{settled, told, turned}
 use Rattle.of_machine.specs.Racks.{HasGoneWith, IsLeft, IsLeftWith, Rounds, answers_of}
-use Rattle.of_machine.proofs.RunLemmas.{asks_then, run_ends, same_asked, same_steps, same_waiting, turn_behind}
-use Rattle.of_machine.proofs.RunLemmas.{turns_joined}
+use Rattle.of_machine.proofs.RunLemmas.{asks_then, run_ends, same_answers, same_asked, same_steps, same_waiting}
+use Rattle.of_machine.proofs.RunLemmas.{settled_is, turn_behind, turns_joined}
 
 -- ---- more answers than are used change nothing
 
@@ -34,12 +35,23 @@ extended f more = record f { answers = f.answers ++ more }
 abbrev with_answers : Feed Coding → List Answer → Feed Coding
 with_answers f answers = record f { answers = answers }
 
+fed_more : (b : Bool) (lines : List (List ℕ)) (f : Feed Coding) (more : List Answer)
+    → fed_by b lines (extended f more) ≡ extended (fed_by b lines f) more
+fed_more true lines f more = refl
+fed_more false [] f more = refl
+fed_more false (line ∷ lines) f more = refl
+
+settled_more : (f : Feed Coding) (more : List Answer) → settled (extended f more) ≡ extended (settled f) more
+settled_more f more =
+    let heard = clients_heard f in fed_more (is_running heard.machine) heard.lines heard more
+
 fits_more : (q : Query) (b : Bool) (x : Answer) (xs more : List Answer) (f : Feed Coding)
     → (told flat_calls (if b then Some x else None) (asking q (with_answers f (x ∷ xs)))).machine.steps
     ≡ f.machine.steps + 1
     → told flat_calls (if b then Some x else None) (asking q (with_answers f (x ∷ xs ++ more)))
     ≡ extended (told flat_calls (if b then Some x else None) (asking q (with_answers f (x ∷ xs)))) more
-fits_more q true x xs more f h = refl
+fits_more q true x xs more f h =
+    settled_more (record f { machine = answered flat_calls x (asking q f).machine; answers = xs }) more
 fits_more q false x xs more f h = absurd (omega (arith, h))
 
 told_more : (q : Query) (answers more : List Answer) (f : Feed Coding)
@@ -52,7 +64,7 @@ told_more q (x ∷ xs) more f h = fits_more q (fits q x) x xs more f h
 turned_more : (o : Option Query) (f : Feed Coding) (more : List Answer)
     → (turned flat_calls o f).machine.steps ≡ f.machine.steps + 1
     → turned flat_calls o (extended f more) ≡ extended (turned flat_calls o f) more
-turned_more None f more h = refl
+turned_more None f more h = settled_more (record f { machine = moved flat_calls f.machine }) more
 turned_more (Some q) f more h = told_more q f.answers more f h
 
 next_more_by : (b : Bool) (o : Option Query) (f : Feed Coding) (more : List Answer)
@@ -283,9 +295,10 @@ answered_with ds f g new q limit x none asks gives fit same later =
         (
           later,
           same_waiting with_it new same,
+          settled_is with_it new same,
         ),
       ),
-      ap (λ (y : Feed Coding). y.answers) same ∙ ap (λ (y : Feed Coding). y.answers) asks.5 ∙ empty,
+      same_answers with_it new same ∙ ap (λ (y : Feed Coding). y.answers) asks.5 ∙ empty,
     ) in (
       goes_on_with ds ds (rack_told ds q) f h new silent asked_so,
       omega (arith, made, asks.1.0.0),
@@ -331,77 +344,87 @@ over_behind_with limit ds es hs f g h before over = (goes_on_with ds es hs f g h
 
 -- ---- whole runs
 
-begins : (image : List ℕ) (calls : List Due) (start : Feed Coding) (answers : List Answer)
-    → start ≡ beginning (flat_of no_definitions) image [] [] calls
-    → with_answers start answers ≡ beginning (flat_of no_definitions) image [] answers calls
-begins image calls start answers e = ap (λ x. with_answers x answers) e
-
-abbrev begun : List ℕ → List Due → Feed Coding
-begun image calls = record {
+abbrev begun : List ℕ → List (List ℕ) → List Due → Feed Coding
+begun image lines calls = record {
   machine = loaded (idle (flat_of no_definitions)) image slot;
-  lines = [];
+  lines = lines;
   answers = [];
   calls = calls;
 }
 
-none_asked : (image : List ℕ) (calls : List Due) (start : Feed Coding)
-    → start ≡ beginning (flat_of no_definitions) image [] [] calls → start.machine.asked ≡ []
-none_asked image calls start e = same_asked (begun image calls) start e
+fed_with : (b : Bool) (lines : List (List ℕ)) (f : Feed Coding) (xs : List Answer)
+    → with_answers (fed_by b lines f) xs ≡ fed_by b lines (with_answers f xs)
+fed_with true lines f xs = refl
+fed_with false [] f xs = refl
+fed_with false (line ∷ lines) f xs = refl
 
-none_made : (image : List ℕ) (calls : List Due) (start : Feed Coding)
-    → start ≡ beginning (flat_of no_definitions) image [] [] calls → start.machine.steps ≡ 0
-none_made image calls start e = same_steps (begun image calls) start e
+begins : (image : List ℕ) (lines : List (List ℕ)) (calls : List Due) (start : Feed Coding) (answers : List Answer)
+    → start ≡ beginning (flat_of no_definitions) image lines [] calls
+    → with_answers start answers ≡ beginning (flat_of no_definitions) image lines answers calls
+begins image lines calls start answers e =
+    let heard = clients_heard (begun image lines calls) in
+    ap (λ x. with_answers x answers) e ∙ fed_with (is_running heard.machine) heard.lines heard answers
 
-pub run_left : RunsAgree → (image : List ℕ) (calls : List Due) (limit : ℕ) (ds es : List Meant) (start : Feed Coding)
-    → start ≡ beginning (flat_of no_definitions) image [] [] calls → IsLeftWith limit ds es start
-    → IsLeft image calls limit ds es
-run_left agree image calls limit ds es start e left =
+none_asked : (image : List ℕ) (lines : List (List ℕ)) (calls : List Due) (start : Feed Coding)
+    → start ≡ beginning (flat_of no_definitions) image lines [] calls → start.machine.asked ≡ []
+none_asked image lines calls start e = same_asked (begun image lines calls) start e
+
+none_made : (image : List ℕ) (lines : List (List ℕ)) (calls : List Due) (start : Feed Coding)
+    → start ≡ beginning (flat_of no_definitions) image lines [] calls → start.machine.steps ≡ 0
+none_made image lines calls start e = same_steps (begun image lines calls) start e
+
+pub run_left : RunsAgree → (image : List ℕ) (lines : List (List ℕ)) (calls : List Due) (limit : ℕ)
+    (ds es : List Meant) (start : Feed Coding)
+    → start ≡ beginning (flat_of no_definitions) image lines [] calls → IsLeftWith limit ds es start
+    → IsLeft image lines calls limit ds es
+run_left agree image lines calls limit ds es start e left =
     let n = left.0 in
     let qs = left.2 in
     let answers = answers_of ds qs in
-    let nothing : start.machine.asked ++ qs ≡ qs = ap (λ xs. xs ++ qs) (none_asked image calls start e) in (
+    let nothing : start.machine.asked ++ qs ≡ qs = ap (λ xs. xs ++ qs) (none_asked image lines calls start e) in (
       n,
-      omega (arith, left.1, none_made image calls start e),
+      omega (arith, left.1, none_made image lines calls start e),
       qs,
       left.3,
       sym nothing ∙ sym left.4
-          ∙ ap (λ x. (after flat_calls n x).machine.asked) (begins image calls start answers e)
-          ∙ ap (λ (m : MachineState Coding). m.asked) (agree image [] answers calls n),
+          ∙ ap (λ x. (after flat_calls n x).machine.asked) (begins image lines calls start answers e)
+          ∙ ap (λ (m : MachineState Coding). m.asked) (agree image lines answers calls n),
     )
 
-pub never_begun : RunsAgree → (image : List ℕ) (calls : List Due) (limit : ℕ) (ds : List Meant)
-    → IsLeft image calls limit ds ds
-never_begun agree image calls limit ds =
-    let start = beginning (flat_of no_definitions) image [] [] calls in
-    let few : start.machine.steps ≤ limit = omega (arith, none_made image calls start refl) in
-    run_left agree image calls limit ds ds start refl (left_alone limit ds start few)
+pub never_begun : RunsAgree → (image : List ℕ) (lines : List (List ℕ)) (calls : List Due) (limit : ℕ) (ds : List Meant)
+    → IsLeft image lines calls limit ds ds
+never_begun agree image lines calls limit ds =
+    let start = beginning (flat_of no_definitions) image lines [] calls in
+    let few : start.machine.steps ≤ limit = omega (arith, none_made image lines calls start refl) in
+    run_left agree image lines calls limit ds ds start refl (left_alone limit ds start few)
 
 -- the questions that were asked are all of the machine's
-asked_all : (image : List ℕ) (calls : List Due) (ds es : List Meant) (start f : Feed Coding)
-    → start ≡ beginning (flat_of no_definitions) image [] [] calls → (gone : HasGoneWith ds es start f)
+asked_all : (image : List ℕ) (lines : List (List ℕ)) (calls : List Due) (ds es : List Meant) (start f : Feed Coding)
+    → start ≡ beginning (flat_of no_definitions) image lines [] calls → (gone : HasGoneWith ds es start f)
     → gone.0 ≡ f.machine.asked
-asked_all image calls ds es start f e gone =
-    sym (gone.2 ∙ ap (λ xs. xs ++ gone.0) (none_asked image calls start e))
+asked_all image lines calls ds es start f e gone =
+    sym (gone.2 ∙ ap (λ xs. xs ++ gone.0) (none_asked image lines calls start e))
 
-pub run_told : (image : List ℕ) (calls : List Due) (ds es : List Meant) (start f : Feed Coding)
-    → start ≡ beginning (flat_of no_definitions) image [] [] calls → HasGoneWith ds es start f
+pub run_told : (image : List ℕ) (lines : List (List ℕ)) (calls : List Due) (ds es : List Meant) (start f : Feed Coding)
+    → start ≡ beginning (flat_of no_definitions) image lines [] calls → HasGoneWith ds es start f
     → es ≡ told_all ds f.machine.asked
-run_told image calls ds es start f e gone =
-    gone.1 ∙ ap (λ qs. told_all ds qs) (asked_all image calls ds es start f e gone)
+run_told image lines calls ds es start f e gone =
+    gone.1 ∙ ap (λ qs. told_all ds qs) (asked_all image lines calls ds es start f e gone)
 
-pub run_ends_with : RunsAgree → (image : List ℕ) (calls : List Due) (ds es : List Meant) (limit : ℕ)
-    (start f : Feed Coding) → start ≡ beginning (flat_of no_definitions) image [] [] calls → limit < 2 ^ 64
+pub run_ends_with : RunsAgree → (image : List ℕ) (lines : List (List ℕ)) (calls : List Due) (ds es : List Meant)
+    (limit : ℕ) (start f : Feed Coding) → start ≡ beginning (flat_of no_definitions) image lines [] calls
+    → limit < 2 ^ 64
     → start.machine.steps ≡ 0 → Rounds limit false ds es start f
-    → RunsTo image [] (answers_of ds f.machine.asked) calls limit f.machine
+    → RunsTo image lines (answers_of ds f.machine.asked) calls limit f.machine
     (end_of f.machine.waiting (is_running f.machine))
-run_ends_with agree image calls ds es limit start f e small none over =
+run_ends_with agree image lines calls ds es limit start f e small none over =
     let answers = answers_of ds over.0.0 in
     subst
-    (λ qs. RunsTo image [] (answers_of ds qs) calls limit f.machine
+    (λ qs. RunsTo image lines (answers_of ds qs) calls limit f.machine
     (end_of f.machine.waiting (is_running f.machine)))
-    (asked_all image calls ds es start f e over.0)
-    (run_ends agree image answers calls limit (with_answers start answers) f (begins image calls start answers e) small
-    none (inl (over.0.3, over.1, over.2)))
+    (asked_all image lines calls ds es start f e over.0)
+    (run_ends agree image lines answers calls limit (with_answers start answers) f
+    (begins image lines calls start answers e) small none (inl (over.0.3, over.1, over.2)))
 
 not_out : (b : Bool) → end_of None b ≡ AnswersOut → ⊥
 not_out true h = cc

@@ -1,6 +1,6 @@
 -- Runs, turn by turn, over cells and over structure.
 use Rattle.std.proofs.Common.{◌≡◌, ◌⊎◌, inl, inr, ℕ, zero, suc, ◌+◌, Bool, true, false, List, [], ◌∷◌, length, Option}
-use Rattle.std.proofs.lemmas.Bool.{false≢true, leb-false, leb-true}
+use Rattle.std.proofs.lemmas.Bool.{and_parts, false≢true, leb-false, leb-true}
 use Rattle.std.proofs.lemmas.Option.{same_Some}
 use Rattle.std.proofs.Common.{Some, None, Result, Ok, Err, IfOk, refl}
 use Rattle.std.proofs.Common.{ap, sym, subst, ◌∙◌, add-one, nat_lt, nat_le, arith}
@@ -33,8 +33,8 @@ use Rattle.of_machine.proofs.FirstLemmas.{first_images}
 use Rattle.of_machine.specs.Runs.{AreLater, AreUpto, Due, Feed, HasGone, IsCalm, IsOut, IsOver, IsTold, RunsAgree}
 use Rattle.of_machine.specs.declared.feeder.Advance.TheVariants as advance
 use Rattle.of_machine.specs.Runs.{Advances, HasAdvanced, RunsTo, States, after, asking, beginning, caught_up, end_of}
-use Rattle.of_machine.specs.Runs.{fitting, next, next_answer}
-use Rattle.of_machine.specs.Runs.{settled, told, turned}
+use Rattle.of_machine.specs.Runs.{IsFed, clients_heard, fed, fed_by, fitting, line_left, next}
+use Rattle.of_machine.specs.Runs.{next_answer, settled, told, turned}
 
 -- ---- what is refused
 
@@ -77,8 +77,57 @@ none_due m (call ∷ calls) later = not_due m call calls (nat_le call.0 m.steps)
 abbrev left_with : {S : Type 0} → Feed S → MachineState S × List Due → Feed S
 left_with f x = record f { machine = x.0; calls = x.1 }
 
-pub rests : (f : Feed Coding) → AreLater f.machine.steps f.calls → settled f ≡ f
-rests f later = ap (left_with f) (none_due f.machine f.calls later)
+-- ---- lines
+
+-- none is handed in while something runs, or where none is left
+fed_so : (f : Feed Coding) → IsFed f → fed f ≡ f
+fed_so f (inl runs) = ap (λ b. fed_by b f.lines f) runs
+fed_so f (inr none) = ap (λ lines. fed_by (is_running f.machine) lines f) none ∙ nothing_left (is_running f.machine) f
+  where
+    nothing_left : (b : Bool) (f : Feed Coding) → fed_by b [] f ≡ f
+    nothing_left true f = refl
+    nothing_left false f = refl
+
+-- the line that is handed in changes no count, no question and nothing that is left but the lines
+record IsLined (f g : Feed Coding) : Type 0 where
+  steps : g.machine.steps ≡ f.machine.steps
+  waiting : g.machine.waiting ≡ f.machine.waiting
+  asked : g.machine.asked ≡ f.machine.asked
+  answers : g.answers ≡ f.answers
+  calls : g.calls ≡ f.calls
+
+lined_by : (b : Bool) (lines : List (List ℕ)) (f : Feed Coding) → IsLined f (fed_by b lines f)
+lined_by true lines f = record { steps = refl; waiting = refl; asked = refl; answers = refl; calls = refl }
+lined_by false [] f = record { steps = refl; waiting = refl; asked = refl; answers = refl; calls = refl }
+lined_by false (line ∷ lines) f =
+    record { steps = refl; waiting = refl; asked = refl; answers = refl; calls = refl }
+
+lined_so : (f : Feed Coding) → IsLined f (fed f)
+lined_so f = lined_by (is_running f.machine) f.lines f
+
+-- and behind it something runs, or no line is left
+pub fed_is : (f : Feed Coding) → IsFed (fed f)
+fed_is f = by_case (is_running f.machine) f.lines f refl refl
+  where
+    by_case : (b : Bool) (lines : List (List ℕ)) (f : Feed Coding) → is_running f.machine ≡ b → f.lines ≡ lines
+        → IsFed (fed_by b lines f)
+    by_case true lines f e h = inl e
+    by_case false [] f e h = inr h
+    by_case false (line ∷ lines) f e h = inl refl
+
+-- clients that are to be answered later still are
+pub still_later : (f g : Feed Coding) → g ≡ fed f → AreLater f.machine.steps f.calls → AreLater g.machine.steps g.calls
+still_later f g e later =
+    let l = lined_so f in
+    subst (λ (x : Feed Coding). AreLater x.machine.steps x.calls) (sym e)
+    (subst (λ n. AreLater n (fed f).calls) (sym l.steps)
+    (subst (λ calls. AreLater f.machine.steps calls) (sym l.calls) later))
+
+pub settled_is : (f g : Feed Coding) → g ≡ settled f → IsFed g
+settled_is f g e = subst (λ x. IsFed x) (sym e) (fed_is (clients_heard f))
+
+pub rests : (f : Feed Coding) → AreLater f.machine.steps f.calls → IsFed f → settled f ≡ f
+rests f later full = ap (λ x. fed (left_with f x)) (none_due f.machine f.calls later) ∙ fed_so f full
 
 -- one that is to be answered now is
 one_due : (m : MachineState Coding) (call : Due) (calls : List Due) (b : Bool) → nat_le call.0 m.steps ≡ b
@@ -91,8 +140,8 @@ pub answers_one : (f g : Feed Coding) (call : Due) (calls : List Due) → f.call
     → call.0 ≤ f.machine.steps → g ≡ record f { machine = served f.machine call.1; calls = calls }
     → settled f ≡ settled g
 answers_one f g call calls e due same =
-    ap (λ x. left_with f (caught_up f.machine x)) e
-    ∙ ap (left_with f) (one_due f.machine call calls (nat_le call.0 f.machine.steps) refl due)
+    ap (λ x. fed (left_with f (caught_up f.machine x))) e
+    ∙ ap (λ x. fed (left_with f x)) (one_due f.machine call calls (nat_le call.0 f.machine.steps) refl due)
     ∙ ap settled (sym same)
 
 -- clients see the machine as it was, but for their replies
@@ -113,18 +162,21 @@ same_machine m (call ∷ calls) = same_if (nat_le call.0 m.steps) m call calls (
 
 pub same_steps : (f g : Feed Coding) → g ≡ settled f → g.machine.steps ≡ f.machine.steps
 same_steps f g e =
-    ap (λ (x : Feed Coding). x.machine.steps) e
+    ap (λ (x : Feed Coding). x.machine.steps) e ∙ (lined_so (clients_heard f)).steps
     ∙ ap (λ (m : MachineState Coding). m.steps) (same_machine f.machine f.calls)
 
 pub same_waiting : (f g : Feed Coding) → g ≡ settled f → g.machine.waiting ≡ f.machine.waiting
 same_waiting f g e =
-    ap (λ (x : Feed Coding). x.machine.waiting) e
+    ap (λ (x : Feed Coding). x.machine.waiting) e ∙ (lined_so (clients_heard f)).waiting
     ∙ ap (λ (m : MachineState Coding). m.waiting) (same_machine f.machine f.calls)
 
 pub same_asked : (f g : Feed Coding) → g ≡ settled f → g.machine.asked ≡ f.machine.asked
 same_asked f g e =
-    ap (λ (x : Feed Coding). x.machine.asked) e
+    ap (λ (x : Feed Coding). x.machine.asked) e ∙ (lined_so (clients_heard f)).asked
     ∙ ap (λ (m : MachineState Coding). m.asked) (same_machine f.machine f.calls)
+
+pub same_answers : (f g : Feed Coding) → g ≡ settled f → g.answers ≡ f.answers
+same_answers f g e = ap (λ (x : Feed Coding). x.answers) e ∙ (lined_so (clients_heard f)).answers
 
 -- ---- runs over cells
 
@@ -155,7 +207,8 @@ turn_after : (f : Feed Coding) (n : ℕ) (g : Feed Coding) (o : Option (State Co
     → settled (at f t (n + 1)) ≡ next flat_calls g
 turn_after f n g None t before none later less h = cc
 turn_after f n g (Some u) t before none later less h =
-    turn_made f n u t none less h ∙ ap (next flat_calls) (sym (rests (at f u n) later) ∙ before u refl)
+    turn_made f n u t none less h
+    ∙ ap (next flat_calls) (sym (rests (at f u n) later (inl (made_runs u t h))) ∙ before u refl)
 
 before_it : (n k : ℕ) (calls : List Due) → AreUpto (n + suc k) calls → AreLater (n + k) calls
 before_it n k [] h = tt
@@ -204,7 +257,7 @@ went f g m calm moves few upto same =
     let sum : n + k ≡ m.steps = omega (arith, moves.0) in
     let turns = turns_made f k n f.machine.eval m.eval calm.1 (omega (arith, sum, few))
     (subst (λ x. AreUpto x f.calls) (sym sum) upto) moves.1 in
-    ap (after flat_calls k) (sym (rests f calm.0))
+    ap (after flat_calls k) (sym (rests f calm.0 calm.2))
     ∙ sym turns
     ∙ ap (λ x. settled (at f m.eval x)) sum
     ∙ ap (λ x. settled (record f { machine = x })) (sym (has_moved f.machine m moves))
@@ -257,6 +310,7 @@ is_told f g new m answer rest split accepted moved same e later =
         later,
         same_waiting g new e ∙ ap (λ (x : Feed Coding). x.machine.waiting) same
             ∙ ap (λ (x : MachineState Coding). x.waiting) moved,
+        settled_is g new e,
       ),
     )
 
@@ -291,24 +345,25 @@ reaches f g new m until calm moves few at upto same e later =
           (
             later,
             same_waiting g new e ∙ ap (λ (x : Feed Coding). x.machine.waiting) same ∙ still_none f m calm moves,
+            settled_is g new e,
           ),
         ),
         same_asked g new e ∙ ap (λ (x : Feed Coding). x.machine.asked) same ∙ moves.3,
-        ap (λ (x : Feed Coding). x.answers) e ∙ ap (λ (x : Feed Coding). x.answers) same,
+        same_answers g new e ∙ ap (λ (x : Feed Coding). x.answers) same,
       ),
       made ∙ at,
     )
 
--- steps that ask nothing, before a client that isn't reached
+-- steps that ask nothing, before a client that isn't reached, while something runs
 goes : (f : Feed Coding) (m : MachineState Coding) (until : ℕ) → IsCalm f → HasMoved f.machine m → m.steps < 2 ^ 64
-    → m.steps < until → AreUpto until f.calls → HasAdvanced f (record f { machine = m })
-goes f m until calm moves few less upto =
+    → m.steps < until → AreUpto until f.calls → is_running m ≡ true → HasAdvanced f (record f { machine = m })
+goes f m until calm moves few less upto runs =
     let g : Feed Coding = record f { machine = m } in (
       (
         moves.0,
         went f g m calm moves few (fewer_upto m.steps until f.calls upto (omega (arith, less))) refl
-            ∙ rests g (later_than m.steps until f.calls upto less),
-        (later_than m.steps until f.calls upto less, still_none f m calm moves),
+            ∙ rests g (later_than m.steps until f.calls upto less) (inl runs),
+        (later_than m.steps until f.calls upto less, still_none f m calm moves, inl runs),
       ),
       moves.3,
       refl,
@@ -321,7 +376,7 @@ pub asks_behind : (f new : Feed Coding) (m n : MachineState Coding) (q : Query) 
 asks_behind f new m n q until limit calm moves few less within upto asks same =
     let so = opens m n q (still_none f m calm moves) asks in (
       record f { machine = m },
-      goes f m until calm moves few less upto,
+      goes f m until calm moves few less upto (and_parts (is_running m) (nat_lt m.steps (2 ^ 64 - 1)) asks.0).0,
       omega (arith, less, within),
       asks.0,
       so.0,
@@ -330,15 +385,77 @@ asks_behind f new m n q until limit calm moves few less within upto asks same =
 
 -- or none that can be made
 pub stands : (f new : Feed Coding) (m n : MachineState Coding) (until limit : ℕ) → IsCalm f → HasMoved f.machine m
-    → m.steps < 2 ^ 64 → m.steps < until → until ≤ limit → AreUpto until f.calls → Steps Ended m n
-    → new ≡ record f { machine = n } → Advances limit advance.Over f new
-stands f new m n until limit calm moves few less within upto ended same =
+    → m.steps < 2 ^ 64 → m.steps < until → until ≤ limit → AreUpto until f.calls → is_running m ≡ true
+    → Steps Ended m n → new ≡ record f { machine = n } → Advances limit advance.Over f new
+stands f new m n until limit calm moves few less within upto runs ended same =
     let last : new ≡ record f { machine = m } = same ∙ ap (λ x. record f { machine = x }) ended.1 in
     let made : new.machine.steps ≡ m.steps = ap (λ (x : Feed Coding). x.machine.steps) last in (
-      subst (λ x. HasAdvanced f x) (sym last) (goes f m until calm moves few less upto),
+      subst (λ x. HasAdvanced f x) (sym last) (goes f m until calm moves few less upto runs),
       omega (arith, made, less, within),
       inr (ap (λ (x : Feed Coding). can_step x.machine) last ∙ ended.0),
     )
+
+-- where something ran, and nothing runs now, a step was made
+same_runs : (m n : MachineState Coding) → steps_from flat_calls 0 m.eval ≡ Some n.eval → is_running n ≡ is_running m
+unfolding steps_from
+same_runs m n e = ap (λ (s : State Coding). s.flow.is_running) (sym (same_Some _ _ e))
+
+pub some_made : (m n : MachineState Coding) → HasMoved m n → is_running m ≡ true → is_running n ≡ false
+    → m.steps < n.steps
+some_made m n moves runs idle = by_case (nat_lt m.steps n.steps) refl
+  where
+    by_case : (b : Bool) → nat_lt m.steps n.steps ≡ b → m.steps < n.steps
+    by_case true e = omega (arith, leb-true (suc m.steps) n.steps e)
+    by_case false e =
+        let none : n.steps - m.steps ≡ 0 = omega (arith, leb-false (suc m.steps) n.steps e, moves.0) in
+        let same = same_runs m n (ap (λ k. steps_from flat_calls k m.eval) (sym none) ∙ moves.1) in
+        absurd (false≢true (sym idle ∙ same ∙ runs))
+
+-- nothing runs, before a client that isn't reached: where a line was left, the run goes on with it
+next_line : (f g new : Feed Coding) (m : MachineState Coding) (until limit : ℕ) → IsCalm f → HasMoved f.machine m
+    → m.steps < 2 ^ 64 → m.steps < until → until ≤ limit → AreUpto until f.calls → is_running m ≡ false
+    → g ≡ record f { machine = m } → new ≡ settled g → AreLater new.machine.steps new.calls
+    → (f.lines ≡ [] → ⊥) → Advances limit advance.Further f new
+next_line f g new m until limit calm moves few less within upto idle same e later some =
+    let there =
+    reaches f g new m m.steps calm moves few refl (fewer_upto m.steps until f.calls upto (omega (arith, less))) same e
+    later in
+    let more : f.machine.steps < m.steps =
+    elim calm.2 [ inl runs ↦ some_made f.machine m moves runs idle | inr none ↦ absurd (some none) ] in
+    (there.0, omega (arith, there.1, more), omega (arith, there.1, less, within))
+
+-- and where none was, it is over
+no_line : (f g new : Feed Coding) (m : MachineState Coding) (until limit : ℕ) → IsCalm f → HasMoved f.machine m
+    → m.steps < 2 ^ 64 → m.steps < until → until ≤ limit → AreUpto until f.calls → is_running m ≡ false
+    → g ≡ record f { machine = m } → new ≡ settled g → AreLater new.machine.steps new.calls → f.lines ≡ []
+    → Advances limit advance.Over f new
+no_line f g new m until limit calm moves few less within upto idle same e later none =
+    let there =
+    reaches f g new m m.steps calm moves few refl (fewer_upto m.steps until f.calls upto (omega (arith, less))) same e
+    later in
+    let left : g.lines ≡ [] = ap (λ (x : Feed Coding). x.lines) same ∙ none in
+    let still : new ≡ g =
+    e ∙ rests g
+    (subst (λ (x : Feed Coding). AreLater x.machine.steps x.calls) (sym same)
+    (later_than m.steps until f.calls upto less)) (inr left) in
+    let idles : is_running new.machine ≡ false =
+    ap (λ (x : Feed Coding). is_running x.machine) (still ∙ same) ∙ idle in (
+      there.0,
+      omega (arith, there.1, less, within),
+      inr (ap (λ b. b && nat_lt new.machine.steps (2 ^ 64 - 1)) idles),
+    )
+
+pub goes_idle : (f g new : Feed Coding) (m : MachineState Coding) (until limit : ℕ) → IsCalm f → HasMoved f.machine m
+    → m.steps < 2 ^ 64 → m.steps < until → until ≤ limit → AreUpto until f.calls → is_running m ≡ false
+    → g ≡ record f { machine = m } → new ≡ settled g → AreLater new.machine.steps new.calls
+    → Advances limit (line_left f.lines) f new
+goes_idle f g new m until limit calm moves few less within upto idle same e later = by_lines f.lines refl
+  where
+    by_lines : (lines : List (List ℕ)) → f.lines ≡ lines → Advances limit (line_left lines) f new
+    by_lines [] h = no_line f g new m until limit calm moves few less within upto idle same e later h
+    by_lines (line ∷ lines) h =
+        next_line f g new m until limit calm moves few less within upto idle same e later
+        (λ none. let is : [] ≡ line ∷ lines = sym none ∙ h in absurd cc)
 
 -- a question with its answer
 pub told_on : (f g new : Feed Coding) (q : Query) (limit : ℕ) → Advances limit (advance.Asks q) f g → IsTold g new
@@ -481,10 +598,18 @@ flat_served m (call ∷ calls) = served_if (nat_le call.0 m.steps) m call calls 
 abbrev flat_feed : Feed Definitions → Feed Coding
 flat_feed f = record { machine = flat_machine f.machine; lines = f.lines; answers = f.answers; calls = f.calls }
 
+fed_flat : (b : Bool) (lines : List (List ℕ)) (f : Feed Definitions)
+    → fed_by b lines (flat_feed f) ≡ flat_feed (fed_by b lines f)
+fed_flat true lines f = refl
+fed_flat false [] f = refl
+fed_flat false (line ∷ lines) f = refl
+
 settled_flat : (f : Feed Definitions) → settled (flat_feed f) ≡ flat_feed (settled f)
 settled_flat f =
-    ap (λ (x : MachineState Coding × List Due). record (flat_feed f) { machine = x.0; calls = x.1 })
+    let heard = clients_heard f in
+    ap (λ (x : MachineState Coding × List Due). fed (record (flat_feed f) { machine = x.0; calls = x.1 }))
     (flat_served f.machine f.calls)
+    ∙ fed_flat (is_running heard.machine) heard.lines heard
 
 same_eval : (m : MachineState Definitions) (calls : List Due) → (caught_up m calls).0.eval ≡ m.eval
 same_eval m [] = refl
@@ -496,8 +621,18 @@ same_eval m (call ∷ calls) = same_if (nat_le call.0 m.steps) m call calls (sam
     same_if true m call calls h = h
     same_if false m call calls h = refl
 
-still_placed : (f : Feed Definitions) → AllPlaced f.machine.eval → AllPlaced (settled f).machine.eval
-still_placed f placed = subst (λ s. AllPlaced s) (sym (same_eval f.machine f.calls)) placed
+fed_placed : (b : Bool) (lines : List (List ℕ)) (f : Feed Definitions) → StatesStayPlaced → AllPlaced f.machine.eval
+    → AllPlaced (fed_by b lines f).machine.eval
+fed_placed true lines f stay placed = placed
+fed_placed false [] f stay placed = placed
+fed_placed false (line ∷ lines) f stay placed = stay.line line f.machine.eval placed
+
+still_placed : (f : Feed Definitions) → StatesStayPlaced → AllPlaced f.machine.eval
+    → AllPlaced (settled f).machine.eval
+still_placed f stay placed =
+    let heard = clients_heard f in
+    fed_placed (is_running heard.machine) heard.lines heard stay
+    (subst (λ s. AllPlaced s) (sym (same_eval f.machine f.calls)) placed)
 
 -- a turn without a question, and one with its answer, if there is one
 moved_flat : (f : Feed Definitions) → StepsAgree → StatesStayPlaced → AllPlaced f.machine.eval
@@ -549,13 +684,13 @@ told_placed : (o : Option Answer) (f : Feed Definitions) → StatesStayPlaced �
     → AllPlaced (told structured_calls o f).machine.eval
 told_placed None f stay placed = placed
 told_placed (Some answer) f stay placed =
-    still_placed (record f { machine = answered structured_calls answer f.machine; answers = drop 1 f.answers })
+    still_placed (record f { machine = answered structured_calls answer f.machine; answers = drop 1 f.answers }) stay
     (answered_placed answer f.machine.eval stay placed)
 
 question_placed : (o : Option Query) (f : Feed Definitions) → StatesStayPlaced → AllPlaced f.machine.eval
     → AllPlaced (turned structured_calls o f).machine.eval
 question_placed None f stay placed =
-    still_placed (record f { machine = moved structured_calls f.machine }) (stay.step f.machine.eval placed)
+    still_placed (record f { machine = moved structured_calls f.machine }) stay (stay.step f.machine.eval placed)
 question_placed (Some q) f stay placed = told_placed (fitting q f.answers) (asking q f) stay placed
 
 stays : (b : Bool) (f : Feed Definitions) → StatesStayPlaced → AllPlaced f.machine.eval →
@@ -599,48 +734,51 @@ runs_agree agree stay image lines answers calls n =
     ∙ settled_flat begun in
     ap (λ (g : Feed Coding). (after flat_calls n g).machine) from
     ∙ ap (λ (g : Feed Coding). g.machine)
-    (feeds_agree n (settled begun) agree stay (still_placed begun (stay.begun image slot first stay.first)))
+    (feeds_agree n (settled begun) agree stay (still_placed begun stay (stay.begun image slot first stay.first)))
 
 -- a run, and its end
-ends : (b : Bool) (image : List ℕ) (answers : List Answer) (calls : List Due) (limit : ℕ) (m : MachineState Coding)
-    → is_running m ≡ b → m ≡ flat_machine (States image [] answers calls m.steps) → m.steps ≤ limit
+ends : (b : Bool) (image : List ℕ) (lines : List (List ℕ)) (answers : List Answer) (calls : List Due) (limit : ℕ)
+    (m : MachineState Coding)
+    → is_running m ≡ b → m ≡ flat_machine (States image lines answers calls m.steps) → m.steps ≤ limit
     → limit < 2 ^ 64 → (m.steps ≡ limit) ⊎ (can_step m ≡ false) → m.waiting ≡ None
-    → RunsTo image [] answers calls limit m (if b then LimitReached else Done)
-ends true image answers calls limit m runs same few small why none =
+    → RunsTo image lines answers calls limit m (if b then LimitReached else Done)
+ends true image lines answers calls limit m runs same few small why none =
     (same, runs, stopped m limit small few runs why, none)
-ends false image answers calls limit m runs same few small why none = (same, runs, few)
+ends false image lines answers calls limit m runs same few small why none = (same, runs, few)
 
 -- so many turns from the beginning
-reached : RunsAgree → (image : List ℕ) (answers : List Answer) (calls : List Due) (n : ℕ) (start f : Feed Coding)
-    → start ≡ beginning (flat_of no_definitions) image [] answers calls → after flat_calls n start ≡ f
-    → f.machine ≡ flat_machine (States image [] answers calls n)
-reached agree image answers calls n start f e h =
-    ap (λ (x : Feed Coding). x.machine) (sym h ∙ ap (after flat_calls n) e) ∙ agree image [] answers calls n
+reached : RunsAgree → (image : List ℕ) (lines : List (List ℕ)) (answers : List Answer) (calls : List Due) (n : ℕ)
+    (start f : Feed Coding)
+    → start ≡ beginning (flat_of no_definitions) image lines answers calls → after flat_calls n start ≡ f
+    → f.machine ≡ flat_machine (States image lines answers calls n)
+reached agree image lines answers calls n start f e h =
+    ap (λ (x : Feed Coding). x.machine) (sym h ∙ ap (after flat_calls n) e) ∙ agree image lines answers calls n
 
-pub run_ends : RunsAgree → (image : List ℕ) (answers : List Answer) (calls : List Due) (limit : ℕ)
-    (start f : Feed Coding) → start ≡ beginning (flat_of no_definitions) image [] answers calls → limit < 2 ^ 64
+pub run_ends : RunsAgree → (image : List ℕ) (lines : List (List ℕ)) (answers : List Answer) (calls : List Due)
+    (limit : ℕ) (start f : Feed Coding) → start ≡ beginning (flat_of no_definitions) image lines answers calls
+    → limit < 2 ^ 64
     → start.machine.steps ≡ 0 → IsOver limit start f
-    → RunsTo image [] answers calls limit f.machine (end_of f.machine.waiting (is_running f.machine))
-run_ends agree image answers calls limit start f e small none (inl x) =
+    → RunsTo image lines answers calls limit f.machine (end_of f.machine.waiting (is_running f.machine))
+run_ends agree image lines answers calls limit start f e small none (inl x) =
     let m = f.machine in
     let n : m.steps - start.machine.steps ≡ m.steps = omega (arith, none) in
     let turns : after flat_calls m.steps start ≡ f = ap (λ k. after flat_calls k start) (sym n) ∙ x.0.1 in
-    let same : m ≡ flat_machine (States image [] answers calls m.steps)
-    = reached agree image answers calls m.steps start f e turns in
+    let same : m ≡ flat_machine (States image lines answers calls m.steps)
+    = reached agree image lines answers calls m.steps start f e turns in
     let quiet : m.waiting ≡ None = x.0.2.1 in
-    subst (λ o. RunsTo image [] answers calls limit m (end_of o (is_running m))) (sym quiet)
-    (ends (is_running m) image answers calls limit m refl same x.1 small x.2 quiet)
-run_ends agree image answers calls limit start f e small none (inr x) =
+    subst (λ o. RunsTo image lines answers calls limit m (end_of o (is_running m))) (sym quiet)
+    (ends (is_running m) image lines answers calls limit m refl same x.1 small x.2 quiet)
+run_ends agree image lines answers calls limit start f e small none (inr x) =
     let m = f.machine in
     let n : m.steps - start.machine.steps + 1 ≡ m.steps + 1 = omega (arith, none) in
     let turns : after flat_calls (m.steps + 1) start ≡ f = ap (λ k. after flat_calls k start) (sym n) ∙ x.3 in
-    let same : m ≡ flat_machine (States image [] answers calls (m.steps + 1))
-    = reached agree image answers calls (m.steps + 1) start f e turns in
+    let same : m ≡ flat_machine (States image lines answers calls (m.steps + 1))
+    = reached agree image lines answers calls (m.steps + 1) start f e turns in
     by_question m.waiting refl x.2 same x.1
   where
     by_question : (o : Option Query) → f.machine.waiting ≡ o → is_some o ≡ true
-        → f.machine ≡ flat_machine (States image [] answers calls (f.machine.steps + 1))
+        → f.machine ≡ flat_machine (States image lines answers calls (f.machine.steps + 1))
         → f.machine.steps < limit
-        → RunsTo image [] answers calls limit f.machine (end_of o (is_running f.machine))
+        → RunsTo image lines answers calls limit f.machine (end_of o (is_running f.machine))
     by_question None e h same few = cc
     by_question (Some q) e h same few = (same, ap is_some e, few)

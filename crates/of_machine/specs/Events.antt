@@ -8,11 +8,13 @@ use Rattle.of_state.specs.State.{Calls, flat_calls}
 use Rattle.of_eval_laws.specs.Structured.{structured_calls, no_definitions}
 use Rattle.of_machine.specs.declared.answers.Refusal.{Refusal}
 use Rattle.of_machine.specs.States.{HasMoved, MachineState, answer_refusal, answered_unless, can_step, flat_machine}
-use Rattle.of_machine.specs.States.{idle, load_refusal, loaded_for, node_at, served, tried}
+use Rattle.of_machine.specs.States.{idle, line_refusal, lined, load_refusal, loaded_for, node_at, served, tried}
 
 pub data Event : Type 0 where
   -- an image is loaded for the package at a path
   Load : List ℕ → List ℕ → Event
+  -- a console line is handed in
+  Line : List ℕ → Event
   -- a step is made
   Step : Event
   -- a question is answered
@@ -25,9 +27,15 @@ abbrev pub loaded_unless : {S : Type 0} → Option Refusal → MachineState S �
 loaded_unless (Some e) m image path = m
 loaded_unless None m image path = loaded_for m image (node_at m path)
 
+-- a machine with a console line, unless it is refused
+abbrev pub lined_unless : {S : Type 0} → Option Refusal → MachineState S → List ℕ → MachineState S
+lined_unless (Some e) m text = m
+lined_unless None m text = lined m text
+
 -- what an event makes of a machine
 abbrev pub done_by : {S : Type 0} → Calls S → Event → MachineState S → MachineState S
 done_by c (Load image path) m = loaded_unless (load_refusal m image path) m image path
+done_by c (Line text) m = lined_unless (line_refusal m text) m text
 done_by c Step m = if can_step m then tried c m.waiting m else m
 done_by c (Answers answer) m = answered_unless c (answer_refusal m.waiting answer) answer m
 done_by c (Client service) m = served m service

@@ -15,10 +15,10 @@ answers_of ds (q ∷ qs) = rack_answer ds q ∷ answers_of (rack_told ds q) qs
 
 -- A run for which no memory is found leaves a rack as the questions do that the abstract machine has asked after some
 -- number of steps within the limit.
-abbrev pub IsLeft : List ℕ → List Due → ℕ → List Meant → List Meant → Type 0
-IsLeft image calls limit old new =
+abbrev pub IsLeft : List ℕ → List (List ℕ) → List Due → ℕ → List Meant → List Meant → Type 0
+IsLeft image lines calls limit old new =
     (n : ℕ) × (n ≤ limit) × (qs : List Query) × (new ≡ told_all old qs)
-    × (qs ≡ (States image [] (answers_of old qs) calls n).asked)
+    × (qs ≡ (States image lines (answers_of old qs) calls n).asked)
 
 -- ---- runs over cells, as they are made
 

@@ -1,5 +1,5 @@
 -- Runs: a machine with what is still to be handed in to it, turn by turn.
-use Rattle.std.specs.Prelude.{◌≡◌, ◌⊎◌, ℕ, zero, suc, ◌+◌, ◌-◌, ◌≤◌, ◌<◌, nat_le, List, [], ◌∷◌, drop}
+use Rattle.std.specs.Prelude.{◌≡◌, ◌⊎◌, ℕ, zero, suc, ◌+◌, ◌-◌, ◌≤◌, ◌<◌, nat_le, nat_lt, List, [], ◌∷◌, drop, length}
 use Rattle.std.specs.Prelude.{Bool, true, false}
 use Rattle.std.specs.Prelude.{Option, Some, None, is_none, is_some, ◌&&◌, if◌then◌else◌}
 use Rattle.of_asking.specs.Questions.{fits}
@@ -10,14 +10,17 @@ use Rattle.of_compile.specs.Structured.{Definitions, flat_of}
 use Rattle.of_state.specs.State.{Calls, flat_calls}
 use Rattle.of_steps.specs.Steps.{asked_by}
 use Rattle.of_eval_laws.specs.Structured.{structured_calls, no_definitions}
+use Rattle.of_stream.specs.Image.{header_fault}
 use Rattle.of_client.specs.Services.{Service, service_of}
 use Rattle.of_client.specs.declared.calls.ClientCall.{ClientCall}
 use Rattle.of_machine.specs.declared.answers.End.{End}
 use Rattle.of_machine.specs.declared.answers.End.TheVariants.{AnswersOut, Done, LimitReached}
 use Rattle.of_machine.specs.declared.feeder.Advance.{Advance}
 use Rattle.of_machine.specs.declared.feeder.Advance.TheVariants.{Asks, Further, Over}
-use Rattle.of_machine.specs.States.{MachineState, answered, can_step, flat_machine, idle, is_running, loaded, moved}
-use Rattle.of_machine.specs.States.{opened, served, slot}
+use Rattle.of_machine.specs.declared.answers.Refusal.{Refusal}
+use Rattle.of_machine.specs.declared.answers.Refusal.TheVariants.{ImageTooLong, LineTooLong}
+use Rattle.of_machine.specs.States.{MachineState, answered, can_step, flat_machine, idle, is_running, lined, loaded}
+use Rattle.of_machine.specs.States.{longest_line, moved, opened, or_next, served, slot, start_refusal}
 
 -- what a client asks once so many steps are made
 abbrev pub Due : Type 0
@@ -26,7 +29,7 @@ Due = ℕ × Service
 abbrev pub due_of : ℕ × ClientCall → Due
 due_of call = (call.0, service_of call.1)
 
--- a machine, and what clients ask, the answers and the console lines that are left; nothing takes the last yet
+-- a machine, and what clients ask, the answers and the console lines that are left
 pub record Feed (S : Type 0) : Type 0 where
   pub machine : MachineState S
   pub lines : List (List ℕ)
@@ -39,10 +42,23 @@ caught_up m [] = (m, [])
 caught_up m (call ∷ calls) =
     if nat_le call.0 m.steps then caught_up (served m call.1) calls else (m, call ∷ calls)
 
-abbrev pub settled : {S : Type 0} → Feed S → Feed S
-settled f =
+abbrev pub clients_heard : {S : Type 0} → Feed S → Feed S
+clients_heard f =
     let left = caught_up f.machine f.calls in
     record f { machine = left.0; calls = left.1 }
+
+-- The next line is handed in as soon as nothing runs.
+abbrev pub fed_by : {S : Type 0} → Bool → List (List ℕ) → Feed S → Feed S
+fed_by true lines f = f
+fed_by false [] f = f
+fed_by false (line ∷ lines) f = record f { machine = lined f.machine line; lines = lines }
+
+abbrev pub fed : {S : Type 0} → Feed S → Feed S
+fed f = fed_by (is_running f.machine) f.lines f
+
+-- both, between two steps
+abbrev pub settled : {S : Type 0} → Feed S → Feed S
+settled f = fed (clients_heard f)
 
 -- a new machine over this code, on which an image has just been loaded for `/slot`
 abbrev pub beginning : {S : Type 0} → S → List ℕ → List (List ℕ) → List Answer → List Due → Feed S
@@ -80,14 +96,29 @@ unfoldable pub after : {S : Type 0} → Calls S → ℕ → Feed S → Feed S
 after c zero f = f
 after c (suc n) f = next c (after c n f)
 
--- The abstract machine, whose definitions are structured bodies: its state after n steps of the image's run, or the
--- last state that there is, with its question open.
+-- whether a line is too long
+abbrev pub has_long : List (List ℕ) → Bool
+has_long [] = false
+has_long (line ∷ lines) = if nat_lt longest_line (length line) then true else has_long lines
+
+-- why an image and lines are refused, if they are: the length of the image, those of the lines, and the header
+abbrev pub lines_refusal : List (List ℕ) → Option Refusal
+lines_refusal lines = if has_long lines then Some LineTooLong else None
+
+abbrev pub script_refusal : List ℕ → List (List ℕ) → Option Refusal
+script_refusal image lines =
+    if nat_lt 0x40000 (length image) then Some ImageTooLong
+    else or_next (lines_refusal lines) (start_refusal (header_fault image))
+
+-- The abstract machine, whose definitions are structured bodies: its state after n steps of the run of an image and of
+-- the lines behind it, or the last state that there is, with its question open.
 abbrev pub States : List ℕ → List (List ℕ) → List Answer → List Due → ℕ → MachineState Definitions
 States image lines answers calls n =
     (after structured_calls n (beginning no_definitions image lines answers calls)).machine
 
 -- What a run of at most `limit` steps answers: the machine is the abstract machine after its steps, with the
--- definitions laid out as cells. It is done where nothing runs after at most that many steps. Otherwise the limit was
+-- definitions laid out as cells. It is done where nothing runs and no line is left after at most that many steps.
+-- Otherwise the limit was
 -- reached, before a next question; or the answers are out, since that of an earlier step has no answer that fits.
 abbrev pub RunsTo : List ℕ → List (List ℕ) → List Answer → List Due → ℕ → MachineState Coding → End → Type 0
 RunsTo image lines answers calls limit m Done =
@@ -106,9 +137,13 @@ abbrev pub AreLater : ℕ → List Due → Type 0
 AreLater n [] = Unit {0}
 AreLater n (call ∷ calls) = n < call.0
 
--- a feed from which a turn can be made: its clients are answered, and no question is open
+-- something runs, or no line is left
+abbrev pub IsFed : Feed Coding → Type 0
+IsFed f = (is_running f.machine ≡ true) ⊎ (f.lines ≡ [])
+
+-- a feed from which a turn can be made: its clients are answered, no question is open, and its line is handed in
 abbrev pub IsCalm : Feed Coding → Type 0
-IsCalm f = AreLater f.machine.steps f.calls × (f.machine.waiting ≡ None)
+IsCalm f = AreLater f.machine.steps f.calls × (f.machine.waiting ≡ None) × IsFed f
 
 -- no client is to be answered before so many steps are made
 abbrev pub AreUpto : ℕ → List Due → Type 0
@@ -160,6 +195,11 @@ Advances limit Over old new =
 Advances limit (Asks q) old new =
     (f : Feed Coding) × HasAdvanced old f × (f.machine.steps < limit) × (can_step f.machine ≡ true)
     × (asked_by flat_calls f.machine.eval ≡ Some q) × (new ≡ asking q f)
+
+-- whether a run goes on where nothing runs: with the next line
+abbrev pub line_left : List (List ℕ) → Advance
+line_left [] = Over
+line_left (line ∷ lines) = Further
 
 -- how a run ended, by the question that is open and whether something runs
 abbrev pub end_of : Option Query → Bool → End

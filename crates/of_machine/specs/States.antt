@@ -18,13 +18,13 @@ use Rattle.of_compile.specs.Structured.{Definitions}
 use Rattle.of_state.specs.State.{Calls, State, flat_calls}
 use Rattle.of_steps.specs.Steps.{answered as eval_answered, asked_by, due_grows, stepped, steps_from}
 use Rattle.of_memory.specs.Growth.{image_fits}
-use Rattle.of_state.specs.Loading.{begun, first_state, instance_on}
+use Rattle.of_state.specs.Loading.{begun, first_state, instance_on, line_begun}
 use Rattle.of_eval_laws.specs.Structured.{flat_state}
 use Rattle.of_machine.specs.declared.answers.Progress.{Progress}
 use Rattle.of_machine.specs.declared.answers.Progress.TheVariants.{Asks, Done, Ended}
 use Rattle.of_machine.specs.declared.answers.Refusal.{Refusal}
 use Rattle.of_machine.specs.declared.answers.Refusal.TheVariants.{Busy, ImageTooLong, BadStart, NoNode, NoMemory}
-use Rattle.of_machine.specs.declared.answers.Refusal.TheVariants.{NotAsked, WrongAnswer}
+use Rattle.of_machine.specs.declared.answers.Refusal.TheVariants.{LineTooLong, NotAsked, WrongAnswer}
 
 -- code is an S
 pub record MachineState (S : Type 0) : Type 0 where
@@ -200,6 +200,23 @@ first_refusal m image path =
 -- why a load is refused, memory aside
 abbrev pub load_refusal : {S : Type 0} → MachineState S → List ℕ → List ℕ → Option Refusal
 load_refusal m image path = or_next (first_refusal m image path) (instance_refusal m (node_at m path))
+
+-- ---- console lines
+
+-- how many bytes a line has at most
+abbrev pub longest_line : ℕ
+longest_line = 255
+
+-- a machine to which a line has just been handed in
+abbrev pub lined : {S : Type 0} → MachineState S → List ℕ → MachineState S
+lined m text = record m { eval = line_begun text m.eval }
+
+-- why a line is refused, memory aside
+abbrev pub line_refusal : {S : Type 0} → MachineState S → List ℕ → Option Refusal
+line_refusal m text =
+    if is_running m then Some Busy else if nat_lt longest_line (length text) then Some LineTooLong else None
+
+-- ---- refusals
 
 -- a refusal is for that reason, or for memory where there is no other
 abbrev pub Refuses : Option Refusal → Refusal → Type 0

@@ -6,7 +6,7 @@ use thiserror::Error;
 /// changed.
 #[derive(Clone, Copy, Debug, PartialEq, Eq, Error)]
 pub enum Refusal {
-    /// An image runs.
+    /// An image or a line runs.
     #[error("busy")]
     Busy,
     /// No question is open.
@@ -18,6 +18,9 @@ pub enum Refusal {
     /// The image has more than 256 KiB.
     #[error("image too long")]
     ImageTooLong,
+    /// The console line has more than 255 bytes.
+    #[error("line too long")]
+    LineTooLong,
     /// The image begins with no header that can be read.
     #[error(transparent)]
     BadStart(StreamFault),

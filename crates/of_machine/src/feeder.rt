@@ -1,5 +1,6 @@
 ghost use Rattle.std.specs.Prelude.{◌≡◌, ◌<◌, ◌≤◌, IfOk, OnOk, None, is_some, true, false};
-ghost use Rattle.of_machine.specs.Runs.{Advances, AreLater, AreUpto, HasGone, IsCalm, IsOut, IsOver, IsTold, settled};
+ghost use Rattle.of_machine.specs.Runs.{Advances, AreLater, AreUpto, HasGone, IsCalm, IsOut, IsOver, IsTold};
+ghost use Rattle.of_machine.specs.Runs.{clients_heard, fed, line_left, settled};
 ghost use Rattle.of_machine.specs.States.{answer_refusal, answered};
 ghost use Rattle.of_state.specs.State.{flat_calls};
 
@@ -13,7 +14,7 @@ use std::marker::Model;
 /// What an advance of a run came to.
 #[derive(Clone, Copy)]
 pub(crate) enum Advance {
-    /// Clients were answered behind its last step, and more can be made.
+    /// Clients were answered or a line was handed in behind its last step, and more can be made.
     Further,
     /// So many steps are made as are allowed, or none can be made.
     Over,
@@ -21,17 +22,18 @@ pub(crate) enum Advance {
     Asks(Query),
 }
 
-/// A run: its machine, and the answers and clients that are left.
+/// A run: its machine, and the console lines, answers and clients that are left.
 #[derive(Drop)]
 pub(crate) struct Feeder<'a> {
     pub(crate) machine: ScriptMachine,
+    pub(crate) lines: &'a [Vec<u8>],
     pub(crate) answers: &'a [Answer],
     pub(crate) calls: &'a [(u64, ClientCall)],
 }
 
-// Clauses see a feed without lines, whose definitions are cells.
+// Clauses see a feed whose definitions are cells.
 impl<'a> Model for Feeder<'a> {
-    ghost use Rattle.std.specs.Prelude.{[], map};
+    ghost use Rattle.std.specs.Prelude.{map};
     ghost use Rattle.of_compile.specs.Coding.{Coding};
     ghost use Rattle.of_machine.specs.Runs.{Feed, due_of};
 
@@ -39,18 +41,49 @@ impl<'a> Model for Feeder<'a> {
 
     ghost view = { λ f. record {
       machine = f.machine;
-      lines = [];
+      lines = map (λ l. l.items) f.lines.now;
       answers = f.answers.now;
       calls = map due_of f.calls.now;
     } };
 }
 
 impl<'a> Feeder<'a> {
+    /// Hands in the next line, if nothing runs and one is left.
+    ///
+    /// An error is for memory alone.
+    fn feed(&mut self) -> Result<(), AllocError>
+        ensures { OnOk result (self.new ≡ fed self.old) }
+    {
+        if self.machine.is_running() {
+            return Ok(());
+        }
+        let Some((line, rest)) = self.lines.split_first() else {
+            return Ok(());
+        };
+        if self.machine.line(line).is_err() {
+            return Err(AllocError);
+        }
+        self.lines = rest;
+        Ok(())
+    }
+
+    /// Answers the clients that are to be answered now, and hands in the next line, if nothing runs.
+    ///
+    /// An error is for memory alone.
+    #[tactic(auto, using(crate::proofs::RunLemmas::still_later))]
+    pub(crate) fn serve(&mut self) -> Result<(), AllocError>
+        ensures served { OnOk result (self.new ≡ settled self.old) }
+        ensures later { OnOk result (AreLater self.new.machine.steps self.new.calls) }
+    {
+        self.hear()?;
+        self.feed()
+    }
+
     /// Answers the clients that are to be answered now.
     ///
     /// An error is for memory alone.
-    pub(crate) fn serve(&mut self) -> Result<(), AllocError>
-        ensures served { OnOk result (self.new ≡ settled self.old) }
+    fn hear(&mut self) -> Result<(), AllocError>
+        ensures heard { OnOk result (self.new ≡ clients_heard self.old) }
         ensures later { OnOk result (AreLater self.new.machine.steps self.new.calls) }
     {
         while let Some(((due, call), rest)) = self.calls.split_first() {
@@ -63,6 +96,23 @@ impl<'a> Feeder<'a> {
             self.calls = rest;
         }
         Ok(())
+    }
+
+    /// Hands in the next line, where nothing runs; answers whether one was left.
+    ///
+    /// An error is for memory alone.
+    fn go_on(&mut self) -> Result<Advance, AllocError>
+        ensures served { OnOk result (self.new ≡ settled self.old) }
+        ensures later { OnOk result (AreLater self.new.machine.steps self.new.calls) }
+        ensures further { IfOk result (λ a. a ≡ line_left self.old.lines) }
+    {
+        let is_last = self.lines.is_empty();
+        self.serve()?;
+        Ok(if is_last {
+            Advance::Over
+        } else {
+            Advance::Further
+        })
     }
 
     /// How many steps can be made before a client is to be answered, at most `limit`.
@@ -115,7 +165,8 @@ impl<'a> Feeder<'a> {
         self.serve()
     }
 
-    /// Makes steps up to one that asks, or up to one behind which clients are answered, at most until `limit` are made.
+    /// Makes steps up to one that asks, or up to one behind which clients are answered or a line is handed in, at most
+    /// until `limit` are made.
     ///
     /// An error is for memory alone; then no more was asked.
     pub(crate) fn advance(&mut self, limit: u64) -> Result<Advance, AllocError>
@@ -133,6 +184,10 @@ impl<'a> Feeder<'a> {
                 Advance::Over
             });
         }
+        if !self.machine.is_running() {
+            let behind = self.go_on()?;
+            return Ok(behind);
+        }
         match self.machine.step()? {
             Progress::Asks(query) => return Ok(Advance::Asks(query)),
             Progress::Ended => return Ok(Advance::Over),
@@ -141,8 +196,8 @@ impl<'a> Feeder<'a> {
         }
     }
 
-    /// Makes steps up to one that asks, and this with its answer, or up to one behind which clients are answered, at
-    /// most until `limit` are made; answers whether more can be made.
+    /// Makes steps up to one that asks, and this with its answer, or up to one behind which clients are answered or a
+    /// line is handed in, at most until `limit` are made; answers whether more can be made.
     ///
     /// An error is for memory alone.
     fn round(&mut self, limit: u64) -> Result<bool, AllocError>
@@ -160,7 +215,7 @@ impl<'a> Feeder<'a> {
         }
     }
 
-    /// Makes steps and answers clients until `limit` are made, or no more can be.
+    /// Makes steps, answers clients and hands in lines until `limit` are made, or no more can be.
     ///
     /// An error is for memory alone.
     pub(crate) fn run(&mut self, limit: u64) -> Result<(), AllocError>

@@ -10,6 +10,6 @@ mod run;
 
 pub use answers::{End, Progress, Refusal};
 pub use laws::{calls_agree, runs_agree};
-pub use machine::{LONGEST_IMAGE, Machine};
+pub use machine::{LONGEST_IMAGE, LONGEST_LINE, Machine};
 pub use racks::run_rack;
 pub use run::{ScriptMachine, run_script};

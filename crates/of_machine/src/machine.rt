@@ -7,9 +7,10 @@ ghost use Rattle.of_machine.specs.States.{loaded, or_next};
 ghost use Rattle.of_client.specs.Services.{service_of};
 ghost use Rattle.of_state.specs.State.{flat_calls};
 ghost use Rattle.of_steps.specs.Steps.{due_grows};
-ghost use Rattle.of_machine.specs.Events.{Answers, Client, Load, Step, done_by};
+ghost use Rattle.of_machine.specs.Events.{Answers, Client, Line, Load, Step, done_by};
 ghost use Rattle.of_state.specs.Loading.{instance_on};
-ghost use Rattle.of_machine.specs.States.{HasMoved, load_refusal, loaded_for, node_at, served};
+ghost use Rattle.of_machine.specs.States.{HasMoved, Refuses, line_refusal, lined, load_refusal, loaded_for, node_at};
+ghost use Rattle.of_machine.specs.States.{served};
 ghost use Rattle.of_memory.specs.Growth.{image_fits};
 
 use crate::answers::{Progress, Refusal};
@@ -27,6 +28,9 @@ mod views;
 
 /// How many bytes an image has at most: the size of the region that running images stand in.
 pub const LONGEST_IMAGE: usize = 0x4_0000;
+
+/// How many bytes a console line has at most.
+pub const LONGEST_LINE: usize = 255;
 
 /// A boot monitor on its board, over a store of code.
 ///
@@ -99,12 +103,12 @@ impl<C: CodeStore + Drop> Machine<C> {
 }
 
 impl<C: CodeStore> Machine<C> {
-    /// Makes one step, if one can be made: a token of the running image, or an item of the definition that runs, and
-    /// what is due then (IEEE 1275-1994, 5.2). A step that asks isn't made: its question is open then, and is given
-    /// again by each call, until `answer` makes the step.
+    /// Makes one step, if one can be made: a token of the running image, a word of the line that is read, or an item of
+    /// the definition that runs, and what is due then (IEEE 1275-1994, 5.2; Forth 2012, 3.4). A step that asks isn't
+    /// made: its question is open then, and is given again by each call, until `answer` makes the step.
     ///
-    /// An error is for memory alone, and then nothing has changed. It comes only where the token or item prints, takes
-    /// a block of the heap, sets a property, makes a node, sets arguments, opens an instance, defines a word, is
+    /// An error is for memory alone, and then nothing has changed. It comes only where the token, word or item prints,
+    /// takes a block of the heap, sets a property, makes a node, sets arguments, opens an instance, defines a word, is
     /// appended to the open definition, or asks: the other steps ask for no memory, also where they throw.
     pub fn step(&mut self) -> Result<Progress, AllocError>
         ensures ok { IfOk result (λ p. Steps p self.old self.new) }
@@ -232,6 +236,29 @@ impl<C: CodeStore> Machine<C> {
             return Err(Refusal::NoNode);
         };
         self.begin(image, node)
+    }
+
+    /// Hands a console line in to an idle machine, whose next steps read it word by word (Forth 2012, 3.4; IEEE
+    /// 1275-1994, 7.3). Words are compiled on, where an earlier line left a definition open.
+    ///
+    /// Busy where something runs, then LineTooLong over 255 bytes; and NoMemory. A refusal changes nothing.
+    pub fn line(&mut self, text: &[u8]) -> Result<(), Refusal>
+        ensures accepted { OnOk result (line_refusal self.old text.now ≡ None) }
+        ensures ok { OnOk result (self.new ≡ lined self.old text.now) }
+        ensures event { OnOk result (self.new ≡ done_by flat_calls (Line text.now) self.old) }
+        ensures err { IfErr result (λ e. Refuses (line_refusal self.old text.now) e) }
+        ensures unchanged { OnErr result (self.new ≡ self.old) }
+    {
+        if self.is_running() {
+            return Err(Refusal::Busy);
+        }
+        if text.len() > LONGEST_LINE {
+            return Err(Refusal::LineTooLong);
+        }
+        match self.eval.begin_line(text) {
+            Ok(()) => Ok(()),
+            Err(AllocError) => Err(Refusal::NoMemory),
+        }
     }
 
     /// Makes a machine on which nothing runs ready to run an image for a node.

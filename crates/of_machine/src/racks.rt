@@ -1,9 +1,9 @@
 ghost use Rattle.std.specs.Prelude.{◌≡◌, ◌≤◌, [], IfOk, IfErr, OnOk, OnErr, None, is_some, map, false, true};
 ghost use Rattle.of_machine.specs.declared.answers.End.TheVariants.{AnswersOut};
-ghost use Rattle.of_machine.specs.States.{Refuses, image_refusal};
+ghost use Rattle.of_machine.specs.States.{Refuses};
 ghost use Rattle.of_machine.specs.Racks.{IsLeft, IsLeftWith, Rounds, answers_of};
 ghost use Rattle.of_devices.specs.Racks.{told_all};
-ghost use Rattle.of_machine.specs.Runs.{IsCalm, RunsTo, due_of};
+ghost use Rattle.of_machine.specs.Runs.{IsCalm, RunsTo, due_of, script_refusal};
 
 use crate::answers::{End, Refusal};
 use crate::feeder::{Advance, Feeder};
@@ -13,8 +13,8 @@ use of_client::ClientCall;
 use of_devices::{Rack, ask};
 use std::alloc::{AllocError, Global};
 
-/// Makes steps up to one whose question the rack answers, or up to one behind which clients are answered, at most until
-/// `limit` are made; answers whether more can be made.
+/// Makes steps up to one whose question the rack answers, or up to one behind which clients are answered or a line is
+/// handed in, at most until `limit` are made; answers whether more can be made.
 ///
 /// An error is for memory alone.
 fn round_with(feeder: &mut Feeder, rack: &mut Rack, limit: u64) -> Result<bool, AllocError>
@@ -58,8 +58,9 @@ fn run_with(feeder: &mut Feeder, rack: &mut Rack, limit: u64) -> Result<(), Allo
 /// is the rack's to the k-th question, behind those before.
 ///
 /// The run ends Done or LimitReached, never AnswersOut, and then the devices have been asked what the machine's `asked`
-/// says. Refused are ImageTooLong over 256 KiB, then BadStart where the header can't be read, which change no device,
-/// and NoMemory, which gives no machine: the devices are then as the questions left them that were answered so far.
+/// says. Refused are ImageTooLong over 256 KiB, then LineTooLong where a line has more than 255 bytes, then BadStart
+/// where the header can't be read, which change no device, and NoMemory, which gives no machine: the devices are then
+/// as the questions left them that were answered so far.
 pub fn run_rack(
     alloc: Global,
     image: &[u8],
@@ -68,23 +69,20 @@ pub fn run_rack(
     calls: &[(u64, ClientCall)],
     limit: u64,
 ) -> Result<(ScriptMachine, End), Refusal>
-    requires no_lines { lines.now ≡ [] }
-    ensures accepted { OnOk result (image_refusal image.now ≡ None) }
-    ensures ok { IfOk result
-        (λ r. RunsTo image.now [] (answers_of (map (λ d. meant d) rack.old.items) r.0.asked) (map due_of calls.now)
-        limit r.0 r.1) }
+    ensures accepted { OnOk result (script_refusal image.now (map (λ l. l.items) lines.now) ≡ None) }
+    ensures ok { IfOk result (λ r. RunsTo image.now (map (λ l. l.items) lines.now)
+        (answers_of (map (λ d. meant d) rack.old.items) r.0.asked) (map due_of calls.now) limit r.0 r.1) }
     ensures told { IfOk result (λ r. map (λ d. meant d) rack.new.items
         ≡ told_all (map (λ d. meant d) rack.old.items) r.0.asked) }
     ensures never_out { IfOk result (λ r. r.1 ≡ AnswersOut → ⊥) }
-    ensures err { IfErr result (λ e. Refuses (image_refusal image.now) e) }
-    ensures unasked { is_some (image_refusal image.now) ≡ true
+    ensures err { IfErr result (λ e. Refuses (script_refusal image.now (map (λ l. l.items) lines.now)) e) }
+    ensures unasked { is_some (script_refusal image.now (map (λ l. l.items) lines.now)) ≡ true
         → map (λ d. meant d) rack.new.items ≡ map (λ d. meant d) rack.old.items }
-    ensures left { OnErr result (IsLeft image.now (map due_of calls.now) limit
+    ensures left { OnErr result (IsLeft image.now (map (λ l. l.items) lines.now) (map due_of calls.now) limit
         (map (λ d. meant d) rack.old.items) (map (λ d. meant d) rack.new.items)) }
 {
-    let _ = &lines;
     runs_agree();
-    let mut feeder = begin_run(alloc, image, &[], calls)?;
+    let mut feeder = begin_run(alloc, image, lines, &[], calls)?;
     let Ok(()) = run_with(&mut feeder, rack, limit) else {
         return Err(Refusal::NoMemory);
     };

@@ -1,13 +1,13 @@
-ghost use Rattle.std.specs.Prelude.{◌≡◌, [], IfOk, IfErr, OnOk, None, map};
+ghost use Rattle.std.specs.Prelude.{◌≡◌, IfOk, IfErr, OnOk, None, Some, map};
 ghost use Rattle.of_compile.specs.Structured.{flat_of};
 ghost use Rattle.of_eval_laws.specs.Structured.{no_definitions};
 ghost use Rattle.of_machine.specs.States.{Refuses, image_refusal, is_running};
-ghost use Rattle.of_machine.specs.Runs.{IsCalm, RunsTo, beginning, due_of, end_of};
+ghost use Rattle.of_machine.specs.Runs.{IsCalm, RunsTo, beginning, due_of, end_of, has_long, script_refusal};
 
 use crate::answers::{End, Refusal};
 use crate::feeder::Feeder;
 use crate::laws::runs_agree;
-use crate::machine::{Machine, check_image};
+use crate::machine::{LONGEST_IMAGE, LONGEST_LINE, Machine, check_image};
 use of_asking::Answer;
 use of_client::ClientCall;
 use of_code::ListCode;
@@ -20,30 +20,63 @@ pub type ScriptMachine = Machine<ListCode>;
 /// The number of the node `/slot`, the third that is made.
 const SLOT: usize = 2;
 
-/// Begins a run: an image is loaded for `/slot` on a new machine, and the clients due at 0 are answered.
+/// Whether one of the lines is too long.
+fn has_long(lines: &[Vec<u8>]) -> bool
+    ensures { result ≡ has_long (map (λ l. l.items) lines.now) }
+{
+    let mut rest = lines;
+    while let [line, more @ ..] = rest {
+        if line.len() > LONGEST_LINE {
+            return true;
+        }
+        rest = more;
+    }
+    false
+}
+
+/// Looks whether an image and lines can be run.
 ///
-/// ImageTooLong over 256 KiB, then BadStart where the header can't be read, and NoMemory.
+/// ImageTooLong over 256 KiB, then LineTooLong over 255 bytes, then BadStart where the header can't be read.
+fn check_script(image: &[u8], lines: &[Vec<u8>]) -> Result<(), Refusal>
+    ensures accepted { OnOk result (script_refusal image.now (map (λ l. l.items) lines.now) ≡ None) }
+    ensures image { OnOk result (image_refusal image.now ≡ None) }
+    ensures err { IfErr result (λ e. script_refusal image.now (map (λ l. l.items) lines.now) ≡ Some e) }
+{
+    if image.len() <= LONGEST_IMAGE && has_long(lines) {
+        return Err(Refusal::LineTooLong);
+    }
+    let _ = check_image(image)?;
+    Ok(())
+}
+
+/// Begins a run: an image is loaded for `/slot` on a new machine, the clients due at 0 are answered, and the first line
+/// is handed in if nothing runs then.
+///
+/// ImageTooLong over 256 KiB, then LineTooLong over 255 bytes, then BadStart where the header can't be read, and
+/// NoMemory.
 #[tactic(auto, using(crate::proofs::RunLemmas::fits_first, crate::proofs::FirstLemmas::first_opens))]
 pub(crate) fn begin_run<'a>(
     alloc: Global,
     image: &[u8],
+    lines: &'a [Vec<u8>],
     answers: &'a [Answer],
     calls: &'a [(u64, ClientCall)],
 ) -> Result<Feeder<'a>, Refusal>
-    ensures accepted { OnOk result (image_refusal image.now ≡ None) }
-    ensures begun { IfOk result (λ f.
-        f ≡ beginning (flat_of no_definitions) image.now [] answers.now (map due_of calls.now)) }
+    ensures accepted { OnOk result (script_refusal image.now (map (λ l. l.items) lines.now) ≡ None) }
+    ensures begun { IfOk result (λ f. f ≡ beginning (flat_of no_definitions) image.now (map (λ l. l.items) lines.now)
+        answers.now (map due_of calls.now)) }
     ensures calm { IfOk result IsCalm }
     ensures none { IfOk result (λ f. f.machine.steps ≡ 0) }
-    ensures err { IfErr result (λ e. Refuses (image_refusal image.now) e) }
+    ensures err { IfErr result (λ e. Refuses (script_refusal image.now (map (λ l. l.items) lines.now)) e) }
 {
-    let _ = check_image(image)?;
+    check_script(image, lines)?;
     let Ok(mut machine) = Machine::new(alloc, ListCode::new(alloc)) else {
         return Err(Refusal::NoMemory);
     };
     machine.begin(image, Phandle::of(SLOT))?;
     let mut feeder = Feeder {
         machine,
+        lines,
         answers,
         calls,
     };
@@ -66,15 +99,16 @@ pub(crate) fn end_of(machine: &ScriptMachine) -> End
     }
 }
 
-/// Runs an image for `/slot` on a new machine, for at most `limit` steps, gives the k-th question the k-th answer, and
-/// answers each client of `calls` as soon as so many steps are made and all clients before it are answered: those due
-/// at 0 once the image is loaded. What a run doesn't reach isn't answered, nor is what stands behind it. There are no
-/// console lines to be handed in yet.
+/// Runs an image for `/slot` on a new machine, for at most `limit` steps, hands in the next console line as soon as
+/// nothing runs, gives the k-th question the k-th answer, and answers each client of `calls` as soon as so many steps
+/// are made and all clients before it are answered: those due at 0 once the image is loaded. What a run doesn't reach
+/// isn't answered, nor is what stands behind it.
 ///
 /// The machine that it gives back is the abstract machine after as many steps as were made. The end is Done where
-/// nothing runs any more, LimitReached where so many steps are made, and AnswersOut where a step before asks and the
-/// next answer doesn't fit, or there is none: that question is open then. Refused are ImageTooLong over 256 KiB, then
-/// BadStart where the header can't be read, and NoMemory, which gives no machine.
+/// nothing runs any more and no line is left, LimitReached where so many steps are made, and AnswersOut where a step
+/// before asks and the next answer doesn't fit, or there is none: that question is open then. Refused are ImageTooLong
+/// over 256 KiB, then LineTooLong where a line has more than 255 bytes, then BadStart where the header can't be read,
+/// and NoMemory, which gives no machine.
 pub fn run_script(
     alloc: Global,
     image: &[u8],
@@ -83,13 +117,12 @@ pub fn run_script(
     calls: &[(u64, ClientCall)],
     limit: u64,
 ) -> Result<(ScriptMachine, End), Refusal>
-    requires no_lines { lines.now ≡ [] }
-    ensures accepted { OnOk result (image_refusal image.now ≡ None) }
-    ensures ok { IfOk result (λ r. RunsTo image.now [] answers.now (map due_of calls.now) limit r.0 r.1) }
-    ensures err { IfErr result (λ e. Refuses (image_refusal image.now) e) }
+    ensures accepted { OnOk result (script_refusal image.now (map (λ l. l.items) lines.now) ≡ None) }
+    ensures ok { IfOk result (λ r. RunsTo image.now (map (λ l. l.items) lines.now) answers.now
+        (map due_of calls.now) limit r.0 r.1) }
+    ensures err { IfErr result (λ e. Refuses (script_refusal image.now (map (λ l. l.items) lines.now)) e) }
 {
-    let _ = &lines;
-    let mut feeder = begin_run(alloc, image, answers, calls)?;
+    let mut feeder = begin_run(alloc, image, lines, answers, calls)?;
     let Ok(()) = feeder.run(limit) else {
         return Err(Refusal::NoMemory);
     };

@@ -376,17 +376,18 @@ fn names_find_words_while_an_image_runs(rt: HostRuntime) -> Result<(), Fail> {
 #[test]
 fn texts(rt: HostRuntime) -> Result<(), Fail> {
     let texts = format!(in rt.alloc();
-        "{}, {}, {}, {}, {}, {}, {}",
+        "{}, {}, {}, {}, {}, {}, {}, {}",
         Refusal::Busy,
         Refusal::NotAsked,
         Refusal::WrongAnswer,
         Refusal::ImageTooLong,
+        Refusal::LineTooLong,
         BAD_START,
         Refusal::NoNode,
         Refusal::NoMemory
     )?;
     let wanted =
-        "busy, not asked, wrong answer, image too long, bad start byte ff, no such node, no memory";
+        "busy, not asked, wrong answer, image too long, line too long, bad start byte ff, no such node, no memory";
     assert!(rt; texts.as_str() == wanted);
     Ok(())
 }

@@ -1,11 +1,12 @@
 //! Clients, whom a machine answers between two steps.
+use crate::lines::lines_of;
 use crate::rows::{MachineRows, check_on_machines};
 use crate::shared::{
     bytes_of, load, load_tokens, new_machine, on_machine_if_room, run_on, run_with,
 };
 use of_cells::Cell;
 use of_client::{ClientCall, ClientReply};
-use of_machine::{Refusal, ScriptMachine};
+use of_machine::{Refusal, ScriptMachine, run_script};
 use of_nodes::Phandle;
 use std::alloc::Global;
 use std::test::Fail;
@@ -209,6 +210,27 @@ fn scripts_answer_clients(rt: HostRuntime) -> Result<(), Fail> {
     assert!(rt; by_script(alloc, &image, &[1, 0], 99)?.as_str() == "d000000cd000000c");
     assert!(rt; by_script(alloc, &image, &[0, 1], 0)?.as_str() == "00000000");
     assert!(rt; by_script(alloc, &image, &[0, 99, 0], 99)?.as_str() == "00000000");
+    Ok(())
+}
+
+/// What clients are answered by a script's run of lines: each asks for `/slot`'s child once so many steps are made.
+fn by_lines(alloc: Global, text: &str, dues: &[u64]) -> Result<String, Fail> {
+    let image = bytes_of(alloc, "f10800000000000900")?;
+    let lines = lines_of(alloc, text)?;
+    let calls = calls_at(alloc, dues)?;
+    let (machine, _) = run_script(alloc, &image, &lines, &[], &calls, 99)?;
+    replies(alloc, &machine)
+}
+
+/// The image ends with the first step, `dev` and the name behind it are the second, and the third makes a node.
+#[test]
+fn clients_ask_between_words(rt: HostRuntime) -> Result<(), Fail> {
+    let text = by_lines(
+        rt.alloc(),
+        "dev /slot new-device~s\" p\" device-name",
+        &[1, 2, 3],
+    )?;
+    assert!(rt; text.as_str() == "0000000000000000d000000c");
     Ok(())
 }
 

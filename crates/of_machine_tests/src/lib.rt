@@ -10,6 +10,8 @@ mod clients;
 #[cfg(test)]
 mod instances;
 #[cfg(test)]
+mod lines;
+#[cfg(test)]
 mod methods;
 #[cfg(test)]
 mod opening;

@@ -1,4 +1,5 @@
 //! Runs whose questions devices answer.
+use crate::lines::lines_of;
 use crate::questions::left;
 use crate::rows::{Rows, check, halves};
 use crate::shared::{bytes_of, image_of};
@@ -56,14 +57,29 @@ fn part_of(alloc: Global, word: &str) -> Result<Part, Fail> {
     })
 }
 
-/// What a run on the devices of a line leaves.
-fn left_on(alloc: Global, devices: &str, tokens: &str, limit: u64) -> Result<String, Fail> {
-    let image = image_of(alloc, tokens)?;
+/// The devices that words stand for.
+fn rack_of(alloc: Global, devices: &str) -> Result<Rack, Fail> {
     let mut rack: Rack = Vec::new(alloc);
     for word in devices.split_whitespace() {
         rack.push(Box::new(alloc, part_of(alloc, word)?)?)?;
     }
+    Ok(rack)
+}
+
+/// What a run on the devices of a line leaves.
+fn left_on(alloc: Global, devices: &str, tokens: &str, limit: u64) -> Result<String, Fail> {
+    let image = image_of(alloc, tokens)?;
+    let mut rack = rack_of(alloc, devices)?;
     let (machine, end) = run_rack(alloc, &image, &[], &mut rack, &[], limit)?;
+    left(alloc, &machine, end)
+}
+
+/// What lines leave on these devices behind an image that does nothing.
+fn left_by_lines(alloc: Global, devices: &str, text: &str) -> Result<String, Fail> {
+    let image = image_of(alloc, "00")?;
+    let lines = lines_of(alloc, text)?;
+    let mut rack = rack_of(alloc, devices)?;
+    let (machine, end) = run_rack(alloc, &image, &lines, &mut rack, &[], 999)?;
     left(alloc, &machine, end)
 }
 
@@ -77,6 +93,30 @@ impl Rows for DeviceRows {
         let (limit, wanted) = halves(rest);
         Ok((left_on(alloc, devices, tokens, limit.parse()?)?, wanted))
     }
+}
+
+/// Devices, lines that a `~` sets apart, and what their run leaves.
+const LINES: &str = "\
+memory clock|5 80000000 rb! 80000000 rb@ . get-msecs .|10 done 0|5 0 |\
+write 1 80000000 5, read 1 80000000, get-msecs|
+keys|key~key|5 done 0||key, key|41 42
+clock|get-msecs nonsense~get-msecs|5 done 0|fault -13: undefined word$|get-msecs, get-msecs|1
+";
+
+/// Lines on devices.
+struct LineRows;
+
+impl Rows for LineRows {
+    fn given<'a>(alloc: Global, line: &'a str) -> Result<(String, &'a str), Fail> {
+        let (devices, rest) = halves(line);
+        let (text, wanted) = halves(rest);
+        Ok((left_by_lines(alloc, devices, text)?, wanted))
+    }
+}
+
+#[test]
+fn devices_answer_lines(rt: HostRuntime) -> Result<(), Fail> {
+    check::<LineRows, _>(&rt, rt.alloc(), LINES)
 }
 
 /// The first device that takes a question answers it, and what it answers may depend on the questions before.

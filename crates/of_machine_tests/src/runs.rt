@@ -93,6 +93,8 @@ a5 96 9a 97 90 00|6 0
 a5 8b a5 8b 9f 00|6 400000 400008 
 a5 8b a5 8c 00|5 
 a6 a7 a8 4a 9f 00|6 2 3 1 
+12053220 33202b cd 9d 00|8 5 
+cd00|1 fault -4: stack underflow$
 9d00|1 fault -4: stack underflow$
 a69e00|2 fault -4: stack underflow$
 a69000|2 fault -4: stack underflow$

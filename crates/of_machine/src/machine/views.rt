@@ -1,5 +1,5 @@
 ghost use Rattle.std.specs.Prelude.{◌≡◌, length, map, reverse};
-ghost use Rattle.of_state.specs.Views.{items_of_word, next_item, next_token};
+ghost use Rattle.of_state.specs.Views.{items_of_word, next_item, next_token, next_word};
 ghost use Rattle.of_machine.specs.States.{is_running, reply_shown};
 ghost use Rattle.of_machine.specs.Views.{byte_of, word_named, xt_numbered};
 
@@ -124,6 +124,14 @@ impl<C: CodeStore> Machine<C> {
         ensures { result ≡ next_token self.now.eval }
     {
         self.eval.next_token()
+    }
+
+    /// The position in the text that is read at which its next word is looked for. None where nothing runs, where a
+    /// definition goes on, and where no text is read.
+    pub fn next_word(&self) -> Option<usize>
+        ensures { result ≡ next_word self.now.eval }
+    {
+        self.eval.next_word()
     }
 
     /// The item of a definition that comes next, by its word and number. None where nothing runs, where a token of an

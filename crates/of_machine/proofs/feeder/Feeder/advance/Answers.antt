@@ -1,12 +1,13 @@
-use Rattle.std.proofs.Common.{rules, ◌≡◌, ◌≤◌, ◌<◌, ◌^◌, false, inl, ap, subst, refl, suc, arith}
+use Rattle.std.proofs.Common.{rules, ◌≡◌, ◌≤◌, ◌<◌, ◌^◌, false, true, inl, ap, subst, sym, refl, suc, arith}
 use Rattle.std.proofs.lemmas.Bool.{leb-false, leb-true}
 use Rattle.of_asking.specs.declared.query.Query.{Query}
 use Rattle.of_compile.specs.Coding.{Coding}
 use Rattle.of_state.specs.State.{flat_calls}
 use Rattle.of_machine.specs.declared.answers.Progress.TheVariants.{Asks, Done, Ended}
-use Rattle.of_machine.specs.States.{HasMoved, Steps, goes_on}
-use Rattle.of_machine.specs.Runs.{AreUpto, Feed, IsCalm, settled}
-use Rattle.of_machine.proofs.RunLemmas.{asks_behind, not_made, reaches, rests_so, stands, until_after}
+use Rattle.of_machine.specs.States.{HasMoved, Steps, goes_on, is_running}
+use Rattle.of_machine.specs.Runs.{Advances, AreUpto, Feed, IsCalm, line_left, settled}
+use Rattle.of_machine.proofs.RunLemmas.{asks_behind, goes_idle, not_made, reaches, rests_so, stands}
+use Rattle.of_machine.proofs.RunLemmas.{until_after}
 use Rattle.of_machine.proofs.feeder.Feeder.advance.Goals as goal
 
 -- ---- up to a client, or to the limit
@@ -82,6 +83,34 @@ returns-in-Asks c =
     asks_behind f _ m n q until c.args.limit calm moves few less c.until-until.ensures.few upto asks
     (ap (λ (x : Feed Coding). record x { machine = n }) c.self.view_is)
 
+-- ---- where nothing runs
+
+pub returns-then-not-is_running : goal.returns-then-not-is_running
+returns-then-not-is_running c =
+    let f = c.args.self.now in
+    let m = c.run.new.self in
+    let until = c.until-until.result in
+    let same : c.self.inside.machine ≡ f.machine = ap (λ (x : Feed Coding). x.machine) c.self.view_is in
+    let calm : IsCalm f = c.requires.calm in
+    let upto : AreUpto until f.calls = c.until-until.ensures.upto in
+    let ready : f.machine.steps ≤ until =
+    until_after f.machine.steps until c.args.limit c.requires.few c.until-until.ensures.few
+    (λ less. c.until-until.ensures.due less calm.0) in
+    let moves : HasMoved f.machine m = subst (λ x. HasMoved x m) same c.run.ensures.steps in
+    let some : m.steps ≤ until = search rules in
+    let few : m.steps < 2 ^ 64 = omega (arith, some, c.until-until.ensures.few, c.ranges.limit.fits) in
+    let apart : m.steps ≡ until → ⊥ = search rules in
+    let less : m.steps < until = omega (arith, some, apart) in
+    let idle : is_running m ≡ false = search rules in
+    let g : Feed Coding = record f { machine = m } in
+    let new = c.go_on.new.self in
+    let served : new ≡ settled g = search rules in
+    let here =
+    goes_idle f g new m until c.args.limit calm moves few less c.until-until.ensures.few upto idle refl served
+    c.in_ok-behind.ensures.later in
+    let so : c.in_ok-behind.behind ≡ line_left f.lines = search rules in
+    subst (λ a. Advances c.args.limit a f new) (sym so) here
+
 -- ---- where none can be made
 
 pub returns-in-Ended : goal.returns-in-Ended
@@ -102,7 +131,8 @@ returns-in-Ended c =
     let apart : m.steps ≡ until → ⊥ = search rules in
     let less : m.steps < until = omega (arith, some, apart) in
     let ended : Steps Ended m n = search rules in
-    stands f _ m n until c.args.limit calm moves few less c.until-until.ensures.few upto ended
+    let runs : is_running m ≡ true = search rules in
+    stands f _ m n until c.args.limit calm moves few less c.until-until.ensures.few upto runs ended
     (ap (λ (x : Feed Coding). record x { machine = n }) c.self.view_is)
 
 pub returns-in-Done : goal.returns-in-Done
