@@ -1,0 +1,209 @@
+//! Nests of control words: the definition that a console line makes of one is done item by item as that which an image
+//! makes that is tokenized of the same words, with the same stack before each item.
+use of_code::ListCode;
+use of_machine::{Machine, Refusal, ScriptMachine};
+use of_source::parse;
+use of_tok::tokenize;
+use std::alloc::Global;
+use std::process::Abort;
+use std::test::Fail;
+
+/// A longer nest isn't tried.
+const LONGEST: usize = 7;
+
+/// Structures, behind each word of which a nest stands.
+const STRUCTURES: &str = "\
+if then
+if else then
+begin again
+begin until
+begin while repeat
+do loop
+do +loop
+?do loop
+?do +loop
+do leave loop
+case endcase
+case of endof endcase
+";
+
+/// Numbers that stand on the stack at first.
+const STACKS: [&str; 2] = ["1 0 3 0 1 2 0 1", "0 1 0 3 1 0 1 0"];
+
+/// Words that close all that they open, and how many they are.
+#[derive(Drop)]
+struct Nest {
+    text: String,
+    length: usize,
+}
+
+/// Appends what begins with these words, goes on with another one and ends with a nest.
+fn push_behind(
+    alloc: Global,
+    all: &mut Vec<Nest>,
+    begun: &Nest,
+    word: &str,
+    nests: &[Nest],
+) -> Result<(), Fail> {
+    for nest in nests {
+        let length = begun.length.saturating_add(nest.length).saturating_add(1);
+        if length <= LONGEST {
+            let (first, last) = (begun.text.as_str(), nest.text.as_str());
+            let text = format!(in alloc; "{first}{word} {last}")?;
+            all.push(Nest { text, length })?;
+        }
+    }
+    Ok(())
+}
+
+/// What begins so, each with a word and a nest behind it.
+fn go_on(alloc: Global, begun: &[Nest], word: &str, nests: &[Nest]) -> Result<Vec<Nest>, Fail> {
+    let mut all = Vec::new(alloc);
+    for first in begun {
+        push_behind(alloc, &mut all, first, word, nests)?;
+    }
+    Ok(all)
+}
+
+/// The empty nest alone.
+fn empty(alloc: Global) -> Result<Vec<Nest>, Fail> {
+    let mut all = Vec::new(alloc);
+    all.push(Nest {
+        text: String::new(alloc),
+        length: 0,
+    })?;
+    Ok(all)
+}
+
+/// A structure with one of these nests behind each of its words.
+fn filled(alloc: Global, structure: &str, nests: &[Nest]) -> Result<Vec<Nest>, Fail> {
+    let mut begun = empty(alloc)?;
+    for word in structure.split_whitespace() {
+        begun = go_on(alloc, &begun, word, nests)?;
+    }
+    Ok(begun)
+}
+
+/// The empty nest, and the structures with these nests behind their words.
+fn nested(alloc: Global, nests: &[Nest]) -> Result<Vec<Nest>, Fail> {
+    let mut all = empty(alloc)?;
+    for structure in STRUCTURES.lines() {
+        for nest in filled(alloc, structure, nests)? {
+            all.push(nest)?;
+        }
+    }
+    Ok(all)
+}
+
+/// All nests: of seven words at most, in which there are three structures at most.
+fn all_nests(alloc: Global) -> Result<Vec<Nest>, Fail> {
+    let mut nests = empty(alloc)?;
+    for _ in 0..3 {
+        nests = nested(alloc, &nests)?;
+    }
+    Ok(nests)
+}
+
+/// Makes a step.
+fn step(machine: &mut ScriptMachine) -> Result<(), Fail> {
+    machine.run(1)?;
+    Ok(())
+}
+
+/// Goes on until an item comes next.
+fn find_item(machine: &mut ScriptMachine) -> Result<(), Fail> {
+    for _ in 0..60 {
+        if machine.place().is_some() {
+            break;
+        }
+        step(machine)?;
+    }
+    Ok(())
+}
+
+/// Appends the number of the item that comes next, and the data stack.
+fn push_spot(text: &mut String, machine: &ScriptMachine) -> Result<(), Fail> {
+    if let Some(place) = machine.place() {
+        write!(text, "{}:", place.item)?;
+        for cell in machine.stack() {
+            write!(text, "{} ", cell.0)?;
+        }
+    }
+    Ok(())
+}
+
+/// The items that are done, thirty at most, each with the stack before it.
+fn trace(alloc: Global, machine: &mut ScriptMachine) -> Result<String, Fail> {
+    let mut text = String::new(alloc);
+    find_item(machine)?;
+    for _ in 0..10 {
+        push_spot(&mut text, machine)?;
+        step(machine)?;
+    }
+    Ok(text)
+}
+
+/// Begins a line.
+fn read(machine: &mut ScriptMachine, line: &str) -> Result<(), Refusal> {
+    machine.line(line.as_bytes())
+}
+
+/// Begins an image.
+fn load(machine: &mut ScriptMachine, image: &[u8]) -> Result<(), Fail> {
+    machine.load(image, "/slot")?;
+    Ok(())
+}
+
+/// A machine on which nothing ran yet.
+fn new_machine(alloc: Global) -> Result<ScriptMachine, Fail> {
+    Ok(Machine::new(alloc, ListCode::new(alloc))?)
+}
+
+/// What a line does that defines a nest and runs it on these numbers.
+fn by_line(alloc: Global, nest: &str, numbers: &str) -> Result<String, Fail> {
+    let mut machine = new_machine(alloc)?;
+    let line = format!(in alloc; "{numbers} : t {nest}; t")?;
+    read(&mut machine, line.as_str())?;
+    trace(alloc, &mut machine)
+}
+
+/// The image of a source.
+fn image_of(alloc: Global, text: &str) -> Result<Vec<u8>, Fail> {
+    let source = parse(alloc, text.as_bytes())?;
+    Ok(tokenize(alloc, &source)?)
+}
+
+/// What an image does that defines a nest and runs it on these numbers.
+fn by_image(alloc: Global, nest: &str, numbers: &str) -> Result<String, Fail> {
+    let mut machine = new_machine(alloc)?;
+    let text = format!(in alloc; "fcode-version2 headerless {numbers} : t {nest}; t fcode-end")?;
+    load(&mut machine, &image_of(alloc, text.as_str())?)?;
+    trace(alloc, &mut machine)
+}
+
+/// Sees that a nest is done alike on each stack.
+fn check_nest<R: Abort>(rt: &R, alloc: Global, nest: &str) -> Result<(), Fail> {
+    for numbers in STACKS {
+        let (read, loaded) = (
+            by_line(alloc, nest, numbers)?,
+            by_image(alloc, nest, numbers)?,
+        );
+        assert!(rt; !read.is_empty(), "{nest}");
+        assert!(rt;
+            read.as_str() == loaded.as_str(),
+            "{nest}: {read}: {loaded}"
+        );
+    }
+    Ok(())
+}
+
+/// There are 6,949 of them, by the lengths of what stands behind each word.
+#[test]
+fn nests_are_done_alike(rt: HostRuntime) -> Result<(), Fail> {
+    let nests = all_nests(rt.alloc())?;
+    assert_eq!(rt; nests.len(), 6_949);
+    for nest in &nests {
+        check_nest(&rt, rt.alloc(), nest.text.as_str())?;
+    }
+    Ok(())
+}
