@@ -21,7 +21,7 @@ use Rattle.clap.proofs.ValueTestLemmas.{Accepts-accepts, accepts-Accepts}
 use Rattle.of_arguments.specs.CommandLine.{LinesAsk, is_plain, AsksToRun, AsksToList, AsksForLimit, number_in}
 use Rattle.of_arguments.specs.CommandLine.{ofw_app, run_app, AsksToExplain, AsksWith, plain_extras, AsksToKeep}
 use Rattle.of_arguments.specs.CommandLine.{AsksForCalls, AsksForTree, AsksToTokenize, AsksWithAnswers, AsksWithBoard}
-use Rattle.of_arguments.specs.CommandLine.{client_app}
+use Rattle.of_arguments.specs.CommandLine.{AsksWithLines, client_app}
 use Rattle.of_arguments.specs.CommandLine.{detok_app, tok_app}
 
 -- ---- a word that begins with no hyphen is no option
@@ -98,6 +98,10 @@ with_run image = with_path (codes "image") (codes "answers") image
 with_devices : Text → Held
 with_devices image = with_path (codes "image") (codes "board") image
 
+-- of a run behind its image and `--lines`
+with_text : Text → Held
+with_text image = with_path (codes "image") (codes "lines") image
+
 -- of a client behind its image and `--calls`
 with_client : Text → Held
 with_client image = with_path (codes "image") (codes "calls") image
@@ -154,6 +158,15 @@ board_met image b rest e = word_is_plain run_shape.rules (option (codes "board")
 board_passes : (image : Text) (b : ℕ) (rest : Text) → (b == 45) ≡ false
     → word_fault run_shape [] false (option (codes "board")) (b ∷ rest) (with_devices image) ≡ []
 board_passes image b rest e = word_has_no_fault run_shape b rest (with_devices image) e
+
+lines_met : (image : Text) (b : ℕ) (rest : Text) → (b == 45) ≡ false
+    → word_met run_shape.rules [] false (option (codes "lines")) 2 (b ∷ rest) (with_text image)
+    ≡ plain_word run_shape.rules (option (codes "lines")) (b ∷ rest) (with_text image)
+lines_met image b rest e = word_is_plain run_shape.rules (option (codes "lines")) 2 b rest (with_text image) e
+
+lines_pass : (image : Text) (b : ℕ) (rest : Text) → (b == 45) ≡ false
+    → word_fault run_shape [] false (option (codes "lines")) (b ∷ rest) (with_text image) ≡ []
+lines_pass image b rest e = word_has_no_fault run_shape b rest (with_text image) e
 
 limit_passes : (image : Text) (b : ℕ) (rest : Text) → (b == 45) ≡ false
     → word_fault run_shape [] false (option (codes "limit")) (b ∷ rest) (with_image image) ≡ []
@@ -239,12 +252,8 @@ calls_asked : (program : Text) (b : ℕ) (rest : Text) (d : ℕ) (name : Text) �
 unfolding clap_on_literals client_shape with_client with_path
 calls_asked program b rest d name e f = (
   rw (image_met client_shape b rest e, calls_met (b ∷ rest) d name f) refl,
-  rw (
-    image_met client_shape b rest e,
-    calls_met (b ∷ rest) d name f,
-    image_passes client_shape b rest e,
-    calls_pass (b ∷ rest) d name f,
-  ) refl,
+  rw (image_met client_shape b rest e, calls_met (b ∷ rest) d name f)
+      (rw (image_passes client_shape b rest e) (rw (calls_pass (b ∷ rest) d name f) refl)),
 )
 
 answered : (program : Text) (b : ℕ) (rest : Text) (d : ℕ) (name : Text) → (b == 45) ≡ false → (d == 45) ≡ false
@@ -252,12 +261,8 @@ answered : (program : Text) (b : ℕ) (rest : Text) (d : ℕ) (name : Text) → 
 unfolding clap_on_literals run_shape with_run with_path
 answered program b rest d name e f = (
   rw (image_met run_shape b rest e, answers_met (b ∷ rest) d name f) refl,
-  rw (
-    image_met run_shape b rest e,
-    answers_met (b ∷ rest) d name f,
-    image_passes run_shape b rest e,
-    answers_pass (b ∷ rest) d name f,
-  ) refl,
+  rw (image_met run_shape b rest e, answers_met (b ∷ rest) d name f)
+      (rw (image_passes run_shape b rest e) (rw (answers_pass (b ∷ rest) d name f) refl)),
 )
 
 boarded : (program : Text) (b : ℕ) (rest : Text) (d : ℕ) (name : Text) → (b == 45) ≡ false → (d == 45) ≡ false
@@ -265,12 +270,17 @@ boarded : (program : Text) (b : ℕ) (rest : Text) (d : ℕ) (name : Text) → (
 unfolding clap_on_literals run_shape with_devices with_path
 boarded program b rest d name e f = (
   rw (image_met run_shape b rest e, board_met (b ∷ rest) d name f) refl,
-  rw (
-    image_met run_shape b rest e,
-    board_met (b ∷ rest) d name f,
-    image_passes run_shape b rest e,
-    board_passes (b ∷ rest) d name f,
-  ) refl,
+  rw (image_met run_shape b rest e, board_met (b ∷ rest) d name f)
+      (rw (image_passes run_shape b rest e) (rw (board_passes (b ∷ rest) d name f) refl)),
+)
+
+lined : (program : Text) (b : ℕ) (rest : Text) (d : ℕ) (name : Text) → (b == 45) ≡ false → (d == 45) ≡ false
+    → AsksWithLines program (b ∷ rest) (d ∷ name)
+unfolding clap_on_literals run_shape with_text with_path
+lined program b rest d name e f = (
+  rw (image_met run_shape b rest e, lines_met (b ∷ rest) d name f) refl,
+  rw (image_met run_shape b rest e, lines_met (b ∷ rest) d name f)
+      (rw (image_passes run_shape b rest e) (rw (lines_pass (b ∷ rest) d name f) refl)),
 )
 
 -- a number in the range of limits is one of 64 bits
@@ -286,14 +296,9 @@ limits : (program : Text) (b : ℕ) (rest : Text) (d : ℕ) (digits : Text) → 
     → is_unsigned_in 0 1000000000 (d ∷ digits) ≡ true → AsksForLimit program (b ∷ rest) (d ∷ digits)
 unfolding clap_on_literals run_shape with_image with_path
 limits program b rest d digits e f number = (
-  rw (image_met run_shape b rest e, limit_met (b ∷ rest) d digits f, limit_read (d ∷ digits) number) refl,
-  rw (
-    image_met run_shape b rest e,
-    limit_met (b ∷ rest) d digits f,
-    image_passes run_shape b rest e,
-    limit_passes (b ∷ rest) d digits f,
-    number,
-  ) refl,
+  rw (image_met run_shape b rest e, limit_met (b ∷ rest) d digits f) (rw (limit_read (d ∷ digits) number) refl),
+  rw (image_met run_shape b rest e, limit_met (b ∷ rest) d digits f)
+      (rw (image_passes run_shape b rest e) (rw (limit_passes (b ∷ rest) d digits f) (rw number refl))),
 )
 
 hyphenless : (b : ℕ) → not (b == 45) ≡ true → (b == 45) ≡ false
@@ -320,6 +325,7 @@ lines_ask program (b ∷ rest) e = (
   called,
   with_answers,
   with_board,
+  with_lines,
   limited,
 )
   where
@@ -338,6 +344,10 @@ lines_ask program (b ∷ rest) e = (
     with_board : (board : Text) → is_plain board ≡ true → AsksWithBoard program (b ∷ rest) board
     with_board [] f = absurd (true≢false (sym f))
     with_board (d ∷ name) f = boarded program b rest d name (hyphenless b e) (hyphenless d f)
+
+    with_lines : (lines : Text) → is_plain lines ≡ true → AsksWithLines program (b ∷ rest) lines
+    with_lines [] f = absurd (true≢false (sym f))
+    with_lines (d ∷ name) f = lined program b rest d name (hyphenless b e) (hyphenless d f)
 
     limited : (limit : Text) → is_plain limit ≡ true → is_unsigned_in 0 1000000000 limit ≡ true
         → AsksForLimit program (b ∷ rest) limit

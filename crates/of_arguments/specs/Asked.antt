@@ -15,13 +15,14 @@ pub data Outsiders : Type 0 where
   answers_of : List ℕ → Outsiders
   board_of : List ℕ → Outsiders
 
--- the run of the image at a path, with what answers its questions, for so many steps at most, and whether the device
--- tree is printed then, and its end explained; the same but for the tree, and then the calls of a client that a further
--- file has; the image of the source at a path, to be printed or to be written to a file; or the listing of the image at
--- a path, with what it says beyond names and operands, and whether it is printed up to what is wrong
+-- the run of the image at a path, and of the console lines of a file, if there is one, with what answers its questions,
+-- for so many steps at most, and whether the device tree is printed then, and its end explained; the same but for the
+-- tree, and then the calls of a client that a further file has; the image of the source at a path, to be printed or to
+-- be written to a file; or the listing of the image at a path, with what it says beyond names and operands, and whether
+-- it is printed up to what is wrong
 pub data Asked : Type 0 where
-  a_run : List ℕ → Outsiders → ℕ → Bool → Bool → Asked
-  client_calls : List ℕ → List ℕ → Outsiders → ℕ → Bool → Asked
+  a_run : List ℕ → Option (List ℕ) → Outsiders → ℕ → Bool → Bool → Asked
+  client_calls : List ℕ → List ℕ → Option (List ℕ) → Outsiders → ℕ → Bool → Asked
   an_image : List ℕ → Option (List ℕ) → Asked
   a_listing : List ℕ → Extras → Bool → Asked
 
@@ -37,7 +38,8 @@ path_of path = option_map (λ text. text.now) path
 
 -- what a request asks for
 abbrev pub asked : Request → Asked
-asked (request.Run image o limit tree explain) = a_run image.now (shown o) limit tree explain
-asked (request.Client image calls o limit explain) = client_calls image.now calls.now (shown o) limit explain
+asked (request.Run image lines o limit tree explain) = a_run image.now (path_of lines) (shown o) limit tree explain
+asked (request.Client image calls lines o limit explain) =
+    client_calls image.now calls.now (path_of lines) (shown o) limit explain
 asked (request.Tok source output) = an_image source.now (path_of output)
 asked (request.Detok image extras partial) = a_listing image.now extras partial

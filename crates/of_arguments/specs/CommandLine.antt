@@ -46,6 +46,10 @@ option_rule name = record (new_rule name) { long = Some name; value_names = 1; a
 abbrev pub flag_rule : Text → Rule
 flag_rule name = record (new_rule name) { long = Some name; action = Some SetTrue }
 
+-- `--lines FILE`
+abbrev pub lines_rule : Rule
+lines_rule = option_rule (codes "lines")
+
 -- `--answers FILE`
 abbrev pub answers_rule : Rule
 answers_rule = option_rule (codes "answers")
@@ -54,21 +58,21 @@ answers_rule = option_rule (codes "answers")
 abbrev pub board_rule : Rule
 board_rule = option_rule (codes "board")
 
--- `run IMAGE [--answers FILE | --board FILE] [--limit N] [--tree] [--explain]`
+-- `run IMAGE [--lines FILE] [--answers FILE | --board FILE] [--limit N] [--tree] [--explain]`
 abbrev pub run_app : App
 run_app =
-    with_rule (with_rule (with_rule (with_rule (with_rule (with_rule (new_app (codes "run")) image_rule) answers_rule)
-    board_rule) limit_rule) (flag_rule (codes "tree"))) (flag_rule (codes "explain"))
+    with_rule (with_rule (with_rule (with_rule (with_rule (with_rule (with_rule (new_app (codes "run")) image_rule)
+    lines_rule) answers_rule) board_rule) limit_rule) (flag_rule (codes "tree"))) (flag_rule (codes "explain"))
 
 -- `--calls FILE`
 abbrev pub calls_rule : Rule
 calls_rule = record (path_rule (codes "calls")) { long = Some (codes "calls") }
 
--- `client IMAGE --calls FILE [--answers FILE | --board FILE] [--limit N] [--explain]`
+-- `client IMAGE --calls FILE [--lines FILE] [--answers FILE | --board FILE] [--limit N] [--explain]`
 abbrev pub client_app : App
 client_app =
-    with_rule (with_rule (with_rule (with_rule (with_rule (with_rule (new_app (codes "client")) image_rule) calls_rule)
-    answers_rule) board_rule) limit_rule) (flag_rule (codes "explain"))
+    with_rule (with_rule (with_rule (with_rule (with_rule (with_rule (with_rule (new_app (codes "client")) image_rule)
+    calls_rule) lines_rule) answers_rule) board_rule) limit_rule) (flag_rule (codes "explain"))
 
 -- `--output FILE`
 abbrev pub output_rule : Rule
@@ -140,14 +144,18 @@ outside_in rows = outside_of (first_of (codes "answers") rows) (first_of (codes 
 abbrev pub run_asked : List Row → Text → Option Asked
 run_asked rows image =
     option_map
-    (λ o. a_run image o (limit_in rows) (has_flag (codes "tree") rows) (has_flag (codes "explain") rows))
+    (λ o.
+    a_run image (first_of (codes "lines") rows) o (limit_in rows) (has_flag (codes "tree") rows)
+    (has_flag (codes "explain") rows))
     (outside_in rows)
 
 -- what `client` asks for with an image: the calls of the file that is given, behind such a run
 abbrev pub client_asked : List Row → Text → Option Asked
 client_asked rows image =
     option_and_then
-    (λ calls. option_map (λ o. client_calls image calls o (limit_in rows) (has_flag (codes "explain") rows))
+    (λ calls.
+    option_map
+    (λ o. client_calls image calls (first_of (codes "lines") rows) o (limit_in rows) (has_flag (codes "explain") rows))
     (outside_in rows))
     (first_of (codes "calls") rows)
 
@@ -187,41 +195,47 @@ Asks words what = (asks words ≡ Some what) × (fault_of ofw_app words ≡ [])
 
 -- a run of an image with no limit given
 abbrev pub AsksToRun : Text → Text → Type 0
-AsksToRun program image = Asks (program ∷ codes "run" ∷ image ∷ []) (a_run image standard 1000000 false false)
+AsksToRun program image = Asks (program ∷ codes "run" ∷ image ∷ []) (a_run image None standard 1000000 false false)
 
 -- a run with a limit given
 abbrev pub AsksForLimit : Text → Text → Text → Type 0
 AsksForLimit program image limit =
     Asks (program ∷ codes "run" ∷ image ∷ codes "--limit" ∷ limit ∷ [])
-    (a_run image standard (digits_value 10 (without_leading_plus limit)) false false)
+    (a_run image None standard (digits_value 10 (without_leading_plus limit)) false false)
 
 -- a run with the answers of a file
 abbrev pub AsksWithAnswers : Text → Text → Text → Type 0
 AsksWithAnswers program image answers =
     Asks (program ∷ codes "run" ∷ image ∷ codes "--answers" ∷ answers ∷ [])
-    (a_run image (answers_of answers) 1000000 false false)
+    (a_run image None (answers_of answers) 1000000 false false)
 
 -- a run on the board of a file
 abbrev pub AsksWithBoard : Text → Text → Text → Type 0
 AsksWithBoard program image board =
     Asks (program ∷ codes "run" ∷ image ∷ codes "--board" ∷ board ∷ [])
-    (a_run image (board_of board) 1000000 false false)
+    (a_run image None (board_of board) 1000000 false false)
+
+-- a run with the console lines of a file
+abbrev pub AsksWithLines : Text → Text → Text → Type 0
+AsksWithLines program image lines =
+    Asks (program ∷ codes "run" ∷ image ∷ codes "--lines" ∷ lines ∷ [])
+    (a_run image (Some lines) standard 1000000 false false)
 
 -- a run whose end is explained
 abbrev pub AsksToExplain : Text → Text → Type 0
 AsksToExplain program image =
-    Asks (program ∷ codes "run" ∷ image ∷ codes "--explain" ∷ []) (a_run image standard 1000000 false true)
+    Asks (program ∷ codes "run" ∷ image ∷ codes "--explain" ∷ []) (a_run image None standard 1000000 false true)
 
 -- a run behind which the device tree is printed
 abbrev pub AsksForTree : Text → Text → Type 0
 AsksForTree program image =
-    Asks (program ∷ codes "run" ∷ image ∷ codes "--tree" ∷ []) (a_run image standard 1000000 true false)
+    Asks (program ∷ codes "run" ∷ image ∷ codes "--tree" ∷ []) (a_run image None standard 1000000 true false)
 
 -- a run, and then the calls of a file
 abbrev pub AsksForCalls : Text → Text → Text → Type 0
 AsksForCalls program image calls =
     Asks (program ∷ codes "client" ∷ image ∷ codes "--calls" ∷ calls ∷ [])
-    (client_calls image calls standard 1000000 false)
+    (client_calls image calls None standard 1000000 false)
 
 -- a listing of an image
 abbrev pub AsksToList : Text → Text → Type 0
@@ -255,5 +269,6 @@ LinesAsk = (program image : Text) → is_plain image ≡ true → AsksToRun prog
     × ((calls : Text) → is_plain calls ≡ true → AsksForCalls program image calls)
     × ((answers : Text) → is_plain answers ≡ true → AsksWithAnswers program image answers)
     × ((board : Text) → is_plain board ≡ true → AsksWithBoard program image board)
+    × ((lines : Text) → is_plain lines ≡ true → AsksWithLines program image lines)
     × ((limit : Text) → is_plain limit ≡ true → is_unsigned_in 0 1000000000 limit ≡ true
     → AsksForLimit program image limit)

@@ -5,7 +5,7 @@ ghost use Rattle.std.specs.String.{string_bytes};
 ghost use Rattle.of_arguments.specs.Asked.{asked, shown};
 ghost use Rattle.of_arguments.specs.Statuses.{unasked};
 ghost use Rattle.of_arguments.specs.CommandLine.{IsBuilt, answers_rule, asked_by, asks, board_rule, calls_rule};
-ghost use Rattle.of_arguments.specs.CommandLine.{client_app};
+ghost use Rattle.of_arguments.specs.CommandLine.{client_app, lines_rule};
 ghost use Rattle.of_arguments.specs.CommandLine.{client_asked, detok_app, flag_rule, has_flag, image_rule};
 ghost use Rattle.of_arguments.specs.CommandLine.{is_true, limit_in, limit_rule, ofw_app, outside_in, output_rule};
 ghost use Rattle.of_arguments.specs.CommandLine.{path_rule, run_app, run_asked, source_rule, tok_app};
@@ -24,7 +24,8 @@ const DEFAULT_LIMIT: u64 = 1_000_000;
 const RUN_HELP: &str = "\
 Example: ofw run card.rom --limit 5000 --explain
 
-The file is a ROM as it stands where it begins with f0 to f3 or fd, else hexadecimal digits. What the run asks of the
+The file is a ROM as it stands where it begins with f0 to f3 or fd, else hexadecimal digits. With --lines the next line
+of a file is read as soon as nothing runs, as on a console; a line has at most 255 bytes. What the run asks of the
 outside (keys, registers of devices, time) is answered by a board: 4096 zero bytes of device memory at 80000000 and a
 clock. With --board it has the devices of a file, the first of which that knows a question answers it: a line is
 `memory ADDRESS LENGTH` or `memory ADDRESS LENGTH BYTES`, `fault ADDRESS LENGTH`, `keys BYTES` or `clock`, with
@@ -38,8 +39,8 @@ Status: 0 done, 1 fault of input or output, 2 usage, 3 limit reached, 4 answers 
 const CLIENT_HELP: &str = "\
 Example: ofw client card.rom --calls card.calls
 
-The image, the board and the answers are read as for run. A line of the calls is one of these, with numbers in
-hexadecimal digits: finddevice PATH, child PH, peer PH, parent PH, getproplen PH NAME, getprop PH NAME ROOM,
+The image, the lines, the board and the answers are read as for run. A line of the calls is one of these, with numbers
+in hexadecimal digits: finddevice PATH, child PH, peer PH, parent PH, getproplen PH NAME, getprop PH NAME ROOM,
 nextprop PH NAME, instance-to-package IH, package-to-path PH ROOM.
 
 Status: 0 done, 1 fault of input or output, 2 usage, 3 limit reached, 4 answers out, 5 no memory";
@@ -89,6 +90,17 @@ fn calls_argument<'a>(alloc: Global) -> Arg<'a>
     ensures { (rule_of result ≡ calls_rule) × (result.global ≡ false) }
 {
     path_argument(alloc, "calls", "FILE", "the calls of a client, one a line").long("calls")
+}
+
+/// `--lines FILE`
+fn lines_argument<'a>(alloc: Global) -> Arg<'a>
+    ensures { (rule_of result ≡ lines_rule) × (result.global ≡ false) }
+{
+    Arg::new(alloc, "lines")
+        .long("lines")
+        .value_name("FILE")
+        .help("console lines that are read behind the image")
+        .action(ArgAction::Set)
 }
 
 /// `--answers FILE`
@@ -146,7 +158,7 @@ fn flag<'a>(alloc: Global, name: &'a str, help: &'a str) -> Arg<'a>
         .action(ArgAction::SetTrue)
 }
 
-/// `ofw run IMAGE [--answers FILE | --board FILE] [--limit N] [--tree] [--explain]`
+/// `ofw run IMAGE [--lines FILE] [--answers FILE | --board FILE] [--limit N] [--tree] [--explain]`
 fn run_command<'a>(alloc: Global) -> Result<Command<'a>, AllocError>
     ensures { IfOk result (IsBuilt run_app) }
 {
@@ -154,6 +166,7 @@ fn run_command<'a>(alloc: Global) -> Result<Command<'a>, AllocError>
         .about("Runs an image and prints what it prints")
         .after_help(RUN_HELP)
         .arg(image_argument(alloc))?
+        .arg(lines_argument(alloc))?
         .arg(answers_argument(alloc))?
         .arg(board_argument(alloc))?
         .arg(limit_argument(alloc))?
@@ -169,7 +182,7 @@ fn run_command<'a>(alloc: Global) -> Result<Command<'a>, AllocError>
         ))
 }
 
-/// `ofw client IMAGE --calls FILE [--answers FILE | --board FILE] [--limit N] [--explain]`
+/// `ofw client IMAGE --calls FILE [--lines FILE] [--answers FILE | --board FILE] [--limit N] [--explain]`
 fn client_command<'a>(alloc: Global) -> Result<Command<'a>, AllocError>
     ensures { IfOk result (IsBuilt client_app) }
 {
@@ -178,6 +191,7 @@ fn client_command<'a>(alloc: Global) -> Result<Command<'a>, AllocError>
         .after_help(CLIENT_HELP)
         .arg(image_argument(alloc))?
         .arg(calls_argument(alloc))?
+        .arg(lines_argument(alloc))?
         .arg(answers_argument(alloc))?
         .arg(board_argument(alloc))?
         .arg(limit_argument(alloc))?
@@ -297,6 +311,7 @@ fn run_request<'a>(image: &'a str, matches: &ArgMatches<'a>) -> Option<Request<'
 {
     Some(Request::Run {
         image,
+        lines: value(matches, "lines"),
         outside: outside(matches)?,
         limit: step_limit(matches),
         tree: has_flag(matches, "tree"),
@@ -311,6 +326,7 @@ fn client_request<'a>(image: &'a str, matches: &ArgMatches<'a>) -> Option<Reques
     Some(Request::Client {
         image,
         calls: value(matches, "calls")?,
+        lines: value(matches, "lines"),
         outside: outside(matches)?,
         limit: step_limit(matches),
         explain: has_flag(matches, "explain"),

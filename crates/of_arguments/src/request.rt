@@ -18,6 +18,8 @@ pub enum Request<'a> {
     Run {
         /// The path of the image.
         image: &'a str,
+        /// The path of the file of console lines that are read behind it, if there are some.
+        lines: Option<&'a str>,
         /// What answers its questions.
         outside: Outside<'a>,
         /// How many steps the run makes at most.
@@ -33,6 +35,8 @@ pub enum Request<'a> {
         image: &'a str,
         /// The path of the file of calls.
         calls: &'a str,
+        /// The path of the file of console lines that are read behind the image, if there are some.
+        lines: Option<&'a str>,
         /// What answers its questions.
         outside: Outside<'a>,
         /// How many steps the run makes at most.

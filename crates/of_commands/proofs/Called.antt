@@ -76,13 +76,13 @@ calls_refused (Some bytes) text read c same all (inr wrong) =
 
 -- ---- the run and its replies
 
-fault_of_run : (file : List ℕ) (f : Fault) → IsUnwritten f ⊎ (f ≡ fault.NoMemory) → FaultsRun file f
-fault_of_run file f (inl unwritten) = inl unwritten
-fault_of_run file f (inr none) = inr (inl (inr (inr (inl none))))
+fault_of_run : (file : List ℕ) (o : Outside) (f : Fault) → IsUnwritten f ⊎ (f ≡ fault.NoMemory) → FaultsRun file o f
+fault_of_run file o f (inl unwritten) = inl unwritten
+fault_of_run file o f (inr none) = inr (inl (inr (inr (inl none))))
 
 -- there was no run
 pub called_unrun : (known : Option (List ℕ)) (services : List Service) (o : Outside) (limit : ℕ)
-    (old new : Option (List ℕ)) (f : Fault) → Keeps old new → IfSome known (λ file. FaultsRun file f)
+    (old new : Option (List ℕ)) (f : Fault) → Keeps old new → IfSome known (λ file. FaultsRun file o f)
     → IfSome known (λ file. PrintsCalls services file o limit old new (Err f))
 called_unrun None services o limit old new f kept why = tt
 called_unrun (Some file) services o limit old new f kept why = (inl kept, why)
@@ -95,7 +95,7 @@ pub called_part : (known : Option (List ℕ)) (services : List Service) (o : Out
     → IfSome known (λ file. PrintsCalls services file o limit old new (Err f))
 called_part None services o limit m e old new f runs part why = tt
 called_part (Some file) services o limit m e old new f runs part why =
-    (inr (m, (e, runs), part), fault_of_run file f why)
+    (inr (m, (e, runs), part), fault_of_run file o f why)
 
 -- all was printed
 pub called_all : (known : Option (List ℕ)) (services : List Service) (o : Outside) (limit : ℕ)
@@ -106,7 +106,7 @@ pub called_all : (known : Option (List ℕ)) (services : List Service) (o : Outs
 called_all None services o limit m e old new r runs all status why = tt
 called_all (Some file) services o limit m e old new (Ok s) runs all status why = (m, (e, runs, sym status), all)
 called_all (Some file) services o limit m e old new (Err f) runs all status why =
-    (inr (m, (e, runs), all_are_part old new _ all), fault_of_run file f (inr why))
+    (inr (m, (e, runs), all_are_part old new _ all), fault_of_run file o f (inr why))
 
 -- ---- answers
 

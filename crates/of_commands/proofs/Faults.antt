@@ -21,21 +21,21 @@ use Rattle.of_commands.specs.Messages.{AppendsPart, bad_start_of}
 use Rattle.of_commands.specs.Runs.{IsUnwritten, Lists, ListsFile, ListsPart, Prints, RunsFile, end_status}
 use Rattle.of_commands.specs.Trees.{run_text}
 use Rattle.of_commands.specs.Runs.{FaultsSource, FaultsSourceFile, FaultsRun, IsRefusedFor, Tokenizes}
-use Rattle.of_commands.specs.Runs.{is_done, status_of}
+use Rattle.of_commands.specs.Runs.{is_done, lines_of, status_of}
 
 -- a file that has no image has a fault of a run
-pub run_unread : (known : Option (List ℕ)) (f : Fault) → IfSome known (λ file. FaultsReading file f)
-    → IfSome known (λ file. FaultsRun file f)
-run_unread (Some file) f fault = inr (inl fault)
-run_unread None f fault = fault
+pub run_unread : (known : Option (List ℕ)) (o : Outside) (f : Fault) → IfSome known (λ file. FaultsReading file f)
+    → IfSome known (λ file. FaultsRun file o f)
+run_unread (Some file) o f fault = inr (inl fault)
+run_unread None o f fault = fault
 
--- and so has one whose image the monitor refuses, or for which no memory is found
-pub run_refused : (known : Option (List ℕ)) (image : List ℕ) (f : Fault)
-    → IfSome known (λ file. image_in file ≡ Ok image) → IsRefusedFor image f ⊎ (f ≡ fault.NoMemory)
-    → IfSome known (λ file. FaultsRun file f)
-run_refused (Some file) image f has (inl refused) = inr (inr (image, has, refused))
-run_refused (Some file) image f has (inr none) = inr (inl (inr (inr (inl none))))
-run_refused None image f has why = tt
+-- and so has one whose image or lines the monitor refuses, or for which no memory is found
+pub run_refused : (known : Option (List ℕ)) (o : Outside) (image : List ℕ) (f : Fault)
+    → IfSome known (λ file. image_in file ≡ Ok image) → IsRefusedFor image (lines_of o) f ⊎ (f ≡ fault.NoMemory)
+    → IfSome known (λ file. FaultsRun file o f)
+run_refused (Some file) o image f has (inl refused) = inr (inr (image, has, refused))
+run_refused (Some file) o image f has (inr none) = inr (inl (inr (inr (inl none))))
+run_refused None o image f has why = tt
 
 -- no memory is a fault of reading
 pub no_memory_reading : (known : Option (List ℕ)) → IfSome known (λ file. FaultsReading file fault.NoMemory)
@@ -72,9 +72,9 @@ pub all_are_part : (old new : Option (List ℕ)) (bs : List ℕ) → Appends old
 all_are_part old new bs all = (length bs, subst (Appends old new) (sym (take-length bs)) all)
 
 -- a write that failed, or memory, is a fault of a run
-fault_of_run : (file : List ℕ) (f : Fault) → IsUnwritten f ⊎ (f ≡ fault.NoMemory) → FaultsRun file f
-fault_of_run file f (inl unwritten) = inl unwritten
-fault_of_run file f (inr none) = inr (inl (inr (inr (inl none))))
+fault_of_run : (file : List ℕ) (o : Outside) (f : Fault) → IsUnwritten f ⊎ (f ≡ fault.NoMemory) → FaultsRun file o f
+fault_of_run file o f (inl unwritten) = inl unwritten
+fault_of_run file o f (inr none) = inr (inl (inr (inr (inl none))))
 
 -- what a run prints was printed, or a part of it
 pub run_printed : (listed : Bool) (known : Option (List ℕ)) (o : Outside) (limit : ℕ) (m : MachineState Coding)
@@ -85,7 +85,14 @@ pub run_printed : (listed : Bool) (known : Option (List ℕ)) (o : Outside) (lim
 run_printed listed None o limit m e old new r runs all part why = tt
 run_printed listed (Some file) o limit m e old new (Ok s) runs all part why = (m, (e, runs, sym all.0), all.1)
 run_printed listed (Some file) o limit m e old new (Err f) runs all part why =
-    (inr (m, (e, runs), part), fault_of_run file f why)
+    (inr (m, (e, runs), part), fault_of_run file o f why)
+
+-- there was no run
+pub run_unrun : (tree : Bool) (known : Option (List ℕ)) (o : Outside) (limit : ℕ) (old new : Option (List ℕ))
+    (f : Fault) → Keeps old new → IfSome known (λ file. FaultsRun file o f)
+    → IfSome known (λ file. Prints tree file o limit old new (Err f))
+run_unrun listed None o limit old new f kept why = tt
+run_unrun listed (Some file) o limit old new f kept why = (inl kept, why)
 
 -- a write that failed is no bad start byte
 unwritten_begins : (f : Fault) → IsUnwritten f → bad_start_of f ≡ None
@@ -104,6 +111,7 @@ unwritten_begins (fault.NoImage g) unwritten = refl
 unwritten_begins (fault.NoCalls g) unwritten = refl
 unwritten_begins (fault.NoAnswers g) unwritten = refl
 unwritten_begins (fault.NoBoard g) unwritten = refl
+unwritten_begins (fault.NoLines g) unwritten = refl
 unwritten_begins fault.TwoOutsides unwritten = refl
 unwritten_begins (fault.Unwritten code) unwritten = refl
 unwritten_begins fault.NoMemory unwritten = refl
@@ -135,6 +143,7 @@ fault_not_done (fault.Refused refusal.Busy) = refl
 fault_not_done (fault.Refused refusal.NotAsked) = refl
 fault_not_done (fault.Refused refusal.WrongAnswer) = refl
 fault_not_done (fault.Refused refusal.ImageTooLong) = refl
+fault_not_done (fault.Refused refusal.LineTooLong) = refl
 fault_not_done (fault.Refused (refusal.BadStart f)) = refl
 fault_not_done (fault.Refused refusal.NoNode) = refl
 fault_not_done (fault.Unlisted f) = refl
@@ -146,6 +155,7 @@ fault_not_done (fault.NoImage tok.ImageTooLong) = refl
 fault_not_done (fault.NoCalls f) = refl
 fault_not_done (fault.NoAnswers f) = refl
 fault_not_done (fault.NoBoard f) = refl
+fault_not_done (fault.NoLines f) = refl
 fault_not_done fault.TwoOutsides = refl
 fault_not_done (fault.Unwritten code) = refl
 

@@ -1,4 +1,4 @@
--- A file of answers or of devices that was read.
+-- A file of answers, of devices or of console lines that was read.
 use Rattle.std.proofs.Common.{◌≡◌, ◌⊎◌, ◌∙◌, ℕ, List, Option, Some, None, IfSome, Ok, Err, inl, inr, refl, sym, ap}
 use Rattle.of_asking.specs.declared.query.Answer.{Answer}
 use Rattle.of_calls.specs.Answers.{parsed_answers}
@@ -6,7 +6,8 @@ use Rattle.of_calls.specs.declared.fault.TextFault.{TextFault}
 use Rattle.of_calls.specs.declared.fault.TextFault.TheVariants as word
 use Rattle.of_calls.specs.Boards.{parsed_board}
 use Rattle.of_devices.specs.declared.part.Part.{Part}
-use Rattle.of_commands.specs.Runs.{FaultsAnswers, FaultsBoard, no_answers, no_board}
+use Rattle.of_calls.specs.ConsoleLines.{parsed_lines}
+use Rattle.of_commands.specs.Runs.{FaultsAnswers, FaultsBoard, FaultsLines, no_answers, no_board, no_lines}
 
 pub answers_read : (known : Option (List ℕ)) (text read : List ℕ) (answers : List Answer) → read ≡ text
     → IfSome known (λ bytes. text ≡ bytes) → parsed_answers read ≡ Ok answers
@@ -35,3 +36,17 @@ board_refused None text read f same all why = tt
 board_refused (Some bytes) text read f same all (inl none) = inr (inr (inl (ap no_board none)))
 board_refused (Some bytes) text read f same all (inr wrong) =
     inr (inr (inr (f, ap parsed_board (sym all ∙ sym same) ∙ wrong, refl)))
+
+pub lines_read : (known : Option (List ℕ)) (text read : List ℕ) (lines : List (List ℕ)) → read ≡ text
+    → IfSome known (λ bytes. text ≡ bytes) → parsed_lines read ≡ Ok lines
+    → IfSome known (λ bytes. parsed_lines bytes ≡ Ok lines)
+lines_read None text read lines same all said = tt
+lines_read (Some bytes) text read lines same all said = ap parsed_lines (sym all ∙ sym same) ∙ said
+
+pub lines_refused : (known : Option (List ℕ)) (text read : List ℕ) (f : TextFault) → read ≡ text
+    → IfSome known (λ bytes. text ≡ bytes) → (f ≡ word.NoMemory) ⊎ (parsed_lines read ≡ Err f)
+    → IfSome known (λ bytes. FaultsLines bytes (no_lines f))
+lines_refused None text read f same all why = tt
+lines_refused (Some bytes) text read f same all (inl none) = inr (inr (inl (ap no_lines none)))
+lines_refused (Some bytes) text read f same all (inr wrong) =
+    inr (inr (inr (f, ap parsed_lines (sym all ∙ sym same) ∙ wrong, refl)))

@@ -53,7 +53,7 @@ PrintsCalls services file o limit old new (Err f) =
     (Keeps old new
     ⊎ ((m : MachineState Coding) × ((e : End) × RunsFile file o limit m e)
     × AppendsPart old new (client_text services m)))
-    × FaultsRun file f
+    × FaultsRun file o f
 
 -- ---- how it ends
 
@@ -63,6 +63,7 @@ no_calls (word.Unknown place) = fault.NoCalls (word.Unknown place)
 no_calls (word.BadName place) = fault.NoCalls (word.BadName place)
 no_calls (word.BadNumber place) = fault.NoCalls (word.BadNumber place)
 no_calls (word.TooMany place) = fault.NoCalls (word.TooMany place)
+no_calls (word.TooLong place) = fault.NoCalls (word.TooLong place)
 no_calls word.NoMemory = fault.NoMemory
 
 -- the faults of a file of calls: of a read, of its end, for memory, or the first of its text

@@ -1,6 +1,6 @@
 -- What the program prints of a file's run or listing, and how it ends.
 use Rattle.std.specs.Prelude.{◌≡◌, ◌≤◌, ◌⊎◌, ℕ, List, [], ◌∷◌, ◌++◌, length, Option, Result, Ok, Err}
-use Rattle.std.specs.Prelude.{Some, None, IfErr, ⊤, Bool, true, false, if◌then◌else◌}
+use Rattle.std.specs.Prelude.{Some, None, IfErr, map, ⊤, Bool, true, false, if◌then◌else◌}
 use Rattle.std.specs.Option.{option_map}
 use Rattle.std.specs.Io.KnownBytes.{Keeps, Appends}
 use Rattle.hex.specs.Hex.{encode_lower}
@@ -11,12 +11,13 @@ use Rattle.of_machine.specs.declared.answers.End.TheVariants as end
 use Rattle.of_machine.specs.declared.answers.Refusal.{Refusal}
 use Rattle.of_machine.specs.declared.answers.Refusal.TheVariants as refusal
 use Rattle.of_compile.specs.Coding.{Coding}
-use Rattle.of_machine.specs.States.{MachineState, image_refusal, Refuses}
-use Rattle.of_machine.specs.Runs.{RunsTo}
+use Rattle.of_machine.specs.States.{MachineState, Refuses}
+use Rattle.of_machine.specs.Runs.{RunsTo, script_refusal}
 use Rattle.of_machine.specs.Racks.{answers_of}
 use Rattle.of_devices.specs.Parts.{board_meant}
 use Rattle.of_calls.specs.Answers.{parsed_answers}
 use Rattle.of_calls.specs.Boards.{parsed_board}
+use Rattle.of_calls.specs.ConsoleLines.{parsed_lines}
 use Rattle.of_calls.specs.declared.fault.TextFault.{TextFault}
 use Rattle.of_calls.specs.declared.fault.TextFault.TheVariants as word
 use Rattle.of_source.specs.declared.fault.SourceFault.{SourceFault}
@@ -35,7 +36,8 @@ use Rattle.of_commands.specs.Files.{image_in, FaultsReading, IsUnread}
 use Rattle.of_commands.specs.Messages.{AppendsPart}
 use Rattle.of_commands.specs.Trees.{run_text}
 use Rattle.of_commands.specs.declared.outside.Outside.{Outside}
-use Rattle.of_commands.specs.declared.outside.Outside.TheVariants as outside
+use Rattle.of_commands.specs.declared.outside.Answerer.{Answerer}
+use Rattle.of_commands.specs.declared.outside.Answerer.TheVariants as answering
 use Rattle.of_commands.specs.declared.fault.Fault.{Fault}
 use Rattle.of_commands.specs.declared.fault.Fault.TheVariants as fault
 use Rattle.of_arguments.specs.declared.status.Status.{Status}
@@ -57,6 +59,7 @@ status_of (fault.Refused refusal.Busy) = status.Fault
 status_of (fault.Refused refusal.NotAsked) = status.Fault
 status_of (fault.Refused refusal.WrongAnswer) = status.Fault
 status_of (fault.Refused refusal.ImageTooLong) = status.Fault
+status_of (fault.Refused refusal.LineTooLong) = status.Fault
 status_of (fault.Refused (refusal.BadStart f)) = status.Fault
 status_of (fault.Refused refusal.NoNode) = status.Fault
 status_of (fault.Unlisted f) = status.Fault
@@ -68,15 +71,17 @@ status_of (fault.NoImage tok.ImageTooLong) = status.Fault
 status_of (fault.NoCalls f) = status.Fault
 status_of (fault.NoAnswers f) = status.Fault
 status_of (fault.NoBoard f) = status.Fault
+status_of (fault.NoLines f) = status.Fault
 status_of fault.TwoOutsides = status.Usage
 status_of (fault.Unwritten code) = status.Fault
 
--- the place in a text of calls, of answers or of devices that has a fault
+-- the place in a text of calls, of answers, of devices or of lines that has a fault
 abbrev pub text_place_of : TextFault → Option Place
 text_place_of (word.Unknown place) = Some place
 text_place_of (word.BadName place) = Some place
 text_place_of (word.BadNumber place) = Some place
 text_place_of (word.TooMany place) = Some place
+text_place_of (word.TooLong place) = Some place
 text_place_of word.NoMemory = None
 
 -- the place in a text that has a fault
@@ -86,6 +91,7 @@ source_place_of (fault.OffsetTooLong place) = Some place
 source_place_of (fault.NoCalls f) = text_place_of f
 source_place_of (fault.NoAnswers f) = text_place_of f
 source_place_of (fault.NoBoard f) = text_place_of f
+source_place_of (fault.NoLines f) = text_place_of f
 source_place_of _ = None
 
 -- the place of a position in a text
@@ -112,11 +118,20 @@ abbrev pub ended_with : Result Status Fault → Status
 ended_with (Ok s) = s
 ended_with (Err f) = status_of f
 
--- The run of an image, for at most so many steps, whose questions are answered in order, or by the devices of a board.
+-- the console lines that are handed in to a run
+abbrev pub lines_of : Outside → List (List ℕ)
+lines_of o = map (λ l. l.items) o.lines.now
+
+-- The run of an image and of lines, for at most so many steps, whose questions are answered in order, or by the devices
+-- of a board.
+abbrev pub RunsBy : List ℕ → List (List ℕ) → Answerer → ℕ → MachineState Coding → End → Type 0
+RunsBy image lines (answering.Answers answers) limit m e = RunsTo image lines answers.now [] limit m e
+RunsBy image lines (answering.Board board) limit m e =
+    RunsTo image lines (answers_of (board_meant board.now ∷ []) m.asked) [] limit m e
+
+-- the same with what is handed in
 abbrev pub RunsOn : List ℕ → Outside → ℕ → MachineState Coding → End → Type 0
-RunsOn image (outside.Answers answers) limit m e = RunsTo image [] answers.now [] limit m e
-RunsOn image (outside.Board board) limit m e =
-    RunsTo image [] (answers_of (board_meant board.now ∷ []) m.asked) [] limit m e
+RunsOn image o limit m e = RunsBy image (lines_of o) o.answerer limit m e
 
 -- the run of the image that a file has
 abbrev pub RunsFile : List ℕ → Outside → ℕ → MachineState Coding → End → Type 0
@@ -149,22 +164,23 @@ abbrev pub refused_as : ℕ → Refusal → Fault
 refused_as length refusal.ImageTooLong = fault.TooLong length
 refused_as length r = fault.Refused r
 
--- what the monitor refuses an image for
-abbrev pub IsRefusedFor : List ℕ → Fault → Type 0
-IsRefusedFor image f = (r : Refusal) × (f ≡ refused_as (length image) r) × Refuses (image_refusal image) r
+-- what the monitor refuses the image or the lines for
+abbrev pub IsRefusedFor : List ℕ → List (List ℕ) → Fault → Type 0
+IsRefusedFor image lines f =
+    (r : Refusal) × (f ≡ refused_as (length image) r) × Refuses (script_refusal image lines) r
 
--- the faults of a run: of reading, of a write, or what the monitor refuses the image for
-abbrev pub FaultsRun : List ℕ → Fault → Type 0
-FaultsRun file f =
+-- the faults of a run: of reading, of a write, or what the monitor refuses the image or the lines for
+abbrev pub FaultsRun : List ℕ → Outside → Fault → Type 0
+FaultsRun file o f =
     IsUnwritten f
     ⊎ FaultsReading file f
-    ⊎ ((image : List ℕ) × (image_in file ≡ Ok image) × IsRefusedFor image f)
+    ⊎ ((image : List ℕ) × (image_in file ≡ Ok image) × IsRefusedFor image (lines_of o) f)
 
 -- what was printed of the run, whose end has the status, or of a part of it beside a fault
 abbrev pub Prints :
     Bool → List ℕ → Outside → ℕ → Option (List ℕ) → Option (List ℕ) → Result Status Fault → Type 0
 Prints tree file o limit old new (Ok s) = PrintsRun tree file o limit old new s
-Prints tree file o limit old new (Err f) = PrintsPart tree file o limit old new × FaultsRun file f
+Prints tree file o limit old new (Err f) = PrintsPart tree file o limit old new × FaultsRun file o f
 
 -- ---- answers of devices
 
@@ -174,6 +190,7 @@ no_answers (word.Unknown place) = fault.NoAnswers (word.Unknown place)
 no_answers (word.BadName place) = fault.NoAnswers (word.BadName place)
 no_answers (word.BadNumber place) = fault.NoAnswers (word.BadNumber place)
 no_answers (word.TooMany place) = fault.NoAnswers (word.TooMany place)
+no_answers (word.TooLong place) = fault.NoAnswers (word.TooLong place)
 no_answers word.NoMemory = fault.NoMemory
 
 -- the faults of a file of answers: of a read, of its end, for memory, or the first of its text
@@ -196,6 +213,7 @@ no_board (word.Unknown place) = fault.NoBoard (word.Unknown place)
 no_board (word.BadName place) = fault.NoBoard (word.BadName place)
 no_board (word.BadNumber place) = fault.NoBoard (word.BadNumber place)
 no_board (word.TooMany place) = fault.NoBoard (word.TooMany place)
+no_board (word.TooLong place) = fault.NoBoard (word.TooLong place)
 no_board word.NoMemory = fault.NoMemory
 
 -- the faults of a file of devices: of a read, of its end, for memory, or the first of its text
@@ -209,6 +227,29 @@ FaultsBoard file f =
 -- the status of a fault of a file of devices
 abbrev pub FaultsBoardWith : List ℕ → Status → Type 0
 FaultsBoardWith file s = (f : Fault) × (status_of f ≡ s) × FaultsBoard file f
+
+-- ---- console lines
+
+-- the fault of a text that has no console lines
+abbrev pub no_lines : TextFault → Fault
+no_lines (word.Unknown place) = fault.NoLines (word.Unknown place)
+no_lines (word.BadName place) = fault.NoLines (word.BadName place)
+no_lines (word.BadNumber place) = fault.NoLines (word.BadNumber place)
+no_lines (word.TooMany place) = fault.NoLines (word.TooMany place)
+no_lines (word.TooLong place) = fault.NoLines (word.TooLong place)
+no_lines word.NoMemory = fault.NoMemory
+
+-- the faults of a file of lines: of a read, of its end, for memory, or the first of its text
+abbrev pub FaultsLines : List ℕ → Fault → Type 0
+FaultsLines file f =
+    IsUnread f
+    ⊎ ((f ≡ fault.Endless) × (16777216 ≤ length file))
+    ⊎ (f ≡ fault.NoMemory)
+    ⊎ ((t : TextFault) × (parsed_lines file ≡ Err t) × (f ≡ no_lines t))
+
+-- the status of a fault of a file of lines
+abbrev pub FaultsLinesWith : List ℕ → Status → Type 0
+FaultsLinesWith file s = (f : Fault) × (status_of f ≡ s) × FaultsLines file f
 
 -- ---- listings
 
@@ -290,8 +331,8 @@ Writes bytes old new _ = ⊥
 -- what was printed of the file, where this was asked for, or why it wasn't: of `client` the run alone
 abbrev pub Does :
     Asked → Outside → List ℕ → Option (List ℕ) → Option (List ℕ) → Result Status Fault → Type 0
-Does (a_run image path limit tree explain) o file old new r = Prints tree file o limit old new r
-Does (client_calls image calls path limit explain) o file old new r = Prints false file o limit old new r
+Does (a_run image lines path limit tree explain) o file old new r = Prints tree file o limit old new r
+Does (client_calls image calls lines path limit explain) o file old new r = Prints false file o limit old new r
 Does (an_image source output) o file old new r = Tokenizes file old new r
 Does (a_listing image extras partial) o file old new r = Lists extras partial file old new r
 
@@ -306,8 +347,8 @@ is_done status.NoMemory = false
 
 -- whether it is asked how a run ended
 abbrev pub is_explained : Asked → Bool
-is_explained (a_run image o limit _ explain) = explain
-is_explained (client_calls image calls o limit explain) = explain
+is_explained (a_run image lines o limit _ explain) = explain
+is_explained (client_calls image calls lines o limit explain) = explain
 is_explained (an_image source output) = false
 is_explained (a_listing image extras partial) = false
 

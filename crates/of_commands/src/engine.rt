@@ -1,5 +1,5 @@
 ghost use Rattle.std.specs.Prelude.{◌≡◌, ◌⊎◌, [], ◌∷◌, Ok, None, IfOk, IfErr, IfSome, OnOk, OnErr};
-ghost use Rattle.std.specs.Prelude.{is_some, true, false};
+ghost use Rattle.std.specs.Prelude.{is_some, map, true, false};
 ghost use Rattle.std.specs.Io.KnownBytes.{Appends};
 ghost use Rattle.std.specs.String.{string_bytes};
 ghost use Rattle.of_arguments.specs.Asked.{asked};
@@ -11,7 +11,7 @@ ghost use Rattle.of_commands.specs.Files.{FaultsReading};
 ghost use Rattle.of_commands.specs.Messages.{AppendsPart, SaysFault, bad_start_of};
 ghost use Rattle.of_commands.specs.Trees.{run_text};
 ghost use Rattle.of_commands.specs.Runs.{RunsFile, FaultsRun, Prints, IsRefusedFor, IsUnwritten, end_status};
-ghost use Rattle.of_commands.specs.Runs.{refused_as, ListsFile, ListsPart, Lists, RunsOn, shown_lines};
+ghost use Rattle.of_commands.specs.Runs.{lines_of, refused_as, ListsFile, ListsPart, Lists, RunsOn, shown_lines};
 ghost use Rattle.of_commands.specs.Runs.{FaultsSource, FaultsSourceFile, FaultsWith, HasImage, Tokenizes};
 ghost use Rattle.of_commands.specs.Runs.{TokenizesFile, Writes, Does, Answers, is_done, is_explained};
 
@@ -20,7 +20,7 @@ use crate::fault::{Fault, no_image, no_source};
 use crate::input::{read_image, read_whole};
 use crate::messages::Messages;
 use crate::output::{report, write_whole};
-use crate::outside::Outside;
+use crate::outside::{Answerer, Outside};
 use crate::trees::print_text;
 use hex::encode;
 use of_arguments::{Request, Status};
@@ -39,7 +39,7 @@ use std::io::{Read, Write};
 pub struct Run<'a> {
     /// The path of the image.
     pub image: &'a str,
-    /// What answers its questions.
+    /// The console lines that are read behind it, and what answers its questions.
     pub outside: Outside<'a>,
     /// How many steps the run makes at most.
     pub limit: u64,
@@ -59,32 +59,35 @@ fn refused(length: usize, refusal: Refusal) -> Fault
     }
 }
 
-/// Runs an image with answers in order.
+/// Runs an image and console lines with answers in order.
 fn run_answers(
     alloc: Global,
     image: &[u8],
+    lines: &[Vec<u8>],
     answers: &[Answer],
     limit: u64,
 ) -> Result<(ScriptMachine, End), Fault>
-    ensures ok { IfOk result (λ r. RunsTo image.now [] answers.now [] limit r.0 r.1) }
-    ensures err { IfErr result (IsRefusedFor image.now) }
+    ensures ok { IfOk result (λ r. RunsTo image.now (map (λ l. l.items) lines.now) answers.now [] limit r.0 r.1) }
+    ensures err { IfErr result (IsRefusedFor image.now (map (λ l. l.items) lines.now)) }
 {
-    match run_script(alloc, image, &[], answers, &[], limit) {
+    match run_script(alloc, image, lines, answers, &[], limit) {
         Ok(run) => Ok(run),
         Err(refusal) => Err(refused(image.len(), refusal)),
     }
 }
 
-/// Runs an image on a board that no run was made on.
+/// Runs an image and console lines on a board that no run was made on.
 fn run_board(
     alloc: Global,
     image: &[u8],
+    lines: &[Vec<u8>],
     board: Board,
     limit: u64,
 ) -> Result<(ScriptMachine, End), Fault>
-    ensures ok { IfOk result (λ r. RunsTo image.now [] (answers_of (board_meant board ∷ []) r.0.asked) []
-        limit r.0 r.1) }
-    ensures err { IfErr result (λ f. IsRefusedFor image.now f ⊎ (f ≡ Fault.NoMemory)) }
+    ensures ok { IfOk result (λ r. RunsTo image.now (map (λ l. l.items) lines.now)
+        (answers_of (board_meant board ∷ []) r.0.asked) [] limit r.0 r.1) }
+    ensures err { IfErr result (λ f. IsRefusedFor image.now (map (λ l. l.items) lines.now) f
+        ⊎ (f ≡ Fault.NoMemory)) }
 {
     let Ok(device) = Box::new(alloc, board) else {
         return Err(Fault::NoMemory);
@@ -93,13 +96,13 @@ fn run_board(
     let Ok(()) = rack.push(device) else {
         return Err(Fault::NoMemory);
     };
-    match run_rack(alloc, image, &[], &mut rack, &[], limit) {
+    match run_rack(alloc, image, lines, &mut rack, &[], limit) {
         Ok(run) => Ok(run),
         Err(reason) => Err(refused(image.len(), reason)),
     }
 }
 
-/// Runs an image; a board stays as it was.
+/// Runs an image and console lines; a board stays as it was.
 fn run_image(
     alloc: Global,
     image: &[u8],
@@ -107,12 +110,12 @@ fn run_image(
     limit: u64,
 ) -> Result<(ScriptMachine, End), Fault>
     ensures ok { IfOk result (λ r. RunsOn image.now outside.entry limit r.0 r.1) }
-    ensures err { IfErr result (λ f. IsRefusedFor image.now f ⊎ (f ≡ Fault.NoMemory)) }
+    ensures err { IfErr result (λ f. IsRefusedFor image.now (lines_of outside.entry) f ⊎ (f ≡ Fault.NoMemory)) }
 {
-    match outside {
-        Outside::Answers(answers) => run_answers(alloc, image, answers, limit),
-        Outside::Board(board) => match board.copy(alloc) {
-            Ok(board) => run_board(alloc, image, board, limit),
+    match outside.answerer {
+        Answerer::Answers(answers) => run_answers(alloc, image, outside.lines, answers, limit),
+        Answerer::Board(board) => match board.copy(alloc) {
+            Ok(board) => run_board(alloc, image, outside.lines, board, limit),
             Err(_) => Err(Fault::NoMemory),
         },
     }
@@ -127,7 +130,8 @@ pub(crate) fn run_file<R: Read>(
 ) -> Result<(Vec<u8>, ScriptMachine, End), Fault>
     ensures ok { IfOk result (λ r. IfSome (R.remaining file.old) (λ bytes.
         RunsFile bytes run.entry.outside run.entry.limit r.1 r.2)) }
-    ensures err { IfErr result (λ f. IfSome (R.remaining file.old) (λ bytes. FaultsRun bytes f)) }
+    ensures err { IfErr result (λ f. IfSome (R.remaining file.old) (λ bytes.
+        FaultsRun bytes run.entry.outside f)) }
 {
     let image = read_image(alloc, file)?;
     match run_image(alloc, &image, run.outside, run.limit) {

@@ -3,7 +3,7 @@ ghost use Rattle.std.specs.Prelude.{◌≡◌, IfErr};
 
 use crate::engine::Run;
 use crate::fault::Fault;
-use crate::outside::Outside;
+use crate::outside::{Answerer, Outside};
 use of_asking::{Answer, Query};
 use of_code::ListCode;
 use of_devices::{Board, Device};
@@ -19,6 +19,8 @@ enum Next {
     Token,
     /// An item of a definition that the token runs.
     Item,
+    /// A word of a text that the token evaluates, or of a console line.
+    Word,
     /// Nothing: behind the token the image ends before its next token does.
     Cut,
 }
@@ -40,6 +42,8 @@ fn next_in(machine: &ScriptMachine) -> Next {
         Next::Token
     } else if machine.place().is_some() {
         Next::Item
+    } else if machine.next_word().is_some() {
+        Next::Word
     } else {
         Next::Cut
     }
@@ -87,10 +91,27 @@ fn step(machine: &mut ScriptMachine, again: &mut Again<'_>) -> Result<(), Fault>
     }
 }
 
-/// Where a run is behind so many steps of an image, for which the machine is new.
+/// Hands in the next console line, where nothing runs; answers which are left.
+fn feed<'a>(machine: &mut ScriptMachine, lines: &'a [Vec<u8>]) -> Result<&'a [Vec<u8>], Fault>
+    ensures { IfErr result (λ f. f ≡ Fault.NoMemory) }
+{
+    if machine.is_running() {
+        return Ok(lines);
+    }
+    let Some((line, rest)) = lines.split_first() else {
+        return Ok(lines);
+    };
+    match machine.line(line) {
+        Ok(()) => Ok(rest),
+        Err(_) => Err(Fault::NoMemory),
+    }
+}
+
+/// Where a run is behind so many steps of an image and lines, for which the machine is new.
 fn walk(
     machine: &mut ScriptMachine,
     image: &[u8],
+    lines: &[Vec<u8>],
     mut again: Again<'_>,
     steps: u64,
 ) -> Result<Spot, Fault>
@@ -100,9 +121,11 @@ fn walk(
         return Err(Fault::NoMemory);
     }
     let mut last = None;
+    let mut left = lines;
     for _ in 0..steps {
         last = machine.next_token().or(last);
         step(machine, &mut again)?;
+        left = feed(machine, left)?;
     }
     Ok(Spot {
         token: machine.next_token().or(last),
@@ -115,9 +138,9 @@ fn walk(
 fn made_again<'a>(alloc: Global, outside: Outside<'a>) -> Result<Again<'a>, Fault>
     ensures { IfErr result (λ f. f ≡ Fault.NoMemory) }
 {
-    match outside {
-        Outside::Answers(answers) => Ok(Again::Answers(answers)),
-        Outside::Board(board) => match board.copy(alloc) {
+    match outside.answerer {
+        Answerer::Answers(answers) => Ok(Again::Answers(answers)),
+        Answerer::Board(board) => match board.copy(alloc) {
             Ok(board) => Ok(Again::Board(board)),
             Err(_) => Err(Fault::NoMemory),
         },
@@ -130,19 +153,24 @@ fn follow(alloc: Global, image: &[u8], outside: Outside<'_>, steps: u64) -> Resu
 {
     let again = made_again(alloc, outside)?;
     match Machine::new(alloc, ListCode::new(alloc)) {
-        Ok(mut machine) => walk(&mut machine, image, again, steps),
+        Ok(mut machine) => walk(&mut machine, image, outside.lines, again, steps),
         Err(_) => Err(Fault::NoMemory),
     }
 }
 
 impl Spot {
-    /// Whether the end token comes next.
+    /// Whether the last step of a run that throws nothing is made here: the end token, or the end of a line.
     fn is_end(&self) -> bool {
-        matches!(self.next, Next::Token) && matches!(self.token, Some((_, FCode(0x000 | 0x0ff))))
+        match self.next {
+            Next::Token => matches!(self.token, Some((_, FCode(0x000 | 0x0ff)))),
+            Next::Word => true,
+            Next::Item | Next::Cut => false,
+        }
     }
 }
 
-/// Says where a run is: at a token of the image, in a definition behind it, or where the image was cut behind it.
+/// Says where a run is: at a token of the image, in a definition or a text behind it, or where the image was cut behind
+/// it.
 fn say_spot<E: Write>(spot: &Spot, errors: &mut E) -> io::Result<()> {
     let Some((position, code)) = spot.token else {
         return write!(errors, "end of the image");
@@ -150,6 +178,7 @@ fn say_spot<E: Write>(spot: &Spot, errors: &mut E) -> io::Result<()> {
     match spot.next {
         Next::Token => {}
         Next::Item => write!(errors, "in a definition, behind ")?,
+        Next::Word => write!(errors, "in a text, behind ")?,
         Next::Cut => write!(errors, "at the cut end, behind ")?,
     }
     match name_of(code) {

@@ -1,7 +1,7 @@
 ghost use Rattle.std.specs.Prelude.{◌≡◌, option_map};
 ghost use Rattle.of_commands.specs.Messages.{start_byte_of};
 ghost use Rattle.of_commands.specs.Clients.{no_calls};
-ghost use Rattle.of_commands.specs.Runs.{no_answers, no_board, no_image, no_source, place_at, text_place_of};
+ghost use Rattle.of_commands.specs.Runs.{no_answers, no_board, no_image, no_lines, no_source, place_at, text_place_of};
 
 use of_arguments::Status;
 use of_calls::TextFault;
@@ -69,6 +69,9 @@ pub enum Fault {
     /// A text has no devices.
     #[error(transparent)]
     NoBoard(TextFault),
+    /// A text has no console lines.
+    #[error(transparent)]
+    NoLines(TextFault),
     /// A file of answers and one of devices are given.
     #[error("--answers and --board exclude each other")]
     TwoOutsides,
@@ -145,6 +148,7 @@ pub(crate) fn no_calls(fault: TextFault) -> Fault
         TextFault::BadName(_) => Fault::NoCalls(fault),
         TextFault::BadNumber(_) => Fault::NoCalls(fault),
         TextFault::TooMany(_) => Fault::NoCalls(fault),
+        TextFault::TooLong(_) => Fault::NoCalls(fault),
         TextFault::NoMemory => Fault::NoMemory,
     }
 }
@@ -158,6 +162,7 @@ pub(crate) fn no_answers(fault: TextFault) -> Fault
         TextFault::BadName(_) => Fault::NoAnswers(fault),
         TextFault::BadNumber(_) => Fault::NoAnswers(fault),
         TextFault::TooMany(_) => Fault::NoAnswers(fault),
+        TextFault::TooLong(_) => Fault::NoAnswers(fault),
         TextFault::NoMemory => Fault::NoMemory,
     }
 }
@@ -171,12 +176,27 @@ pub(crate) fn no_board(fault: TextFault) -> Fault
         TextFault::BadName(_) => Fault::NoBoard(fault),
         TextFault::BadNumber(_) => Fault::NoBoard(fault),
         TextFault::TooMany(_) => Fault::NoBoard(fault),
+        TextFault::TooLong(_) => Fault::NoBoard(fault),
         TextFault::NoMemory => Fault::NoMemory,
     }
 }
 
-/// The place in a text of calls, of answers or of devices that has this fault, and what is wrong there: what is said of
-/// a first word that is unknown, and of a word too many, depends on the text.
+/// The fault of a text that has no console lines.
+pub(crate) fn no_lines(fault: TextFault) -> Fault
+    ensures { result ≡ no_lines fault }
+{
+    match fault {
+        TextFault::Unknown(_) => Fault::NoLines(fault),
+        TextFault::BadName(_) => Fault::NoLines(fault),
+        TextFault::BadNumber(_) => Fault::NoLines(fault),
+        TextFault::TooMany(_) => Fault::NoLines(fault),
+        TextFault::TooLong(_) => Fault::NoLines(fault),
+        TextFault::NoMemory => Fault::NoMemory,
+    }
+}
+
+/// The place in a text of calls, of answers, of devices or of lines that has this fault, and what is wrong there: what
+/// is said of a first word that is unknown, and of a word too many, depends on the text.
 fn text_place(
     fault: TextFault,
     unknown: &'static str,
@@ -191,6 +211,7 @@ fn text_place(
             Some((place, "bad number: hexadecimal digits up to ffffffff"))
         }
         TextFault::TooMany(place) => Some((place, too_many)),
+        TextFault::TooLong(place) => Some((place, "line too long: a line has at most 255 bytes")),
         TextFault::NoMemory => None,
     }
 }
@@ -229,6 +250,7 @@ impl Fault {
             Fault::NoBoard(fault) => {
                 text_place(fault, "unknown device", "more than the device takes")
             }
+            Fault::NoLines(fault) => text_place(fault, "unknown word", "a word too many"),
             _ => None,
         }
     }
@@ -252,6 +274,7 @@ impl Fault {
             Fault::Refused(Refusal::NotAsked) => Status::Fault,
             Fault::Refused(Refusal::WrongAnswer) => Status::Fault,
             Fault::Refused(Refusal::ImageTooLong) => Status::Fault,
+            Fault::Refused(Refusal::LineTooLong) => Status::Fault,
             Fault::Refused(Refusal::BadStart(_)) => Status::Fault,
             Fault::Refused(Refusal::NoNode) => Status::Fault,
             Fault::Unlisted(_) => Status::Fault,
@@ -261,6 +284,7 @@ impl Fault {
             Fault::NoCalls(_) => Status::Fault,
             Fault::NoAnswers(_) => Status::Fault,
             Fault::NoBoard(_) => Status::Fault,
+            Fault::NoLines(_) => Status::Fault,
             Fault::TwoOutsides => Status::Usage,
             Fault::Unwritten(_) => Status::Fault,
         }

@@ -2,6 +2,7 @@
 #![tactic(auto)]
 
 mod clients;
+mod console_lines;
 mod devices;
 mod engine;
 mod explain;
@@ -15,9 +16,10 @@ mod place;
 mod trees;
 
 pub use clients::{ClientRun, client};
+pub use console_lines::lines;
 pub use devices::{answers, board};
 pub use engine::{Run, answer, image, keep};
 pub use fault::Fault;
 pub use messages::Messages;
 pub use output::report;
-pub use outside::Outside;
+pub use outside::{Answerer, Outside};

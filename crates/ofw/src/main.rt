@@ -4,7 +4,7 @@
 use clap::Error;
 use of_arguments::{Outside as Asked, Request, Status, parse, status_of};
 use of_asking::Answer;
-use of_commands::{ClientRun, Fault, Messages, Outside, Run};
+use of_commands::{Answerer, ClientRun, Fault, Messages, Outside, Run};
 use of_devices::{Board, standard_board};
 use std::fs::File;
 use std::io::Stderr;
@@ -85,11 +85,42 @@ fn read_outside(rt: &HostRuntime, asked: Asked) -> Result<Source, Status> {
     }
 }
 
+/// The console lines of the file at a path; none where no file is given.
+fn read_lines(rt: &HostRuntime, path: Option<&str>) -> Result<Vec<Vec<u8>>, Status> {
+    let Some(path) = path else {
+        return Ok(Vec::new(rt.alloc()));
+    };
+    match File::open(rt, path) {
+        Ok(mut file) => of_commands::lines(rt.alloc(), path, &mut file, &mut messages(rt)),
+        Err(error) => Err(unopened(rt, path, &error)),
+    }
+}
+
+/// What is handed in to a run, read whole.
+#[derive(Drop)]
+struct Handed {
+    /// Its console lines.
+    lines: Vec<Vec<u8>>,
+    /// What answers its questions.
+    source: Source,
+}
+
+/// What is handed in to a run, or the status of what is wrong with a file.
+fn read_handed(rt: &HostRuntime, lines: Option<&str>, asked: Asked) -> Result<Handed, Status> {
+    let lines = read_lines(rt, lines)?;
+    let source = read_outside(rt, asked)?;
+    Ok(Handed { lines, source })
+}
+
 /// The same, for the commands.
-fn lend(source: &Source) -> Outside<'_> {
-    match source {
-        Source::Answers(answers) => Outside::Answers(answers),
-        Source::Board(board) => Outside::Board(board),
+fn lend(handed: &Handed) -> Outside<'_> {
+    let answerer = match &handed.source {
+        Source::Answers(answers) => Answerer::Answers(answers),
+        Source::Board(board) => Answerer::Board(board),
+    };
+    Outside {
+        lines: &handed.lines,
+        answerer,
     }
 }
 
@@ -119,11 +150,11 @@ fn call<'a>(
     rt: &HostRuntime,
     image: &'a str,
     calls: &'a str,
-    source: &'a Source,
+    handed: &'a Handed,
     limit: u64,
     explain: bool,
 ) -> Status {
-    let outside = lend(source);
+    let outside = lend(handed);
     let run = Run {
         image,
         outside,
@@ -158,25 +189,40 @@ fn perform(rt: &HostRuntime, path: &str, request: Request, outside: Outside) -> 
     )
 }
 
-/// Does what was asked for, where what answers the questions of a run can be had.
+/// The same, where nothing is run.
+fn translate(rt: &HostRuntime, path: &str, request: Request) -> Status {
+    let nothing = Outside {
+        lines: &[],
+        answerer: Answerer::Answers(&[]),
+    };
+    perform(rt, path, request, nothing)
+}
+
+/// Does what was asked for, where what is handed in to a run can be had.
 fn answer(rt: &HostRuntime, request: Request) -> Status {
     match request {
-        Request::Run { image, outside, .. } => match read_outside(rt, outside) {
-            Ok(source) => perform(rt, image, request, lend(&source)),
+        Request::Run {
+            image,
+            lines,
+            outside,
+            ..
+        } => match read_handed(rt, lines, outside) {
+            Ok(handed) => perform(rt, image, request, lend(&handed)),
             Err(status) => status,
         },
         Request::Client {
             image,
             calls,
+            lines,
             outside,
             limit,
             explain,
-        } => match read_outside(rt, outside) {
-            Ok(source) => call(rt, image, calls, &source, limit, explain),
+        } => match read_handed(rt, lines, outside) {
+            Ok(handed) => call(rt, image, calls, &handed, limit, explain),
             Err(status) => status,
         },
-        Request::Tok { source, .. } => perform(rt, source, request, Outside::Answers(&[])),
-        Request::Detok { image, .. } => perform(rt, image, request, Outside::Answers(&[])),
+        Request::Tok { source, .. } => translate(rt, source, request),
+        Request::Detok { image, .. } => translate(rt, image, request),
     }
 }
 

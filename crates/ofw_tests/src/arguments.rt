@@ -4,7 +4,7 @@ use std::alloc::Global;
 use std::test::Fail;
 
 /// Words of a command line, and behind `:` what they ask for, if anything: the image, for a client the calls, and for a
-/// run the file of answers, if there is one, and the limit.
+/// run the file of answers, if there is one, and the limit; then the file of console lines.
 const LINES: &str = "\
 ofw run a.hex:a.hex 1000000
 ofw run a.hex --limit 0:a.hex 0
@@ -24,6 +24,12 @@ ofw run a.hex --answers a.answers:a.hex answers a.answers 1000000
 ofw run --answers a.answers a.hex --limit 5 --explain:a.hex answers a.answers 5 explained
 ofw run a.hex --answers:
 ofw run a.hex --board a.board:a.hex board a.board 1000000
+ofw run a.hex --lines a.lines:a.hex 1000000 lines a.lines
+ofw run --lines a.lines a.hex --limit 5 --tree:a.hex 5 tree lines a.lines
+ofw run a.hex --lines:
+ofw run a.hex --lines a.lines --lines b.lines:
+ofw client a.hex --calls a.calls --lines a.lines:a.hex a.calls 1000000 lines a.lines
+ofw tok a.fs --lines a.lines:
 ofw run --explain --board a.board a.hex --limit 5:a.hex board a.board 5 explained
 ofw run a.hex --board:
 ofw run a.hex --board a.board --board b.board:
@@ -84,23 +90,27 @@ fn shown(alloc: Global, request: Request) -> Result<String, Fail> {
     match request {
         Request::Run {
             image,
+            lines,
             outside,
             limit,
             tree,
             explain,
         } => {
             let run = shown_run(alloc, image, outside, limit, flag(explain, " explained"))?;
-            Ok(format!(in alloc; "{run}{}", flag(tree, " tree"))?)
+            let lines = shown_lines(alloc, lines)?;
+            Ok(format!(in alloc; "{run}{}{lines}", flag(tree, " tree"))?)
         }
         Request::Client {
             image,
             calls,
+            lines,
             outside,
             limit,
             explain,
         } => {
             let run = shown_run(alloc, calls, outside, limit, flag(explain, " explained"))?;
-            Ok(format!(in alloc; "{image} {run}")?)
+            let lines = shown_lines(alloc, lines)?;
+            Ok(format!(in alloc; "{image} {run}{lines}")?)
         }
         Request::Tok { source, output } => shown_tok(alloc, source, output),
         Request::Detok {
@@ -109,6 +119,14 @@ fn shown(alloc: Global, request: Request) -> Result<String, Fail> {
             partial,
         } => shown_detok(alloc, image, extras, flag(partial, " partial")),
     }
+}
+
+/// The file of console lines that is asked for, if one is.
+fn shown_lines(alloc: Global, lines: Option<&str>) -> Result<String, Fail> {
+    let Some(path) = lines else {
+        return Ok(String::new(alloc));
+    };
+    Ok(format!(in alloc; " lines {path}")?)
 }
 
 /// What a run asks for.

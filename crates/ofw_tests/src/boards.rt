@@ -117,6 +117,7 @@ fn shown(alloc: Global, fault: TextFault) -> Result<String, AllocError> {
         TextFault::BadName(place) => (place, "name"),
         TextFault::BadNumber(place) => (place, "number"),
         TextFault::TooMany(place) => (place, "many"),
+        TextFault::TooLong(place) => (place, "long"),
         TextFault::NoMemory => return String::from_str(alloc, "no memory"),
     };
     format!(in alloc; "{}:{} {name}", place.line, place.column)

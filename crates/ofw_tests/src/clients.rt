@@ -1,7 +1,7 @@
-use crate::doubles::{blank_screen, reader_of};
+use crate::doubles::{blank_screen, reader_of, without_lines};
 use of_asking::Answer;
 use of_client::{names_are_met, values_are_got};
-use of_commands::{ClientRun, Messages, Outside, Run, client};
+use of_commands::{Answerer, ClientRun, Messages, Outside, Run, client};
 use std::alloc::Global;
 use std::process::Abort;
 use std::test::Fail;
@@ -41,7 +41,7 @@ fn whole<'a>(
     Case {
         calls,
         image,
-        outside: Outside::Answers(&[]),
+        outside: without_lines(Answerer::Answers(&[])),
         read: 9999,
         write: 9999,
         limit: 99,
@@ -239,7 +239,8 @@ fn ends(rt: HostRuntime) {
 fn answers_of_devices(rt: HostRuntime) {
     let printed = "5 d0000004\n";
     let read = whole("child d0000000\n", BUS_READ, 0, printed, "");
-    let outside = Outside::Answers(&[Answer::Value(5)]);
+    let answers = [Answer::Value(5)];
+    let outside = without_lines(Answerer::Answers(&answers));
     holds(&rt, rt.alloc(), &Case { outside, ..read });
     let out = whole("child d0000000\n", BUS_READ, 4, "d0000004\n", "");
     holds(&rt, rt.alloc(), &out);

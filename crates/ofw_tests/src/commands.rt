@@ -1,6 +1,6 @@
-use crate::doubles::{Endless, Screen, blank_screen, reader_of};
+use crate::doubles::{Endless, Screen, blank_screen, reader_of, without_lines};
 use of_arguments::{Status, parse, status_of};
-use of_commands::{Fault, Messages, Outside, answer, image, keep, report};
+use of_commands::{Answerer, Fault, Messages, answer, image, keep, report};
 use of_stream::StreamFault;
 use std::alloc::Global;
 use std::io::Read;
@@ -29,7 +29,7 @@ fn code_of(
             answer(
                 alloc,
                 request,
-                Outside::Answers(&[]),
+                without_lines(Answerer::Answers(&[])),
                 file,
                 out,
                 &mut Messages::new(errors),

@@ -1,6 +1,6 @@
-use crate::doubles::{Screen, blank_screen, reader_of};
+use crate::doubles::{Screen, blank_screen, reader_of, without_lines};
 use of_arguments::{Outside as Asked, Request, Status};
-use of_commands::{Messages, Outside, answer, answers, board};
+use of_commands::{Answerer, Messages, Outside, answer, answers, board};
 use of_devices::{Board, standard_board};
 use std::alloc::Global;
 use std::io::Write;
@@ -28,6 +28,7 @@ fn run_on<E: Write>(
     let mut image = reader_of(BUS_READ.as_bytes(), 9999);
     let request = Request::Run {
         image: "a.hex",
+        lines: None,
         outside: Asked::Standard,
         limit: 99,
         tree: false,
@@ -49,13 +50,17 @@ fn run(
     let mut said = Messages::new(&mut errors);
     let status = match kind {
         Kind::Answers => match answers(alloc, "a.answers", &mut file, &mut said) {
-            Ok(list) => run_on(alloc, Outside::Answers(&list), explain, &mut out, &mut said),
+            Ok(list) => {
+                let outside = without_lines(Answerer::Answers(&list));
+                run_on(alloc, outside, explain, &mut out, &mut said)
+            }
             Err(status) => status,
         },
         Kind::Board => match board(alloc, "a.board", &mut file, &mut said) {
             Ok(parts) => {
                 let board = Board { parts };
-                run_on(alloc, Outside::Board(&board), explain, &mut out, &mut said)
+                let outside = without_lines(Answerer::Board(&board));
+                run_on(alloc, outside, explain, &mut out, &mut said)
             }
             Err(status) => status,
         },
@@ -128,7 +133,8 @@ fn the_standard_board(rt: HostRuntime) -> Result<(), Fail> {
     let mut out = blank_screen(rt.alloc(), 9999);
     let mut errors = blank_screen(rt.alloc(), 9999);
     let mut said = Messages::new(&mut errors);
-    let outside = Outside::Board(&Board { parts });
+    let board = Board { parts };
+    let outside = without_lines(Answerer::Board(&board));
     let status = run_on(rt.alloc(), outside, false, &mut out, &mut said);
     assert_eq!(rt; status, Status::Done);
     assert_eq!(rt; out.text.as_slice(), b"0 ".as_slice());

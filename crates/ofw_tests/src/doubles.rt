@@ -1,4 +1,5 @@
-//! Readers and writers that fail where a test wants it.
+//! Readers and writers that fail where a test wants it, and what is handed in to a run.
+use of_commands::{Answerer, Outside};
 use std::alloc::Global;
 use std::io::{Error, ErrorKind, Read, Result, Write};
 
@@ -20,6 +21,14 @@ impl Read for Paper<'_> {
         buf[..count].copy_from_slice(&self.text[..count]);
         self.text = &self.text[count..];
         Ok(count)
+    }
+}
+
+/// What is handed in to a run without console lines.
+pub(crate) fn without_lines<'a>(answerer: Answerer<'a>) -> Outside<'a> {
+    Outside {
+        lines: &[],
+        answerer,
     }
 }
 

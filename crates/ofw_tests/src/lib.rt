@@ -14,4 +14,6 @@ mod devices;
 #[cfg(test)]
 mod doubles;
 #[cfg(test)]
+mod lines;
+#[cfg(test)]
 mod trees;

@@ -1,8 +1,8 @@
 //! Runs with the device tree behind what they print.
 
-use crate::doubles::{blank_screen, reader_of};
+use crate::doubles::{blank_screen, reader_of, without_lines};
 use of_arguments::{Outside as Asked, Request};
-use of_commands::{Messages, Outside, answer};
+use of_commands::{Answerer, Messages, answer};
 use std::alloc::Global;
 use std::test::Fail;
 
@@ -30,12 +30,13 @@ fn run(alloc: Global, image: &str, room: u32) -> Result<(u8, Vec<u8>), Fail> {
     let mut said = Messages::new(&mut errors);
     let request = Request::Run {
         image: "a.hex",
+        lines: None,
         outside: Asked::Standard,
         limit: 99,
         tree: true,
         explain: false,
     };
-    let outside = Outside::Answers(&[]);
+    let outside = without_lines(Answerer::Answers(&[]));
     let status = answer(alloc, request, outside, &mut file, &mut out, &mut said);
     Ok((status.code(), out.text))
 }

@@ -1,6 +1,6 @@
-use Rattle.std.proofs.Common.{map}
+use Rattle.std.proofs.Common.{map, rules}
 use Rattle.of_client.specs.Services.{service_of}
-use Rattle.of_commands.proofs.Called.{called_all}
+use Rattle.of_commands.proofs.Called.{called_all, called_unrun}
 use Rattle.of_commands.proofs.clients.run_calls.Goals as goal
 
 pub returns-in-Ok-print_called-clause-printed : goal.returns-in-Ok-print_called-clause-printed
@@ -8,3 +8,6 @@ returns-in-Ok-print_called-clause-printed g c =
     called_all (g.R.Read.remaining c.args.file.now) (map service_of c.args.calls.now) c.args.run.outside
     c.args.run.limit _ c.in-Ok.end _ _ c.explain_end.result c.in-Ok.ensures.ok c.in-Ok-print_called.ensures.ok
     c.explain_end.ensures.ok c.explain_end.ensures.err
+
+pub returns-clause-printed : goal.returns-clause-printed
+returns-clause-printed g c = search (rules, called_unrun)
