@@ -15,7 +15,9 @@ use of_see::{
     begins_are_counted, plain_items_are_listed, see_text, strings_read_back, thens_are_counted,
     words_read_back,
 };
-use of_see_laws::{printed_definitions_have_their_bodies, printed_elements_have_the_body};
+use of_see_laws::{
+    printed_definitions_have_their_bodies, printed_elements_have_the_body, text_scans_back,
+};
 use of_stacks::DataStack;
 use of_text::{Found, Names, Part, TextWord, read};
 use std::alloc::Global;
@@ -523,6 +525,7 @@ fn laws() {
     strings_read_back();
     printed_elements_have_the_body();
     printed_definitions_have_their_bodies();
+    text_scans_back();
 }
 
 #[test]

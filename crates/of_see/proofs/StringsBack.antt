@@ -24,7 +24,7 @@ digit_back d l =
     let less : nat_lt d 16 ≡ true = lt-ltb d 16 l in
     rw (same, small, less) refl
 
-no_blank : (d : ℕ) → d < 16 → 0x20 < digit_char d
+pub no_blank : (d : ℕ) → d < 16 → 0x20 < digit_char d
 no_blank d l = by_test (nat_lt d 10)
   where
     by_test : (b : Bool) → 0x20 < (if b then 48 + d else 87 + d)

@@ -17,7 +17,6 @@ use Rattle.of_fcodes.specs.Finding.{FindsEachWord, word_with_xt}
 use Rattle.of_fcodes.specs.Finding.{xt_of as written_xt}
 use Rattle.of_dict.specs.Words.{is_immediate_in}
 use Rattle.of_compile.specs.Words.{own_word}
-use Rattle.of_format.specs.Digits.{unsigned_text}
 use Rattle.of_format.specs.Reading.{ReadsBack}
 use Rattle.of_scan.specs.Laws.{WordsAreRead}
 use Rattle.of_scan.specs.Scan.{next_word, rest_at}
@@ -30,6 +29,7 @@ use Rattle.of_see.specs.SeeText.{name_or_number, number_shown, plain_shown}
 use Rattle.of_see.specs.SeeText.{acts, compiling_name, finds, found_name, is_one_word, is_xt, name_at}
 use Rattle.of_see.specs.SeeText.{name_if, stored_name}
 use Rattle.of_see.specs.Laws.{IsReadAs, WordsReadBack}
+use Rattle.of_see.proofs.NumbersBack.{count_back, number_back}
 
 -- ---- a name that is printed finds its word
 
@@ -170,10 +170,12 @@ call_shown_back words written n xt (Some name) e =
 call_shown_back words written n xt None e = inr refl
 
 store_shown_back : (n : Names) (self : ℕ) (xt : Cell) (o : Option (List ℕ)) → stored_name n self xt.0 ≡ o
-    → ((name : List ℕ) × (name_or_number xt.0 o (codes "to ") (codes " ] to,") ≡ codes "to " ++ name)
+    → ((name : List ℕ) × (name_or_number xt.0 o (codes "to ") (codes " ] to,") ≡ codes "to " ++ name) × IsWord name
     × (known_name n name ≡ Ok xt))
     ⊎ (name_or_number xt.0 o (codes "to ") (codes " ] to,") ≡ codes "[ " ++ number_shown xt.0 ++ codes " ] to,")
-store_shown_back n self xt (Some name) e = inl (name, refl, known n xt.0 name (stored n self xt.0 name e))
+store_shown_back n self xt (Some name) e =
+    let served = stored n self xt.0 name e in
+    inl (name, refl, served.is_word, known n xt.0 name served)
 store_shown_back n self xt None e = inr refl
 
 recursion : (n : Names) (xt : ℕ) (b : Bool) → b ≡ true
@@ -198,9 +200,7 @@ words_read_back words written numbers = record {
       another words written n xt (nat_eq xt.0 self) (false_from_ne_true (nat_eq xt.0 self) (λ e.
       other (eqb-true xt.0 self e))) (plain_shown n m self (P.Call xt)) refl;
   store = λ n m self xt. store_shown_back n self xt (stored_name n self xt.0) refl;
-  literal = λ n m self x l. (
-    unsigned_text 16 x.0,
-    refl,
-    ap (λ o. ok_or o undefined_word) (numbers.unsigned 16 x (omega arith) (omega arith) l),
-  );
+  literal = λ n m self x l. number_back numbers x.0 l;
+  number = number_back numbers;
+  count = count_back numbers;
 }

@@ -9,6 +9,7 @@ use Rattle.of_memory.specs.Access.{read_bytes}
 use Rattle.of_memory.specs.DataSpace.{DataSpace}
 use Rattle.of_scan.specs.Parts.{quoted_part}
 use Rattle.of_scan.specs.Scan.{rest_at}
+use Rattle.of_scan.specs.Words.{IsWord}
 use Rattle.of_code.specs.declared.item.Item.{Item}
 use Rattle.of_code.specs.Items.{laid_out}
 use Rattle.of_compile.specs.declared.element.Element.TheVariants as E
@@ -19,7 +20,7 @@ use Rattle.of_text.specs.declared.words.TextWord.TheVariants as text
 use Rattle.of_text.specs.Names.{Names, known_name, number_named}
 use Rattle.of_text.specs.Reading.{word_read}
 use Rattle.of_see.specs.SeeItems.{see_items}
-use Rattle.of_see.specs.SeeText.{number_shown, plain_shown}
+use Rattle.of_see.specs.SeeText.{count_shown, number_shown, plain_shown}
 
 -- the cells of items that go on at the next one
 abbrev pub laid : List PlainItem → List (Option Item)
@@ -38,6 +39,12 @@ IsReadAs n xt shown =
     → word_read n base (rest_at at (shown ++ 32 ∷ more))
     ≡ (text.Found xt false, rest_at (at + length shown) (32 ∷ more))
 
+-- what is printed of a number is `h#`, a space and one word, the digits, that say it in base 16
+abbrev pub IsReadAsNumber : ℕ → List ℕ → Type 0
+IsReadAsNumber x shown =
+    (digits : List ℕ) × (shown ≡ codes "h# " ++ digits) × IsWord digits
+    × (number_named (Ok 16) digits ≡ Ok (record { 0 = x }))
+
 -- What is printed of a word or a number of a definition is read as that.
 pub record WordsReadBack : Type 0 where
   -- a word calls itself by `recurse`
@@ -48,12 +55,14 @@ pub record WordsReadBack : Type 0 where
       ⊎ (plain_shown n m self (P.Call xt) ≡ codes "[ " ++ number_shown xt.0 ++ codes " compile, ]")
   -- it stores into one behind a name that finds it, or by its execution token
   pub store : (n : Names) (m : DataSpace) (self : ℕ) (xt : Cell)
-      → ((name : List ℕ) × (plain_shown n m self (P.Store xt) ≡ codes "to " ++ name) × (known_name n name ≡ Ok xt))
+      → ((name : List ℕ) × (plain_shown n m self (P.Store xt) ≡ codes "to " ++ name) × IsWord name
+      × (known_name n name ≡ Ok xt))
       ⊎ (plain_shown n m self (P.Store xt) ≡ codes "[ " ++ number_shown xt.0 ++ codes " ] to,")
-  -- a literal has digits that are read as it behind `h#`
+  -- a literal, an execution token and how far a branch is rolled are numbers behind `h#`
   pub literal : (n : Names) (m : DataSpace) (self : ℕ) (x : Cell) → x.0 < 2 ^ 32
-      → (digits : List ℕ) × (plain_shown n m self (P.Literal x) ≡ codes "h# " ++ digits)
-      × (number_named (Ok 16) digits ≡ Ok x)
+      → IsReadAsNumber x.0 (plain_shown n m self (P.Literal x))
+  pub number : (x : ℕ) → x < 2 ^ 32 → IsReadAsNumber x (number_shown x)
+  pub count : (x : ℕ) → x < 2 ^ 32 → IsReadAsNumber x (count_shown x)
 
 -- What is printed of a string is `"`, a space and a text that is read as its bytes, up to the space that follows.
 abbrev pub StringsReadBack : Type 0

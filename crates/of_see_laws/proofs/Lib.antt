@@ -3,6 +3,7 @@
 -- close all run so.
 -- Kept, Targets: where the structures and the items of such elements go.
 -- Seen, Shown, Prints: what `see` prints of these items, by their numbers, runs too, with no more structures open.
+-- NamedWords, ScansBack: what is printed of a definition, read word by word.
 -- Cells, Laid: on the items' cells `see` prints the same. Whole: the law. FinishedWords: the law on finished words.
 mod Stacks
 mod Runs
@@ -18,3 +19,5 @@ mod Cells
 mod Laid
 mod Whole
 mod FinishedWords
+mod NamedWords
+mod ScansBack

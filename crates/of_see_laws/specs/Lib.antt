@@ -1,2 +1,3 @@
 pub mod ReadsBack
 pub mod Finished
+pub mod Scanning
