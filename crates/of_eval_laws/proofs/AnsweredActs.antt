@@ -39,7 +39,8 @@ use Rattle.of_eval.specs.Reading.{found_token, token_due}
 use Rattle.of_text.specs.declared.words.Found.{Found}
 use Rattle.of_interpret.specs.Reading.{word_at, word_done}
 use Rattle.of_interpret.specs.Strings.{by_spelling, by_string, string_said, string_spelt}
-use Rattle.of_interpret.specs.TextActs.{Acts, AppendsAll, Interprets, Names, Says, Selects, Spells, TextAct, text_acted}
+use Rattle.of_interpret.specs.TextActs.{Acts, AppendsAll, Interprets, Names, Says, Sees, Selects, Spells, TextAct}
+use Rattle.of_interpret.specs.TextActs.{text_acted}
 use Rattle.of_steps.specs.Steps.{asked_by, due, item_due, reading_due, replied}
 
 -- ---- with an answer at hand words don't ask
@@ -169,7 +170,7 @@ spelt_asks (Err t) s = refl
 
 pub text_told : {S : Type 0} (c : Calls S) (a : TextAct) (s : State S)
     → ((w : Act) → a ≡ Acts w → (acted c w s).asks ≡ None) → (text_acted c a s).asks ≡ None
-unfolding text_acted
+unfolding text_acted worked
 text_told c (Acts a) s h = h a refl
 text_told c (AppendsAll es cells) s h = refl
 text_told c (Names d name) s h =
@@ -178,6 +179,7 @@ text_told c (Says bytes) s h = said_asks (string_said bytes s.flow.strings s.boa
 text_told c (Spells bytes es) s h = spelt_asks (string_spelt c bytes es s.board.memory s.code) s
 text_told c Interprets s h = refl
 text_told c (Selects node) s h = refl
+text_told c (Sees xt) s h = refl
 
 -- ---- what comes next
 

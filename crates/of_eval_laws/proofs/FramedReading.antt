@@ -47,7 +47,8 @@ use Rattle.of_flow.specs.Tokens.{typed_of}
 use Rattle.of_words.specs.Words.{word_entry}
 use Rattle.of_interpret.specs.Reading.{read_from, text_due, word_at}
 use Rattle.of_interpret.specs.Strings.{all_appended, by_spelling, by_string, string_said, string_spelt}
-use Rattle.of_interpret.specs.TextActs.{Acts, AppendsAll, Interprets, Names, Says, Selects, Spells, TextAct, text_acted}
+use Rattle.of_interpret.specs.TextActs.{Acts, AppendsAll, Interprets, Names, Says, Sees, Selects, Spells, TextAct}
+use Rattle.of_interpret.specs.TextActs.{text_acted}
 use Rattle.of_interpret.specs.TextWords.{text_act}
 use Rattle.of_eval_laws.specs.Frames.{KeepsReading, KeepsSize, ends_image, is_text_end, size_aside, size_in}
 use Rattle.of_eval_laws.specs.Listed.{plan_of_item}
@@ -214,7 +215,7 @@ spelt_reads (Err t) s = inl refl
 
 spoken_reads : {S : Type 0} (c : Calls S) (a : TextAct) (s : State S)
     → IsTextAct (free S) (reading_turns S ⊥) AnyBytes s a → Reads s.flow.reading (text_acted c a s)
-unfolding text_acted
+unfolding text_acted worked
 spoken_reads c (Acts a) s h = acted_reads c a s h
 spoken_reads c (AppendsAll es cells) s h =
     let a = all_appended c es s.code in appended_reads a.code a.ended cells s
@@ -223,6 +224,7 @@ spoken_reads c (Says bytes) s h = said_reads (string_said bytes s.flow.strings s
 spoken_reads c (Spells bytes es) s h = spelt_reads (string_spelt c bytes es s.board.memory s.code) s
 spoken_reads c Interprets s h = inl refl
 spoken_reads c (Selects node) s h = inl refl
+spoken_reads c (Sees xt) s h = inl refl
 
 pub text_reads_on : {S : Type 0} (c : Calls S) (position : ℕ) (s : State S)
     → is_text_end (word_at position s).word ≡ false

@@ -32,7 +32,7 @@ use Rattle.of_eval.specs.Acts as act
 use Rattle.of_eval.specs.Defining.{by_making, closed_if, define_entry, definition_ended, known_at_once, opened}
 use Rattle.of_eval.specs.Defining.{semicolon_entry, string_kept, string_put, string_refused, word_defined}
 use Rattle.of_eval.specs.Defining.{by_slot_making, word_made_as}
-use Rattle.of_eval.specs.Doing.{acted, appended, executed, input_at, moved}
+use Rattle.of_eval.specs.Doing.{acted, appended, executed, input_at, moved, worked}
 use Rattle.of_eval.specs.Naming.{naming_done, word_named, word_named_as}
 use Rattle.of_eval.specs.Executing.{execution, plan_in}
 use Rattle.of_eval.specs.Items.{item_act}
@@ -48,7 +48,8 @@ use Rattle.of_board.specs.declared.board.Board.{Board}
 use Rattle.of_text.specs.declared.words.Found.{Found}
 use Rattle.of_interpret.specs.Reading.{read_from, word_at, word_done}
 use Rattle.of_interpret.specs.Strings.{all_appended, by_spelling, by_string, string_said, string_spelt}
-use Rattle.of_interpret.specs.TextActs.{Acts, AppendsAll, Interprets, Names, Says, Selects, Spells, TextAct, text_acted}
+use Rattle.of_interpret.specs.TextActs.{Acts, AppendsAll, Interprets, Names, Says, Sees, Selects, Spells, TextAct}
+use Rattle.of_interpret.specs.TextActs.{text_acted}
 use Rattle.of_interpret.specs.TextWords.{text_act}
 use Rattle.of_eval.specs.Tokens.{act_of, spot_in}
 use Rattle.of_flow.specs.Tokens.{typed_of}
@@ -358,7 +359,7 @@ module _ (image : List ℕ) (outer : Reading) where
       → IsTextAct (leading image outer S false) (leading_turns image outer S false) AnyBytes s a
       → Runs image outer false s → Rests image outer false s → IsInner image outer false s
       → Leads image outer (text_acted c a s).state
-  unfolding text_acted
+  unfolding text_acted worked
   text_leads c (Acts a) s h p r i = acted_leads false c a s h p r i
   text_leads c (AppendsAll es cells) s h p r i = all_lead (all_appended c es s.code) cells s p.0
   text_leads c (Names d name) s h p r i = goes_on s (naming_done c d name s).state p.0 (i refl) (naming_goes c d name s)
@@ -366,6 +367,7 @@ module _ (image : List ℕ) (outer : Reading) where
   text_leads c (Spells bytes es) s h p r i = spelt_leads (string_spelt c bytes es s.board.memory s.code) s p.0
   text_leads c Interprets s h p r i = p.0
   text_leads c (Selects node) s h p r i = p.0
+  text_leads c (Sees xt) s h p r i = p.0
 
   spoken_leads : {S : Type 0} (c : Calls S) (x : Found) (s : State S) → IsSaid x.word → Inner s
       → Leads image outer (word_done c x s).state

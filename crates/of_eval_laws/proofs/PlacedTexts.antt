@@ -1,7 +1,7 @@
 -- What a word of a text leaves placed.
 use Rattle.std.specs.Result.{is_err}
 use Rattle.std.proofs.Common.{◌≡◌, ℕ, ◌+◌, Bool, true, false, List, [], ◌∷◌, ◌++◌, length, Option, Some, None, Result}
-use Rattle.std.proofs.Common.{Ok, Err, is_some, is_none, refl, sym, ap, ◌∙◌, subst, nat_le, if◌then◌else◌}
+use Rattle.std.proofs.Common.{Ok, Err, is_some, is_none, refl, sym, ap, ◌∙◌, subst, nat_le}
 use Rattle.std.proofs.lemmas.Bool.{false≢true}
 use Rattle.of_cells.specs.declared.cells.Cell.{Cell}
 use Rattle.of_stacks.specs.declared.throws.Throw.{Throw}
@@ -29,12 +29,12 @@ use Rattle.of_compile.specs.SlotWords.{slot_naming_faults, slot_word_named}
 use Rattle.of_compile.specs.Words.{name_fault}
 use Rattle.of_board.specs.declared.board.Board.{Board}
 use Rattle.of_eval.specs.Defining.{by_making, by_slot_making, known_at_once, string_element}
-use Rattle.of_eval.specs.Doing.{appended}
-use Rattle.of_eval.specs.Methods.{then_known}
+use Rattle.of_eval.specs.Doing.{appended, worked}
 use Rattle.of_eval.specs.Naming.{naming_done, word_named, word_named_as}
-use Rattle.of_interpret.specs.Strings.{all_appended, by_spelling, by_string, bytes_put, said, spelt, string_left_in}
+use Rattle.of_interpret.specs.Strings.{all_appended, by_spelling, by_string, bytes_put, string_left_in}
 use Rattle.of_interpret.specs.Strings.{string_said, unless_thrown}
-use Rattle.of_interpret.specs.TextActs.{Acts, AppendsAll, Interprets, Names, Says, Selects, Spells, TextAct, text_acted}
+use Rattle.of_interpret.specs.TextActs.{Acts, AppendsAll, Interprets, Names, Says, Sees, Selects, Spells, TextAct}
+use Rattle.of_interpret.specs.TextActs.{text_acted}
 use Rattle.of_state.specs.State.{Answered, State}
 use Rattle.of_eval_laws.specs.Structured.{structured_calls}
 use Rattle.of_eval_laws.specs.Placed.{AllPlaced, ArePlaced, finished_end}
@@ -192,7 +192,7 @@ spelt_placed (Err t) d m s q p = thrown s p
 
 pub text_placed : (a : TextAct) (s : State Definitions) → IsTextAct placed placed_turns AnyBytes s a → AllPlaced s
     → LeavesPlaced (text_acted structured_calls a s)
-unfolding text_acted
+unfolding text_acted worked
 text_placed (Acts a) s h p = acted_placed a s h p
 text_placed (AppendsAll es cells) s h p =
     let a = all_appended structured_calls es s.code in
@@ -205,3 +205,4 @@ text_placed (Spells bytes es) s h p =
     spelt_placed a.ended a.code (bytes_put (with_bytes s.board.memory bytes)) s (all_placed all s h.0 p) p
 text_placed Interprets s h p = interprets_placed s p
 text_placed (Selects node) s h p = p
+text_placed (Sees xt) s h p = p

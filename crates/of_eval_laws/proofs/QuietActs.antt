@@ -44,7 +44,7 @@ use Rattle.of_text.specs.declared.words.TextWord.{TextWord}
 use Rattle.of_text.specs.declared.words.TextWord.TheVariants as text
 use Rattle.of_interpret.specs.Reading.{read_from, word_at, word_done, word_grows}
 use Rattle.of_interpret.specs.TextActs.{Acts, TextAct, text_acted, text_grows}
-use Rattle.of_interpret.specs.TextWords.{call_act, text_act}
+use Rattle.of_interpret.specs.TextWords.{text_act}
 use Rattle.of_steps.specs.Steps.{due, due_grows, item_done, item_due, item_grows, reading_due, reading_grows}
 use Rattle.of_eval.specs.Reading.{read_on, token_done, token_due, token_grows}
 use Rattle.of_eval.specs.Tokens.{act_of, appending, calling, compiling_act, named, plain_act, spot_in, token_act}

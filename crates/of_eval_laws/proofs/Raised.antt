@@ -2,7 +2,6 @@
 use Rattle.std.proofs.Common.{◌≡◌, ℕ, ◌+◌, Bool, true, false, List, [], ◌∷◌, length, Option, Some, None, Result, Ok}
 use Rattle.std.proofs.Common.{Err, inl, inr, refl}
 use Rattle.std.proofs.Common.{if◌then◌else◌, ◌⊎◌, subst}
-use Rattle.std.specs.Prelude.{◌&&◌, not, is_some}
 use Rattle.of_cells.specs.declared.cells.Cell.{Cell}
 use Rattle.of_cells.specs.Numbers.{signed}
 use Rattle.of_code.specs.declared.item.Item.{Item}
@@ -57,7 +56,7 @@ use Rattle.of_eval.specs.Executing.{entered, furnished, guarded, plan_in}
 use Rattle.of_eval.specs.Items.{item_act}
 use Rattle.of_eval.specs.Methods.{then_known}
 use Rattle.of_state.specs.Settling.{ended, ends_inside}
-use Rattle.of_state.specs.State.{Answered, Calls, Outcome, State, by_asking, by_board, flat_calls, open_xt, with_next}
+use Rattle.of_state.specs.State.{Answered, Calls, Outcome, State, by_asking, by_board, flat_calls, with_next}
 use Rattle.of_state.specs.State.{with_stack}
 use Rattle.of_eval.specs.Naming.{naming_done, word_named, word_named_as}
 use Rattle.of_eval.specs.Reading.{found_token, read_on}
@@ -65,7 +64,8 @@ use Rattle.of_text.specs.declared.words.Found.{Found}
 use Rattle.of_interpret.specs.Reading.{read_from, word_at, word_done}
 use Rattle.of_interpret.specs.Strings.{all_appended, by_spelling, by_string, bytes_put, place_for, said, spelt}
 use Rattle.of_interpret.specs.Strings.{string_left, string_left_in, strings_start, unless_thrown}
-use Rattle.of_interpret.specs.TextActs.{Acts, AppendsAll, Interprets, Names, Says, Selects, Spells, TextAct, text_acted}
+use Rattle.of_interpret.specs.TextActs.{Acts, AppendsAll, Interprets, Names, Says, Sees, Selects, Spells, TextAct}
+use Rattle.of_interpret.specs.TextActs.{text_acted}
 use Rattle.of_interpret.specs.TextWords.{text_act}
 use Rattle.of_steps.specs.Steps.{due, item_done, item_due, reading_due}
 use Rattle.of_eval.specs.Tokens.{act_of, spot_in}
@@ -366,7 +366,7 @@ spells c h law bytes es s =
 text_raises : {S : Type 0} (c : Calls S) (l : Laws S c) (taken : Option Cell) (last : Bool) (a : TextAct) (s : State S)
     → IsTextAct (listing S l.faults l.methods taken) (listing_turns S l.faults l.methods taken last) AnyBytes s a
     → Raised taken last (text_acted c a s)
-unfolding text_acted
+unfolding text_acted worked
 text_raises c l taken last (Acts a) s h = acted_raises c l taken last a s h
 text_raises c l taken last (AppendsAll es cells) s h = weaker taken last _ (all_appends c l.calls es s.code)
 text_raises c l taken last (Names d name) s h = weaker taken last _ (names c d name s)
@@ -374,6 +374,7 @@ text_raises c l taken last (Says bytes) s h = weaker taken last _ (says l.faults
 text_raises c l taken last (Spells bytes es) s h = weaker taken last _ (spells c l.calls l.faults bytes es s)
 text_raises c l taken last Interprets s h = tt
 text_raises c l taken last (Selects node) s h = tt
+text_raises c l taken last (Sees xt) s h = tt
 
 texts : {S : Type 0} (c : Calls S) → Laws S c → (x : Found) (s : State S) → IsSaid x.word
     → Raised (cell_of (plan_spoken x s) s.board.stack) (is_text_semicolon x.word) (word_done c x s)

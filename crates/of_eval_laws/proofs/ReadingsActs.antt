@@ -1,6 +1,6 @@
 -- The law `images_are_readings`: what acts leave of the images and of what is read.
-use Rattle.std.proofs.Common.{◌≡◌, inl, inr, ℕ, suc, ◌+◌, Bool, true, false, ◌&&◌, not, List, [], ◌∷◌, ◌++◌, length}
-use Rattle.std.proofs.Common.{drop, Option, Some, None, Result, Ok, Err, is_some, refl, sym, ap, ◌∙◌, subst, nat_le}
+use Rattle.std.proofs.Common.{◌≡◌, inl, inr, ℕ, suc, ◌+◌, Bool, true, false, ◌&&◌, List, [], ◌∷◌, ◌++◌, length}
+use Rattle.std.proofs.Common.{drop, Option, Some, None, Result, Ok, Err, refl, sym, ap, ◌∙◌, subst, nat_le}
 use Rattle.std.proofs.Common.{nat_lt, if◌then◌else◌}
 use Rattle.of_cells.specs.declared.cells.Cell.{Cell}
 use Rattle.of_code.specs.declared.item.Item.{Item}
@@ -51,14 +51,15 @@ use Rattle.of_eval.specs.Executing.{entered, furnished, guarded, plan_in}
 use Rattle.of_eval.specs.Items.{item_act}
 use Rattle.of_eval.specs.Methods.{as_method, known_if, method_made, then_known, xt_cell}
 use Rattle.of_state.specs.Settling.{ended, ends_inside}
-use Rattle.of_state.specs.State.{Answered, Calls, Outcome, State, by_asking, by_board, open_xt, with_items, with_next}
+use Rattle.of_state.specs.State.{Answered, Calls, Outcome, State, by_asking, by_board, with_items, with_next}
 use Rattle.of_state.specs.State.{with_stack}
 use Rattle.of_text.specs.declared.words.Found.{Found}
 use Rattle.of_eval.specs.Naming.{naming_done, word_named, word_named_as}
 use Rattle.of_eval.specs.Reading.{found_token, read_on, token_due}
 use Rattle.of_interpret.specs.Reading.{read_from, word_at as said_at, word_done}
 use Rattle.of_interpret.specs.Strings.{all_appended, by_spelling, by_string, said, spelt, string_said, string_spelt}
-use Rattle.of_interpret.specs.TextActs.{Acts, AppendsAll, Interprets, Names, Says, Selects, Spells, TextAct, text_acted}
+use Rattle.of_interpret.specs.TextActs.{Acts, AppendsAll, Interprets, Names, Says, Sees, Selects, Spells, TextAct}
+use Rattle.of_interpret.specs.TextActs.{seen, text_acted}
 use Rattle.of_interpret.specs.TextWords.{text_act}
 use Rattle.of_steps.specs.Steps.{due, item_due, reading_due}
 use Rattle.of_eval.specs.Tokens.{act_of, spot_in}
@@ -503,7 +504,7 @@ spelt_reads (Err t) s stands h = h
 text_reads : {S : Type 0} (l : Laws) (c : Calls S) (a : TextAct) (s : State S)
     → IsTextAct (counting_rules S) (counting_turns S) AreBytes s a → IsSound s.board.memory → Goes s
     → Reads (text_acted c a s).state
-unfolding text_acted
+unfolding text_acted acted
 text_reads l c (Acts a) s w sound h = acted_reads l c a s w sound h
 text_reads l c (AppendsAll es cells) s w sound h =
     let a = all_appended c es s.code in
@@ -517,6 +518,7 @@ text_reads l c (Spells bytes es) s w sound h =
     (spelt_reads (string_spelt c bytes es s.board.memory s.code) s (spelt_stands l c bytes es s sound w.1) h)
 text_reads l c Interprets s w sound h = rests (text_acted c Interprets s).state h
 text_reads l c (Selects node) s w sound h = rests (text_acted c (Selects node) s).state h
+text_reads l c (Sees xt) s w sound h = acted_reads l c (act.Does (act.Prints (seen c xt s))) s w sound h
 
 word_done_reads : {S : Type 0} (l : Laws) (c : Calls S) (x : Found) (s : State S)
     → is_image s.flow.reading.input ≡ false → IsSaid x.word → HasSoundSpace s → Goes s → Reads (word_done c x s).state

@@ -1,5 +1,5 @@
 -- The law `images_run`: what an item and a token leave of the images that run.
-use Rattle.std.proofs.Common.{◌≡◌, inl, inr, ℕ, Bool, true, false, ◌&&◌, not, List, [], ◌∷◌, length, Option}
+use Rattle.std.proofs.Common.{◌≡◌, inl, inr, ℕ, Bool, true, false, List, [], ◌∷◌, length, Option}
 use Rattle.std.proofs.Common.{Some, None, Result, Ok, Err, is_none, is_some, refl, subst, ap, nat_le, ◌∙◌, ◌+◌}
 use Rattle.of_cells.specs.declared.cells.Cell.{Cell}
 use Rattle.of_code.specs.declared.item.Item.{Item}
@@ -42,10 +42,9 @@ use Rattle.of_eval.specs.Executing.{entered, furnished, guarded, plan_in}
 use Rattle.of_eval.specs.Items.{item_act}
 use Rattle.of_eval.specs.Methods.{as_method, known_if, method_made, nodes_with, then_known, xt_cell}
 use Rattle.of_state.specs.Settling.{ended, ends_inside, given_back}
-use Rattle.of_state.specs.State.{Answered, Calls, Outcome, State, by_code, open_xt, with_items, with_next, with_stack}
+use Rattle.of_state.specs.State.{Answered, Calls, Outcome, State, by_code, with_items, with_next, with_stack}
 use Rattle.of_control.specs.Element.{Element}
 use Rattle.of_compile.specs.declared.element.PlainItem.{PlainItem}
-use Rattle.of_text.specs.declared.words.Found.{Found}
 use Rattle.of_text.specs.declared.words.TextWord.{TextWord}
 use Rattle.of_text.specs.declared.words.TextWord.TheVariants as text
 use Rattle.of_eval.specs.Naming.{naming_done, word_named, word_named_as}
@@ -53,7 +52,8 @@ use Rattle.of_eval.specs.Reading.{found_token, read_on, token_due}
 use Rattle.of_interpret.specs.Reading.{read_from, word_at as said_at, word_done}
 use Rattle.of_interpret.specs.Strings.{all_appended, by_spelling, by_string, bytes_put, place_for, said, spelt}
 use Rattle.of_interpret.specs.Strings.{string_left, string_left_in, strings_start}
-use Rattle.of_interpret.specs.TextActs.{Acts, AppendsAll, Interprets, Names, Says, Selects, Spells, TextAct, text_acted}
+use Rattle.of_interpret.specs.TextActs.{Acts, AppendsAll, Interprets, Names, Says, Sees, Selects, Spells, TextAct}
+use Rattle.of_interpret.specs.TextActs.{text_acted}
 use Rattle.of_interpret.specs.TextWords.{text_act}
 use Rattle.of_steps.specs.Steps.{due, item_due, reading_due}
 use Rattle.of_eval.specs.Tokens.{act_of, spot_in}
@@ -534,7 +534,7 @@ spelt_stands l c bytes es s sound small =
 text_leaves : {S : Type 0} (l : Laws) (c : Calls S) (a : TextAct) (s : State S)
     → IsTextAct (running_rules S) (running_turns S false) AreBytes s a → IsSound s.board.memory
     → Leaves false s.board (text_acted c a s)
-unfolding text_acted
+unfolding text_acted worked
 text_leaves l c (Acts a) s h sound = acted_leaves l c false a s h sound
 text_leaves l c (AppendsAll es cells) s h sound =
     let a = all_appended c es s.code in appended_leaves a.code a.ended cells s sound
@@ -546,6 +546,7 @@ text_leaves l c (Spells bytes es) s h sound =
 text_leaves l c Interprets s h sound =
     inl (by_space l s.board (with_state s.board.memory false) sound (by_state l s.board.memory false sound))
 text_leaves l c (Selects node) s h sound = left s.board sound
+text_leaves l c (Sees xt) s h sound = left s.board sound
 
 -- a text that ends gives nothing back
 word_leaves : {S : Type 0} (l : Laws) (c : Calls S) (w : TextWord) (next : ℕ) (s : State S) → IsSaid w → HasSoundSpace s

@@ -1,5 +1,5 @@
 -- The strings of a text of bytes are of bytes.
-use Rattle.std.proofs.Common.{◌≡◌, ℕ, zero, suc, ◌-◌, ◌*◌, ◌+◌, ◌<◌, Bool, true, false, List, [], ◌∷◌, ◌++◌, length}
+use Rattle.std.proofs.Common.{◌≡◌, ℕ, zero, suc, ◌-◌, ◌<◌, Bool, true, false, List, [], ◌∷◌, ◌++◌, length}
 use Rattle.std.proofs.Common.{drop, Option, Some, None, Ok, refl, subst, arith, nat_eq, nat_lt, if◌then◌else◌}
 use Rattle.std.specs.Option.{option_map}
 use Rattle.std.proofs.lemmas.Bool.Decides.{nat_tests}
@@ -12,7 +12,7 @@ use Rattle.of_memory.specs.SoundChanges.{AreBytes}
 use Rattle.of_memory.specs.declared.fault.MemFault.{MemFault}
 use Rattle.of_memory.specs.declared.width.Width.TheVariants.{One}
 use Rattle.of_scan.specs.Parts.{Parted, byte_and, closed_pairs, count_before, group_in, grouped_part, has_byte, paired}
-use Rattle.of_scan.specs.Parts.{part_to, quoted_part, with_group}
+use Rattle.of_scan.specs.Parts.{part_to, with_group}
 use Rattle.of_scan.specs.Scan.{byte_of, is_blank}
 use Rattle.of_flow.specs.Texts.{latest_text}
 use Rattle.of_text.specs.declared.words.Part.{Part}

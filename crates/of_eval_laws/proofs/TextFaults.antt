@@ -1,5 +1,5 @@
 -- What a word of a text throws by the name, the number or the path behind it has a listed number.
-use Rattle.std.proofs.Common.{◌≡◌, ◌==◌, ℕ, Bool, true, false, List, [], ◌∷◌, drop, Option, Some, None, Result, Ok, Err}
+use Rattle.std.proofs.Common.{◌==◌, ℕ, Bool, true, false, List, [], ◌∷◌, drop, Option, Some, None, Result, Ok, Err}
 use Rattle.std.proofs.Common.{refl, nat_lt, if◌then◌else◌}
 use Rattle.std.specs.Prelude.{◌||◌}
 use Rattle.std.specs.Option.{ok_or}
@@ -28,7 +28,8 @@ use Rattle.of_text.specs.declared.words.TextWord.TheVariants as text
 use Rattle.of_text.specs.Names.{Names, first_byte, known_name, number_named, own_named, written_named, xt_named}
 use Rattle.of_text.specs.Reading.{Named, compiling_read, name_behind, own_or_written, parsing_read, text_read}
 use Rattle.of_text.specs.Reading.{word_or_end, written_read}
-use Rattle.of_interpret.specs.Reading.{names_in, word_at}
+use Rattle.of_interpret.specs.Reading.{word_at}
+use Rattle.of_interpret.specs.TextActs.{names_in}
 use Rattle.of_interpret.specs.TextWords.{node_at, node_below, node_found}
 use Rattle.of_state.specs.State.{State}
 use Rattle.of_eval_laws.proofs.ListedFaults.{refused_listed}
@@ -38,6 +39,7 @@ abbrev pub IsSaid : TextWord → Type 0
 IsSaid (text.Number r) = ThrowsListed r
 IsSaid (text.Tick r) = ThrowsListed r
 IsSaid (text.To r) = ThrowsListed r
+IsSaid (text.See r) = ThrowsListed r
 IsSaid (text.Char r) = ThrowsListed r
 IsSaid (text.BracketTick r) = ThrowsListed r
 IsSaid (text.BracketChar r) = ThrowsListed r
@@ -75,6 +77,7 @@ parsing_said : (w : ParsingWord) (n : Names) (r : Rest) → IsSaid (parsing_read
 unfolding parsing_read
 parsing_said parsing.Tick n r = known_listed n (name_behind r).0
 parsing_said parsing.To n r = known_listed n (name_behind r).0
+parsing_said parsing.See n r = known_listed n (name_behind r).0
 parsing_said parsing.Hexadecimal n r = number_listed (Ok 16) (name_behind r).0 tt
 parsing_said parsing.DecimalNumber n r = number_listed (Ok 10) (name_behind r).0 tt
 parsing_said parsing.Char n r = first_listed (name_behind r).0

@@ -54,14 +54,15 @@ use Rattle.of_eval.specs.Reading.{found_token, read_on}
 use Rattle.of_eval.specs.Tokens.{act_of, spot_in}
 use Rattle.of_interpret.specs.Reading.{read_from, word_at, word_done}
 use Rattle.of_interpret.specs.Strings.{all_appended, by_spelling, by_string, string_said, string_spelt}
-use Rattle.of_interpret.specs.TextActs.{Acts, AppendsAll, Interprets, Names, Says, Selects, Spells, TextAct, text_acted}
+use Rattle.of_interpret.specs.TextActs.{Acts, AppendsAll, Interprets, Names, Says, Sees, Selects, Spells, TextAct}
+use Rattle.of_interpret.specs.TextActs.{text_acted}
 use Rattle.of_interpret.specs.TextWords.{text_act}
 use Rattle.of_state.specs.Loading.{begun}
-use Rattle.of_state.specs.Settling.{caught, cut_one, due_left, ended, ends_inside, fallen, given_up_since, going_back}
+use Rattle.of_state.specs.Settling.{caught, cut_one, due_left, ended, ends_inside, fallen, going_back}
 use Rattle.of_state.specs.Settling.{is_full, is_same, load_left, open_answered, or_nothing, reading_on, resumed}
-use Rattle.of_state.specs.Settling.{settled, source_ended, still_thrown, texts_left, thrown_at, thrown_in, uncaught}
+use Rattle.of_state.specs.Settling.{settled, source_ended, still_thrown, texts_left, thrown_at, thrown_in}
 use Rattle.of_state.specs.Settling.{worked_one}
-use Rattle.of_state.specs.State.{Answered, Calls, Outcome, State, by_asking, by_board, failed, given_up, open_xt}
+use Rattle.of_state.specs.State.{Answered, Calls, Outcome, State, by_asking, by_board, given_up, open_xt}
 use Rattle.of_state.specs.State.{with_items, with_next, with_stack}
 use Rattle.of_steps.specs.Steps.{due as due_next, item_due, reading_due, settled_of, stepped}
 use Rattle.of_words.specs.Words.{word_entry}
@@ -261,7 +262,7 @@ act_texts l c act.Ends s k h = ended_texts c s h
 text_texts : {S : Type 0} (l : Laws) (c : Calls S) (a : TextAct) (s : State S)
     → IsTextAct (running_rules S) (running_turns S true) AnyBytes s a → HasTexts s
     → HasTexts (text_acted c a s).state
-unfolding text_acted
+unfolding text_acted worked
 text_texts l c (Acts a) s k h = act_texts l c a s k h
 text_texts l c (AppendsAll es cells) s k h =
     by_same s (text_acted c (AppendsAll es cells) s).state
@@ -277,6 +278,7 @@ text_texts l c (Spells bytes es) s k h =
     (spelt_texts (string_spelt c bytes es s.board.memory s.code) s) h
 text_texts l c Interprets s k h = h
 text_texts l c (Selects node) s k h = h
+text_texts l c (Sees xt) s k h = h
 
 item_texts : {S : Type 0} (l : Laws) (c : Calls S) (o : Option (Item × Place)) (s : State S) → HasSoundSpace s
     → HasTexts (item_due c o s).state

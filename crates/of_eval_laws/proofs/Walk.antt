@@ -23,7 +23,7 @@ use Rattle.of_fcodes.specs.declared.codes.FCode.{FCode}
 use Rattle.of_fcodes.specs.declared.token_table.TokenEntry.{TokenEntry}
 use Rattle.of_fcodes.specs.Tokens.{entry_in}
 use Rattle.of_stream.specs.Targets.{landing, within_tokens}
-use Rattle.of_compile.specs.Words.{WordsState, is_debugging, is_word, numbered}
+use Rattle.of_compile.specs.Words.{is_debugging, is_word, numbered}
 use Rattle.of_flow.specs.declared.control.ControlWord.{ControlWord}
 use Rattle.of_flow.specs.declared.control.ControlWord.TheVariants as control
 use Rattle.of_flow.specs.declared.token.Token.{Token}

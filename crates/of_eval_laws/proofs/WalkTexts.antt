@@ -19,9 +19,9 @@ use Rattle.of_text.specs.declared.words.TextWord.TheVariants as text
 use Rattle.of_text.specs.Reading.{bytes_in}
 use Rattle.of_eval.specs.Acts.{WordAct, front_of}
 use Rattle.of_eval.specs.Executing.{plan_in}
-use Rattle.of_interpret.specs.TextActs.{Acts, AppendsAll, Interprets, Names, Says, Selects, Spells, TextAct}
+use Rattle.of_interpret.specs.TextActs.{Acts, AppendsAll, Interprets, Names, Says, Sees, Selects, Spells, TextAct}
 use Rattle.of_interpret.specs.TextWords.{call_act, compiling_act, found_act, literal_act, literal_taken, longest_string}
-use Rattle.of_interpret.specs.TextWords.{node_at, printed_act, quoted_bytes, recursing, roll_taken, selecting}
+use Rattle.of_interpret.specs.TextWords.{node_at, printed_act, quoted_bytes, recursing, roll_taken, seeing, selecting}
 use Rattle.of_interpret.specs.TextWords.{store_taken, stored_act, string_act, text_act, to_act, unless_long, with_found}
 use Rattle.of_state.specs.State.{State}
 use Rattle.of_eval_laws.specs.Frames.{is_text_end}
@@ -39,6 +39,7 @@ IsTextAct R T B s (Says bytes) = B bytes
 IsTextAct R T B s (Spells bytes es) = R.Appends s × B bytes
 IsTextAct R T B s Interprets = Unit {0}
 IsTextAct R T B s (Selects node) = Unit {0}
+IsTextAct R T B s (Sees xt) = R.Works (word.Dictionary dictionary.PrintWords)
 
 -- nothing is asked of them
 abbrev pub AnyBytes : List ℕ → Type 0
@@ -124,6 +125,11 @@ selecting_says : {S : Type 0} (R : Rules S) (T : Turns R) (B : List ℕ → Type
 selecting_says R T B (Ok node) s l = tt
 selecting_says R T B (Err t) s l = R.fails t l
 
+seeing_says : {S : Type 0} (R : Rules S) (T : Turns R) (B : List ℕ → Type 0) (r : Result Cell Throw) (s : State S)
+    → ThrowsListed r → R.Works (word.Dictionary dictionary.PrintWords) → IsTextAct R T B s (seeing r)
+seeing_says R T B (Ok xt) s l k = k
+seeing_says R T B (Err t) s l k = R.fails t l
+
 -- ---- words that serve while words are compiled
 
 recursing_works : {S : Type 0} (R : Rules S) (o : Option ℕ) (s : State S) → R.Appends s
@@ -176,7 +182,7 @@ text_acts R T B (text.Number r) s p m = with_found_works R r _ s m.said (λ x. l
 text_acts R T B (text.Defining d n) s p m = m.makes
 text_acts R T B (text.Tick r) s p m = with_found_works R r _ s m.said (λ x. pushed_works R x s.board.stack s)
 text_acts R T B (text.To r) s p m = to_works R r s p m.said m.appends
-text_acts R T B (text.See r) s p m = R.fails _ refl
+text_acts R T B (text.See r) s p m = seeing_says R T B r s m.said m.prints
 text_acts R T B (text.Device n) s p m =
     selecting_says R T B (node_at (bytes_in (latest_text s.flow.texts) n) s.board) s
     (node_listed (bytes_in (latest_text s.flow.texts) n) s.board)

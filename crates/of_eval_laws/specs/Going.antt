@@ -1,8 +1,8 @@
 -- Where control goes on, and what stays as it was: items of definitions, `execute` and `catch`, the end of an image,
 -- and an image that begins, a sentence a field (Forth 2012, 3.2.3.3, 6.1.0140, 6.1.1240, 6.1.1370, 6.1.1800, 6.2.0620,
 -- 6.2.0873, 9.6.1.0875; IEEE 1275-1994, 5.2.2.5, 5.3.3.1).
-use Rattle.std.specs.Prelude.{◌≡◌, ℕ, ◌<◌, ◌≤◌, Bool, true, false, List, [], ◌∷◌, ◌++◌, length, Some, None, Ok, Err}
-use Rattle.std.specs.Prelude.{is_some, ◌&&◌, not, if◌then◌else◌}
+use Rattle.std.specs.Prelude.{◌≡◌, ℕ, ◌<◌, ◌≤◌, true, false, List, [], ◌∷◌, ◌++◌, length, Some, None, Ok, Err}
+use Rattle.std.specs.Prelude.{if◌then◌else◌}
 use Rattle.of_cells.specs.declared.cells.Cell.{Cell}
 use Rattle.of_cells.specs.Arithmetic.{plus}
 use Rattle.of_code.specs.declared.item.Item.{Item}

@@ -32,6 +32,7 @@ structured_calls = record {
   element = λ e d. told_answer (element_told e d);
   semicolon = λ xt d. told_answer (semicolon_told xt d);
   abandon = abandoned_told;
+  cells = λ d. (flat_of d).code;
 }
 
 -- the state with its definitions as cells

@@ -4,16 +4,11 @@ use Rattle.of_stacks.specs.declared.return_item.Input.TheVariants as input
 use Rattle.of_format.specs.Pictured.{base_in}
 use Rattle.of_flow.specs.Texts.{latest_text}
 use Rattle.of_text.specs.declared.words.Found.{Found}
-use Rattle.of_text.specs.Names.{Names}
 use Rattle.of_text.specs.Reading.{text_read}
 use Rattle.of_eval.specs.Acts.{front_of}
-use Rattle.of_interpret.specs.TextActs.{text_acted, text_grows}
+use Rattle.of_interpret.specs.TextActs.{names_in, text_acted, text_grows}
 use Rattle.of_interpret.specs.TextWords.{text_act}
 use Rattle.of_state.specs.State.{Calls, Outcome, State}
-
--- where its names are looked up
-abbrev pub names_in : {S : Type 0} → State S → Names
-names_in s = record { nodes = s.board.tree; home = s.board.active.«package»; words = s.words.dictionary }
 
 -- the word at a position of the latest text, with the position behind it and what it parses
 abbrev pub word_at : {S : Type 0} → ℕ → State S → Found

@@ -9,9 +9,11 @@ use Rattle.of_compile.specs.Coding.{Coding}
 use Rattle.of_compile.specs.declared.defining.DefiningWord.{DefiningWord}
 use Rattle.of_compile.specs.declared.element.PlainItem.{PlainItem}
 use Rattle.of_compile.specs.Words.{WordsState}
-use Rattle.of_eval.specs.Acts.{Act}
+use Rattle.of_eval.specs.Acts.{Act, Prints}
 use Rattle.of_eval.specs.Naming.{naming_done}
-use Rattle.of_eval.specs.Doing.{act_grows, acted, appended, element_grows}
+use Rattle.of_eval.specs.Doing.{act_grows, acted, appended, element_grows, worked}
+use Rattle.of_see.specs.SeeText.{see_text}
+use Rattle.of_text.specs.Names.{Names as WordNames}
 use Rattle.of_interpret.specs.Strings.{all_appended, said, spelt}
 use Rattle.of_state.specs.State.{Calls, Ends, Halts, Outcome, State, done, flat_calls, with_compiling}
 
@@ -30,6 +32,16 @@ pub data TextAct : Type 0 where
   Interprets : TextAct
   -- a node is the active package from now on
   Selects : Phandle → TextAct
+  -- what the word of an execution token does is printed
+  Sees : Cell → TextAct
+
+-- where names are looked up
+abbrev pub names_in : {S : Type 0} → State S → WordNames
+names_in s = record { nodes = s.board.tree; home = s.board.active.«package»; words = s.words.dictionary }
+
+-- what `see` prints of the word of an execution token
+abbrev pub seen : {S : Type 0} → Calls S → Cell → State S → List ℕ
+seen c xt s = see_text (names_in s) s.board.memory (c.cells s.code) xt
 
 -- a node is the active package
 abbrev pub selected : {S : Type 0} → Phandle → State S → State S
@@ -44,6 +56,7 @@ text_acted c (Says bytes) s = said bytes s
 text_acted c (Spells bytes es) s = spelt c bytes es s
 text_acted c Interprets s = done (with_compiling false s)
 text_acted c (Selects node) s = done (selected node s)
+text_acted c (Sees xt) s = worked c (Prints (seen c xt s)) s
 
 -- whether one of these elements needs memory
 abbrev pub any_grows : List (Element PlainItem) → Bool
@@ -59,6 +72,7 @@ text_grows (Says bytes) w = false
 text_grows (Spells bytes es) w = true
 text_grows Interprets w = false
 text_grows (Selects node) w = false
+text_grows (Sees xt) w = true
 
 -- A call did what a word of a text comes to, or found no memory, which it asks for only where something grows.
 abbrev pub IsSpoken : {A : Type 0} → TextAct → State Coding → State Coding → Result A Stop → Type 0

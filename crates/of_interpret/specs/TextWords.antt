@@ -4,7 +4,7 @@ use Rattle.std.specs.Prelude.{ℕ, ◌==◌, ◌&&◌, nat_lt, not, Bool, List, 
 use Rattle.std.specs.Prelude.{Some, None, Result, Ok, Err, if◌then◌else◌}
 use Rattle.of_cells.specs.declared.cells.Cell.{Cell}
 use Rattle.of_stacks.specs.declared.throws.Throw.{Throw}
-use Rattle.of_stacks.specs.Throws.{bad_handle, compile_only, empty_name, invalid_argument, no_node, not_assigned}
+use Rattle.of_stacks.specs.Throws.{bad_handle, compile_only, empty_name, invalid_argument, no_node}
 use Rattle.of_stacks.specs.Throws.{stack_underflow}
 use Rattle.of_fcodes.specs.declared.console_words.CompilingWord.{CompilingWord}
 use Rattle.of_fcodes.specs.declared.console_words.CompilingWord.TheVariants as compiling
@@ -31,7 +31,7 @@ use Rattle.of_text.specs.Reading.{bytes_in}
 use Rattle.of_eval.specs.Acts.{Appends, Closes, Does, Ends, Fails, Front, Leaves, Prints, WordAct, keeping, leaving}
 use Rattle.of_eval.specs.Executing.{execution}
 use Rattle.of_eval.specs.Tokens.{appending}
-use Rattle.of_interpret.specs.TextActs.{Acts, AppendsAll, Interprets, Names, Says, Selects, Spells, TextAct}
+use Rattle.of_interpret.specs.TextActs.{Acts, AppendsAll, Interprets, Names, Says, Sees, Selects, Spells, TextAct}
 
 -- ---- in both states
 
@@ -113,6 +113,12 @@ abbrev pub selecting : Result Phandle Throw → TextAct
 selecting (Ok node) = Selects node
 selecting (Err t) = Acts (Does (Fails t))
 
+-- ---- `see`
+
+abbrev pub seeing : Result Cell Throw → TextAct
+seeing (Ok xt) = Sees xt
+seeing (Err t) = Acts (Does (Fails t))
+
 -- ---- words that serve while words are compiled
 
 abbrev pub only_compiling : Front → TextAct → TextAct
@@ -188,7 +194,7 @@ text_act (text.Number r) f = Acts (Does (with_found r (λ x. literal_act x f)))
 text_act (text.Defining d p) f = Names d (bytes_in (latest_text f.flow.texts) p)
 text_act (text.Tick r) f = Acts (Does (with_found r (λ xt. leaving (pushed xt f.board.stack))))
 text_act (text.To r) f = Acts (Does (to_act r f))
-text_act (text.See r) f = Acts (Does (Fails not_assigned))
+text_act (text.See r) f = seeing r
 text_act (text.Device p) f = selecting (node_at (bytes_in (latest_text f.flow.texts) p) f.board)
 text_act (text.Plain p) f = string_act (bytes_in (latest_text f.flow.texts) p) f
 text_act (text.Quoted at) f = string_act (quoted_bytes (latest_text f.flow.texts) at) f

@@ -5,6 +5,7 @@ mod compiling;
 mod laws;
 mod nodes;
 mod reading;
+mod seeing;
 mod strings;
 mod words;
 

@@ -12,6 +12,7 @@ ghost use Rattle.of_text.specs.Reading.{bytes_in};
 
 use crate::compiling::run_compiling;
 use crate::nodes::node_at;
+use crate::seeing::see;
 use crate::strings::{print_string, run_quoted, run_string};
 use of_asking::Halt;
 use of_cells::Cell;
@@ -156,7 +157,7 @@ pub(crate) fn run_word<C: CodeStore>(eval: &mut Eval<C>, word: TextWord) -> Resu
         TextWord::Defining(word, name) => Ok(define_named(eval, word, name)?),
         TextWord::Tick(found) => Ok(push_found(eval, found)?),
         TextWord::To(found) => Ok(run_to(eval, found)?),
-        TextWord::See(_) => Err(Halt::Thrown(Throw::NOT_ASSIGNED)),
+        TextWord::See(found) => Ok(see(eval, found)?),
         TextWord::Device(path) => Ok(select(eval, path)?),
         TextWord::Plain(string) => Ok(run_string(eval, string)?),
         TextWord::Quoted(at) => Ok(run_quoted(eval, at)?),

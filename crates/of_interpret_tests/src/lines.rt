@@ -45,6 +45,17 @@ dev /slot dev .. ls||d0000004 packages$d0000008 slot$
 dev /nothing||fault -259: no such node$
 dev slot||fault -259: no such node$
 dev||fault -16: zero-length name$
+see||fault -16: zero-length name$
+see nonsense||fault -13: undefined word$
+see DUP||primitive dup$
+5 constant c see c||constant c$
+5 value v see v||value v$
+variable v see v||variable v$
+create d see d||create d$
+defer x see x||defer x$
+8 buffer: q see q||buffer q$
+0 4 field a drop see a||field a$
+dev /slot 5 instance value w see w||slot per instance w$
 ";
 
 /// Definitions, some over several lines, which a `~` sets apart.
@@ -96,6 +107,133 @@ dev /slot : m 7 ; m device-end|7 |
 dev /slot : m 7 ; device-end m||fault -13: undefined word$
 dev /slot 7 constant m m device-end|7 |
 dev /slot 7 constant m device-end m||fault -13: undefined word$
+: t begin dup while 1- repeat ; see t 3 t .||: t begin dup if 1- again then ;$0 
+: t if 4 else 5 then ; see t||: t if h# 4 ahead [ h# 1 ] cs-roll then h# 5 then ;$
+: t if 1 else 2 then ; see t||: t if 1 ahead [ h# 1 ] cs-roll then 2 then ;$
+: sq dup * ; : t sq recurse ; see t||: t sq recurse ;$
+: t s\" a b\" type ; see t||: t \" a b\" type ;$
+: imm ; immediate : t [ ' imm compile, ] ; see t||: t [ h# c000052c compile, ] ;$
+5 value x : t to x ; see t||: t to x ;$
+: t [ see dup 1 ] literal ; t|1 |primitive dup$
+: \"x dup ; : t \"x ; see t||: t \"x ;$
+: 5 dup ; : t 5 ; see t||: t 5 ;$
+: Foo dup ; : t fOO ; see T||: t Foo ;$
+: a dup ; : t a ; : a drop ; see t||: t [ h# c000052c compile, ] ;$
+: a dup ; dev /slot : t a ; : a drop ; see t||: t [ h# c000052c compile, ] ;$
+5 value a : t to a ; 6 value a see t||: t [ h# c000052c ] to, ;$
+2 base ! : t 101 ; see t||: t h# 5 ;$
+d# 36 base ! : t zz ; see t||: t h# 50f ;$
+: t \" a\"(22)b\" ; see t||: t \" a\"(22)b\" ;$
+: t \" \"(01 7f)\" ; see t||: t \" \"(01)\"(7f)\" ;$
+: t \" \" ; see t||: t \" \" ;$
+: t begin if until then ; see t||: t begin if until then ;$
+: t case 1 of 2 endof endcase ; see t||: t 1 case of 2 endof endcase ;$
+: t case 1 of endof case endcase 3 of endof endcase ; see t||: t 1 case of endof case endcase 3 of endof endcase ;$
+: t case 3 of case 2 of endof endcase endof endcase ; see t||: t 3 case of 2 case of endof endcase endof endcase ;$
+: t if ahead [ 1 ] cs-roll then 4 then ; see t||: t if ahead [ h# 1 ] cs-roll then h# 4 then ;$
+: t do i leave loop ?do 4 +loop ; see t||: t do i leave loop ?do h# 4 +loop ;$
+";
+
+/// Words with each of their faults: those that serve only while words are compiled, executed as words and by their
+/// execution tokens; and defining words with no name, with one of 32 bytes, in a definition, and without their cells.
+const FAULTS: &str = "\
+' ; execute||fault -14: compile-only word$
+' if execute||fault -14: compile-only word$
+else||fault -14: compile-only word$
+' else execute||fault -14: compile-only word$
+then||fault -14: compile-only word$
+' then execute||fault -14: compile-only word$
+ahead||fault -14: compile-only word$
+' ahead execute||fault -14: compile-only word$
+begin||fault -14: compile-only word$
+' begin execute||fault -14: compile-only word$
+while||fault -14: compile-only word$
+' while execute||fault -14: compile-only word$
+repeat||fault -14: compile-only word$
+' repeat execute||fault -14: compile-only word$
+until||fault -14: compile-only word$
+' until execute||fault -14: compile-only word$
+again||fault -14: compile-only word$
+' again execute||fault -14: compile-only word$
+do||fault -14: compile-only word$
+' do execute||fault -14: compile-only word$
+?do||fault -14: compile-only word$
+' ?do execute||fault -14: compile-only word$
+loop||fault -14: compile-only word$
+' loop execute||fault -14: compile-only word$
++loop||fault -14: compile-only word$
+' +loop execute||fault -14: compile-only word$
+leave||fault -14: compile-only word$
+' leave execute||fault -14: compile-only word$
+case||fault -14: compile-only word$
+' case execute||fault -14: compile-only word$
+of||fault -14: compile-only word$
+' of execute||fault -14: compile-only word$
+endof||fault -14: compile-only word$
+' endof execute||fault -14: compile-only word$
+endcase||fault -14: compile-only word$
+' endcase execute||fault -14: compile-only word$
+recurse||fault -14: compile-only word$
+' recurse execute||fault -14: compile-only word$
+literal||fault -14: compile-only word$
+' literal execute||fault -14: compile-only word$
+[||fault -14: compile-only word$
+' [ execute||fault -14: compile-only word$
+cs-roll||fault -14: compile-only word$
+' cs-roll execute||fault -14: compile-only word$
+to,||fault -14: compile-only word$
+' to, execute||fault -14: compile-only word$
+['] dup||fault -14: compile-only word$
+' ['] execute||fault -14: compile-only word$
+' [char] execute||fault -14: compile-only word$
+]||fault -14: compile-only word$
+' ] execute||fault -14: compile-only word$
+immediate||fault -263: bad handle$
+: t [ recurse ] ;||fault -14: compile-only word$
+: t [ ;||fault -14: compile-only word$
+: t char a ;||fault -14: compile-only word$
+: t literal ;||fault -4: stack underflow$
+: t cs-roll ;||fault -4: stack underflow$
+: t to, ;||fault -4: stack underflow$
+: t ['] nonsense ;||fault -13: undefined word$
+: t [']||fault -16: zero-length name$
+: t to||fault -16: zero-length name$
+: t [char]||fault -16: zero-length name$
+: t to nonsense ;||fault -13: undefined word$
+: t nonsense ;||fault -13: undefined word$
+: t h# g ;||fault -13: undefined word$
+h#||fault -13: undefined word$
+d# a||fault -13: undefined word$
+d#||fault -13: undefined word$
+:||fault -16: zero-length name$
+: abcdefghijklmnopqrstuvwxyz012345||fault -19: name too long$
+: t : x||fault -29: compiler nesting$
+1 constant||fault -16: zero-length name$
+1 constant abcdefghijklmnopqrstuvwxyz012345||fault -19: name too long$
+: t constant x||fault -29: compiler nesting$
+constant x||fault -4: stack underflow$
+1 value||fault -16: zero-length name$
+1 value abcdefghijklmnopqrstuvwxyz012345||fault -19: name too long$
+: t value x||fault -29: compiler nesting$
+value x||fault -4: stack underflow$
+variable||fault -16: zero-length name$
+variable abcdefghijklmnopqrstuvwxyz012345||fault -19: name too long$
+: t variable x||fault -29: compiler nesting$
+create||fault -16: zero-length name$
+create abcdefghijklmnopqrstuvwxyz012345||fault -19: name too long$
+: t create x||fault -29: compiler nesting$
+defer||fault -16: zero-length name$
+defer abcdefghijklmnopqrstuvwxyz012345||fault -19: name too long$
+: t defer x||fault -29: compiler nesting$
+8 buffer:||fault -16: zero-length name$
+8 buffer: abcdefghijklmnopqrstuvwxyz012345||fault -19: name too long$
+: t buffer: x||fault -29: compiler nesting$
+buffer: x||fault -4: stack underflow$
+0 4 field||fault -16: zero-length name$
+0 4 field abcdefghijklmnopqrstuvwxyz012345||fault -19: name too long$
+: t field x||fault -29: compiler nesting$
+field x||fault -4: stack underflow$
+4 field x||fault -4: stack underflow$
 ";
 
 /// A string of so many bytes, with its word.
@@ -133,6 +271,12 @@ fn words(rt: HostRuntime) -> Result<(), Fail> {
 #[test]
 fn definitions(rt: HostRuntime) -> Result<(), Fail> {
     assert_eq!(rt; differing(rt.alloc(), DEFINITIONS)?.as_str(), "");
+    Ok(())
+}
+
+#[test]
+fn faults(rt: HostRuntime) -> Result<(), Fail> {
+    assert_eq!(rt; differing(rt.alloc(), FAULTS)?.as_str(), "");
     Ok(())
 }
 

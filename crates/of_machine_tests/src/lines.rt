@@ -67,6 +67,12 @@ s\" key\" evaluate .||out||key|
 0 1 evaluate||done|fault -9: invalid memory address$||
 1 evaluate||done|fault -4: stack underflow$||
 evaluate||done|fault -4: stack underflow$||
+: t [ evaluate ] ;||done|fault -29: compiler nesting$||
+' evaluate execute||done|fault -4: stack underflow$||
+: d ?dup if 1- recurse else s\" 1\" evaluate . then ; fc d||done|1 ||
+: d ?dup if 1- recurse else s\" 1\" evaluate . then ; fd d||done|fault -5: return stack overflow$||
+: d ?dup if 1- recurse else 0 1 evaluate then ; fe d||done|fault -9: invalid memory address$||
+: d ?dup if 1- recurse else 0 1 evaluate then ; ff d||done|fault -5: return stack overflow$||
 ";
 
 /// A line that is cut in every place; and behind these the same texts evaluated, which leave no definition open.
