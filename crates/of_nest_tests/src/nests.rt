@@ -1,7 +1,9 @@
 //! Nests of control words: the definition that a console line makes of one is done item by item as that which an image
-//! makes that is tokenized of the same words, with the same stack before each item.
+//! makes that is tokenized of the same words, and as that which a line makes of what `see` prints of it, with the same
+//! stack before each item.
 use of_code::ListCode;
 use of_machine::{Machine, Refusal, ScriptMachine};
+use of_see_runs::{printed_words_are_remade, see_reads_back};
 use of_source::parse;
 use of_tok::tokenize;
 use std::alloc::Global;
@@ -167,6 +169,27 @@ fn by_line(alloc: Global, nest: &str, numbers: &str) -> Result<String, Fail> {
     trace(alloc, &mut machine)
 }
 
+/// What `see` prints of the definition that a line makes of a nest.
+fn printed(alloc: Global, nest: &str) -> Result<String, Fail> {
+    let mut machine = new_machine(alloc)?;
+    let line = format!(in alloc; ": t {nest}; see t")?;
+    read(&mut machine, line.as_str())?;
+    machine.run(60)?;
+    let mut text = String::new(alloc);
+    let shown = std::str::from_utf8(machine.console()).unwrap_or("");
+    text.push_str(shown)?;
+    Ok(text)
+}
+
+/// What a line does that defines a nest anew, by what `see` prints of it, and runs it on these numbers.
+fn by_see(alloc: Global, nest: &str, numbers: &str) -> Result<String, Fail> {
+    let mut machine = new_machine(alloc)?;
+    let text = printed(alloc, nest)?;
+    let line = format!(in alloc; "{numbers} {text} t")?;
+    read(&mut machine, line.as_str())?;
+    trace(alloc, &mut machine)
+}
+
 /// The image of a source.
 fn image_of(alloc: Global, text: &str) -> Result<Vec<u8>, Fail> {
     let source = parse(alloc, text.as_bytes())?;
@@ -193,6 +216,8 @@ fn check_nest<R: Abort>(rt: &R, alloc: Global, nest: &str) -> Result<(), Fail> {
             read.as_str() == loaded.as_str(),
             "{nest}: {read}: {loaded}"
         );
+        let seen = by_see(alloc, nest, numbers)?;
+        assert!(rt; read.as_str() == seen.as_str(), "{nest}: {read}: {seen}");
     }
     Ok(())
 }
@@ -206,4 +231,11 @@ fn nests_are_done_alike(rt: HostRuntime) -> Result<(), Fail> {
         check_nest(&rt, rt.alloc(), nest.text.as_str())?;
     }
     Ok(())
+}
+
+/// The laws hold.
+#[test]
+fn laws() {
+    printed_words_are_remade();
+    see_reads_back();
 }
