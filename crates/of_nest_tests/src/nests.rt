@@ -1,6 +1,6 @@
 //! Nests of control words: the definition that a console line makes of one is done item by item as that which an image
-//! makes that is tokenized of the same words, and as that which a line makes of what `see` prints of it, with the same
-//! stack before each item.
+//! makes that is tokenized of the same words, with the same stack before each item; and, of nests of up to five words,
+//! as that which a line makes of what `see` prints of it.
 use of_code::ListCode;
 use of_machine::{Machine, Refusal, ScriptMachine};
 use of_see_runs::{printed_words_are_remade, see_reads_back};
@@ -216,7 +216,17 @@ fn check_nest<R: Abort>(rt: &R, alloc: Global, nest: &str) -> Result<(), Fail> {
             read.as_str() == loaded.as_str(),
             "{nest}: {read}: {loaded}"
         );
-        let seen = by_see(alloc, nest, numbers)?;
+    }
+    Ok(())
+}
+
+/// Sees that what `see` prints of a nest is done as the nest, on each stack.
+fn check_printed<R: Abort>(rt: &R, alloc: Global, nest: &str) -> Result<(), Fail> {
+    for numbers in STACKS {
+        let (read, seen) = (
+            by_line(alloc, nest, numbers)?,
+            by_see(alloc, nest, numbers)?,
+        );
         assert!(rt; read.as_str() == seen.as_str(), "{nest}: {read}: {seen}");
     }
     Ok(())
@@ -229,6 +239,18 @@ fn nests_are_done_alike(rt: HostRuntime) -> Result<(), Fail> {
     assert_eq!(rt; nests.len(), 6_949);
     for nest in &nests {
         check_nest(&rt, rt.alloc(), nest.text.as_str())?;
+    }
+    Ok(())
+}
+
+/// Those of up to five words.
+#[test]
+fn printed_nests_are_done_alike(rt: HostRuntime) -> Result<(), Fail> {
+    let nests = all_nests(rt.alloc())?;
+    for nest in &nests {
+        if nest.length <= 5 {
+            check_printed(&rt, rt.alloc(), nest.text.as_str())?;
+        }
     }
     Ok(())
 }
