@@ -8,8 +8,10 @@ use Rattle.of_memory.specs.declared.width.Width.TheVariants.{One}
 use Rattle.of_memory.specs.DataSpace.{DataSpace}
 use Rattle.of_memory.specs.Access.{read}
 use Rattle.of_compile.specs.Words.{WordsState}
-use Rattle.of_text.specs.Names.{Names, xt_named}
+use Rattle.of_text.specs.Names.{xt_named}
+use Rattle.of_console.specs.Names.{words_text}
 use Rattle.of_state.specs.State.{State}
+use Rattle.of_interpret.specs.TextActs.{names_in}
 
 -- the number that was read, if it was
 abbrev pub number_or_none : Result ℕ MemFault → Option ℕ
@@ -20,13 +22,13 @@ number_or_none (Err fault) = None
 abbrev pub byte_of : DataSpace → ℕ → Option ℕ
 byte_of m a = number_or_none (read One m a)
 
--- where names are looked up
-abbrev pub names_in : {S : Type 0} → State S → Names
-names_in s = record { nodes = s.board.tree; home = s.board.active.«package»; words = s.words.dictionary }
-
 -- the execution token that a name finds
 abbrev pub word_named : {S : Type 0} → State S → List ℕ → Option Cell
 word_named s name = xt_named (names_in s) name
+
+-- what `words` prints
+abbrev pub words_listed : {S : Type 0} → State S → List ℕ
+words_listed s = words_text s.board.tree s.board.active.«package» s.words.dictionary
 
 -- the execution token that an FCode names
 abbrev pub xt_numbered : WordsState → ℕ → Option Cell

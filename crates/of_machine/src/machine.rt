@@ -24,6 +24,7 @@ use of_stream::{Stream, open};
 use std::alloc::{AllocError, Global};
 use std::marker::Model;
 
+mod listings;
 mod views;
 
 /// How many bytes an image has at most: the size of the region that running images stand in.

@@ -1,7 +1,7 @@
 ghost use Rattle.std.specs.Prelude.{◌≡◌, length, map, reverse};
 ghost use Rattle.of_state.specs.Views.{items_of_word, next_item, next_token, next_word};
 ghost use Rattle.of_machine.specs.States.{is_running, reply_shown};
-ghost use Rattle.of_machine.specs.Views.{byte_of, word_named, xt_numbered};
+ghost use Rattle.of_machine.specs.Views.{byte_of, xt_numbered};
 
 use super::Machine;
 use of_asking::Query;
@@ -11,7 +11,6 @@ use of_code::{CodeStore, ItemPlace};
 use of_fcodes::FCode;
 use of_memory::Memory;
 use of_nodes::Tree;
-use of_text::Names;
 
 impl<C: CodeStore> Machine<C> {
     /// The cells of the data stack, the bottom first.
@@ -85,20 +84,6 @@ impl<C: CodeStore> Machine<C> {
         ensures { result ≡ is_running self.now }
     {
         self.eval.is_running()
-    }
-
-    /// The execution token of the word that a name finds, if there is one. The search order is the active package,
-    /// whose methods come first, then own words, the newest first, then the written words that a text has (IEEE
-    /// 1275-1994, 5.3.2 and 5.3.3.1; Forth 2012, 16.3.3). The case of ASCII letters doesn't count (Forth 2012, 3.4.2).
-    pub fn word(&self, name: &[u8]) -> Option<Cell>
-        ensures { result ≡ word_named self.now.eval name.now }
-    {
-        let names = Names {
-            tree: self.eval.tree(),
-            home: self.eval.active_package(),
-            words: self.eval.words(),
-        };
-        names.xt(name)
     }
 
     /// The execution token that an FCode names, if it is assigned.
