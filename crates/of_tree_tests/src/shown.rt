@@ -8,6 +8,7 @@ use of_console::{
     children_are_listed, devs_text, ls_text, properties_are_listed, properties_text, pwd_text,
     tree_text, values_are_shown,
 };
+use of_console_laws::{listings_are_lines, names_stay};
 use of_memory::Memory;
 use of_nodes::{NodeFault, Phandle, Tree};
 use std::alloc::{AllocError, Global};
@@ -19,6 +20,8 @@ const SLOT: Phandle = Phandle(Cell(0xd000_0008));
 #[test]
 fn laws_hold() {
     children_are_listed();
+    listings_are_lines();
+    names_stay();
     properties_are_listed();
     values_are_shown();
 }
