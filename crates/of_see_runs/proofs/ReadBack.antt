@@ -1,9 +1,10 @@
 -- What is printed of a definition, read again.
-use Rattle.std.proofs.Common.{◌≡◌, ℕ, zero, suc, ◌+◌, ◌==◌, Bool, true, false, nat_lt, List, [], ◌∷◌, ◌++◌, length}
-use Rattle.std.proofs.Common.{map, Option, Some, None, Result, Ok, Err, refl, ap, sym, ◌∙◌, subst, if◌then◌else◌}
+use Rattle.std.proofs.Common.{◌≡◌, ℕ, zero, suc, ◌+◌, ◌<◌, ◌≤◌, ◌==◌, Bool, true, false, nat_lt, List, [], ◌∷◌, ◌++◌}
+use Rattle.std.proofs.Common.{length, map, Option, Some, None, Result, Ok, Err, refl, ap, sym, ◌∙◌, subst, arith}
+use Rattle.std.proofs.Common.{if◌then◌else◌}
 use Rattle.std.specs.Option.{ok_or, option_map, option_or}
 use Rattle.std.specs.List.{cons_option}
-use Rattle.std.specs.Prelude.{drop, replicate, reverse}
+use Rattle.std.specs.Prelude.{codes, drop, replicate, reverse, take}
 use Rattle.std.proofs.lemmas.List.{append_assoc, append-nil, reverse-append}
 use Rattle.of_cells.specs.declared.cells.Cell.{Cell}
 use Rattle.of_stacks.specs.declared.return_item.Input.TheVariants as input
@@ -15,6 +16,7 @@ use Rattle.of_fcodes.specs.declared.console_words.ParsingWord.{ParsingWord}
 use Rattle.of_fcodes.specs.declared.console_words.ParsingWord.TheVariants as parsing
 use Rattle.of_fcodes.specs.declared.words.Word.{Word}
 use Rattle.of_fcodes.specs.declared.words.Word.TheVariants as word
+use Rattle.of_fcodes.specs.Finding.{FindsEachWord}
 use Rattle.of_fcodes.specs.Finding.{xt_of as written_xt}
 use Rattle.of_memory.specs.DataSpace.{DataSpace}
 use Rattle.of_scan.specs.Scan.{Rest, next_word, rest_at}
@@ -40,10 +42,12 @@ use Rattle.of_text.specs.Reading.{Named, compiling_read, found_in, name_behind, 
 use Rattle.of_text.specs.Reading.{word_or_end, written_read}
 use Rattle.of_see.specs.SeeItems.{Open, before_item, begins, case_if, cell_elements, cells_to_return, element_at}
 use Rattle.of_see.specs.SeeItems.{elements_from, ending, endings, item_elements, open_after}
-use Rattle.of_see.specs.SeeText.{definition_elements, definition_shown}
+use Rattle.of_see.specs.SeeText.{definition_elements, definition_shown, elements_shown, name_at, title}
 use Rattle.of_see_laws.specs.Finished.{PrintedDefinitionsHaveTheirBodies}
 use Rattle.of_see_laws.specs.ReadsBack.{compiled_in_order}
-use Rattle.of_see_laws.specs.Scanning.{AreRead, TextScansBack}
+use Rattle.of_see_laws.specs.Scanning.{AreRead, CompileAll, TextScansBack}
+use Rattle.of_eval.specs.Laws.{WordsAreExecuted}
+use Rattle.of_eval.specs.Naming.{naming_done}
 use Rattle.of_flow.specs.Texts.{latest_text}
 use Rattle.of_interpret.specs.Reading.{read_from}
 use Rattle.of_interpret.specs.TextActs.{names_in, text_acted}
@@ -51,11 +55,14 @@ use Rattle.of_interpret.specs.TextWords.{text_act}
 use Rattle.of_compile.specs.declared.defining.DefiningWord.TheVariants as defining
 use Rattle.of_text.specs.declared.words.Part.{Part}
 use Rattle.of_text.specs.Reading.{bytes_in, text_read}
-use Rattle.of_state.specs.State.{State}
+use Rattle.of_state.specs.State.{State, flat_calls}
 use Rattle.of_see_runs.proofs.Alike.{AreOnes, IsOne, bodies_alike}
-use Rattle.of_see_runs.proofs.Opening.{IsOpened, opens}
+use Rattle.of_see_runs.proofs.Going.{all, ends}
+use Rattle.of_see_runs.proofs.Opening.{IsOpened, opening_ends, opens, still_known}
 use Rattle.of_see_runs.proofs.Remaking.{split_read, step_done}
+use Rattle.of_see_runs.proofs.Words.{after}
 use Rattle.of_see_runs.specs.Alike.{FindTheSame, IsAgain, IsBefore, SeeReadsBack}
+use Rattle.of_see_runs.specs.Limits.{AreKnown, IsDoneOrFull, MayDefine, due}
 use Rattle.of_see_runs.specs.Remade.{AreDone, AreRemade, PrintedWordsAreRemade, remade, remade_plain, remade_xt}
 
 -- ---- what is printed has no targets
@@ -307,8 +314,16 @@ module _ (n now : Names) (same : FindTheSame n now) where
 
 -- behind `:` and the name
 record Begun (n : Names) (shown : List ℕ) (at : ℕ) (d : Definitions) (s t u : State Coding) (count : ℕ) : Type 0 where
-  opened : IsOpened n at (read_from at s) u
+  opened : IsOpened n (read_from at s) u
   steps : AreDone count u t
+
+-- what is read first, wherever names find the same
+read_first : (n : Names) (shown : List ℕ) (at : ℕ) (w : TextWord) (d : Definitions) (s : State Coding)
+    → ((base : Result ℕ Throw) → text_read n base shown 0 ≡ record { word = w; next = at }) → IsBefore n shown d s
+    → (base : Result ℕ Throw) → text_read (names_in s) base shown 0 ≡ record { word = w; next = at }
+read_first n shown at w d s read before base =
+    ap found_in (word_same n (names_in s) before.names (next_word (rest_at 0 (drop 0 shown))) base
+    (rest_at 0 (drop 0 shown))) ∙ read base
 
 begun : (n : Names) (shown : List ℕ) (at count : ℕ) (p : Part) (d : Definitions) (s t : State Coding)
     → ((base : Result ℕ Throw) → text_read n base shown 0
@@ -316,36 +331,83 @@ begun : (n : Names) (shown : List ℕ) (at count : ℕ) (p : Part) (d : Definiti
     → IsBefore n shown d s → AreDone (suc count) s t → (u : State Coding) × Begun n shown at d s t u count
 unfolding text_act text_acted
 begun n shown at count p d s t read before steps =
-    let now : (base : Result ℕ Throw) → text_read (names_in s) base shown 0
-    ≡ record { word = text.Defining defining.Colon p; next = at }
-    = λ base.
-    ap found_in (word_same n (names_in s) before.names (next_word (rest_at 0 (drop 0 shown))) base
-    (rest_at 0 (drop 0 shown))) ∙ read base in
+    let now = read_first n shown at (text.Defining defining.Colon p) d s read before in
     let done_so =
     step_done s steps.0 0 at shown (text.Defining defining.Colon p) before.reads before.text now steps.1 in (
       steps.0,
       record {
-        opened = opens (bytes_in (latest_text s.flow.texts) p) n at (read_from at s) steps.0 before.names done_so;
+        opened = opens (bytes_in (latest_text s.flow.texts) p) n (read_from at s) steps.0 before.names done_so;
         steps = steps.2;
       },
     )
 
+-- the name behind `:`
+name_behind_colon : (name a b c : List ℕ) → take (length name) (name ++ a ++ b ++ c) ≡ name
+name_behind_colon [] a b c = refl
+name_behind_colon (x ∷ name) a b c = ap (λ l. x ∷ l) (name_behind_colon name a b c)
+
+abbrev at_name : List ℕ → Part
+at_name name = record { begin = 2; end = 2 + length name }
+
+named_so : (n : Names) (m : DataSpace) (c : Code) (xt start : ℕ) (name : List ℕ) → name_at n.words xt ≡ Some name
+    → bytes_in (definition_shown n m c xt start) (at_name name) ≡ name
+named_so n m c xt start name named =
+    let elements = elements_shown n m xt (definition_elements c start) in
+    ap (λ o. bytes_in (codes ": " ++ title xt o ++ elements ++ codes " ;" ++ 10 ∷ []) (at_name name)) named
+    ∙ ap (λ k. take k (name ++ elements ++ codes " ;" ++ 10 ∷ [])) (omega arith)
+    ∙ name_behind_colon name elements (codes " ;") (10 ∷ [])
+
+-- `:` throws nothing but where a limit is met
+colon_ends : (name shown : List ℕ) (at : ℕ) (s : State Coding) → latest_text s.flow.texts ≡ shown
+    → bytes_in shown (at_name name) ≡ name → s.words.defining ≡ None → 0 < length name → length name ≤ 31
+    → IsDoneOrFull (after (text.Defining defining.Colon (at_name name)) (read_from at s))
+unfolding text_act text_acted
+colon_ends name shown at s texts bytes closed some short =
+    let name_is : bytes_in (latest_text s.flow.texts) (at_name name) ≡ name
+    = ap (λ l. bytes_in l (at_name name)) texts ∙ bytes in
+    subst (λ l. IsDoneOrFull (naming_done flat_calls defining.Colon l (read_from at s))) (sym name_is)
+    (opening_ends name (read_from at s) closed some short)
+
+-- whichever of its words were done, the next throws nothing but where a limit is met
+goes_on : WordsAreExecuted Coding → FindsEachWord → (n : Names) (m : DataSpace) (shown name : List ℕ) (self : ℕ)
+    (es : List Printed) (ws : List TextWord) (at end : ℕ) (d : Definitions) (s u : State Coding) (k : ℕ)
+    → ((base : Result ℕ Throw) → text_read n base shown 0
+    ≡ record { word = text.Defining defining.Colon (at_name name); next = at })
+    → bytes_in shown (at_name name) ≡ name → 0 < length name → AreRead n shown at ws end
+    → CompileAll shown m self es ws → IsBefore n shown d s → MayDefine name m es s → k < suc (length ws)
+    → AreDone k s u → IsDoneOrFull (due u)
+goes_on law found n m shown name self es ws at end d s u zero read named some reads compile before may l steps =
+    subst (λ x. IsDoneOrFull (due x)) steps
+    (ends s 0 at shown (text.Defining defining.Colon (at_name name)) before.reads before.text
+    (read_first n shown at (text.Defining defining.Colon (at_name name)) d s read before)
+    (colon_ends name shown at s before.text named may.closed some may.short))
+goes_on law found n m shown name self es ws at end d s u (suc k) read named some reads compile before may l steps =
+    let b = begun n shown at k (at_name name) d s u read before steps in
+    let o = b.1.opened in
+    all law found (length s.words.dictionary) self m shown es b.0 at end ws
+    (record { defines = o.defines; on = o.compiles; here = o.reads; texts = ap latest_text o.texts ∙ before.text })
+    (all_same n (names_in b.0) o.names shown at end ws reads) compile
+    (subst (λ l. AreKnown l m es) (sym o.words.1) (still_known s.words.dictionary o.words.0 m es may.known))
+    k u (omega (arith, l)) b.1.steps
+
 pub see_reads_back : PrintedDefinitionsHaveTheirBodies → TextScansBack → PrintedWordsAreRemade
-    → ClosedIsRead PlainItem 32 → CompiledIsFlat PlainItem 32 → SeeReadsBack
-see_reads_back printed scans made closed flat d newer older w es n m name finished has_body named one_word free so =
+    → ClosedIsRead PlainItem 32 → CompiledIsFlat PlainItem 32 → WordsAreExecuted Coding → FindsEachWord
+    → SeeReadsBack
+see_reads_back printed scans made closed flat law found d newer older w es n m name finished has_body named one_word
+    free so =
     let start = length (laid_all older) in
     let cells = cells_to_return (drop start (flat_of d).code.cells) in
     let elements = definition_elements (flat_of d).code start in
     let scan = scans n m (flat_of d).code w.xt.0 start name named one_word free so in
     let shown = definition_shown n m (flat_of d).code w.xt.0 start in
     let last = text.Compiling compiling.Semicolon ∷ text.End ∷ [] in
-    let part : Part = record { begin = 2; end = 2 + length name } in
+    let part = at_name name in
     let at = scan.2.0 in
     let count = length scan.0 in
     let read = split_read n shown at (length shown) scan.0 last scan.2.2 in
     let body =
     (closed.found (compiled_in_order elements) w.body).0 (printed.read d newer older w es finished has_body) in
-    let all : (now : Definitions) (s t : State Coding) → IsBefore n shown now s → AreDone (suc count) s t
+    let run : (now : Definitions) (s t : State Coding) → IsBefore n shown now s → AreDone (suc count) s t
     → (u : State Coding) × Begun n shown at now s t u count
     × AreRemade w.xt.0 (xt_of (length s.words.dictionary)) m elements u t
     × (t.flow.reading.input ≡ input.Text read.0)
@@ -360,10 +422,10 @@ see_reads_back printed scans made closed flat d newer older w es n m name finish
       suc count,
       record {
         defines = λ s t now before steps.
-            let a = all now s t before steps in
+            let a = run now s t before steps in
             words_kept w.xt.0 (xt_of (length s.words.dictionary)) m elements a.0 t a.2 ∙ a.1.opened.defines;
         compiled = λ s t now before steps.
-            let a = all now s t before steps in
+            let a = run now s t before steps in
             let new = xt_of (length s.words.dictionary) in
             let empty =
             a.1.opened.code ∙ before.code ∙ ap (λ l. coding_on (code_of now.finished) l) before.nothing in
@@ -375,8 +437,11 @@ see_reads_back printed scans made closed flat d newer older w es n m name finish
             (subst (λ l. AreOnes (IsAgain w.xt.0 new m) l g.elements) (append-nil (compiled_in_order elements)) g.alike)
             body in
             (g.elements, g.code, alike.body, (closed.found g.elements alike.body).1 alike.is_body, alike.alike);
+        limits = λ s u now k before may l steps.
+            goes_on law found n m shown name w.xt.0 elements scan.0 at read.0 now s u k scan.2.1
+            (named_so n m (flat_of d).code w.xt.0 start name named) one_word.0 read.1 scan.1 before may l steps;
         ended = λ s t now before steps.
-            let a = all now s t before steps in
+            let a = run now s t before steps in
             (read.0, read.2.0, a.3, read.2.1);
       },
     )

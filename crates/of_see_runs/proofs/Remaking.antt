@@ -47,11 +47,11 @@ use Rattle.of_see_runs.specs.Remade.{AreDone, AreRemade, Has, IsKept, IsRemade, 
 use Rattle.of_see_runs.specs.Remade.{left_as, position_in, remade, remade_xt}
 
 -- a state that compiles a definition, and reads a text from a position on
-record Ready (s : State Coding) (k at : ℕ) (shown : List ℕ) : Type 0 where
-  defines : s.words.defining ≡ Some k
-  on : s.flow.is_compiling ≡ true
-  here : s.flow.reading.input ≡ input.Text at
-  texts : latest_text s.flow.texts ≡ shown
+pub record Ready (s : State Coding) (k at : ℕ) (shown : List ℕ) : Type 0 where
+  pub defines : s.words.defining ≡ Some k
+  pub on : s.flow.is_compiling ≡ true
+  pub here : s.flow.reading.input ≡ input.Text at
+  pub texts : latest_text s.flow.texts ≡ shown
 
 -- ---- words behind others
 
@@ -120,9 +120,9 @@ left s t m end e =
     }
 
 -- an element is made again, and the text is read on
-record Made (self new : ℕ) (m : DataSpace) (e : Printed) (s t : State Coding) (end : ℕ) : Type 0 where
-  made : IsRemade self new m e s t
-  here : t.flow.reading.input ≡ input.Text end
+pub record Made (self new : ℕ) (m : DataSpace) (e : Printed) (s t : State Coding) (end : ℕ) : Type 0 where
+  pub made : IsRemade self new m e s t
+  pub here : t.flow.reading.input ≡ input.Text end
 
 -- by one word
 appended_alone : (s t : State Coding) (end : ℕ) (e : Element PlainItem)
@@ -132,15 +132,15 @@ appended_alone s t end e h = left s t s.board.memory end h.left
 -- ---- words in brackets
 
 -- what `[` and a number leave
-abbrev between : ℕ → Cell → State Coding → State Coding
+abbrev pub between : ℕ → Cell → State Coding → State Coding
 between at x s = with_stack (x ∷ s.board.stack) (with_compiling false (read_from at s))
 
-record Taken (s t : State Coding) (x : Cell) (n end : ℕ) (shown : List ℕ) (ws : List TextWord) : Type 0 where
-  at : ℕ
-  read : AreRead (names_in s) shown at ws end
-  is_done : AreDone n (between at x s) t
+pub record Taken (s t : State Coding) (x : Cell) (n end : ℕ) (shown : List ℕ) (ws : List TextWord) : Type 0 where
+  pub at : ℕ
+  pub read : AreRead (names_in s) shown at ws end
+  pub is_done : AreDone n (between at x s) t
 
-taken : (s t : State Coding) (k at n end : ℕ) (x : Cell) (shown : List ℕ) (ws : List TextWord) → Ready s k at shown
+pub taken : (s t : State Coding) (k at n end : ℕ) (x : Cell) (shown : List ℕ) (ws : List TextWord) → Ready s k at shown
     → AreRead (names_in s) shown at (taking x.0 ws) end → AreDone (suc (suc n)) s t → Taken s t x n end shown ws
 taken s t k at n end x shown ws ready r d =
     let first = with_compiling false (read_from r.0 s) in
@@ -389,7 +389,7 @@ module _ (law : WordsAreExecuted Coding) (found : FindsEachWord) where
     plain s t at end (P.Call xt) ws ready r d c = calls s t at end xt ws ready r d c
     plain s t at end (P.Store xt) ws ready r d c = stores s t at end xt ws ready r d c
 
-    element : (s t : State Coding) (at end : ℕ) (e : Printed) (ws : List TextWord) → Ready s k at shown
+    pub element : (s t : State Coding) (at end : ℕ) (e : Printed) (ws : List TextWord) → Ready s k at shown
         → AreRead (names_in s) shown at ws end → AreDone (length ws) s t → Compile shown m self e ws
         → Made self (xt_of k) m e s t end
     element s t at end (E.Plain i) ws ready r d c = plain s t at end i ws ready r d c
@@ -418,7 +418,7 @@ module _ (law : WordsAreExecuted Coding) (found : FindsEachWord) where
 
     -- ---- all of them
 
-    goes_on : (s u : State Coding) (e : Printed) (at mid : ℕ) → Ready s k at shown
+    pub goes_on : (s u : State Coding) (e : Printed) (at mid : ℕ) → Ready s k at shown
         → Made self (xt_of k) m e s u mid → Ready u k mid shown
     goes_on s u e at mid ready made = record {
       defines = ap (λ (x : State Coding). x.words.defining) made.made.kept ∙ ready.defines;

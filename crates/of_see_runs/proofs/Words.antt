@@ -85,7 +85,7 @@ alone : (r : Result (Unit {0}) Throw) (code : Coding)
 alone (Ok x) code = refl
 alone (Err t) code = refl
 
-one : (e : Element PlainItem) (code : Coding) → all_appended flat_calls (e ∷ []) code ≡ flat_calls.element e code
+pub one : (e : Element PlainItem) (code : Coding) → all_appended flat_calls (e ∷ []) code ≡ flat_calls.element e code
 one e code = alone (flat_calls.element e code).ended (flat_calls.element e code).code
 
 -- an act of a word, if it is done where a test passes
@@ -99,7 +99,7 @@ missed true x y z e h = absurd cc
 
 -- ---- while words are compiled
 
-controlled : (w : CompilingWord) (e : Element PlainItem) (f : Front) → text_elements w ≡ e ∷ []
+pub controlled : (w : CompilingWord) (e : Element PlainItem) (f : Front) → text_elements w ≡ e ∷ []
     → compiling_act w f ≡ control w f
 unfolding compiling_act
 controlled compiling.Semicolon e f h = absurd cc

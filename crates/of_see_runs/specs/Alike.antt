@@ -1,6 +1,6 @@
 -- What `see` prints of a definition, read again as a definition, is the definition again, up to the addresses of
 -- strings and with calls of itself as calls of itself (Forth 2012, 15.6.1.2194; IEEE 1275-1994, annex A, `see`).
-use Rattle.std.specs.Prelude.{◌≡◌, ℕ, List, [], ◌∷◌, ◌++◌, length, Some, Result}
+use Rattle.std.specs.Prelude.{◌≡◌, ◌<◌, ℕ, List, [], ◌∷◌, ◌++◌, length, Some, Result}
 use Rattle.of_cells.specs.declared.cells.Cell.{Cell}
 use Rattle.of_stacks.specs.declared.return_item.Input.TheVariants as input
 use Rattle.of_stacks.specs.declared.throws.Throw.{Throw}
@@ -16,6 +16,7 @@ use Rattle.of_control.specs.Items.{TestArm}
 use Rattle.of_control.specs.Law.{IsBodyIn}
 use Rattle.of_control.specs.Reading.{body_in}
 use Rattle.of_compile.specs.Coding.{Coding}
+use Rattle.of_compile.specs.declared.element.Element.{Element as Printed}
 use Rattle.of_compile.specs.declared.element.PlainItem.{PlainItem}
 use Rattle.of_compile.specs.declared.element.PlainItem.TheVariants as P
 use Rattle.of_compile.specs.Structured.{Definition, Definitions, flat_of, laid_all}
@@ -29,6 +30,7 @@ use Rattle.of_see.specs.SeeText.{bytes_or_none, definition_elements, definition_
 use Rattle.of_see_laws.specs.Scanning.{AreFree, AreShown, printing_names}
 use Rattle.of_interpret.specs.TextActs.{names_in}
 use Rattle.of_state.specs.State.{State}
+use Rattle.of_see_runs.specs.Limits.{IsDoneOrFull, MayDefine, due}
 use Rattle.of_see_runs.specs.Remade.{AreDone, remade_xt}
 
 -- ---- definitions that are alike
@@ -80,7 +82,8 @@ pub record IsBefore (n : Names) (shown : List ℕ) (d : Definitions) (s : State 
 
 -- The words of a printed definition before its `;`, of which there are `count`, read and done one behind the other
 -- without a throw, leave the next word open, with elements that have a body, whose items are those of the printed one.
-pub record IsReadBack (n : Names) (m : DataSpace) (shown : List ℕ) (w : Definition) (count : ℕ) : Type 0 where
+pub record IsReadBack (n : Names) (m : DataSpace) (shown name : List ℕ) (w : Definition) (es : List Printed) (count : ℕ)
+    : Type 0 where
   pub defines :
       (s t : State Coding) (d : Definitions) → IsBefore n shown d s → AreDone count s t
       → t.words.defining ≡ Some (length s.words.dictionary)
@@ -89,6 +92,10 @@ pub record IsReadBack (n : Names) (m : DataSpace) (shown : List ℕ) (w : Defini
       → (elements : List (Element PlainItem)) × (t.code ≡ flat_of (record d { elements = elements }))
       × (b : Body PlainItem) × (body_in 32 elements ≡ Some b)
       × AreAlike (IsAgain w.xt.0 (xt_of (length s.words.dictionary)) m) (items_of w.body) (items_of b)
+  -- where a definition may be begun, none of them throws but where a limit is met
+  pub limits :
+      (s u : State Coding) (d : Definitions) (k : ℕ) → IsBefore n shown d s → MayDefine name m es s → k < count
+      → AreDone k s u → IsDoneOrFull (due u)
   -- behind them stands `;`
   pub ended :
       (s t : State Coding) (d : Definitions) → IsBefore n shown d s → AreDone count s t
@@ -97,8 +104,8 @@ pub record IsReadBack (n : Names) (m : DataSpace) (shown : List ℕ) (w : Defini
       ≡ record { word = text.Compiling compiling.Semicolon; next = next })
 
 -- What is printed of a finished definition is read back as that definition, in every state in which names find what
--- they found when it was printed, if none of its words throws. Its body is one that some elements have, its name is one
--- word, no own word bears a name that `see` prints with, its numbers are cells, and its strings can be read.
+-- they found when it was printed, as far as the limits leave room. Its body is one that some elements have, its name is
+-- one word, no own word bears a name that `see` prints with, its numbers are cells, and its strings can be read.
 abbrev pub SeeReadsBack : Type 0
 SeeReadsBack =
     (d : Definitions) (newer older : List Definition) (w : Definition) (es : List (Element PlainItem)) (n : Names)
@@ -106,5 +113,6 @@ SeeReadsBack =
     → d.finished ≡ newer ++ w ∷ older → IsBodyIn 32 es w.body → name_at n.words w.xt.0 ≡ Some name → IsWord name
     → AreFree n printing_names
     → let start = length (laid_all older) in
-    AreShown m (definition_elements (flat_of d).code start)
-    → (count : ℕ) × IsReadBack n m (definition_shown n m (flat_of d).code w.xt.0 start) w count
+    let printed = definition_elements (flat_of d).code start in
+    AreShown m printed
+    → (count : ℕ) × IsReadBack n m (definition_shown n m (flat_of d).code w.xt.0 start) name w printed count

@@ -1,2 +1,3 @@
 pub mod Remade
+pub mod Limits
 pub mod Alike

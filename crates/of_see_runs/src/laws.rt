@@ -21,7 +21,8 @@ pub fn printed_words_are_remade()
 /// What `see` prints of a finished definition, read and done word by word, opens a definition and compiles into it
 /// elements that have a body, whose items are those of the printed one, with the same targets, up to the addresses of
 /// strings and with calls of itself as calls of itself; behind it stands `;`. It asks that names find there what they
-/// found when it was printed, and that none of the words throws.
+/// found when it was printed. Where no definition is open and the words that it names are words, none of its own words
+/// throws, unless the data stack, the words, the code or the data space have no room.
 pub fn see_reads_back()
     ensures { SeeReadsBack }
 {
@@ -30,4 +31,6 @@ pub fn see_reads_back()
     printed_words_are_remade();
     closed_is_read::<PlainItem, 32>();
     compiled_is_flat::<PlainItem, 32>();
+    words_are_executed();
+    written_words_are_found();
 }
