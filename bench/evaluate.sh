@@ -5,13 +5,7 @@
 # of a text itself does.
 # usage: bench/evaluate.sh
 set -euo pipefail
-top=$(cd "$(dirname "${BASH_SOURCE[0]}")/.." && pwd)
-program="$top/crates/ofw/out/ofw"
-folder=$(mktemp -d)
-trap 'rm -rf "$folder"' EXIT
-"$top/ofw" tok "$top/examples/card.fs" >/dev/null
-echo 'f10800000000000900' >"$folder/empty.hex"
-
+source "$(dirname "${BASH_SOURCE[0]}")/program.sh"
 source "$top/bench/callgrind.sh"
 source "$top/bench/timing.sh"
 

@@ -1,16 +1,10 @@
 #!/usr/bin/env bash
-# Prints what `see` takes of a long definition: instructions an item, as callgrind counts them. The definition is compiled
-# over many console lines, of plain items with an `if` in every ten, or of `begin`s and branches; a run that only defines
-# it is subtracted from one that prints it, too.
+# Prints what `see` takes of a long definition: instructions an item, as callgrind counts them. The definition is
+# compiled over many console lines, of plain items with an `if` in every ten, or of `begin`s and branches; a run that
+# only defines it is subtracted from one that prints it, too.
 # usage: bench/see.sh
 set -euo pipefail
-top=$(cd "$(dirname "${BASH_SOURCE[0]}")/.." && pwd)
-program="$top/crates/ofw/out/ofw"
-folder=$(mktemp -d)
-trap 'rm -rf "$folder"' EXIT
-"$top/ofw" tok "$top/examples/card.fs" >/dev/null
-echo 'f10800000000000900' >"$folder/empty.hex"
-
+source "$(dirname "${BASH_SOURCE[0]}")/program.sh"
 source "$top/bench/callgrind.sh"
 
 # KIND: words with ten items

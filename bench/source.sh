@@ -5,12 +5,7 @@
 # word of each is unknown, so that no image is made.
 # usage: bench/source.sh
 set -euo pipefail
-top=$(cd "$(dirname "${BASH_SOURCE[0]}")/.." && pwd)
-program="$top/crates/ofw/out/ofw"
-folder=$(mktemp -d)
-trap 'rm -rf "$folder"' EXIT
-"$top/ofw" tok "$top/examples/card.fs" >/dev/null
-
+source "$(dirname "${BASH_SOURCE[0]}")/program.sh"
 source "$top/bench/callgrind.sh"
 
 # COUNT TEXT: a text so many times

@@ -4,12 +4,7 @@
 # measured beside them, for the start of the process.
 # usage: bench/tokenize.sh
 set -euo pipefail
-top=$(cd "$(dirname "${BASH_SOURCE[0]}")/.." && pwd)
-program="$top/crates/ofw/out/ofw"
-folder=$(mktemp -d)
-trap 'rm -rf "$folder"' EXIT
-"$top/ofw" tok "$top/examples/card.fs" >/dev/null
-
+source "$(dirname "${BASH_SOURCE[0]}")/program.sh"
 source "$top/bench/timing.sh"
 source "$top/bench/callgrind.sh"
 

@@ -1,6 +1,6 @@
 //! Nests of control words: the definition that a console line makes of one is done item by item as that which an image
-//! makes that is tokenized of the same words, with the same stack before each item; and, of nests of up to five words,
-//! as that which a line makes of what `see` prints of it.
+//! makes that is tokenized of the same words, with the same stack before each item; what `see` prints of it makes a
+//! definition of which `see` prints the same; and, of nests of up to five words, one that is done item by item alike.
 use of_code::ListCode;
 use of_machine::{Machine, Refusal, ScriptMachine};
 use of_see_runs::{printed_words_are_remade, see_reads_back};
@@ -134,7 +134,7 @@ fn push_spot(text: &mut String, machine: &ScriptMachine) -> Result<(), Fail> {
     Ok(())
 }
 
-/// The items that are done, thirty at most, each with the stack before it.
+/// The items that are done, ten at most, each with the stack before it.
 fn trace(alloc: Global, machine: &mut ScriptMachine) -> Result<String, Fail> {
     let mut text = String::new(alloc);
     find_item(machine)?;
@@ -190,6 +190,21 @@ fn by_see(alloc: Global, nest: &str, numbers: &str) -> Result<String, Fail> {
     trace(alloc, &mut machine)
 }
 
+/// What `see` prints of the word `t`.
+fn seen(alloc: Global, machine: &ScriptMachine) -> Result<Vec<u8>, Fail> {
+    match machine.word(b"t") {
+        Some(xt) => Ok(machine.see(alloc, xt)?),
+        None => Ok(Vec::new(alloc)),
+    }
+}
+
+/// What `see` prints of the word `t` that a line makes.
+fn seen_behind(alloc: Global, machine: &mut ScriptMachine, line: &[u8]) -> Result<Vec<u8>, Fail> {
+    machine.line(line)?;
+    machine.run(60)?;
+    seen(alloc, machine)
+}
+
 /// The image of a source.
 fn image_of(alloc: Global, text: &str) -> Result<Vec<u8>, Fail> {
     let source = parse(alloc, text.as_bytes())?;
@@ -232,6 +247,22 @@ fn check_printed<R: Abort>(rt: &R, alloc: Global, nest: &str) -> Result<(), Fail
     Ok(())
 }
 
+/// Sees that what `see` prints of a nest makes a word more, of which it prints the same.
+fn check_again<R: Abort>(
+    rt: &R,
+    alloc: Global,
+    machine: &mut ScriptMachine,
+    nest: &str,
+) -> Result<(), Fail> {
+    let line = format!(in alloc; ": t {nest};")?;
+    let first = seen_behind(alloc, machine, line.as_bytes())?;
+    let made = machine.made();
+    let again = seen_behind(alloc, machine, &first)?;
+    assert_eq!(rt; machine.made(), made.saturating_add(1), "{nest}");
+    assert!(rt; first == again, "{nest}");
+    Ok(())
+}
+
 /// There are 6,949 of them, by the lengths of what stands behind each word.
 #[test]
 fn nests_are_done_alike(rt: HostRuntime) -> Result<(), Fail> {
@@ -252,6 +283,29 @@ fn printed_nests_are_done_alike(rt: HostRuntime) -> Result<(), Fail> {
             check_printed(&rt, rt.alloc(), nest.text.as_str())?;
         }
     }
+    Ok(())
+}
+
+/// All of them; a machine takes 2,000, since its code has room for so many.
+#[test]
+fn printed_nests_print_alike(rt: HostRuntime) -> Result<(), Fail> {
+    let mut machine = new_machine(rt.alloc())?;
+    for nest in all_nests(rt.alloc())? {
+        if machine.made() >= 4_000 {
+            machine = new_machine(rt.alloc())?;
+        }
+        check_again(&rt, rt.alloc(), &mut machine, nest.text.as_str())?;
+    }
+    Ok(())
+}
+
+/// The name of all of them is listed once.
+#[test]
+fn the_name_is_listed_once(rt: HostRuntime) -> Result<(), Fail> {
+    let mut machine = new_machine(rt.alloc())?;
+    check_again(&rt, rt.alloc(), &mut machine, "if then ")?;
+    check_again(&rt, rt.alloc(), &mut machine, "do loop ")?;
+    assert_eq!(rt; machine.words(rt.alloc())?.as_slice(), b"t \n".as_slice());
     Ok(())
 }
 
