@@ -1,5 +1,6 @@
 //! Sources as lines of text, and their images.
 
+use of_meaning::body_of_nest;
 use of_source::{Place, SourceFault, parse, place_in};
 use of_tok::{
     TokFault, header_is_the_sum, image_has_tokens, nests_end_at_their_places, passes_give_tokens,
@@ -166,5 +167,6 @@ fn laws(_rt: HostRuntime) -> Result<(), Fail> {
     image_has_tokens();
     nests_end_at_their_places();
     header_is_the_sum();
+    body_of_nest();
     Ok(())
 }
