@@ -50,7 +50,7 @@ laid_end image p h =
     (ap (λ n. (n + 15) / 16) (sym (length-drop p image))) (λ _. refl)
 
 -- where a token ends
-abbrev Rises : List ℕ → ℕ → ℕ → Type 0
+abbrev pub Rises : List ℕ → ℕ → ℕ → Type 0
 Rises image p q = (p < q) × (q ≤ length image)
 
 some_token : {A : Type 0} (a b : A) → Some a ≡ Some b → a ≡ b
@@ -68,7 +68,7 @@ rises_by law image p size (Some r) t q e h =
     let some : 0 < length own.0 = own.2.some in
     (omega (arith, at, whole, some, length-drop p image), omega (arith, at))
 
-rises : TokenStandsAlone → (image : List ℕ) (p : ℕ) (size : OffsetSize) (r : Token × ℕ)
+pub rises : TokenStandsAlone → (image : List ℕ) (p : ℕ) (size : OffsetSize) (r : Token × ℕ)
     → token_from image p size ≡ Some r → Rises image p r.1
 unfolding token_from
 rises law image p size r h = rises_by law image p size (decoded size (drop p image)) r.0 r.1 refl h

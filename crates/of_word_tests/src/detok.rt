@@ -1,8 +1,8 @@
 //! Listings that were worked out by hand from the bytes of images (IEEE 1275-1994, 5.2.2).
 use crate::rows::{Rows, check, check_cases, field, natural, word};
 use of_detok::{
-    DetokFault, Extras, bound_cuts_nothing, listing, listings_read_back, partial_listing,
-    read_listing,
+    DetokFault, Extras, bound_cuts_nothing, definitions, definitions_are_taken, listing,
+    listings_read_back, partial_listing, read_listing,
 };
 use of_stream::StreamFault;
 use std::alloc::{AllocError, Global};
@@ -372,6 +372,55 @@ fn faults(rt: HostRuntime) -> Result<(), Fail> {
     Ok(())
 }
 
+/// Images, behind a colon what of each makes words, and behind a second one what is wrong with it. The first have no
+/// words, where operands look like defining tokens, too; then each defining token comes once; a definition has such
+/// tokens within; offsets have one byte, and two behind `offset16`; images end in `end1`, and in the middle of a token;
+/// the last have no header.
+const DEFINITIONS: &str = "\
+f10800000000000900:f10800000000000900:None
+f108020a0000000da7a81e9d00:f108020a0000000d00:None
+f10800000000000010b7bbc2ca1202b7c211b7c308000801c2c000:f10800000000000000:None
+f108000000000000b50800b7a81ec200:f108000000000000b50800b7a81ec200:None
+f108000000000000a5b50800a6b6036162630801a7ca01780802cca800\
+:f108000000000000b50800ca036162630801ca01780802cc00:None
+f108000000000000b50800c0a5b8b50801b9b50802a5bab50803bbc0b50804bcb50805a7bdb50806a5a8be4600\
+:f108000000000000b50800bbb50801bbb50802bbb50803bbb50804bbb50805bbb50806bb00:None
+f108000000000000b50800b710c2c2c2c21202c2b711c2ca01c20801c30801b8b9babbbcbdbeb7ccc0c2c2a500\
+:f108000000000000b50800b710c2c2c2c21202c2b711c2ca01c20801c30801b8b9babbbcbdbeb7ccc0c200:None
+fd08000000000000b50800b71403a6b2c2a51402cca5140003b50801b7140004a6b2c200\
+:fd08000000000000b50800b71403a6b2c2ccb50801b7140004a6b2c200:None
+f208000000000000ca01610800b70800c20800ffb50801b7c200:f208000000000000ca01610800b70800c200:None
+f308000000000000b7c2b7:f308000000000000b7c2b700:Some(Ended(11))
+f108000000000000:f10800000000000000:Some(Ended(8))
+f108000000000000b50800b7a612056162:f108000000000000b50800b7a600:Some(Ended(13))
+f108000000000000b50800b910000000:f108000000000000b50800bb00:Some(Ended(12))
+f108000000000000a5b6036162:f10800000000000000:Some(Ended(9))
+f108000000000000b50800b708:f108000000000000b50800b700:Some(Ended(12))
+f1080000000000::Some(Short)
+::Some(Short)
+f008000000000000b50800b7c200::Some(Start0)
+00080000000000000000::Some(BadStart(0))
+";
+
+/// Images as their definitions.
+#[derive(Clone, Copy)]
+struct DefinitionRows;
+
+impl Rows for DefinitionRows {
+    fn holds(&mut self, alloc: Global, line: &str) -> Option<bool> {
+        let (digits, wanted) = line.split_once(':')?;
+        let image = hex::decode(alloc, digits).ok()?;
+        let (taken, fault) = definitions(alloc, &image).ok()?;
+        let digits = hex::encode(alloc, &taken).ok()?;
+        Some(format!(in alloc; "{digits}:{fault:?}").ok()?.as_str() == wanted)
+    }
+}
+
+#[test]
+fn images_as_definitions(rt: HostRuntime) {
+    check(&rt, rt.alloc(), &mut DefinitionRows, DEFINITIONS);
+}
+
 const ONE: &[u8] = &[0xf1, 0, 0, 0, 0, 0, 0, 9, 0];
 
 const ONE_LISTED: &[u8] = b"000000: f100000000000009  start1\n000008: 00  end0\n";
@@ -400,15 +449,29 @@ fn is_read_at_last(alloc: Global) -> bool {
     false
 }
 
+/// The same of the definitions of the image, which has none.
+fn is_taken_at_last(alloc: Global) -> bool {
+    for _ in 0..99 {
+        match definitions(alloc, ONE) {
+            Ok((image, fault)) => return image.as_slice() == ONE && fault == None,
+            Err(DetokFault::NoMemory) => {}
+            Err(DetokFault::Stream(_) | DetokFault::BadLine(_)) => return false,
+        }
+    }
+    false
+}
+
 #[test]
 fn refused_memory(rt: HostRuntime) {
     assert!(rt; is_listed_at_last(rt.alloc()));
     assert!(rt; is_read_at_last(rt.alloc()));
+    assert!(rt; is_taken_at_last(rt.alloc()));
 }
 
 /// The laws hold.
 #[test]
 fn laws() {
     bound_cuts_nothing();
+    definitions_are_taken();
     listings_read_back();
 }
