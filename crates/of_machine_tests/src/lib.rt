@@ -18,6 +18,8 @@ mod opening;
 #[cfg(test)]
 mod places;
 #[cfg(test)]
+mod printing;
+#[cfg(test)]
 mod questions;
 #[cfg(test)]
 mod racks;

@@ -175,7 +175,7 @@ fn left(alloc: Global, image: &str, text: &str, answers: &str) -> Result<String,
 }
 
 /// Lines behind an image that does nothing.
-struct LineRows;
+pub(crate) struct LineRows;
 
 impl Rows for LineRows {
     fn given<'a>(alloc: Global, line: &'a str) -> Result<(String, &'a str), Fail> {
@@ -186,7 +186,7 @@ impl Rows for LineRows {
 }
 
 /// Lines behind an image.
-struct ImageRows;
+pub(crate) struct ImageRows;
 
 impl Rows for ImageRows {
     fn given<'a>(alloc: Global, line: &'a str) -> Result<(String, &'a str), Fail> {
