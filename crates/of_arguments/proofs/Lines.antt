@@ -1,6 +1,6 @@
 -- What the lines of the usage text ask for.
 use Rattle.std.proofs.Common.{not, true≢false, cond, ◌==◌, ◌∷◌, [], codes, ◌≡◌, ◌∙◌, ℕ, Bool, List, Option, Some, None}
-use Rattle.std.proofs.Common.{true, false, arith, refl, sym, ap}
+use Rattle.std.proofs.Common.{true, false, arith, refl, sym, ap, unwrap_or}
 use Rattle.std.specs.Str.Parse.{digits_value, without_leading_plus}
 use Rattle.std.specs.Str.{bytes_eq}
 use Rattle.std.specs.Option.{option_map_or}
@@ -19,10 +19,11 @@ use Rattle.clap.specs.Words.{Text}
 use Rattle.clap.specs.declared.builder.value_parser.ValueParser.TheVariants as parser
 use Rattle.clap.proofs.ValueTestLemmas.{Accepts-accepts, accepts-Accepts}
 use Rattle.of_arguments.specs.CommandLine.{LinesAsk, is_plain, AsksToRun, AsksToList, AsksForLimit, number_in}
-use Rattle.of_arguments.specs.CommandLine.{ofw_app, run_app, AsksToExplain, AsksWith, plain_extras, AsksToKeep}
+use Rattle.of_arguments.specs.Asked.{a_run, no_appendix, standard}
+use Rattle.of_arguments.specs.CommandLine.{ofw_app, run_app, AsksToExplain, AsksWith, plain_tokens, AsksToKeep}
 use Rattle.of_arguments.specs.CommandLine.{AsksForCalls, AsksForTree, AsksToTokenize, AsksWithAnswers, AsksWithBoard}
-use Rattle.of_arguments.specs.CommandLine.{AsksWithLines, client_app}
-use Rattle.of_arguments.specs.CommandLine.{detok_app, tok_app}
+use Rattle.of_arguments.specs.CommandLine.{AsksForWords, AsksToSee, AsksWithLines, client_app, detok_app, tok_app}
+use Rattle.of_arguments.specs.declared.request.Listing.TheVariants as listing
 
 -- ---- a word that begins with no hyphen is no option
 
@@ -102,6 +103,10 @@ with_devices image = with_path (codes "image") (codes "board") image
 with_text : Text → Held
 with_text image = with_path (codes "image") (codes "lines") image
 
+-- of a run behind its image and `--see`
+with_name : Text → Held
+with_name image = with_path (codes "image") (codes "see") image
+
 -- of a client behind its image and `--calls`
 with_client : Text → Held
 with_client image = with_path (codes "image") (codes "calls") image
@@ -168,16 +173,42 @@ lines_pass : (image : Text) (b : ℕ) (rest : Text) → (b == 45) ≡ false
     → word_fault run_shape [] false (option (codes "lines")) (b ∷ rest) (with_text image) ≡ []
 lines_pass image b rest e = word_has_no_fault run_shape b rest (with_text image) e
 
+name_met : (image : Text) (b : ℕ) (rest : Text) → (b == 45) ≡ false
+    → word_met run_shape.rules [] false (option (codes "see")) 2 (b ∷ rest) (with_name image)
+    ≡ plain_word run_shape.rules (option (codes "see")) (b ∷ rest) (with_name image)
+name_met image b rest e = word_is_plain run_shape.rules (option (codes "see")) 2 b rest (with_name image) e
+
+name_passes : (image : Text) (b : ℕ) (rest : Text) → (b == 45) ≡ false
+    → word_fault run_shape [] false (option (codes "see")) (b ∷ rest) (with_name image) ≡ []
+name_passes image b rest e = word_has_no_fault run_shape b rest (with_name image) e
+
 limit_passes : (image : Text) (b : ℕ) (rest : Text) → (b == 45) ≡ false
     → word_fault run_shape [] false (option (codes "limit")) (b ∷ rest) (with_image image) ≡ []
 limit_passes image b rest e = word_has_no_fault run_shape b rest (with_image image) e
 
 -- ---- the lines
 
+-- behind an image, alone or with a flag, nothing else can be wrong
+image_alone : (k : Kinds) → k ≡ [] → or_else (or_else (or_else (or_else k []) []) []) [] ≡ []
+image_alone k e = ap (λ (x : Kinds). or_else (or_else (or_else (or_else x []) []) []) []) e
+
+-- nor behind an image, an option and its value
+image_and_value : (k l : Kinds) → k ≡ [] → l ≡ []
+    → or_else (or_else (or_else (or_else k []) (or_else (or_else l []) [])) []) [] ≡ []
+image_and_value k l e f = rw (e, f) refl
+
+-- nor where the value is a number that is taken
+image_and_number : (k l m : Kinds) (t : Bool) → k ≡ [] → l ≡ [] → t ≡ true
+    → or_else (or_else (or_else (or_else k []) (or_else (or_else l []) [])) (or_else (or_else (cond t [] m) []) [])) []
+    ≡ []
+image_and_number k l m t e f g = rw (e, f, g) refl
+
 runs : (program : Text) (b : ℕ) (rest : Text) → (b == 45) ≡ false → AsksToRun program (b ∷ rest)
 unfolding clap_on_literals run_shape
-runs program b rest e =
-    (rw (image_met run_shape b rest e) refl, rw (image_met run_shape b rest e, image_passes run_shape b rest e) refl)
+runs program b rest e = (
+  rw (image_met run_shape b rest e) refl,
+  rw (image_met run_shape b rest e) (image_alone _ (image_passes run_shape b rest e)),
+)
 
 lists : (program : Text) (b : ℕ) (rest : Text) → (b == 45) ≡ false → AsksToList program (b ∷ rest)
 unfolding clap_on_literals detok_shape
@@ -186,10 +217,6 @@ lists program b rest e = (
   rw (image_met detok_shape b rest e, image_passes detok_shape b rest e)
       refl,
 )
-
--- behind an image and a flag nothing else can be wrong
-image_alone : (k : Kinds) → k ≡ [] → or_else (or_else (or_else (or_else k []) []) []) [] ≡ []
-image_alone k e = ap (λ (x : Kinds). or_else (or_else (or_else (or_else x []) []) []) []) e
 
 explained : (program : Text) (b : ℕ) (rest : Text) → (b == 45) ≡ false → AsksToExplain program (b ∷ rest)
 unfolding clap_on_literals run_shape
@@ -205,8 +232,15 @@ treed program b rest e = (
   rw (image_met run_shape b rest e) (image_alone _ (image_passes run_shape b rest e)),
 )
 
+worded : (program : Text) (b : ℕ) (rest : Text) → (b == 45) ≡ false → AsksForWords program (b ∷ rest)
+unfolding clap_on_literals run_shape
+worded program b rest e = (
+  rw (image_met run_shape b rest e) refl,
+  rw (image_met run_shape b rest e) (image_alone _ (image_passes run_shape b rest e)),
+)
+
 with_names : (program : Text) (b : ℕ) (rest : Text) → (b == 45) ≡ false
-    → AsksWith program (b ∷ rest) (codes "--names") (record { names = true; indents = false }) false
+    → AsksWith program (b ∷ rest) (codes "--names") (listing.Tokens (record { names = true; indents = false })) false
 unfolding clap_on_literals detok_shape
 with_names program b rest e = (
   rw (image_met detok_shape b rest e) refl,
@@ -214,7 +248,7 @@ with_names program b rest e = (
 )
 
 with_indents : (program : Text) (b : ℕ) (rest : Text) → (b == 45) ≡ false
-    → AsksWith program (b ∷ rest) (codes "--indent") (record { names = false; indents = true }) false
+    → AsksWith program (b ∷ rest) (codes "--indent") (listing.Tokens (record { names = false; indents = true })) false
 unfolding clap_on_literals detok_shape
 with_indents program b rest e = (
   rw (image_met detok_shape b rest e) refl,
@@ -222,9 +256,17 @@ with_indents program b rest e = (
 )
 
 with_part : (program : Text) (b : ℕ) (rest : Text) → (b == 45) ≡ false
-    → AsksWith program (b ∷ rest) (codes "--partial") plain_extras true
+    → AsksWith program (b ∷ rest) (codes "--partial") plain_tokens true
 unfolding clap_on_literals detok_shape
 with_part program b rest e = (
+  rw (image_met detok_shape b rest e) refl,
+  rw (image_met detok_shape b rest e, image_passes detok_shape b rest e) refl,
+)
+
+with_definitions : (program : Text) (b : ℕ) (rest : Text) → (b == 45) ≡ false
+    → AsksWith program (b ∷ rest) (codes "--see") listing.Definitions false
+unfolding clap_on_literals detok_shape
+with_definitions program b rest e = (
   rw (image_met detok_shape b rest e) refl,
   rw (image_met detok_shape b rest e, image_passes detok_shape b rest e) refl,
 )
@@ -262,7 +304,7 @@ unfolding clap_on_literals run_shape with_run with_path
 answered program b rest d name e f = (
   rw (image_met run_shape b rest e, answers_met (b ∷ rest) d name f) refl,
   rw (image_met run_shape b rest e, answers_met (b ∷ rest) d name f)
-      (rw (image_passes run_shape b rest e) (rw (answers_pass (b ∷ rest) d name f) refl)),
+      (image_and_value _ _ (image_passes run_shape b rest e) (answers_pass (b ∷ rest) d name f)),
 )
 
 boarded : (program : Text) (b : ℕ) (rest : Text) (d : ℕ) (name : Text) → (b == 45) ≡ false → (d == 45) ≡ false
@@ -271,7 +313,7 @@ unfolding clap_on_literals run_shape with_devices with_path
 boarded program b rest d name e f = (
   rw (image_met run_shape b rest e, board_met (b ∷ rest) d name f) refl,
   rw (image_met run_shape b rest e, board_met (b ∷ rest) d name f)
-      (rw (image_passes run_shape b rest e) (rw (board_passes (b ∷ rest) d name f) refl)),
+      (image_and_value _ _ (image_passes run_shape b rest e) (board_passes (b ∷ rest) d name f)),
 )
 
 lined : (program : Text) (b : ℕ) (rest : Text) (d : ℕ) (name : Text) → (b == 45) ≡ false → (d == 45) ≡ false
@@ -280,7 +322,16 @@ unfolding clap_on_literals run_shape with_text with_path
 lined program b rest d name e f = (
   rw (image_met run_shape b rest e, lines_met (b ∷ rest) d name f) refl,
   rw (image_met run_shape b rest e, lines_met (b ∷ rest) d name f)
-      (rw (image_passes run_shape b rest e) (rw (lines_pass (b ∷ rest) d name f) refl)),
+      (image_and_value _ _ (image_passes run_shape b rest e) (lines_pass (b ∷ rest) d name f)),
+)
+
+seen : (program : Text) (b : ℕ) (rest : Text) (d : ℕ) (name : Text) → (b == 45) ≡ false → (d == 45) ≡ false
+    → AsksToSee program (b ∷ rest) (d ∷ name)
+unfolding clap_on_literals run_shape with_name with_path
+seen program b rest d name e f = (
+  rw (image_met run_shape b rest e, name_met (b ∷ rest) d name f) refl,
+  rw (image_met run_shape b rest e, name_met (b ∷ rest) d name f)
+      (image_and_value _ _ (image_passes run_shape b rest e) (name_passes (b ∷ rest) d name f)),
 )
 
 -- a number in the range of limits is one of 64 bits
@@ -296,9 +347,11 @@ limits : (program : Text) (b : ℕ) (rest : Text) (d : ℕ) (digits : Text) → 
     → is_unsigned_in 0 1000000000 (d ∷ digits) ≡ true → AsksForLimit program (b ∷ rest) (d ∷ digits)
 unfolding clap_on_literals run_shape with_image with_path
 limits program b rest d digits e f number = (
-  rw (image_met run_shape b rest e, limit_met (b ∷ rest) d digits f) (rw (limit_read (d ∷ digits) number) refl),
   rw (image_met run_shape b rest e, limit_met (b ∷ rest) d digits f)
-      (rw (image_passes run_shape b rest e) (rw (limit_passes (b ∷ rest) d digits f) (rw number refl))),
+      (ap (λ (n : Option ℕ). Some (a_run (b ∷ rest) None standard (unwrap_or n 1000000) no_appendix false))
+      (limit_read (d ∷ digits) number)),
+  rw (image_met run_shape b rest e, limit_met (b ∷ rest) d digits f)
+      (image_and_number _ _ _ _ (image_passes run_shape b rest e) (limit_passes (b ∷ rest) d digits f) number),
 )
 
 hyphenless : (b : ℕ) → not (b == 45) ≡ true → (b == 45) ≡ false
@@ -316,16 +369,19 @@ lines_ask program (b ∷ rest) e = (
   tokenizes program b rest (hyphenless b e),
   explained program b rest (hyphenless b e),
   treed program b rest (hyphenless b e),
+  worded program b rest (hyphenless b e),
   (
     with_names program b rest (hyphenless b e),
     with_indents program b rest (hyphenless b e),
     with_part program b rest (hyphenless b e),
+    with_definitions program b rest (hyphenless b e),
   ),
   kept,
   called,
   with_answers,
   with_board,
   with_lines,
+  with_seen,
   limited,
 )
   where
@@ -348,6 +404,10 @@ lines_ask program (b ∷ rest) e = (
     with_lines : (lines : Text) → is_plain lines ≡ true → AsksWithLines program (b ∷ rest) lines
     with_lines [] f = absurd (true≢false (sym f))
     with_lines (d ∷ name) f = lined program b rest d name (hyphenless b e) (hyphenless d f)
+
+    with_seen : (name : Text) → is_plain name ≡ true → AsksToSee program (b ∷ rest) name
+    with_seen [] f = absurd (true≢false (sym f))
+    with_seen (d ∷ name) f = seen program b rest d name (hyphenless b e) (hyphenless d f)
 
     limited : (limit : Text) → is_plain limit ≡ true → is_unsigned_in 0 1000000000 limit ≡ true
         → AsksForLimit program (b ∷ rest) limit

@@ -1,8 +1,9 @@
 -- What a command line asks for, whatever its words.
-use Rattle.std.specs.Prelude.{Bool, ℕ, List, Option}
+use Rattle.std.specs.Prelude.{Bool, ℕ, List, Option, None, false}
 use Rattle.std.specs.Borrow.{Bor}
 use Rattle.std.specs.Option.{option_map}
-use Rattle.of_detok.specs.declared.notes.Extras.{Extras}
+use Rattle.of_arguments.specs.declared.request.Listing.{Listing}
+use Rattle.of_arguments.specs.declared.request.Listings.{Listings}
 use Rattle.of_arguments.specs.declared.request.Outside.{Outside}
 use Rattle.of_arguments.specs.declared.request.Outside.TheVariants as outside
 use Rattle.of_arguments.specs.declared.request.Request.{Request}
@@ -15,16 +16,25 @@ pub data Outsiders : Type 0 where
   answers_of : List ℕ → Outsiders
   board_of : List ℕ → Outsiders
 
+-- what is printed behind what a run prints: the device tree, the words, and the word of this name
+pub record Appendix : Type 0 where
+  pub tree : Bool
+  pub words : Bool
+  pub see : Option (List ℕ)
+
+-- nothing of these
+abbrev pub no_appendix : Appendix
+no_appendix = record { tree = false; words = false; see = None }
+
 -- the run of the image at a path, and of the console lines of a file, if there is one, with what answers its questions,
--- for so many steps at most, and whether the device tree is printed then, and its end explained; the same but for the
--- tree, and then the calls of a client that a further file has; the image of the source at a path, to be printed or to
--- be written to a file; or the listing of the image at a path, with what it says beyond names and operands, and whether
--- it is printed up to what is wrong
+-- for so many steps at most, what is printed then, and whether its end is explained; the same with nothing printed
+-- then, but the calls of a client that a further file has; the image of the source at a path, to be printed or to be
+-- written to a file; or the listing of the image at a path, what is listed, and whether it is up to what is wrong
 pub data Asked : Type 0 where
-  a_run : List ℕ → Option (List ℕ) → Outsiders → ℕ → Bool → Bool → Asked
+  a_run : List ℕ → Option (List ℕ) → Outsiders → ℕ → Appendix → Bool → Asked
   client_calls : List ℕ → List ℕ → Option (List ℕ) → Outsiders → ℕ → Bool → Asked
   an_image : List ℕ → Option (List ℕ) → Asked
-  a_listing : List ℕ → Extras → Bool → Asked
+  a_listing : List ℕ → Listing → Bool → Asked
 
 -- what answers
 abbrev pub shown : Outside → Outsiders
@@ -32,14 +42,19 @@ shown outside.Standard = standard
 shown (outside.Answers path) = answers_of path.now
 shown (outside.Board path) = board_of path.now
 
--- the text of a path, if there is one
+-- the text of a path or a name, if there is one
 abbrev pub path_of : Option (Bor (List ℕ)) → Option (List ℕ)
 path_of path = option_map (λ text. text.now) path
 
+-- what is printed behind
+abbrev pub appendix_of : Listings → Appendix
+appendix_of l = record { tree = l.tree; words = l.words; see = path_of l.see }
+
 -- what a request asks for
 abbrev pub asked : Request → Asked
-asked (request.Run image lines o limit tree explain) = a_run image.now (path_of lines) (shown o) limit tree explain
+asked (request.Run image lines o limit listings explain) =
+    a_run image.now (path_of lines) (shown o) limit (appendix_of listings) explain
 asked (request.Client image calls lines o limit explain) =
     client_calls image.now calls.now (path_of lines) (shown o) limit explain
 asked (request.Tok source output) = an_image source.now (path_of output)
-asked (request.Detok image extras partial) = a_listing image.now extras partial
+asked (request.Detok image listing partial) = a_listing image.now listing partial

@@ -1,6 +1,6 @@
 -- What a command line asks for, in the terms of the parser of command lines: an application has rules
 -- for its words, and a parse gives rows of values that it found.
-use Rattle.std.specs.Prelude.{◌≡◌, ◌==◌, ◌∷◌, [], not, Bool, ℕ, List, false, Option, Some, None, true, codes}
+use Rattle.std.specs.Prelude.{◌≡◌, ◌==◌, ◌∷◌, ◌||◌, [], not, Bool, ℕ, List, false, Option, Some, None, true, codes}
 use Rattle.std.specs.Prelude.{option_map, option_and_then, unwrap_or, if◌then◌else◌}
 use Rattle.std.specs.Str.{bytes_eq}
 use Rattle.std.specs.Str.Parse.{digits_value, without_leading_plus}
@@ -12,8 +12,10 @@ use Rattle.clap.specs.declared.builder.command.Command.TheViews.{out-Command}
 use Rattle.clap.specs.declared.builder.action.ArgAction.TheVariants.{Set, SetTrue}
 use Rattle.clap.specs.declared.builder.value_parser.ValueParser.TheVariants as value
 use Rattle.of_detok.specs.declared.notes.Extras.{Extras}
-use Rattle.of_arguments.specs.Asked.{Asked, Outsiders, a_run, an_image, a_listing, answers_of, board_of}
-use Rattle.of_arguments.specs.Asked.{client_calls, standard}
+use Rattle.of_arguments.specs.declared.request.Listing.{Listing}
+use Rattle.of_arguments.specs.declared.request.Listing.TheVariants as listing
+use Rattle.of_arguments.specs.Asked.{Appendix, Asked, Outsiders, a_run, an_image, a_listing, answers_of, board_of}
+use Rattle.of_arguments.specs.Asked.{client_calls, no_appendix, standard}
 
 -- ---- the command line
 
@@ -38,7 +40,7 @@ limit_rule = record (new_rule (codes "limit")) {
   parser = Some (value.Unsigned 0 1000000000);
 }
 
--- an option with a value that is the path of a file, by its name behind two hyphens
+-- an option with a value, by its name behind two hyphens
 abbrev pub option_rule : Text → Rule
 option_rule name = record (new_rule name) { long = Some name; value_names = 1; action = Some Set }
 
@@ -58,11 +60,21 @@ answers_rule = option_rule (codes "answers")
 abbrev pub board_rule : Rule
 board_rule = option_rule (codes "board")
 
--- `run IMAGE [--lines FILE] [--answers FILE | --board FILE] [--limit N] [--tree] [--explain]`
+-- `--see NAME`
+abbrev pub see_rule : Rule
+see_rule = option_rule (codes "see")
+
+-- `run IMAGE [--lines FILE] [--answers FILE | --board FILE] [--limit N]`
+abbrev pub running_app : App
+running_app =
+    with_rule (with_rule (with_rule (with_rule (with_rule (new_app (codes "run")) image_rule) lines_rule) answers_rule)
+    board_rule) limit_rule
+
+-- `run IMAGE [--lines FILE] [--answers FILE | --board FILE] [--limit N] [--tree] [--words] [--see NAME] [--explain]`
 abbrev pub run_app : App
 run_app =
-    with_rule (with_rule (with_rule (with_rule (with_rule (with_rule (with_rule (new_app (codes "run")) image_rule)
-    lines_rule) answers_rule) board_rule) limit_rule) (flag_rule (codes "tree"))) (flag_rule (codes "explain"))
+    with_rule (with_rule (with_rule (with_rule running_app (flag_rule (codes "tree"))) (flag_rule (codes "words")))
+    see_rule) (flag_rule (codes "explain"))
 
 -- `--calls FILE`
 abbrev pub calls_rule : Rule
@@ -82,11 +94,11 @@ output_rule = option_rule (codes "output")
 abbrev pub tok_app : App
 tok_app = with_rule (with_rule (new_app (codes "tok")) source_rule) output_rule
 
--- `detok IMAGE [--names] [--indent] [--partial]`
+-- `detok IMAGE [[--names] [--indent] | --see] [--partial]`
 abbrev pub detok_app : App
 detok_app =
-    with_rule (with_rule (with_rule (with_rule (new_app (codes "detok")) image_rule) (flag_rule (codes "names")))
-    (flag_rule (codes "indent"))) (flag_rule (codes "partial"))
+    with_rule (with_rule (with_rule (with_rule (with_rule (new_app (codes "detok")) image_rule)
+    (flag_rule (codes "names"))) (flag_rule (codes "indent"))) (flag_rule (codes "see"))) (flag_rule (codes "partial"))
 
 -- the application refuses a line with no subcommand
 abbrev pub needing_subcommand : App → App
@@ -130,6 +142,22 @@ has_flag name rows = is_true (first_of name rows)
 abbrev pub extras_in : List Row → Extras
 extras_in rows = record { names = has_flag (codes "names") rows; indents = has_flag (codes "indent") rows }
 
+-- what is to be listed: the definitions, or the tokens with what is said of them; nothing, where both are asked for
+abbrev pub listing_of : Bool → Extras → Option Listing
+listing_of false e = Some (listing.Tokens e)
+listing_of true e = if e.names || e.indents then None else Some listing.Definitions
+
+abbrev pub listing_in : List Row → Option Listing
+listing_in rows = listing_of (has_flag (codes "see") rows) (extras_in rows)
+
+-- what is to be printed behind what a run prints
+abbrev pub appendix_in : List Row → Appendix
+appendix_in rows = record {
+  tree = has_flag (codes "tree") rows;
+  words = has_flag (codes "words") rows;
+  see = first_of (codes "see") rows;
+}
+
 -- what is to answer the questions of a run, by the files of answers and of devices that are given: not both
 abbrev pub outside_of : Option Text → Option Text → Option Outsiders
 outside_of None None = Some standard
@@ -145,8 +173,7 @@ abbrev pub run_asked : List Row → Text → Option Asked
 run_asked rows image =
     option_map
     (λ o.
-    a_run image (first_of (codes "lines") rows) o (limit_in rows) (has_flag (codes "tree") rows)
-    (has_flag (codes "explain") rows))
+    a_run image (first_of (codes "lines") rows) o (limit_in rows) (appendix_in rows) (has_flag (codes "explain") rows))
     (outside_in rows)
 
 -- what `client` asks for with an image: the calls of the file that is given, behind such a run
@@ -159,13 +186,16 @@ client_asked rows image =
     (outside_in rows))
     (first_of (codes "calls") rows)
 
+-- what `detok` asks for with an image
+abbrev pub detok_asked : List Row → Text → Option Asked
+detok_asked rows image = option_map (λ l. a_listing image l (has_flag (codes "partial") rows)) (listing_in rows)
+
 -- what a subcommand of this name asks for with an image
 abbrev pub asked_as : Text → List Row → Text → Option Asked
 asked_as name rows image =
     if bytes_eq name (codes "run") then run_asked rows image
     else (if bytes_eq name (codes "client") then client_asked rows image
-    else (if bytes_eq name (codes "detok")
-    then Some (a_listing image (extras_in rows) (has_flag (codes "partial") rows)) else None))
+    else (if bytes_eq name (codes "detok") then detok_asked rows image else None))
 
 -- what a subcommand asks for, by its name and the rows that were found for it
 abbrev pub asked_by : Text × List Row → Option Asked
@@ -180,9 +210,9 @@ asks words = option_and_then asked_by (subcommand_of ofw_app words)
 
 -- ---- lines in plain words
 
--- nothing beyond names and operands
-abbrev pub plain_extras : Extras
-plain_extras = record { names = false; indents = false }
+-- the tokens, and nothing beyond names and operands
+abbrev pub plain_tokens : Listing
+plain_tokens = listing.Tokens (record { names = false; indents = false })
 
 -- a word that is no option: it has a first byte, and that is no hyphen
 abbrev pub is_plain : Text → Bool
@@ -195,41 +225,55 @@ Asks words what = (asks words ≡ Some what) × (fault_of ofw_app words ≡ [])
 
 -- a run of an image with no limit given
 abbrev pub AsksToRun : Text → Text → Type 0
-AsksToRun program image = Asks (program ∷ codes "run" ∷ image ∷ []) (a_run image None standard 1000000 false false)
+AsksToRun program image =
+    Asks (program ∷ codes "run" ∷ image ∷ []) (a_run image None standard 1000000 no_appendix false)
 
 -- a run with a limit given
 abbrev pub AsksForLimit : Text → Text → Text → Type 0
 AsksForLimit program image limit =
     Asks (program ∷ codes "run" ∷ image ∷ codes "--limit" ∷ limit ∷ [])
-    (a_run image None standard (digits_value 10 (without_leading_plus limit)) false false)
+    (a_run image None standard (digits_value 10 (without_leading_plus limit)) no_appendix false)
 
 -- a run with the answers of a file
 abbrev pub AsksWithAnswers : Text → Text → Text → Type 0
 AsksWithAnswers program image answers =
     Asks (program ∷ codes "run" ∷ image ∷ codes "--answers" ∷ answers ∷ [])
-    (a_run image None (answers_of answers) 1000000 false false)
+    (a_run image None (answers_of answers) 1000000 no_appendix false)
 
 -- a run on the board of a file
 abbrev pub AsksWithBoard : Text → Text → Text → Type 0
 AsksWithBoard program image board =
     Asks (program ∷ codes "run" ∷ image ∷ codes "--board" ∷ board ∷ [])
-    (a_run image None (board_of board) 1000000 false false)
+    (a_run image None (board_of board) 1000000 no_appendix false)
 
 -- a run with the console lines of a file
 abbrev pub AsksWithLines : Text → Text → Text → Type 0
 AsksWithLines program image lines =
     Asks (program ∷ codes "run" ∷ image ∷ codes "--lines" ∷ lines ∷ [])
-    (a_run image (Some lines) standard 1000000 false false)
+    (a_run image (Some lines) standard 1000000 no_appendix false)
 
 -- a run whose end is explained
 abbrev pub AsksToExplain : Text → Text → Type 0
 AsksToExplain program image =
-    Asks (program ∷ codes "run" ∷ image ∷ codes "--explain" ∷ []) (a_run image None standard 1000000 false true)
+    Asks (program ∷ codes "run" ∷ image ∷ codes "--explain" ∷ []) (a_run image None standard 1000000 no_appendix true)
 
 -- a run behind which the device tree is printed
 abbrev pub AsksForTree : Text → Text → Type 0
 AsksForTree program image =
-    Asks (program ∷ codes "run" ∷ image ∷ codes "--tree" ∷ []) (a_run image None standard 1000000 true false)
+    Asks (program ∷ codes "run" ∷ image ∷ codes "--tree" ∷ [])
+    (a_run image None standard 1000000 (record no_appendix { tree = true }) false)
+
+-- a run behind which the words are printed
+abbrev pub AsksForWords : Text → Text → Type 0
+AsksForWords program image =
+    Asks (program ∷ codes "run" ∷ image ∷ codes "--words" ∷ [])
+    (a_run image None standard 1000000 (record no_appendix { words = true }) false)
+
+-- a run behind which the word of a name is printed
+abbrev pub AsksToSee : Text → Text → Text → Type 0
+AsksToSee program image name =
+    Asks (program ∷ codes "run" ∷ image ∷ codes "--see" ∷ name ∷ [])
+    (a_run image None standard 1000000 (record no_appendix { see = Some name }) false)
 
 -- a run, and then the calls of a file
 abbrev pub AsksForCalls : Text → Text → Text → Type 0
@@ -239,18 +283,20 @@ AsksForCalls program image calls =
 
 -- a listing of an image
 abbrev pub AsksToList : Text → Text → Type 0
-AsksToList program image = Asks (program ∷ codes "detok" ∷ image ∷ []) (a_listing image plain_extras false)
+AsksToList program image = Asks (program ∷ codes "detok" ∷ image ∷ []) (a_listing image plain_tokens false)
 
 -- a listing with a flag
-abbrev pub AsksWith : Text → Text → Text → Extras → Bool → Type 0
-AsksWith program image flag extras partial =
-    Asks (program ∷ codes "detok" ∷ image ∷ flag ∷ []) (a_listing image extras partial)
+abbrev pub AsksWith : Text → Text → Text → Listing → Bool → Type 0
+AsksWith program image flag what partial =
+    Asks (program ∷ codes "detok" ∷ image ∷ flag ∷ []) (a_listing image what partial)
 
--- with names, with indents, or up to what is wrong
+-- with names, with indents, up to what is wrong, or of the definitions
 abbrev pub AsksForMore : Text → Text → Type 0
-AsksForMore program image = AsksWith program image (codes "--names") (record { names = true; indents = false }) false
-    × AsksWith program image (codes "--indent") (record { names = false; indents = true }) false
-    × AsksWith program image (codes "--partial") plain_extras true
+AsksForMore program image =
+    AsksWith program image (codes "--names") (listing.Tokens (record { names = true; indents = false })) false
+    × AsksWith program image (codes "--indent") (listing.Tokens (record { names = false; indents = true })) false
+    × AsksWith program image (codes "--partial") plain_tokens true
+    × AsksWith program image (codes "--see") listing.Definitions false
 
 -- the image of a source
 abbrev pub AsksToTokenize : Text → Text → Type 0
@@ -264,11 +310,13 @@ AsksToKeep program source output =
 -- what the lines of the usage text ask for
 abbrev pub LinesAsk : Type 0
 LinesAsk = (program image : Text) → is_plain image ≡ true → AsksToRun program image × AsksToList program image
-    × AsksToTokenize program image × AsksToExplain program image × AsksForTree program image × AsksForMore program image
+    × AsksToTokenize program image × AsksToExplain program image × AsksForTree program image
+    × AsksForWords program image × AsksForMore program image
     × ((output : Text) → is_plain output ≡ true → AsksToKeep program image output)
     × ((calls : Text) → is_plain calls ≡ true → AsksForCalls program image calls)
     × ((answers : Text) → is_plain answers ≡ true → AsksWithAnswers program image answers)
     × ((board : Text) → is_plain board ≡ true → AsksWithBoard program image board)
     × ((lines : Text) → is_plain lines ≡ true → AsksWithLines program image lines)
+    × ((name : Text) → is_plain name ≡ true → AsksToSee program image name)
     × ((limit : Text) → is_plain limit ≡ true → is_unsigned_in 0 1000000000 limit ≡ true
     → AsksForLimit program image limit)

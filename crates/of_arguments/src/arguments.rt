@@ -2,15 +2,16 @@ ghost use Rattle.std.specs.Prelude.{◌≡◌, IfOk, codes, false, map, option_m
 ghost use Rattle.clap.specs.Words.{App, fault_of, first_of, rule_of, FailsBy, found_of, rows_of, with_subcommand};
 ghost use Rattle.clap.specs.Values.{kind_of};
 ghost use Rattle.std.specs.String.{string_bytes};
-ghost use Rattle.of_arguments.specs.Asked.{asked, shown};
+ghost use Rattle.of_arguments.specs.Asked.{appendix_of, asked, shown};
 ghost use Rattle.of_arguments.specs.Statuses.{unasked};
 ghost use Rattle.of_arguments.specs.CommandLine.{IsBuilt, answers_rule, asked_by, asks, board_rule, calls_rule};
-ghost use Rattle.of_arguments.specs.CommandLine.{client_app, lines_rule};
-ghost use Rattle.of_arguments.specs.CommandLine.{client_asked, detok_app, flag_rule, has_flag, image_rule};
-ghost use Rattle.of_arguments.specs.CommandLine.{is_true, limit_in, limit_rule, ofw_app, outside_in, output_rule};
-ghost use Rattle.of_arguments.specs.CommandLine.{path_rule, run_app, run_asked, source_rule, tok_app};
+ghost use Rattle.of_arguments.specs.CommandLine.{appendix_in, client_app, client_asked, detok_app, detok_asked};
+ghost use Rattle.of_arguments.specs.CommandLine.{extras_in, flag_rule, has_flag, image_rule, is_true, limit_in};
+ghost use Rattle.of_arguments.specs.CommandLine.{limit_rule, lines_rule, listing_in, listing_of, ofw_app, outside_in};
+ghost use Rattle.of_arguments.specs.CommandLine.{output_rule, path_rule, run_app, run_asked, running_app, see_rule};
+ghost use Rattle.of_arguments.specs.CommandLine.{source_rule, tok_app};
 
-use crate::request::{Outside, Request};
+use crate::request::{Listing, Listings, Outside, Request};
 use crate::status::Status;
 use clap::error::ErrorKind;
 use clap::{Arg, ArgAction, ArgMatches, Command, Error, value_parser};
@@ -31,7 +32,8 @@ clock. With --board it has the devices of a file, the first of which that knows 
 `memory ADDRESS LENGTH` or `memory ADDRESS LENGTH BYTES`, `fault ADDRESS LENGTH`, `keys BYTES` or `clock`, with
 hexadecimal digits. With --answers the k-th line of a file is for the k-th question: `v NUMBER`, with hexadecimal
 digits, `done` or `fault`. With --tree each node's path is printed then, and its properties behind it, as text or in
-hexadecimal digits.
+hexadecimal digits; with --words what the console's `words` would print then; and with --see what its `see` would print
+of the word of that name. A name that begins with a hyphen stands behind --see and an equals sign.
 
 Status: 0 done, 1 fault of input or output, 2 usage, 3 limit reached, 4 answers out, 5 no memory";
 
@@ -55,7 +57,8 @@ Status: 0 done, 1 fault of input or output, 2 usage, 5 no memory";
 const DETOK_HELP: &str = "\
 Example: ofw detok card.rom --names --indent
 
-The file is a ROM as it stands where it begins with f0 to f3 or fd, else hexadecimal digits.
+The file is a ROM as it stands where it begins with f0 to f3 or fd, else hexadecimal digits. With --see the listing has
+no tokens, but the definitions that they make, each as the console's `see` prints it; nothing else of the image is run.
 
 Status: 0 done, 1 fault of input or output, 2 usage, 5 no memory";
 
@@ -100,6 +103,17 @@ fn lines_argument<'a>(alloc: Global) -> Arg<'a>
         .long("lines")
         .value_name("FILE")
         .help("console lines that are read behind the image")
+        .action(ArgAction::Set)
+}
+
+/// `--see NAME`
+fn see_argument<'a>(alloc: Global) -> Arg<'a>
+    ensures { (rule_of result ≡ see_rule) × (result.global ≡ false) }
+{
+    Arg::new(alloc, "see")
+        .long("see")
+        .value_name("NAME")
+        .help("prints the word of this name behind what the run prints")
         .action(ArgAction::Set)
 }
 
@@ -158,9 +172,9 @@ fn flag<'a>(alloc: Global, name: &'a str, help: &'a str) -> Arg<'a>
         .action(ArgAction::SetTrue)
 }
 
-/// `ofw run IMAGE [--lines FILE] [--answers FILE | --board FILE] [--limit N] [--tree] [--explain]`
-fn run_command<'a>(alloc: Global) -> Result<Command<'a>, AllocError>
-    ensures { IfOk result (IsBuilt run_app) }
+/// `ofw run IMAGE [--lines FILE] [--answers FILE | --board FILE] [--limit N]`
+fn running_command<'a>(alloc: Global) -> Result<Command<'a>, AllocError>
+    ensures { IfOk result (IsBuilt running_app) }
 {
     Command::new(alloc, "run")
         .about("Runs an image and prints what it prints")
@@ -169,12 +183,25 @@ fn run_command<'a>(alloc: Global) -> Result<Command<'a>, AllocError>
         .arg(lines_argument(alloc))?
         .arg(answers_argument(alloc))?
         .arg(board_argument(alloc))?
-        .arg(limit_argument(alloc))?
+        .arg(limit_argument(alloc))
+}
+
+/// The same, with `[--tree] [--words] [--see NAME] [--explain]`
+fn run_command<'a>(alloc: Global) -> Result<Command<'a>, AllocError>
+    ensures { IfOk result (IsBuilt run_app) }
+{
+    running_command(alloc)?
         .arg(flag(
             alloc,
             "tree",
             "prints the device tree behind what the run prints",
         ))?
+        .arg(flag(
+            alloc,
+            "words",
+            "prints the words behind what the run prints",
+        ))?
+        .arg(see_argument(alloc))?
         .arg(flag(
             alloc,
             "explain",
@@ -213,7 +240,7 @@ fn tok_command<'a>(alloc: Global) -> Result<Command<'a>, AllocError>
         .arg(output_argument(alloc))
 }
 
-/// `ofw detok IMAGE [--names] [--indent] [--partial]`
+/// `ofw detok IMAGE [[--names] [--indent] | --see] [--partial]`
 fn detok_command<'a>(alloc: Global) -> Result<Command<'a>, AllocError>
     ensures { IfOk result (IsBuilt detok_app) }
 {
@@ -231,6 +258,7 @@ fn detok_command<'a>(alloc: Global) -> Result<Command<'a>, AllocError>
             "indent",
             "indents definitions and control structures",
         ))?
+        .arg(flag(alloc, "see", "lists the definitions in place of the tokens"))?
         .arg(flag(alloc, "partial", "lists a damaged image up to its fault"))
 }
 
@@ -305,6 +333,17 @@ fn outside<'a>(matches: &ArgMatches<'a>) -> Option<Outside<'a>>
     }
 }
 
+/// What is to be printed behind what a run prints.
+fn listings<'a>(matches: &ArgMatches<'a>) -> Listings<'a>
+    ensures { appendix_of result ≡ appendix_in (rows_of (found_of matches.now)) }
+{
+    Listings {
+        tree: has_flag(matches, "tree"),
+        words: has_flag(matches, "words"),
+        see: value(matches, "see"),
+    }
+}
+
 /// What `run` asks for with an image.
 fn run_request<'a>(image: &'a str, matches: &ArgMatches<'a>) -> Option<Request<'a>>
     ensures { option_map asked result ≡ run_asked (rows_of (found_of matches.now)) image.now }
@@ -314,7 +353,7 @@ fn run_request<'a>(image: &'a str, matches: &ArgMatches<'a>) -> Option<Request<'
         lines: value(matches, "lines"),
         outside: outside(matches)?,
         limit: step_limit(matches),
-        tree: has_flag(matches, "tree"),
+        listings: listings(matches),
         explain: has_flag(matches, "explain"),
     })
 }
@@ -333,6 +372,38 @@ fn client_request<'a>(image: &'a str, matches: &ArgMatches<'a>) -> Option<Reques
     })
 }
 
+/// What is to be said of tokens beyond names and operands.
+fn extras(matches: &ArgMatches) -> Extras
+    ensures { result ≡ extras_in (rows_of (found_of matches.now)) }
+{
+    Extras {
+        names: has_flag(matches, "names"),
+        indents: has_flag(matches, "indent"),
+    }
+}
+
+/// What is to be listed: definitions, or tokens with what is said of them; nothing, where both are asked for.
+fn listing_of(see: bool, extras: Extras) -> Option<Listing>
+    ensures { result ≡ listing_of see extras }
+{
+    match (see, extras.names || extras.indents) {
+        (true, true) => None,
+        (true, false) => Some(Listing::Definitions),
+        (false, _) => Some(Listing::Tokens(extras)),
+    }
+}
+
+/// What `detok` asks for with an image.
+fn detok_request<'a>(image: &'a str, matches: &ArgMatches<'a>) -> Option<Request<'a>>
+    ensures { option_map asked result ≡ detok_asked (rows_of (found_of matches.now)) image.now }
+{
+    Some(Request::Detok {
+        image,
+        listing: listing_of(has_flag(matches, "see"), extras(matches))?,
+        partial: has_flag(matches, "partial"),
+    })
+}
+
 /// What a subcommand asks for.
 fn request_of<'a>(name: &str, matches: &ArgMatches<'a>) -> Option<Request<'a>>
     ensures { option_map asked result ≡ asked_by (name.now, rows_of (found_of matches.now)) }
@@ -347,14 +418,7 @@ fn request_of<'a>(name: &str, matches: &ArgMatches<'a>) -> Option<Request<'a>>
     match name {
         "run" => run_request(image, matches),
         "client" => client_request(image, matches),
-        "detok" => Some(Request::Detok {
-            image,
-            extras: Extras {
-                names: has_flag(matches, "names"),
-                indents: has_flag(matches, "indent"),
-            },
-            partial: has_flag(matches, "partial"),
-        }),
+        "detok" => detok_request(image, matches),
         _ => None,
     }
 }
@@ -363,7 +427,8 @@ fn request_of<'a>(name: &str, matches: &ArgMatches<'a>) -> Option<Request<'a>>
 ///
 /// An error is a call for help or a fault of the words: another subcommand or option, a word too
 /// many, no image, no file of calls, a limit given twice or one that is no number from 0 to 1,000,000,000. `None`
-/// stands for a run with a file of answers and one of devices, of which one alone can answer.
+/// stands for a run with a file of answers and one of devices, of which one alone can answer, and for a listing of
+/// definitions with what is said of tokens.
 #[tactic(auto, using(crate::proofs::Requests::ofw_is_simple, crate::proofs::Requests::ofw_is_free))]
 pub fn parse<'a>(alloc: Global, words: &'a [String]) -> Result<Option<Request<'a>>, Error>
     ensures ok { IfOk result (λ request. option_map asked request ≡ asks (map string_bytes words.now)) }

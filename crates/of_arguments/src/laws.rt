@@ -2,16 +2,15 @@
 
 ghost use Rattle.of_arguments.specs.CommandLine.{LinesAsk};
 
-/// What the lines of the usage text ask for, where no word of the user's begins with a hyphen:
-/// `run` and a path for a run of at most 1,000,000 steps, with `--limit` and a number up to
-/// 1,000,000,000 for so many, with `--explain` for one whose end is explained, with `--tree` for
-/// one behind which the device tree is printed, with `--lines` and a path for one behind which the console lines of
-/// that file are read, with
-/// `--answers` and a path for one with the answers of that file, with `--board` and a path for one
-/// with the devices of that file; `client`, a path, `--calls` and a
-/// path for such a run and the calls of that file; `tok` and a path for an image, with `--output`
-/// and a path for one that is written there; `detok` and a path for a plain listing, with `--names`,
-/// `--indent` or `--partial` for one with that. None has a fault.
+/// What the lines of the usage text ask for, where no word of the user's begins with a hyphen: `run` and a path for a
+/// run of at most 1,000,000 steps, with `--limit` and a number up to 1,000,000,000 for so many, with `--explain` for
+/// one whose end is explained, with `--tree` for one behind which the device tree is printed, with `--words` for one
+/// behind which the words are, with `--see` and a name for one behind which the word of that name is, with `--lines`
+/// and a path for one behind which the console lines of that file are read, with `--answers` and a path for one with
+/// the answers of that file, with `--board` and a path for one with the devices of that file; `client`, a path,
+/// `--calls` and a path for such a run and the calls of that file; `tok` and a path for an image, with `--output` and
+/// a path for one that is written there; `detok` and a path for a plain listing, with `--names`, `--indent` or
+/// `--partial` for one with that, with `--see` for one of the definitions in place of the tokens. None has a fault.
 pub fn lines_ask()
     ensures { LinesAsk }
 {}

@@ -11,6 +11,26 @@ pub enum Outside<'a> {
     Board(&'a str),
 }
 
+/// What is printed behind what a run prints.
+#[derive(Clone, Copy)]
+pub struct Listings<'a> {
+    /// Whether the device tree is.
+    pub tree: bool,
+    /// Whether the words are, as `words` prints them.
+    pub words: bool,
+    /// The name of a word that is, as `see` prints it, if one is.
+    pub see: Option<&'a str>,
+}
+
+/// What is listed of an image.
+#[derive(Clone, Copy)]
+pub enum Listing {
+    /// Its tokens, a line each, and what is said beyond names and operands.
+    Tokens(Extras),
+    /// Its own definitions, as `see` prints them.
+    Definitions,
+}
+
 /// What the arguments ask for.
 #[derive(Clone, Copy)]
 pub enum Request<'a> {
@@ -24,8 +44,8 @@ pub enum Request<'a> {
         outside: Outside<'a>,
         /// How many steps the run makes at most.
         limit: u64,
-        /// Whether the device tree is printed behind what the run prints.
-        tree: bool,
+        /// What is printed behind what the run prints.
+        listings: Listings<'a>,
         /// Whether its end is explained on the error output.
         explain: bool,
     },
@@ -55,9 +75,9 @@ pub enum Request<'a> {
     Detok {
         /// The path of the image.
         image: &'a str,
-        /// What the listing says beyond names and operands.
-        extras: Extras,
-        /// Whether the lines before a token that can't be read are printed.
+        /// What is listed.
+        listing: Listing,
+        /// Whether what stands before a token that can't be read is listed.
         partial: bool,
     },
 }

@@ -9,9 +9,11 @@ returns c =
     let image = c.image_argument.ensures in
     let names = c.flag.ensures in
     let indent = c.flag-2.ensures in
-    let partial = c.flag-3.ensures in
+    let see = c.flag-3.ensures in
+    let partial = c.flag-4.ensures in
     let with_image = c.in_ok-arg.ensures.shape image.1 ∙ ap₂ with_rule new_is image.0 in
     let with_names = c.in_ok-arg-2.ensures.shape names.1 ∙ ap₂ with_rule with_image names.0 in
     let with_indent = c.in_ok-arg-3.ensures.shape indent.1 ∙ ap₂ with_rule with_names indent.0 in
-    IfOk-weaker c.arg-4.result _ _ (λ r h. (h.shape partial.1 ∙ ap₂ with_rule with_indent partial.0, search rules))
-    c.arg-4.ensures
+    let with_see = c.in_ok-arg-4.ensures.shape see.1 ∙ ap₂ with_rule with_indent see.0 in
+    IfOk-weaker c.arg-5.result _ _ (λ r h. (h.shape partial.1 ∙ ap₂ with_rule with_see partial.0, search rules))
+    c.arg-5.ensures

@@ -1,23 +1,17 @@
-use Rattle.std.proofs.Common.{rules, ap₂, codes, ◌≡◌, ◌∙◌}
+use Rattle.std.proofs.Common.{rules, ap₂, ◌∙◌}
 use Rattle.std.proofs.lemmas.Result.{IfOk-weaker}
-use Rattle.clap.specs.Words.{app_of, with_rule, new_app}
+use Rattle.clap.specs.Words.{with_rule}
 use Rattle.of_arguments.proofs.arguments.run_command.Goals as goal
 
 pub returns : goal.returns
 returns c =
-    let new_is : app_of c.after_help.result ≡ new_app (codes "run") = search rules in
-    let image = c.image_argument.ensures in
-    let lines = c.lines_argument.ensures in
-    let answers = c.answers_argument.ensures in
-    let board = c.board_argument.ensures in
-    let limit = c.limit_argument.ensures in
+    let running = c.in_ok-running_command.ensures.0 in
     let tree = c.flag.ensures in
-    let explain = c.flag-2.ensures in
-    let with_image = c.in_ok-arg.ensures.shape image.1 ∙ ap₂ with_rule new_is image.0 in
-    let with_lines = c.in_ok-arg-2.ensures.shape lines.1 ∙ ap₂ with_rule with_image lines.0 in
-    let with_answers = c.in_ok-arg-3.ensures.shape answers.1 ∙ ap₂ with_rule with_lines answers.0 in
-    let with_board = c.in_ok-arg-4.ensures.shape board.1 ∙ ap₂ with_rule with_answers board.0 in
-    let with_limit = c.in_ok-arg-5.ensures.shape limit.1 ∙ ap₂ with_rule with_board limit.0 in
-    let with_tree = c.in_ok-arg-6.ensures.shape tree.1 ∙ ap₂ with_rule with_limit tree.0 in
-    IfOk-weaker c.arg-7.result _ _ (λ r h. (h.shape explain.1 ∙ ap₂ with_rule with_tree explain.0, search rules))
-    c.arg-7.ensures
+    let words = c.flag-2.ensures in
+    let see = c.see_argument.ensures in
+    let explain = c.flag-3.ensures in
+    let with_tree = c.in_ok-arg.ensures.shape tree.1 ∙ ap₂ with_rule running tree.0 in
+    let with_words = c.in_ok-arg-2.ensures.shape words.1 ∙ ap₂ with_rule with_tree words.0 in
+    let with_see = c.in_ok-arg-3.ensures.shape see.1 ∙ ap₂ with_rule with_words see.0 in
+    IfOk-weaker c.arg-4.result _ _ (λ r h. (h.shape explain.1 ∙ ap₂ with_rule with_see explain.0, search rules))
+    c.arg-4.ensures
