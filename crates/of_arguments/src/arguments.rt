@@ -33,7 +33,8 @@ clock. With --board it has the devices of a file, the first of which that knows 
 hexadecimal digits. With --answers the k-th line of a file is for the k-th question: `v NUMBER`, with hexadecimal
 digits, `done` or `fault`. With --tree each node's path is printed then, and its properties behind it, as text or in
 hexadecimal digits; with --words what the console's `words` would print then; and with --see what its `see` would print
-of the word of that name. A name that begins with a hyphen stands behind --see and an equals sign.
+of the word of that name. The words of an image are methods of /slot, so names find them behind a console line
+`dev /slot`. A name that begins with a hyphen stands behind --see and an equals sign.
 
 Status: 0 done, 1 fault of input or output, 2 usage, 3 limit reached, 4 answers out, 5 no memory";
 

@@ -1,6 +1,6 @@
 -- What a file that has no image, or whose image or source has a fault, is given up with.
 use Rattle.std.proofs.Common.{◌≡◌, ℕ, List, Option, Some, None, IfSome, Ok, Err, subst, inl, inr, refl, sym, ◌∙◌}
-use Rattle.std.proofs.Common.{◌⊎◌, Bool, true, false, true≢false, ap, Result, OnErr, IfOk, IfErr, length}
+use Rattle.std.proofs.Common.{◌⊎◌, Bool, true, false, true≢false, ap, cond, Result, IfOk, IfErr, length}
 use Rattle.std.specs.Prelude.{is_some}
 use Rattle.std.specs.Io.KnownBytes.{Appends, Keeps}
 use Rattle.of_commands.specs.declared.outside.Outside.{Outside}
@@ -8,7 +8,8 @@ use Rattle.of_commands.specs.declared.fault.Fault.{Fault}
 use Rattle.of_commands.specs.Files.{image_in, FaultsReading}
 use Rattle.of_commands.specs.declared.fault.Fault.TheVariants as fault
 use Rattle.of_stream.specs.declared.fault.StreamFault.{StreamFault}
-use Rattle.of_detok.specs.declared.notes.Extras.{Extras}
+use Rattle.of_arguments.specs.Asked.{Appendix}
+use Rattle.of_arguments.specs.declared.request.Listing.{Listing}
 use Rattle.of_compile.specs.Coding.{Coding}
 use Rattle.of_machine.specs.declared.answers.End.{End}
 use Rattle.of_machine.specs.States.{MachineState}
@@ -18,8 +19,9 @@ use Rattle.of_arguments.specs.declared.status.Status.TheVariants as status
 use Rattle.of_machine.specs.declared.answers.Refusal.TheVariants as refusal
 use Rattle.of_tok.specs.declared.fault.TokFault.TheVariants as tok
 use Rattle.of_commands.specs.Messages.{AppendsPart, bad_start_of}
-use Rattle.of_commands.specs.Runs.{IsUnwritten, Lists, ListsFile, ListsPart, Prints, RunsFile, end_status}
-use Rattle.of_commands.specs.Trees.{run_text}
+use Rattle.of_commands.specs.Runs.{EndsPart, FaultsImage, FaultsListing, IsUnwritten, Lists, ListsFile, ListsPart}
+use Rattle.of_commands.specs.Runs.{Prints, RunsFile, end_status, run_end}
+use Rattle.of_commands.specs.Listings.{lacks_word, run_text}
 use Rattle.of_commands.specs.Runs.{FaultsSource, FaultsSourceFile, FaultsRun, IsRefusedFor, Tokenizes}
 use Rattle.of_commands.specs.Runs.{is_done, lines_of, status_of}
 
@@ -37,35 +39,50 @@ run_refused (Some file) o image f has (inl refused) = inr (inr (image, has, refu
 run_refused (Some file) o image f has (inr none) = inr (inl (inr (inr (inl none))))
 run_refused None o image f has why = tt
 
--- no memory is a fault of reading
-pub no_memory_reading : (known : Option (List ℕ)) → IfSome known (λ file. FaultsReading file fault.NoMemory)
-no_memory_reading (Some file) = inr (inr (inl refl))
-no_memory_reading None = tt
+-- a file that has no image has a fault of a listing
+pub listing_unread : (known : Option (List ℕ)) (l : Listing) (partial : Bool) (f : Fault)
+    → IfSome known (λ file. FaultsReading file f) → IfSome known (λ file. FaultsListing l partial file f)
+listing_unread (Some file) l partial f fault = inl fault
+listing_unread None l partial f fault = fault
+
+-- and so has one of whose image nothing is shown
+pub listing_refused : (known : Option (List ℕ)) (l : Listing) (partial : Bool) (image : List ℕ) (f : Fault)
+    → IfSome known (λ file. image_in file ≡ Ok image) → FaultsImage l partial image f
+    → IfSome known (λ file. FaultsListing l partial file f)
+listing_refused (Some file) l partial image f has why = inr (image, has, why)
+listing_refused None l partial image f has why = tt
 
 -- what was read of lines that are shown is shown
-lines_shown : (e : Extras) (partial : Bool) (file lines text : List ℕ) (wrong : Option StreamFault) → text ≡ lines
-    → ListsFile e partial file (lines, wrong) → ListsFile e partial file (text, wrong)
-lines_shown e partial file lines text wrong same shown =
-    subst (λ (ls : List ℕ). ListsFile e partial file (ls, wrong)) (sym same) shown
+lines_shown : (l : Listing) (partial : Bool) (file lines text : List ℕ) (wrong : Option StreamFault) → text ≡ lines
+    → ListsFile l partial file (lines, wrong) → ListsFile l partial file (text, wrong)
+lines_shown l partial file lines text wrong same shown =
+    subst (λ (ls : List ℕ). ListsFile l partial file (ls, wrong)) (sym same) shown
 
 -- the lines that are shown were printed, or a part of them
-pub listing_printed : (known : Option (List ℕ)) (e : Extras) (partial : Bool) (lines text : List ℕ)
+pub listing_printed : (known : Option (List ℕ)) (l : Listing) (partial : Bool) (lines text : List ℕ)
     (wrong : Option StreamFault) (old new : Option (List ℕ)) (r : Result Status Fault) → text ≡ lines
-    → IfSome known (λ file. ListsFile e partial file (lines, wrong))
+    → IfSome known (λ file. ListsFile l partial file (lines, wrong))
     → IfOk r (λ s. (s ≡ status.Done) × (wrong ≡ None) × Appends old new text)
-    → IfErr r (λ f. ListsPart (text, wrong) old new f) → IfSome known (λ file. Lists e partial file old new r)
-listing_printed None e partial lines text wrong old new r same shown all part = tt
-listing_printed (Some file) e partial lines text wrong old new (Ok s) same shown all part = (
+    → IfErr r (λ f. ListsPart (text, wrong) old new f) → IfSome known (λ file. Lists l partial file old new r)
+listing_printed None l partial lines text wrong old new r same shown all part = tt
+listing_printed (Some file) l partial lines text wrong old new (Ok s) same shown all part = (
   all.0,
   (
     text,
-    subst (λ (w : Option StreamFault). ListsFile e partial file (text, w)) all.1
-        (lines_shown e partial file lines text wrong same shown),
+    subst (λ (w : Option StreamFault). ListsFile l partial file (text, w)) all.1
+        (lines_shown l partial file lines text wrong same shown),
     all.2,
   ),
 )
-listing_printed (Some file) e partial lines text wrong old new (Err f) same shown all part =
-    inr ((text, wrong), lines_shown e partial file lines text wrong same shown, part)
+listing_printed (Some file) l partial lines text wrong old new (Err f) same shown all part =
+    inr ((text, wrong), lines_shown l partial file lines text wrong same shown, part)
+
+-- nothing is shown
+pub listing_given_up : (known : Option (List ℕ)) (l : Listing) (partial : Bool) (old new : Option (List ℕ)) (f : Fault)
+    → Keeps old new → IfSome known (λ file. FaultsListing l partial file f)
+    → IfSome known (λ file. Lists l partial file old new (Err f))
+listing_given_up None l partial old new f kept why = tt
+listing_given_up (Some file) l partial old new f kept why = inl (kept, why)
 
 -- all bytes are a part of them
 pub all_are_part : (old new : Option (List ℕ)) (bs : List ℕ) → Appends old new bs → AppendsPart old new bs
@@ -77,22 +94,30 @@ fault_of_run file o f (inl unwritten) = inl unwritten
 fault_of_run file o f (inr none) = inr (inl (inr (inr (inl none))))
 
 -- what a run prints was printed, or a part of it
-pub run_printed : (listed : Bool) (known : Option (List ℕ)) (o : Outside) (limit : ℕ) (m : MachineState Coding)
+pub run_printed : (a : Appendix) (known : Option (List ℕ)) (o : Outside) (limit : ℕ) (m : MachineState Coding)
     (e : End) (old new : Option (List ℕ)) (r : Result Status Fault) → IfSome known (λ file. RunsFile file o limit m e)
-    → IfOk r (λ s. (s ≡ end_status e) × Appends old new (run_text listed m))
-    → OnErr r (AppendsPart old new (run_text listed m)) → IfErr r (λ f. IsUnwritten f ⊎ (f ≡ fault.NoMemory))
-    → IfSome known (λ file. Prints listed file o limit old new r)
-run_printed listed None o limit m e old new r runs all part why = tt
-run_printed listed (Some file) o limit m e old new (Ok s) runs all part why = (m, (e, runs, sym all.0), all.1)
-run_printed listed (Some file) o limit m e old new (Err f) runs all part why =
-    (inr (m, (e, runs), part), fault_of_run file o f why)
+    → IfOk r (λ s. Appends old new (run_text a m) × (run_end a m (end_status e) ≡ Ok s))
+    → IfErr r (λ f. EndsPart a m e old new f) → IfSome known (λ file. Prints a file o limit old new r)
+run_printed a None o limit m e old new r runs all part = tt
+run_printed a (Some file) o limit m e old new (Ok s) runs all part = (m, (e, runs, all.1), all.0)
+run_printed a (Some file) o limit m e old new (Err f) runs all (inl whole) = inl (m, (e, runs, whole.1), whole.0)
+run_printed a (Some file) o limit m e old new (Err f) runs all (inr some) =
+    inr (inr (m, (e, runs), some.0), fault_of_run file o f some.1)
 
 -- there was no run
-pub run_unrun : (tree : Bool) (known : Option (List ℕ)) (o : Outside) (limit : ℕ) (old new : Option (List ℕ))
+pub run_unrun : (a : Appendix) (known : Option (List ℕ)) (o : Outside) (limit : ℕ) (old new : Option (List ℕ))
     (f : Fault) → Keeps old new → IfSome known (λ file. FaultsRun file o f)
-    → IfSome known (λ file. Prints tree file o limit old new (Err f))
-run_unrun listed None o limit old new f kept why = tt
-run_unrun listed (Some file) o limit old new f kept why = (inl kept, why)
+    → IfSome known (λ file. Prints a file o limit old new (Err f))
+run_unrun a None o limit old new f kept why = tt
+run_unrun a (Some file) o limit old new f kept why = inr (inl kept, why)
+
+-- all was printed, and this is the end
+pub run_ended : (a : Appendix) (m : MachineState Coding) (e : End) (old new : Option (List ℕ)) (s : Status)
+    (r : Result Status Fault) → s ≡ end_status e → Appends old new (run_text a m) → r ≡ run_end a m s
+    → IfOk r (λ t. Appends old new (run_text a m) × (run_end a m (end_status e) ≡ Ok t))
+    × IfErr r (λ f. EndsPart a m e old new f)
+run_ended a m e old new s (Ok t) is all ended = ((all, sym (ended ∙ ap (run_end a m) is)), tt)
+run_ended a m e old new s (Err f) is all ended = (tt, inl (all, sym (ended ∙ ap (run_end a m) is)))
 
 -- a write that failed is no bad start byte
 unwritten_begins : (f : Fault) → IsUnwritten f → bad_start_of f ≡ None
@@ -112,7 +137,9 @@ unwritten_begins (fault.NoCalls g) unwritten = refl
 unwritten_begins (fault.NoAnswers g) unwritten = refl
 unwritten_begins (fault.NoBoard g) unwritten = refl
 unwritten_begins (fault.NoLines g) unwritten = refl
+unwritten_begins fault.NoWord unwritten = refl
 unwritten_begins fault.TwoOutsides unwritten = refl
+unwritten_begins fault.TwoListings unwritten = refl
 unwritten_begins (fault.Unwritten code) unwritten = refl
 unwritten_begins fault.NoMemory unwritten = refl
 
@@ -126,6 +153,33 @@ pub run_begins : (r : Result Status Fault) (Kept : Type 0) → IfErr r (λ f. Is
     → IfErr r (λ f. is_some (bad_start_of f) ≡ true → Kept)
 run_begins (Ok s) Kept why = tt
 run_begins (Err f) Kept why = λ begun. absurd (true≢false (sym begun ∙ ap is_some (none_begins f why)))
+
+-- the byte of a run's end, if it is a fault of one
+abbrev byte_of : Result Status Fault → Option ℕ
+byte_of (Ok s) = None
+byte_of (Err f) = bad_start_of f
+
+-- there is none, where all was printed
+end_begins : (a : Appendix) (m : MachineState Coding) (s : Status) (f : Fault) → run_end a m s ≡ Err f
+    → bad_start_of f ≡ None
+end_begins a m s f ended = go (lacks_word a.see m) refl
+  where
+    go : (t : Bool) → lacks_word a.see m ≡ t → bad_start_of f ≡ None
+    go true lacks = ap byte_of (sym ended) ∙ ap (λ (t : Bool). byte_of (cond t (Err fault.NoWord) (Ok s))) lacks
+    go false has = ap byte_of (sym ended) ∙ ap (λ (t : Bool). byte_of (cond t (Err fault.NoWord) (Ok s))) has
+
+-- nor where a part was
+part_begins : (a : Appendix) (m : MachineState Coding) (e : End) (old new : Option (List ℕ)) (f : Fault)
+    → EndsPart a m e old new f → bad_start_of f ≡ None
+part_begins a m e old new f (inl whole) = end_begins a m (end_status e) f whole.1
+part_begins a m e old new f (inr some) = none_begins f some.1
+
+pub ends_begin : (a : Appendix) (m : MachineState Coding) (e : End) (old new : Option (List ℕ))
+    (r : Result Status Fault) (Kept : Type 0) → IfErr r (λ f. EndsPart a m e old new f)
+    → IfErr r (λ f. is_some (bad_start_of f) ≡ true → Kept)
+ends_begin a m e old new (Ok s) Kept why = tt
+ends_begin a m e old new (Err f) Kept why =
+    λ begun. absurd (true≢false (sym begun ∙ ap is_some (part_begins a m e old new f why)))
 
 -- a fault ends no command as done
 pub fault_not_done : (f : Fault) → is_done (status_of f) ≡ false
@@ -156,7 +210,9 @@ fault_not_done (fault.NoCalls f) = refl
 fault_not_done (fault.NoAnswers f) = refl
 fault_not_done (fault.NoBoard f) = refl
 fault_not_done (fault.NoLines f) = refl
+fault_not_done fault.NoWord = refl
 fault_not_done fault.TwoOutsides = refl
+fault_not_done fault.TwoListings = refl
 fault_not_done (fault.Unwritten code) = refl
 
 -- a fault of the source that was read is one of the file

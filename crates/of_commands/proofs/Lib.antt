@@ -3,4 +3,5 @@ pub mod Called
 pub mod Faults
 pub mod Reading
 pub mod Replies
+pub mod Seen
 pub mod Written

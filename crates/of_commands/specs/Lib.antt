@@ -1,5 +1,6 @@
 pub mod Clients
+pub mod Definitions
 pub mod Files
+pub mod Listings
 pub mod Messages
 pub mod Runs
-pub mod Trees

@@ -4,7 +4,7 @@ use Rattle.std.specs.Prelude.{Some, None, IfErr, map, ⊤, Bool, true, false, if
 use Rattle.std.specs.Option.{option_map}
 use Rattle.std.specs.Io.KnownBytes.{Keeps, Appends}
 use Rattle.hex.specs.Hex.{encode_lower}
-use Rattle.of_detok.specs.declared.notes.Extras.{Extras}
+use Rattle.of_detok.specs.Definitions.{definitions_of}
 use Rattle.of_detok.specs.Listing.{Listed, listed_so_far}
 use Rattle.of_machine.specs.declared.answers.End.{End}
 use Rattle.of_machine.specs.declared.answers.End.TheVariants as end
@@ -31,10 +31,13 @@ use Rattle.of_tok.specs.declared.fault.TokFault.{TokFault}
 use Rattle.of_tok.specs.declared.fault.TokFault.TheVariants as tok
 use Rattle.of_tok.specs.Image.{tokenized}
 use Rattle.of_tok.specs.Image.{IsRefused as HasNoImage}
-use Rattle.of_arguments.specs.Asked.{Asked, a_run, an_image, a_listing, client_calls}
+use Rattle.of_arguments.specs.Asked.{Appendix, Asked, a_run, an_image, a_listing, client_calls, no_appendix}
+use Rattle.of_arguments.specs.declared.request.Listing.{Listing}
+use Rattle.of_arguments.specs.declared.request.Listing.TheVariants as listing
 use Rattle.of_commands.specs.Files.{image_in, FaultsReading, IsUnread}
 use Rattle.of_commands.specs.Messages.{AppendsPart}
-use Rattle.of_commands.specs.Trees.{run_text}
+use Rattle.of_commands.specs.Definitions.{SeesShown, dev_slot, shown_lines}
+use Rattle.of_commands.specs.Listings.{lacks_word, run_text}
 use Rattle.of_commands.specs.declared.outside.Outside.{Outside}
 use Rattle.of_commands.specs.declared.outside.Answerer.{Answerer}
 use Rattle.of_commands.specs.declared.outside.Answerer.TheVariants as answering
@@ -72,7 +75,9 @@ status_of (fault.NoCalls f) = status.Fault
 status_of (fault.NoAnswers f) = status.Fault
 status_of (fault.NoBoard f) = status.Fault
 status_of (fault.NoLines f) = status.Fault
+status_of fault.NoWord = status.Fault
 status_of fault.TwoOutsides = status.Usage
+status_of fault.TwoListings = status.Usage
 status_of (fault.Unwritten code) = status.Fault
 
 -- the place in a text of calls, of answers, of devices or of lines that has a fault
@@ -143,16 +148,22 @@ end_status end.Done = status.Done
 end_status end.LimitReached = status.LimitReached
 end_status end.AnswersOut = status.AnswersOut
 
--- the text of the run of the file was printed, and it ended with this status
-abbrev pub PrintsRun : Bool → List ℕ → Outside → ℕ → Option (List ℕ) → Option (List ℕ) → Status → Type 0
-PrintsRun tree file o limit old new s =
-    (m : MachineState Coding) × ((e : End) × RunsFile file o limit m e × (end_status e ≡ s))
-    × Appends old new (run_text tree m)
+-- how a run ends of which all was printed: with its status, or where a word is asked for by a name that none has, with
+-- that fault
+abbrev pub run_end : Appendix → MachineState Coding → Status → Result Status Fault
+run_end a m s = if lacks_word a.see m then Err fault.NoWord else Ok s
+
+-- the text of the run of the file was printed, with what is listed behind it, and it ended so
+abbrev pub PrintsRun :
+    Appendix → List ℕ → Outside → ℕ → Option (List ℕ) → Option (List ℕ) → Result Status Fault → Type 0
+PrintsRun a file o limit old new r =
+    (m : MachineState Coding) × ((e : End) × RunsFile file o limit m e × (run_end a m (end_status e) ≡ r))
+    × Appends old new (run_text a m)
 
 -- nothing was printed, or the first bytes of the text of the run
-abbrev pub PrintsPart : Bool → List ℕ → Outside → ℕ → Option (List ℕ) → Option (List ℕ) → Type 0
-PrintsPart tree file o limit old new = Keeps old new
-    ⊎ ((m : MachineState Coding) × ((e : End) × RunsFile file o limit m e) × AppendsPart old new (run_text tree m))
+abbrev pub PrintsPart : Appendix → List ℕ → Outside → ℕ → Option (List ℕ) → Option (List ℕ) → Type 0
+PrintsPart a file o limit old new = Keeps old new
+    ⊎ ((m : MachineState Coding) × ((e : End) × RunsFile file o limit m e) × AppendsPart old new (run_text a m))
 
 -- a write failed
 abbrev pub IsUnwritten : Fault → Type 0
@@ -176,11 +187,19 @@ FaultsRun file o f =
     ⊎ FaultsReading file f
     ⊎ ((image : List ℕ) × (image_in file ≡ Ok image) × IsRefusedFor image (lines_of o) f)
 
--- what was printed of the run, whose end has the status, or of a part of it beside a fault
+-- all was printed of a run, and it ended with this fault; or a part was, and a write failed or memory was refused
+abbrev pub EndsPart :
+    Appendix → MachineState Coding → End → Option (List ℕ) → Option (List ℕ) → Fault → Type 0
+EndsPart a m e old new f =
+    (Appends old new (run_text a m) × (run_end a m (end_status e) ≡ Err f))
+    ⊎ (AppendsPart old new (run_text a m) × (IsUnwritten f ⊎ (f ≡ fault.NoMemory)))
+
+-- what was printed of the run, and how it ended, or of a part of it beside a fault
 abbrev pub Prints :
-    Bool → List ℕ → Outside → ℕ → Option (List ℕ) → Option (List ℕ) → Result Status Fault → Type 0
-Prints tree file o limit old new (Ok s) = PrintsRun tree file o limit old new s
-Prints tree file o limit old new (Err f) = PrintsPart tree file o limit old new × FaultsRun file o f
+    Appendix → List ℕ → Outside → ℕ → Option (List ℕ) → Option (List ℕ) → Result Status Fault → Type 0
+Prints a file o limit old new (Ok s) = PrintsRun a file o limit old new (Ok s)
+Prints a file o limit old new (Err f) =
+    PrintsRun a file o limit old new (Err f) ⊎ (PrintsPart a file o limit old new × FaultsRun file o f)
 
 -- ---- answers of devices
 
@@ -253,15 +272,26 @@ FaultsLinesWith file s = (f : Fault) × (status_of f ≡ s) × FaultsLines file 
 
 -- ---- listings
 
--- what is shown of a listing: all its lines, or with a fault behind them none, unless a part is asked for
-abbrev pub shown_lines : Bool → Listed → Listed
-shown_lines partial (lines, None) = (lines, None)
-shown_lines partial (lines, Some f) = (if partial then lines else [], Some f)
+-- the lines that are shown of an image, its tokens' or its definitions', and what is wrong behind them, if anything
+abbrev pub ListsImage : Listing → Bool → List ℕ → Listed → Type 0
+ListsImage (listing.Tokens e) partial image listed = shown_lines partial (listed_so_far e image) ≡ listed
+ListsImage listing.Definitions partial image listed = SeesShown partial image listed
 
--- the lines that are shown of the image that a file has, and what is wrong behind them, if anything
-abbrev pub ListsFile : Extras → Bool → List ℕ → Listed → Type 0
-ListsFile e partial file listed =
-    (image : List ℕ) × (image_in file ≡ Ok image) × (shown_lines partial (listed_so_far e image) ≡ listed)
+-- of the image that a file has
+abbrev pub ListsFile : Listing → Bool → List ℕ → Listed → Type 0
+ListsFile l partial file listed =
+    (image : List ℕ) × (image_in file ≡ Ok image) × ListsImage l partial image listed
+
+-- why nothing is shown of an image: for memory, or what the monitor refuses its definitions for
+abbrev pub FaultsImage : Listing → Bool → List ℕ → Fault → Type 0
+FaultsImage (listing.Tokens e) partial image f = f ≡ fault.NoMemory
+FaultsImage listing.Definitions partial image f =
+    IsRefusedFor (shown_lines partial (definitions_of image)).0 (dev_slot ∷ []) f ⊎ (f ≡ fault.NoMemory)
+
+-- or of a file: of reading, too
+abbrev pub FaultsListing : Listing → Bool → List ℕ → Fault → Type 0
+FaultsListing l partial file f =
+    FaultsReading file f ⊎ ((image : List ℕ) × (image_in file ≡ Ok image) × FaultsImage l partial image f)
 
 -- the lines were printed, and what is wrong behind them is the fault; or a write failed
 abbrev pub ListsPart : Listed → Option (List ℕ) → Option (List ℕ) → Fault → Type 0
@@ -270,12 +300,12 @@ ListsPart (lines, wrong) old new f =
 
 -- what was printed of a listing: all of it, or beside a fault nothing, the lines before it or a part of them
 abbrev pub Lists :
-    Extras → Bool → List ℕ → Option (List ℕ) → Option (List ℕ) → Result Status Fault → Type 0
-Lists e partial file old new (Ok s) =
-    (s ≡ status.Done) × ((lines : List ℕ) × ListsFile e partial file (lines, None) × Appends old new lines)
-Lists e partial file old new (Err f) =
-    (Keeps old new × FaultsReading file f)
-    ⊎ ((listed : Listed) × ListsFile e partial file listed × ListsPart listed old new f)
+    Listing → Bool → List ℕ → Option (List ℕ) → Option (List ℕ) → Result Status Fault → Type 0
+Lists l partial file old new (Ok s) =
+    (s ≡ status.Done) × ((lines : List ℕ) × ListsFile l partial file (lines, None) × Appends old new lines)
+Lists l partial file old new (Err f) =
+    (Keeps old new × FaultsListing l partial file f)
+    ⊎ ((listed : Listed) × ListsFile l partial file listed × ListsPart listed old new f)
 
 -- ---- images of sources
 
@@ -331,10 +361,10 @@ Writes bytes old new _ = ⊥
 -- what was printed of the file, where this was asked for, or why it wasn't: of `client` the run alone
 abbrev pub Does :
     Asked → Outside → List ℕ → Option (List ℕ) → Option (List ℕ) → Result Status Fault → Type 0
-Does (a_run image lines path limit tree explain) o file old new r = Prints tree file o limit old new r
-Does (client_calls image calls lines path limit explain) o file old new r = Prints false file o limit old new r
+Does (a_run image lines path limit a explain) o file old new r = Prints a file o limit old new r
+Does (client_calls image calls lines path limit explain) o file old new r = Prints no_appendix file o limit old new r
 Does (an_image source output) o file old new r = Tokenizes file old new r
-Does (a_listing image extras partial) o file old new r = Lists extras partial file old new r
+Does (a_listing image l partial) o file old new r = Lists l partial file old new r
 
 -- the status is one of what was done
 abbrev pub is_done : Status → Bool
@@ -347,10 +377,10 @@ is_done status.NoMemory = false
 
 -- whether it is asked how a run ended
 abbrev pub is_explained : Asked → Bool
-is_explained (a_run image lines o limit _ explain) = explain
+is_explained (a_run image lines o limit a explain) = explain
 is_explained (client_calls image calls lines o limit explain) = explain
 is_explained (an_image source output) = false
-is_explained (a_listing image extras partial) = false
+is_explained (a_listing image l partial) = false
 
 -- the program ends with this status, that of what was done, or of a fault that was said
 abbrev pub Answers :

@@ -2,28 +2,31 @@ ghost use Rattle.std.specs.Prelude.{◌≡◌, ◌⊎◌, [], ◌∷◌, Ok, Non
 ghost use Rattle.std.specs.Prelude.{is_some, map, true, false};
 ghost use Rattle.std.specs.Io.KnownBytes.{Appends};
 ghost use Rattle.std.specs.String.{string_bytes};
-ghost use Rattle.of_arguments.specs.Asked.{asked};
+ghost use Rattle.of_arguments.specs.Asked.{appendix_of, asked};
 ghost use Rattle.of_detok.specs.Listing.{listed_so_far};
 ghost use Rattle.of_devices.specs.Parts.{board_meant};
 ghost use Rattle.of_machine.specs.Racks.{answers_of};
 ghost use Rattle.of_machine.specs.Runs.{RunsTo};
 ghost use Rattle.of_commands.specs.Files.{FaultsReading};
 ghost use Rattle.of_commands.specs.Messages.{AppendsPart, SaysFault, bad_start_of};
-ghost use Rattle.of_commands.specs.Trees.{run_text};
-ghost use Rattle.of_commands.specs.Runs.{RunsFile, FaultsRun, Prints, IsRefusedFor, IsUnwritten, end_status};
-ghost use Rattle.of_commands.specs.Runs.{lines_of, refused_as, ListsFile, ListsPart, Lists, RunsOn, shown_lines};
+ghost use Rattle.of_commands.specs.Definitions.{shown_lines};
+ghost use Rattle.of_commands.specs.Listings.{run_text};
+ghost use Rattle.of_commands.specs.Runs.{EndsPart, FaultsImage, FaultsListing, FaultsRun, IsRefusedFor, IsUnwritten};
+ghost use Rattle.of_commands.specs.Runs.{Lists, ListsFile, ListsImage, ListsPart, Prints, RunsFile, RunsOn};
+ghost use Rattle.of_commands.specs.Runs.{end_status, lines_of, refused_as, run_end};
 ghost use Rattle.of_commands.specs.Runs.{FaultsSource, FaultsSourceFile, FaultsWith, HasImage, Tokenizes};
 ghost use Rattle.of_commands.specs.Runs.{TokenizesFile, Writes, Does, Answers, is_done, is_explained};
 
+use crate::definitions::list_definitions;
 use crate::explain::say_end;
 use crate::fault::{Fault, no_image, no_source};
 use crate::input::{read_image, read_whole};
+use crate::listings::{no_listings, print_text, run_end};
 use crate::messages::Messages;
 use crate::output::{report, write_whole};
 use crate::outside::{Answerer, Outside};
-use crate::trees::print_text;
 use hex::encode;
-use of_arguments::{Request, Status};
+use of_arguments::{Listing, Listings, Request, Status};
 use of_asking::Answer;
 use of_detok::{Extras, partial_listing};
 use of_devices::{Board, Rack};
@@ -43,8 +46,8 @@ pub struct Run<'a> {
     pub outside: Outside<'a>,
     /// How many steps the run makes at most.
     pub limit: u64,
-    /// Whether the device tree is printed behind what the run prints.
-    pub tree: bool,
+    /// What is printed behind what the run prints.
+    pub listings: Listings<'a>,
     /// Whether its end is explained on the error output.
     pub explain: bool,
 }
@@ -60,7 +63,7 @@ fn refused(length: usize, refusal: Refusal) -> Fault
 }
 
 /// Runs an image and console lines with answers in order.
-fn run_answers(
+pub(crate) fn run_answers(
     alloc: Global,
     image: &[u8],
     lines: &[Vec<u8>],
@@ -170,9 +173,10 @@ pub(crate) fn explain_end<E: Write>(
     Ok(end_status(end))
 }
 
-/// Prints what a run printed, and the device tree, where that is asked for, and then says how it ended, where that is
-/// to be explained.
-#[tactic(auto, using(crate::proofs::Faults::all_are_part))]
+/// Prints what a run printed, and what is listed behind it, and then says how it ended, where that is to be explained.
+///
+/// NoWord, once that is done, where a word is asked for by a name that none has.
+#[tactic(auto, using(crate::proofs::Faults::all_are_part, crate::proofs::Faults::run_ended))]
 fn print_end<W: Write, E: Write>(
     alloc: Global,
     run: Run<'_>,
@@ -182,23 +186,24 @@ fn print_end<W: Write, E: Write>(
     out: &mut W,
     errors: &mut Messages<E>,
 ) -> Result<Status, Fault>
-    ensures ok { IfOk result (λ s. (s ≡ end_status end) × Appends (W.contents out.old) (W.contents out.new)
-        (run_text run.entry.tree machine.now)) }
-    ensures err { OnErr result (AppendsPart (W.contents out.old) (W.contents out.new)
-        (run_text run.entry.tree machine.now)) }
-    ensures fault { IfErr result (λ f. IsUnwritten f ⊎ (f ≡ Fault.NoMemory)) }
+    ensures ok { IfOk result (λ s. Appends (W.contents out.old) (W.contents out.new)
+        (run_text (appendix_of run.entry.listings) machine.now)
+        × (run_end (appendix_of run.entry.listings) machine.now (end_status end) ≡ Ok s)) }
+    ensures err { IfErr result (λ f. EndsPart (appendix_of run.entry.listings) machine.now end
+        (W.contents out.old) (W.contents out.new) f) }
     ensures silent { run.entry.explain ≡ false → errors.new ≡ errors.old }
 {
-    print_text(alloc, run.tree, machine, out)?;
-    explain_end(alloc, run, image, machine, end, errors)
+    print_text(alloc, run.listings, machine, out)?;
+    let status = explain_end(alloc, run, image, machine, end, errors)?;
+    run_end(run.listings, machine, status)
 }
 
-/// Runs the image of a file for at most `limit` steps, prints what the run prints, and the device tree, where that is
-/// asked for, explains how it ended, likewise, and gives the status.
+/// Runs the image of a file for at most `limit` steps, prints what the run prints, and what is listed behind it,
+/// explains how it ended, where that is asked for, and gives the status.
 ///
 /// The file is the image as it stands where it begins with a start word, 0xF0 to 0xF3 or 0xFD, and
 /// else a text of hexadecimal digits. With a fault of the file nothing is printed.
-#[tactic(auto, using(crate::proofs::Faults::run_printed, crate::proofs::Faults::run_begins))]
+#[tactic(auto, using(crate::proofs::Faults::run_printed))]
 fn print_run<R: Read, W: Write, E: Write>(
     alloc: Global,
     run: Run<'_>,
@@ -207,7 +212,7 @@ fn print_run<R: Read, W: Write, E: Write>(
     errors: &mut Messages<E>,
 ) -> Result<Status, Fault>
     ensures printed { IfSome (R.remaining file.old) (λ bytes.
-        Prints run.entry.tree bytes run.entry.outside run.entry.limit
+        Prints (appendix_of run.entry.listings) bytes run.entry.outside run.entry.limit
         (W.contents out.old) (W.contents out.new) result) }
     ensures silent { run.entry.explain ≡ false → errors.new ≡ errors.old }
     ensures unsaid { IfErr result (λ f. is_some (bad_start_of f) ≡ true → errors.new ≡ errors.old) }
@@ -218,8 +223,8 @@ fn print_run<R: Read, W: Write, E: Write>(
     }
 }
 
-/// The lines that are shown of an image, and what is wrong behind them, if anything.
-fn list_image(
+/// The lines that are shown of an image's tokens, and what is wrong behind them, if anything.
+fn list_tokens(
     alloc: Global,
     image: &[u8],
     extras: Extras,
@@ -235,20 +240,37 @@ fn list_image(
     }
 }
 
+/// The lines that are shown of an image, and what is wrong behind them, if anything.
+fn list_image(
+    alloc: Global,
+    image: &[u8],
+    listing: Listing,
+    partial: bool,
+) -> Result<(Vec<u8>, Option<StreamFault>), Fault>
+    ensures ok { IfOk result (λ r. ListsImage listing partial image.now (r.0.items, r.1)) }
+    ensures err { IfErr result (λ f. FaultsImage listing partial image.now f) }
+{
+    match listing {
+        Listing::Tokens(extras) => list_tokens(alloc, image, extras, partial),
+        Listing::Definitions => list_definitions(alloc, image, partial),
+    }
+}
+
 /// The lines that are shown of the image of a file, and what is wrong behind them, if anything.
-#[tactic(auto, using(crate::proofs::Faults::no_memory_reading))]
+#[tactic(auto, using(crate::proofs::Faults::listing_unread, crate::proofs::Faults::listing_refused))]
 fn list_file<R: Read>(
     alloc: Global,
     file: &mut R,
-    extras: Extras,
+    listing: Listing,
     partial: bool,
 ) -> Result<(Vec<u8>, Option<StreamFault>), Fault>
     ensures ok { IfOk result (λ r. IfSome (R.remaining file.old) (λ bytes.
-        ListsFile extras partial bytes (r.0.items, r.1))) }
-    ensures err { IfErr result (λ f. IfSome (R.remaining file.old) (λ bytes. FaultsReading bytes f)) }
+        ListsFile listing partial bytes (r.0.items, r.1))) }
+    ensures err { IfErr result (λ f. IfSome (R.remaining file.old) (λ bytes.
+        FaultsListing listing partial bytes f)) }
 {
     let image = read_image(alloc, file)?;
-    match list_image(alloc, &image, extras, partial) {
+    match list_image(alloc, &image, listing, partial) {
         Ok(listed) => Ok(listed),
         Err(fault) => Err(fault),
     }
@@ -273,21 +295,21 @@ fn print_lines<W: Write>(
     }
 }
 
-/// Prints the listing of the image of a file.
+/// Prints the listing of the image of a file, of its tokens or of its definitions.
 ///
 /// The file is read as for `run`. Where a token can't be read, nothing is printed, unless a part is asked for: then the
 /// lines before it are.
 fn detok<R: Read, W: Write>(
     alloc: Global,
     file: &mut R,
-    extras: Extras,
+    listing: Listing,
     partial: bool,
     out: &mut W,
 ) -> Result<Status, Fault>
     ensures { IfSome (R.remaining file.old) (λ bytes.
-        Lists extras partial bytes (W.contents out.old) (W.contents out.new) result) }
+        Lists listing partial bytes (W.contents out.old) (W.contents out.new) result) }
 {
-    match list_file(alloc, file, extras, partial) {
+    match list_file(alloc, file, listing, partial) {
         Ok((lines, wrong)) => print_lines(&lines, wrong, out),
         Err(fault) => Err(fault),
     }
@@ -402,7 +424,7 @@ fn perform<R: Read, W: Write, E: Write>(
         Request::Run {
             image,
             limit,
-            tree,
+            listings,
             explain,
             ..
         } => {
@@ -410,7 +432,7 @@ fn perform<R: Read, W: Write, E: Write>(
                 image,
                 outside,
                 limit,
-                tree,
+                listings,
                 explain,
             };
             print_run(alloc, run, file, out, errors)
@@ -425,17 +447,17 @@ fn perform<R: Read, W: Write, E: Write>(
                 image,
                 outside,
                 limit,
-                tree: false,
+                listings: no_listings(),
                 explain,
             };
             print_run(alloc, run, file, out, errors)
         }
         Request::Tok { .. } => tok(alloc, file, out),
         Request::Detok {
-            extras,
+            listing,
             partial,
             ..
-        } => detok(alloc, file, extras, partial, out),
+        } => detok(alloc, file, listing, partial, out),
     }
 }
 

@@ -72,9 +72,15 @@ pub enum Fault {
     /// A text has no console lines.
     #[error(transparent)]
     NoLines(TextFault),
+    /// A word is asked for by a name that none has.
+    #[error("no word has the name that --see asks for")]
+    NoWord,
     /// A file of answers and one of devices are given.
     #[error("--answers and --board exclude each other")]
     TwoOutsides,
+    /// The definitions of an image are asked for, and what is said of its tokens.
+    #[error("--see excludes --names and --indent")]
+    TwoListings,
     /// A write failed, with the system's number of the reason.
     #[error("the output can't be written")]
     Unwritten(Option<i32>),
@@ -285,7 +291,9 @@ impl Fault {
             Fault::NoAnswers(_) => Status::Fault,
             Fault::NoBoard(_) => Status::Fault,
             Fault::NoLines(_) => Status::Fault,
+            Fault::NoWord => Status::Fault,
             Fault::TwoOutsides => Status::Usage,
+            Fault::TwoListings => Status::Usage,
             Fault::Unwritten(_) => Status::Fault,
         }
     }

@@ -3,17 +3,18 @@
 
 mod clients;
 mod console_lines;
+mod definitions;
 mod devices;
 mod engine;
 mod explain;
 mod fault;
 mod input;
+mod listings;
 mod messages;
 mod output;
 mod outside;
 mod part;
 mod place;
-mod trees;
 
 pub use clients::{ClientRun, client};
 pub use console_lines::lines;

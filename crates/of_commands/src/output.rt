@@ -89,10 +89,9 @@ fn say_other<E: Write>(path: &str, fault: Fault, errors: &mut E) -> io::Result<(
             let reason = reason(code);
             writeln!(errors, "ofw: {path}: {reason}")
         }
-        Fault::ArgumentNotText | Fault::NoMemory | Fault::TwoOutsides => writeln!(
-            errors,
-            "ofw: {fault}"
-        ),
+        Fault::ArgumentNotText | Fault::NoMemory | Fault::TwoOutsides | Fault::TwoListings => {
+            writeln!(errors, "ofw: {fault}")
+        }
         _ => writeln!(errors, "ofw: {path}: {fault}"),
     }
 }

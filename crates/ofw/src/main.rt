@@ -2,7 +2,7 @@
 #![tactic(auto)]
 
 use clap::Error;
-use of_arguments::{Outside as Asked, Request, Status, parse, status_of};
+use of_arguments::{Listings, Outside as Asked, Request, Status, parse, status_of};
 use of_asking::Answer;
 use of_commands::{Answerer, ClientRun, Fault, Messages, Outside, Run};
 use of_devices::{Board, standard_board};
@@ -159,7 +159,11 @@ fn call<'a>(
         image,
         outside,
         limit,
-        tree: false,
+        listings: Listings {
+            tree: false,
+            words: false,
+            see: None,
+        },
         explain,
     };
     client(rt, &ClientRun { run, calls })
@@ -258,11 +262,19 @@ fn answer_nothing(rt: &HostRuntime, error: &Error) -> Status {
     }
 }
 
+/// The fault of words that ask for two things of which one alone can be had: a listing asks for others than a run.
+fn excluded(words: &[String]) -> Fault {
+    match words.get(1) {
+        Some(name) if name.as_str() == "detok" => Fault::TwoListings,
+        _ => Fault::TwoOutsides,
+    }
+}
+
 /// Does what the words ask for, or says why it can't be done.
 fn obey(rt: &HostRuntime, words: &[String]) -> Status {
     match parse(rt.alloc(), words) {
         Ok(Some(request)) => answer(rt, request),
-        Ok(None) => report(rt, "", Fault::TwoOutsides),
+        Ok(None) => report(rt, "", excluded(words)),
         Err(error) => answer_nothing(rt, &error),
     }
 }

@@ -1,5 +1,4 @@
-use of_arguments::{Outside, Request, lines_ask, parse, status_of};
-use of_detok::Extras;
+use of_arguments::{Listing, Listings, Outside, Request, lines_ask, parse, status_of};
 use std::alloc::Global;
 use std::test::Fail;
 
@@ -20,6 +19,23 @@ ofw run --tree a.hex:a.hex 1000000 tree
 ofw run a.hex --explain --limit 5 --tree:a.hex 5 explained tree
 ofw run a.hex --tree --tree:
 ofw client a.hex --calls a.calls --tree:
+ofw run a.hex --words:a.hex 1000000 words
+ofw run a.hex --see dup:a.hex 1000000 see dup
+ofw run --see dup a.hex --words --tree --limit 5 --explain:a.hex 5 explained tree words see dup
+ofw run a.hex --see=-rot:a.hex 1000000 see -rot
+ofw run a.hex --see -rot:
+ofw run a.hex --see:
+ofw run a.hex --see dup --see drop:
+ofw run a.hex --words --words:
+ofw client a.hex --calls a.calls --words:
+ofw client a.hex --calls a.calls --see dup:
+ofw tok a.fs --see dup:
+ofw detok a.hex --see:a.hex definitions
+ofw detok --see a.hex --partial:a.hex definitions partial
+ofw detok a.hex --see --names:
+ofw detok a.hex --indent --see:
+ofw detok a.hex --see --see:
+ofw detok a.hex --words:
 ofw run a.hex --answers a.answers:a.hex answers a.answers 1000000
 ofw run --answers a.answers a.hex --limit 5 --explain:a.hex answers a.answers 5 explained
 ofw run a.hex --answers:
@@ -93,12 +109,13 @@ fn shown(alloc: Global, request: Request) -> Result<String, Fail> {
             lines,
             outside,
             limit,
-            tree,
+            listings,
             explain,
         } => {
             let run = shown_run(alloc, image, outside, limit, flag(explain, " explained"))?;
+            let listings = shown_listings(alloc, listings)?;
             let lines = shown_lines(alloc, lines)?;
-            Ok(format!(in alloc; "{run}{}{lines}", flag(tree, " tree"))?)
+            Ok(format!(in alloc; "{run}{listings}{lines}")?)
         }
         Request::Client {
             image,
@@ -115,9 +132,9 @@ fn shown(alloc: Global, request: Request) -> Result<String, Fail> {
         Request::Tok { source, output } => shown_tok(alloc, source, output),
         Request::Detok {
             image,
-            extras,
+            listing,
             partial,
-        } => shown_detok(alloc, image, extras, flag(partial, " partial")),
+        } => shown_detok(alloc, image, listing, flag(partial, " partial")),
     }
 }
 
@@ -127,6 +144,15 @@ fn shown_lines(alloc: Global, lines: Option<&str>) -> Result<String, Fail> {
         return Ok(String::new(alloc));
     };
     Ok(format!(in alloc; " lines {path}")?)
+}
+
+/// What is to be printed behind a run.
+fn shown_listings(alloc: Global, listings: Listings) -> Result<String, Fail> {
+    let (tree, words) = (flag(listings.tree, " tree"), flag(listings.words, " words"));
+    Ok(match listings.see {
+        Some(name) => format!(in alloc; "{tree}{words} see {name}")?,
+        None => format!(in alloc; "{tree}{words}")?,
+    })
 }
 
 /// What a run asks for.
@@ -153,7 +179,16 @@ fn shown_tok(alloc: Global, source: &str, output: Option<&str>) -> Result<String
 }
 
 /// What a listing asks for.
-fn shown_detok(alloc: Global, image: &str, extras: Extras, partial: &str) -> Result<String, Fail> {
+fn shown_detok(
+    alloc: Global,
+    image: &str,
+    listing: Listing,
+    partial: &str,
+) -> Result<String, Fail> {
+    let extras = match listing {
+        Listing::Tokens(extras) => extras,
+        Listing::Definitions => return Ok(format!(in alloc; "{image} definitions{partial}")?),
+    };
     let names = flag(extras.names, " names");
     let indents = flag(extras.indents, " indents");
     Ok(format!(in alloc; "{image}{names}{indents}{partial}")?)

@@ -1,4 +1,4 @@
-use crate::doubles::{blank_screen, reader_of, without_lines};
+use crate::doubles::{blank_screen, no_listings, reader_of, without_lines};
 use of_asking::Answer;
 use of_client::{names_are_met, values_are_got};
 use of_commands::{Answerer, ClientRun, Messages, Outside, Run, client};
@@ -62,7 +62,7 @@ fn holds(rt: &impl Abort, alloc: Global, case: &Case<'_>) {
         image: "a.hex",
         outside: case.outside,
         limit: case.limit,
-        tree: false,
+        listings: no_listings(),
         explain: case.explain,
     };
     let asked = ClientRun {

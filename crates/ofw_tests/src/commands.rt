@@ -13,7 +13,7 @@ fn without_newline(text: &[u8]) -> &[u8] {
 }
 
 /// Does what the words of a line ask for, behind the program's name, and gives the number of the status.
-fn code_of(
+pub(crate) fn code_of(
     alloc: Global,
     words: &str,
     file: &mut impl Read,

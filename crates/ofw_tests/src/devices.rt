@@ -1,4 +1,4 @@
-use crate::doubles::{Screen, blank_screen, reader_of, without_lines};
+use crate::doubles::{Screen, blank_screen, no_listings, reader_of, without_lines};
 use of_arguments::{Outside as Asked, Request, Status};
 use of_commands::{Answerer, Messages, Outside, answer, answers, board};
 use of_devices::{Board, standard_board};
@@ -31,7 +31,7 @@ fn run_on<E: Write>(
         lines: None,
         outside: Asked::Standard,
         limit: 99,
-        tree: false,
+        listings: no_listings(),
         explain,
     };
     answer(alloc, request, outside, &mut image, out, errors)

@@ -1,4 +1,5 @@
 //! Readers and writers that fail where a test wants it, and what is handed in to a run.
+use of_arguments::Listings;
 use of_commands::{Answerer, Outside};
 use std::alloc::Global;
 use std::io::{Error, ErrorKind, Read, Result, Write};
@@ -29,6 +30,15 @@ pub(crate) fn without_lines<'a>(answerer: Answerer<'a>) -> Outside<'a> {
     Outside {
         lines: &[],
         answerer,
+    }
+}
+
+/// Nothing is listed behind a run.
+pub(crate) fn no_listings<'a>() -> Listings<'a> {
+    Listings {
+        tree: false,
+        words: false,
+        see: None,
     }
 }
 

@@ -16,4 +16,6 @@ mod doubles;
 #[cfg(test)]
 mod lines;
 #[cfg(test)]
+mod listings;
+#[cfg(test)]
 mod trees;

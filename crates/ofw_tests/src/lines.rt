@@ -1,5 +1,5 @@
 //! Runs with console lines of a file.
-use crate::doubles::{blank_screen, reader_of};
+use crate::doubles::{blank_screen, no_listings, reader_of};
 use of_arguments::{Outside as Asked, Request};
 use of_commands::{Answerer, Messages, Outside, answer, lines};
 use std::alloc::Global;
@@ -30,7 +30,7 @@ fn run(alloc: Global, text: &str) -> Result<(u8, Vec<u8>, Vec<u8>), Fail> {
         lines: Some("a.lines"),
         outside: Asked::Standard,
         limit: 99,
-        tree: false,
+        listings: no_listings(),
         explain: true,
     };
     let status = match lines(alloc, "a.lines", &mut file, &mut said) {

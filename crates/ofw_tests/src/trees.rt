@@ -1,7 +1,7 @@
 //! Runs with the device tree behind what they print.
 
 use crate::doubles::{blank_screen, reader_of, without_lines};
-use of_arguments::{Outside as Asked, Request};
+use of_arguments::{Listings, Outside as Asked, Request};
 use of_commands::{Answerer, Messages, answer};
 use std::alloc::Global;
 use std::test::Fail;
@@ -33,7 +33,11 @@ fn run(alloc: Global, image: &str, room: u32) -> Result<(u8, Vec<u8>), Fail> {
         lines: None,
         outside: Asked::Standard,
         limit: 99,
-        tree: true,
+        listings: Listings {
+            tree: true,
+            words: false,
+            see: None,
+        },
         explain: false,
     };
     let outside = without_lines(Answerer::Answers(&[]));

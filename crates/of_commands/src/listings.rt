@@ -1,0 +1,187 @@
+//! What is listed behind what a run printed: the device tree, the words, and the word of a name.
+ghost use Rattle.std.specs.Prelude.{◌≡◌, ◌⊎◌, IfOk, IfErr, OnOk, OnErr, option_map};
+ghost use Rattle.std.specs.Io.KnownBytes.{Appends};
+ghost use Rattle.of_arguments.specs.Asked.{appendix_of, no_appendix, path_of};
+ghost use Rattle.of_commands.specs.Listings.{ends_line, lacks_word, lines_behind, listings_text, run_text, see_named};
+ghost use Rattle.of_commands.specs.Listings.{see_word, tree_if, words_if};
+ghost use Rattle.of_commands.specs.Messages.{AppendsPart};
+ghost use Rattle.of_commands.specs.Runs.{IsUnwritten, run_end};
+
+use crate::fault::Fault;
+use crate::output::write_whole;
+use of_arguments::{Listings, Status};
+use of_cells::Cell;
+use of_console::tree_text;
+use of_machine::ScriptMachine;
+use std::alloc::Global;
+use std::io::Write;
+
+/// Nothing is listed.
+pub(crate) fn no_listings<'a>() -> Listings<'a>
+    ensures { appendix_of result ≡ no_appendix }
+{
+    Listings {
+        tree: false,
+        words: false,
+        see: None,
+    }
+}
+
+/// Whether no line is open at the end of a text.
+fn ends_line(text: &[u8]) -> bool
+    ensures { result ≡ ends_line text.now }
+{
+    match text.get(text.len().saturating_sub(1)) {
+        Some(byte) => *byte == b'\n',
+        None => true,
+    }
+}
+
+/// The device tree of a machine, where that is asked for.
+fn tree_if(alloc: Global, tree: bool, machine: &ScriptMachine) -> Result<Vec<u8>, Fault>
+    ensures ok { IfOk result (λ text. text.items ≡ tree_if tree machine.now) }
+    ensures err { IfErr result (λ f. f ≡ Fault.NoMemory) }
+{
+    if !tree {
+        return Ok(Vec::new(alloc));
+    }
+    match tree_text(alloc, machine.memory(), machine.tree()) {
+        Ok(text) => Ok(text),
+        Err(_) => Err(Fault::NoMemory),
+    }
+}
+
+/// What `words` would print, where that is asked for.
+fn words_if(alloc: Global, words: bool, machine: &ScriptMachine) -> Result<Vec<u8>, Fault>
+    ensures ok { IfOk result (λ text. text.items ≡ words_if words machine.now) }
+    ensures err { IfErr result (λ f. f ≡ Fault.NoMemory) }
+{
+    if !words {
+        return Ok(Vec::new(alloc));
+    }
+    match machine.words(alloc) {
+        Ok(text) => Ok(text),
+        Err(_) => Err(Fault::NoMemory),
+    }
+}
+
+/// What `see` would print of a word, if there is one.
+fn see_word(alloc: Global, word: Option<Cell>, machine: &ScriptMachine) -> Result<Vec<u8>, Fault>
+    ensures ok { IfOk result (λ text. text.items ≡ see_word word machine.now) }
+    ensures err { IfErr result (λ f. f ≡ Fault.NoMemory) }
+{
+    let Some(xt) = word else {
+        return Ok(Vec::new(alloc));
+    };
+    match machine.see(alloc, xt) {
+        Ok(text) => Ok(text),
+        Err(_) => Err(Fault::NoMemory),
+    }
+}
+
+/// What `see` would print of the word of a name, where one is asked for.
+fn see_named(alloc: Global, name: Option<&str>, machine: &ScriptMachine) -> Result<Vec<u8>, Fault>
+    ensures ok { IfOk result (λ text. text.items ≡ see_named (path_of name.entry) machine.now) }
+    ensures err { IfErr result (λ f. f ≡ Fault.NoMemory) }
+{
+    match name {
+        Some(name) => see_word(alloc, machine.word(name.as_bytes()), machine),
+        None => Ok(Vec::new(alloc)),
+    }
+}
+
+/// What is listed of a machine.
+fn listings_text(
+    alloc: Global,
+    listings: Listings<'_>,
+    machine: &ScriptMachine,
+) -> Result<Vec<u8>, Fault>
+    ensures ok { IfOk result (λ text. text.items ≡ listings_text (appendix_of listings.entry) machine.now) }
+    ensures err { IfErr result (λ f. f ≡ Fault.NoMemory) }
+{
+    let mut text = tree_if(alloc, listings.tree, machine)?;
+    let words = words_if(alloc, listings.words, machine)?;
+    let seen = see_named(alloc, listings.see, machine)?;
+    if text.extend_from_slice(&words).is_err() || text.extend_from_slice(&seen).is_err() {
+        return Err(Fault::NoMemory);
+    }
+    Ok(text)
+}
+
+/// Lines of their own behind a text.
+fn lines_behind(alloc: Global, text: &[u8], lines: &[u8]) -> Result<Vec<u8>, Fault>
+    ensures ok { IfOk result (λ behind. behind.items ≡ lines_behind text.now lines.now) }
+    ensures err { IfErr result (λ f. f ≡ Fault.NoMemory) }
+{
+    let mut behind = Vec::new(alloc);
+    if !lines.is_empty() && !ends_line(text) && behind.push(b'\n').is_err() {
+        return Err(Fault::NoMemory);
+    }
+    match behind.extend_from_slice(lines) {
+        Ok(()) => Ok(behind),
+        Err(_) => Err(Fault::NoMemory),
+    }
+}
+
+/// Prints what is listed of a machine, on lines of its own behind what was printed.
+fn print_listings<W: Write>(
+    alloc: Global,
+    listings: Listings<'_>,
+    machine: &ScriptMachine,
+    out: &mut W,
+) -> Result<(), Fault>
+    ensures ok { OnOk result (Appends (W.contents out.old) (W.contents out.new)
+        (lines_behind machine.now.eval.board.console.text
+        (listings_text (appendix_of listings.entry) machine.now))) }
+    ensures err { OnErr result (AppendsPart (W.contents out.old) (W.contents out.new)
+        (lines_behind machine.now.eval.board.console.text
+        (listings_text (appendix_of listings.entry) machine.now))) }
+    ensures fault { IfErr result (λ f. IsUnwritten f ⊎ (f ≡ Fault.NoMemory)) }
+{
+    let lines = listings_text(alloc, listings, machine)?;
+    let behind = lines_behind(alloc, machine.console(), &lines)?;
+    write_whole(out, &behind)
+}
+
+/// Prints what a run printed, and behind it what is listed.
+pub(crate) fn print_text<W: Write>(
+    alloc: Global,
+    listings: Listings<'_>,
+    machine: &ScriptMachine,
+    out: &mut W,
+) -> Result<(), Fault>
+    ensures ok { OnOk result (Appends (W.contents out.old) (W.contents out.new)
+        (run_text (appendix_of listings.entry) machine.now)) }
+    ensures err { OnErr result (AppendsPart (W.contents out.old) (W.contents out.new)
+        (run_text (appendix_of listings.entry) machine.now)) }
+    ensures fault { IfErr result (λ f. IsUnwritten f ⊎ (f ≡ Fault.NoMemory)) }
+{
+    match write_whole(out, machine.console()) {
+        Ok(()) => print_listings(alloc, listings, machine, out),
+        Err(fault) => Err(fault),
+    }
+}
+
+/// Whether a word is asked for by a name that none has.
+fn lacks_word(name: Option<&str>, machine: &ScriptMachine) -> bool
+    ensures { result ≡ lacks_word (path_of name.entry) machine.now }
+{
+    match name {
+        Some(name) => machine.word(name.as_bytes()).is_none(),
+        None => false,
+    }
+}
+
+/// How a run ends of which all was printed: with its status, unless a word is asked for by a name that none has.
+pub(crate) fn run_end(
+    listings: Listings<'_>,
+    machine: &ScriptMachine,
+    status: Status,
+) -> Result<Status, Fault>
+    ensures { result ≡ run_end (appendix_of listings.entry) machine.now status }
+{
+    if lacks_word(listings.see, machine) {
+        return Err(Fault::NoWord);
+    }
+    Ok(status)
+}

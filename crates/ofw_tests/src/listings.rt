@@ -1,0 +1,152 @@
+//! What is listed behind a run, and the definitions that are listed of an image.
+
+use crate::commands::code_of;
+use crate::doubles::{blank_screen, reader_of};
+use of_arguments::{Status, parse};
+use of_commands::{Answerer, Messages, Outside, answer};
+use std::alloc::Global;
+use std::process::Abort;
+use std::test::Fail;
+
+/// The words of a command line, an image in hexadecimal digits, how many bytes can be written, the number of the
+/// status, what is said, and what is printed, with `$` for a newline: an empty program; one that prints `5 `; one that
+/// gives /slot the method `five` and prints what it leaves.
+const RUNS: &str = "\
+run a.hex --words|f10800000000000000|9999|0||$
+run a.hex --see DUP|f10800000000000000|9999|0||primitive dup$
+run a.hex --words --see dup|f108000000000000a7a81e9d00|9999|0||5 $$primitive dup$
+run a.hex --see five|f108000000000000b60466697665 0800b7a7a81ec208009d00|9999|1|\
+ofw: a.hex: no word has the name that --see asks for$|5 
+run a.hex --limit 6 --words --see five|f108000000000000ca0466697665 0800b7a7a81ec208009d00|9999|3||\
+five $: five 2 3 + ;$
+run a.hex --limit 5 --words --see five|f108000000000000ca0466697665 0800b7a7a81ec208009d00|9999|1|\
+ofw: a.hex: no word has the name that --see asks for$|$
+run a.hex --tree --words --see dup|f10800000000000000|9999|0||\
+/$name \"board\"$/packages$name \"packages\"$/slot$name \"slot\"$$primitive dup$
+run a.hex --see nonsense --tree --explain|f10800000000000000|9999|1|\
+ofw: a.hex: done after 1 steps$ofw: a.hex: stack:$ofw: a.hex: no word has the name that --see asks for$|\
+/$name \"board\"$/packages$name \"packages\"$/slot$name \"slot\"$
+run a.hex --see dup|f108000000000000a7a81e9d00|6|1|ofw: the output can't be written: other error$|5 $pri";
+
+/// The words of a command line, console lines with `,` for a newline, the number of the status, and what is printed, of
+/// the program that gives /slot the method `five`. The words of an image are found where /slot is active.
+const LINES: &str = "\
+run a.hex --words --see five|dev /slot|0|5 $five $: five 2 3 + ;$
+run a.hex --words --see FIVE|dev /slot,: five 5 ;|0|5 $five $: five h# 5 ;$
+run a.hex --words --see five|: five 6 ;|0|5 $five $: five h# 6 ;$
+run a.hex --words --see cube|: sq dup * ;,: cube dup sq * ; 5 cube .|0|5 7d $cube sq $: cube dup sq * ;$
+run a.hex --words --see cube|: sq dup * ;,: cube dup sq * ; : sq drop ;|0|\
+5 $cube sq $: cube dup [ h# c0000530 compile, ] * ;$
+run a.hex --see nine|9 value nine cr|0|5 $value nine$
+run a.hex --see sq|: sq dup|1|5 ";
+
+/// Images, of which `detok --see` lists the definitions.
+const DEFINITIONS: &str = "\
+detok a.hex --see|f108000000000000ca0466697665 0800b7a7a81ec208009d00|9999|0||: five 2 3 + ;$
+detok a.hex --see|f10800000000000000|9999|0||
+detok a.hex --see|f108000000000000 ca027371 0800b74720c2 b50801b7a5c2 ca0463756265 0802b7470800 0801 20c2 a79d00|\
+9999|0||: sq dup * ;$: h# c0000530 0 ;$: cube dup sq [ h# c0000530 compile, ] * ;$
+detok a.hex --see|f108000000000000 1000000005 ca01780800b8 ca01740801b7c30800c2 00|9999|0||: t to x ;$
+detok a.hex --see|f108000000000000 ca017a0800b7 140006 a6 130004 b2 a5 b2 c2 ca015a0801b70800c2 00|9999|0||\
+: z if 1 ahead [ h# 1 ] cs-roll then 0 then ;$: Z [ h# c000052c compile, ] ;$
+detok a.hex --see|f108000000000000 b6017a0800b7a7c200|9999|0||: z 2 ;$
+detok a.hex --see|f108000000000000ca0466697665 0800b7a7a81ec210|9999|1|\
+ofw: a.hex: image ended in the token at 000015$|
+detok a.hex --see --partial|f108000000000000ca0466697665 0800b7a7a81ec210|9999|1|\
+ofw: a.hex: image ended in the token at 000015$|: five 2 3 + ;$
+detok a.hex --see --partial|f108000000000000ca0466697665 0800b7a7a81e10|9999|1|\
+ofw: a.hex: image ended in the token at 000014$|
+detok a.hex --see --partial|ffffffffffffffff|9999|1|ofw: bad start byte ff$|
+detok a.hex --see --partial|f1080000|9999|1|ofw: a.hex: image shorter than its header$|
+detok a.hex --see|f108000000000000ca0466697665 0800b7a7a81ec208009d00|6|1|\
+ofw: the output can't be written: other error$|: five";
+
+/// Runs the image of LINES as the words of a line ask for, with console lines, and gives the number of the status and
+/// what goes out.
+fn done_with(alloc: Global, words: &[String], lines: &[Vec<u8>]) -> Result<(u8, Vec<u8>), Fail> {
+    let Ok(Some(request)) = parse(alloc, words) else {
+        return Ok((Status::Usage.code(), Vec::new(alloc)));
+    };
+    let mut file = reader_of(b"f108000000000000ca0466697665 0800b7a7a81ec208009d00", 9999);
+    let mut out = blank_screen(alloc, 9999);
+    let mut errors = blank_screen(alloc, 9999);
+    let outside = Outside {
+        lines,
+        answerer: Answerer::Answers(&[]),
+    };
+    let mut said = Messages::new(&mut errors);
+    let status = answer(alloc, request, outside, &mut file, &mut out, &mut said);
+    Ok((status.code(), out.text))
+}
+
+/// The parts of a text.
+fn parts_of(alloc: Global, text: &str, between: char) -> Result<Vec<String>, Fail> {
+    let mut parts = Vec::new(alloc);
+    for part in text.split(between) {
+        parts.push(String::from_str(alloc, part)?)?;
+    }
+    Ok(parts)
+}
+
+/// Does what the words of a line ask for with an image, and gives the number of the status, what is said, and what goes
+/// out.
+fn done(
+    alloc: Global,
+    words: &str,
+    image: &str,
+    room: u32,
+) -> Result<(u8, Vec<u8>, Vec<u8>), Fail> {
+    let mut file = reader_of(image.as_bytes(), 9999);
+    let mut out = blank_screen(alloc, room);
+    let mut errors = blank_screen(alloc, 9999);
+    let code = code_of(alloc, words, &mut file, &mut out, &mut errors)?;
+    Ok((code, errors.text, out.text))
+}
+
+/// Whether each line of a text holds.
+fn check<R: Abort>(rt: &R, alloc: Global, lines: &str) -> Result<(), Fail> {
+    for case in lines.lines() {
+        let mut fields = case.split('|');
+        let words = fields.next().unwrap_or("");
+        let image = fields.next().unwrap_or("");
+        let room: u32 = fields.next().unwrap_or("").parse()?;
+        let code: u8 = fields.next().unwrap_or("").parse()?;
+        let wanted = fields.next().unwrap_or("").replace(alloc, "$", "\n")?;
+        let listed = fields.next().unwrap_or("").replace(alloc, "$", "\n")?;
+        let (found, said, printed) = done(alloc, words, image, room)?;
+        assert_eq!(rt; found, code, "{case}");
+        assert_eq!(rt; said.as_slice(), wanted.as_bytes(), "{case}");
+        assert_eq!(rt; printed.as_slice(), listed.as_bytes(), "{case}");
+    }
+    Ok(())
+}
+
+#[test]
+fn listings_are_printed(rt: HostRuntime) -> Result<(), Fail> {
+    check(&rt, rt.alloc(), RUNS)
+}
+
+#[test]
+fn listings_behind_lines(rt: HostRuntime) -> Result<(), Fail> {
+    for case in LINES.lines() {
+        let mut fields = case.split('|');
+        let words = format!(in rt.alloc(); "ofw {}", fields.next().unwrap_or(""))?;
+        let words = parts_of(rt.alloc(), words.as_str(), ' ')?;
+        let text = fields.next().unwrap_or("");
+        let code: u8 = fields.next().unwrap_or("").parse()?;
+        let wanted = fields.next().unwrap_or("").replace(rt.alloc(), "$", "\n")?;
+        let mut lines = Vec::new(rt.alloc());
+        for line in parts_of(rt.alloc(), text, ',')? {
+            lines.push(line.into_bytes())?;
+        }
+        let (found, printed) = done_with(rt.alloc(), &words, &lines)?;
+        assert_eq!(rt; found, code, "{case}");
+        assert_eq!(rt; printed.as_slice(), wanted.as_bytes(), "{case}");
+    }
+    Ok(())
+}
+
+#[test]
+fn definitions_are_listed(rt: HostRuntime) -> Result<(), Fail> {
+    check(&rt, rt.alloc(), DEFINITIONS)
+}
