@@ -1,4 +1,5 @@
 pub mod Values
+pub mod Links
 pub mod Texts
 pub mod Children
 pub mod Names

@@ -3,6 +3,7 @@
 
 mod children;
 mod laws;
+mod links;
 mod names;
 mod properties;
 mod tree;

@@ -1,6 +1,7 @@
 ghost use Rattle.std.specs.Prelude.{◌≡◌, ◌⊎◌, ◌++◌, List, ℕ, IfOk, IfErr, OnOk, Ok, Err};
 ghost use Rattle.of_console.specs.Texts.{devs_text, node_text, pwd_text, tree_text, walk_text};
 
+use crate::links::next_nodes;
 use crate::properties::push_properties;
 use of_memory::Memory;
 use of_nodes::{NodeFault, Phandle, Tree, after_runs};
@@ -66,12 +67,13 @@ fn walk_text(
     ensures err { IfErr result (λ e. e ≡ NodeFault.NoMemory) }
 {
     after_runs();
+    let next = next_nodes(alloc, tree)?;
     let _ = tree.node_count();
     let mut out = Vec::new(alloc);
-    let mut left = Some(Phandle::of(0));
-    while let Some(node) = left {
-        push_node(alloc, memory, tree, node, detail, &mut out)?;
-        left = tree.after(node)?;
+    let mut left = Some(0);
+    while let Some(number) = left {
+        push_node(alloc, memory, tree, Phandle::of(number), detail, &mut out)?;
+        left = next[number];
     }
     Ok(out)
 }
