@@ -1,0 +1,2 @@
+-- TurnLemmas: turns of a machine with its devices.
+mod TurnLemmas
