@@ -1,0 +1,4 @@
+pub mod Spelling
+pub mod Numbers
+pub mod Reading
+pub mod Soundness
