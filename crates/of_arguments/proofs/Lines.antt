@@ -22,7 +22,8 @@ use Rattle.of_arguments.specs.CommandLine.{LinesAsk, is_plain, AsksToRun, AsksTo
 use Rattle.of_arguments.specs.Asked.{a_run, no_appendix, standard}
 use Rattle.of_arguments.specs.CommandLine.{ofw_app, run_app, AsksToExplain, AsksWith, plain_tokens, AsksToKeep}
 use Rattle.of_arguments.specs.CommandLine.{AsksForCalls, AsksForTree, AsksToTokenize, AsksWithAnswers, AsksWithBoard}
-use Rattle.of_arguments.specs.CommandLine.{AsksForWords, AsksToSee, AsksWithLines, client_app, detok_app, tok_app}
+use Rattle.of_arguments.specs.CommandLine.{AsksForConsole, AsksForConsoleOn, AsksForWords, AsksToSee, AsksWithLines, client_app}
+use Rattle.of_arguments.specs.CommandLine.{console_app, detok_app, tok_app}
 use Rattle.of_arguments.specs.declared.request.Listing.TheVariants as listing
 
 -- ---- a word that begins with no hyphen is no option
@@ -66,6 +67,9 @@ run_shape = built_leaf (inherited ofw_app.top run_app.top)
 
 client_shape : Shape
 client_shape = built_leaf (inherited ofw_app.top client_app.top)
+
+console_shape : Shape
+console_shape = built_leaf (inherited ofw_app.top console_app.top)
 
 detok_shape : Shape
 detok_shape = built_leaf (inherited ofw_app.top detok_app.top)
@@ -239,6 +243,17 @@ worded program b rest e = (
   rw (image_met run_shape b rest e) (image_alone _ (image_passes run_shape b rest e)),
 )
 
+consoled : (program : Text) → AsksForConsole program
+unfolding clap_on_literals console_shape
+consoled program = (refl, refl)
+
+consoled_on : (program : Text) (b : ℕ) (rest : Text) → (b == 45) ≡ false → AsksForConsoleOn program (b ∷ rest)
+unfolding clap_on_literals console_shape
+consoled_on program b rest e = (
+  rw (image_met console_shape b rest e) refl,
+  rw (image_met console_shape b rest e, image_passes console_shape b rest e) refl,
+)
+
 with_names : (program : Text) (b : ℕ) (rest : Text) → (b == 45) ≡ false
     → AsksWith program (b ∷ rest) (codes "--names") (listing.Tokens (record { names = true; indents = false })) false
 unfolding clap_on_literals detok_shape
@@ -260,7 +275,7 @@ with_part : (program : Text) (b : ℕ) (rest : Text) → (b == 45) ≡ false
 unfolding clap_on_literals detok_shape
 with_part program b rest e = (
   rw (image_met detok_shape b rest e) refl,
-  rw (image_met detok_shape b rest e, image_passes detok_shape b rest e) refl,
+  rw (image_met detok_shape b rest e) (image_alone _ (image_passes detok_shape b rest e)),
 )
 
 with_definitions : (program : Text) (b : ℕ) (rest : Text) → (b == 45) ≡ false
@@ -370,6 +385,8 @@ lines_ask program (b ∷ rest) e = (
   explained program b rest (hyphenless b e),
   treed program b rest (hyphenless b e),
   worded program b rest (hyphenless b e),
+  consoled program,
+  consoled_on program b rest (hyphenless b e),
   (
     with_names program b rest (hyphenless b e),
     with_indents program b rest (hyphenless b e),

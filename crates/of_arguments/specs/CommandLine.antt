@@ -15,7 +15,7 @@ use Rattle.of_detok.specs.declared.notes.Extras.{Extras}
 use Rattle.of_arguments.specs.declared.request.Listing.{Listing}
 use Rattle.of_arguments.specs.declared.request.Listing.TheVariants as listing
 use Rattle.of_arguments.specs.Asked.{Appendix, Asked, Outsiders, a_run, an_image, a_listing, answers_of, board_of}
-use Rattle.of_arguments.specs.Asked.{client_calls, no_appendix, standard}
+use Rattle.of_arguments.specs.Asked.{a_console, client_calls, no_appendix, standard}
 
 -- ---- the command line
 
@@ -86,6 +86,15 @@ client_app =
     with_rule (with_rule (with_rule (with_rule (with_rule (with_rule (with_rule (new_app (codes "client")) image_rule)
     calls_rule) lines_rule) answers_rule) board_rule) limit_rule) (flag_rule (codes "explain"))
 
+-- `[IMAGE]`
+abbrev pub first_image_rule : Rule
+first_image_rule = record (new_rule (codes "image")) { value_names = 1; action = Some Set }
+
+-- `console [IMAGE] [--board FILE] [--limit N]`
+abbrev pub console_app : App
+console_app =
+    with_rule (with_rule (with_rule (new_app (codes "console")) first_image_rule) board_rule) limit_rule
+
 -- `--output FILE`
 abbrev pub output_rule : Rule
 output_rule = option_rule (codes "output")
@@ -108,11 +117,12 @@ needing_subcommand a = record a { top = record a.top { subcommand_required = tru
 abbrev pub versioned : App → App
 versioned a = record a { top = record a.top { has_version = true } }
 
--- `ofw`, with one of the four
+-- `ofw`, with one of the five
 abbrev pub ofw_app : App
 ofw_app =
-    with_subcommand (with_subcommand (with_subcommand (with_subcommand
-    (needing_subcommand (versioned (new_app (codes "ofw")))) run_app.top) client_app.top) tok_app.top) detok_app.top
+    with_subcommand (with_subcommand (with_subcommand (with_subcommand (with_subcommand
+    (needing_subcommand (versioned (new_app (codes "ofw")))) run_app.top) client_app.top) console_app.top) tok_app.top)
+    detok_app.top
 
 -- the command has this shape, and no argument that all its subcommands share
 abbrev pub IsBuilt : App → Command → Type 0
@@ -186,6 +196,11 @@ client_asked rows image =
     (outside_in rows))
     (first_of (codes "calls") rows)
 
+-- what `console` asks for
+abbrev pub console_asked : List Row → Asked
+console_asked rows =
+    a_console (first_of (codes "image") rows) (first_of (codes "board") rows) (limit_in rows)
+
 -- what `detok` asks for with an image
 abbrev pub detok_asked : List Row → Text → Option Asked
 detok_asked rows image = option_map (λ l. a_listing image l (has_flag (codes "partial") rows)) (listing_in rows)
@@ -202,7 +217,8 @@ abbrev pub asked_by : Text × List Row → Option Asked
 asked_by p =
     if bytes_eq p.0 (codes "tok")
     then option_map (λ source. an_image source (first_of (codes "output") p.1)) (first_of (codes "source") p.1)
-    else option_and_then (asked_as p.0 p.1) (first_of (codes "image") p.1)
+    else (if bytes_eq p.0 (codes "console") then Some (console_asked p.1)
+    else option_and_then (asked_as p.0 p.1) (first_of (codes "image") p.1))
 
 -- what a command line asks for, the program's name first
 abbrev pub asks : List Text → Option Asked
@@ -281,6 +297,14 @@ AsksForCalls program image calls =
     Asks (program ∷ codes "client" ∷ image ∷ codes "--calls" ∷ calls ∷ [])
     (client_calls image calls None standard 1000000 false)
 
+-- a console, alone or behind an image
+abbrev pub AsksForConsole : Text → Type 0
+AsksForConsole program = Asks (program ∷ codes "console" ∷ []) (a_console None None 1000000)
+
+abbrev pub AsksForConsoleOn : Text → Text → Type 0
+AsksForConsoleOn program image =
+    Asks (program ∷ codes "console" ∷ image ∷ []) (a_console (Some image) None 1000000)
+
 -- a listing of an image
 abbrev pub AsksToList : Text → Text → Type 0
 AsksToList program image = Asks (program ∷ codes "detok" ∷ image ∷ []) (a_listing image plain_tokens false)
@@ -311,7 +335,7 @@ AsksToKeep program source output =
 abbrev pub LinesAsk : Type 0
 LinesAsk = (program image : Text) → is_plain image ≡ true → AsksToRun program image × AsksToList program image
     × AsksToTokenize program image × AsksToExplain program image × AsksForTree program image
-    × AsksForWords program image × AsksForMore program image
+    × AsksForWords program image × AsksForConsole program × AsksForConsoleOn program image × AsksForMore program image
     × ((output : Text) → is_plain output ≡ true → AsksToKeep program image output)
     × ((calls : Text) → is_plain calls ≡ true → AsksForCalls program image calls)
     × ((answers : Text) → is_plain answers ≡ true → AsksWithAnswers program image answers)

@@ -5,7 +5,8 @@ ghost use Rattle.std.specs.String.{string_bytes};
 ghost use Rattle.of_arguments.specs.Asked.{appendix_of, asked, shown};
 ghost use Rattle.of_arguments.specs.Statuses.{unasked};
 ghost use Rattle.of_arguments.specs.CommandLine.{IsBuilt, answers_rule, asked_by, asks, board_rule, calls_rule};
-ghost use Rattle.of_arguments.specs.CommandLine.{appendix_in, client_app, client_asked, detok_app, detok_asked};
+ghost use Rattle.of_arguments.specs.CommandLine.{appendix_in, client_app, client_asked, console_app, console_asked};
+ghost use Rattle.of_arguments.specs.CommandLine.{detok_app, detok_asked, first_image_rule};
 ghost use Rattle.of_arguments.specs.CommandLine.{extras_in, flag_rule, has_flag, image_rule, is_true, limit_in};
 ghost use Rattle.of_arguments.specs.CommandLine.{limit_rule, lines_rule, listing_in, listing_of, ofw_app, outside_in};
 ghost use Rattle.of_arguments.specs.CommandLine.{output_rule, path_rule, run_app, run_asked, running_app, see_rule};
@@ -48,6 +49,17 @@ nextprop PH NAME, instance-to-package IH, package-to-path PH ROOM.
 
 Status: 0 done, 1 fault of input or output, 2 usage, 3 limit reached, 4 answers out, 5 no memory";
 
+/// What the help of `console` ends with.
+const CONSOLE_HELP: &str = "\
+Example: ofw console card.rom
+
+The image, if one is given, is run first, as for run. Then lines are read up to the end of the input, and each is run as
+soon as it is read; what it prints is printed, and `ok` where the next one is awaited. A line that makes so many steps as
+--limit allows is stopped there, and an empty line lets it go on. A line has at most 255 bytes. What is asked of the
+outside is answered by the board, or with --board by the devices of a file, as for run.
+
+Status: 0 done, 1 fault of input or output, 2 usage, 5 no memory";
+
 /// What the help of `tok` ends with.
 const TOK_HELP: &str = "\
 Example: ofw tok card.fs --output card.rom
@@ -80,6 +92,16 @@ fn image_argument<'a>(alloc: Global) -> Arg<'a>
 {
     let help = "the image: a ROM, or its bytes in hexadecimal digits";
     path_argument(alloc, "image", "IMAGE", help)
+}
+
+/// `[IMAGE]`
+fn first_image_argument<'a>(alloc: Global) -> Arg<'a>
+    ensures { (rule_of result ≡ first_image_rule) × (result.global ≡ false) }
+{
+    Arg::new(alloc, "image")
+        .value_name("IMAGE")
+        .help("an image that is run first: a ROM, or its bytes in hexadecimal digits")
+        .action(ArgAction::Set)
 }
 
 /// `SOURCE`
@@ -230,6 +252,18 @@ fn client_command<'a>(alloc: Global) -> Result<Command<'a>, AllocError>
         ))
 }
 
+/// `ofw console [IMAGE] [--board FILE] [--limit N]`
+fn console_command<'a>(alloc: Global) -> Result<Command<'a>, AllocError>
+    ensures { IfOk result (IsBuilt console_app) }
+{
+    Command::new(alloc, "console")
+        .about("Reads lines and runs each, as a boot monitor's console does")
+        .after_help(CONSOLE_HELP)
+        .arg(first_image_argument(alloc))?
+        .arg(board_argument(alloc))?
+        .arg(limit_argument(alloc))
+}
+
 /// `ofw tok SOURCE [--output FILE]`
 fn tok_command<'a>(alloc: Global) -> Result<Command<'a>, AllocError>
     ensures { IfOk result (IsBuilt tok_app) }
@@ -287,6 +321,7 @@ fn command<'a>(alloc: Global) -> Result<Command<'a>, AllocError>
         .subcommand_required(true);
     let command = with_subcommand(command, run_command(alloc))?;
     let command = with_subcommand(command, client_command(alloc))?;
+    let command = with_subcommand(command, console_command(alloc))?;
     let command = with_subcommand(command, tok_command(alloc))?;
     with_subcommand(command, detok_command(alloc))
 }
@@ -373,6 +408,17 @@ fn client_request<'a>(image: &'a str, matches: &ArgMatches<'a>) -> Option<Reques
     })
 }
 
+/// What `console` asks for.
+fn console_request<'a>(matches: &ArgMatches<'a>) -> Request<'a>
+    ensures { asked result ≡ console_asked (rows_of (found_of matches.now)) }
+{
+    Request::Console {
+        image: value(matches, "image"),
+        board: value(matches, "board"),
+        limit: step_limit(matches),
+    }
+}
+
 /// What is to be said of tokens beyond names and operands.
 fn extras(matches: &ArgMatches) -> Extras
     ensures { result ≡ extras_in (rows_of (found_of matches.now)) }
@@ -414,6 +460,9 @@ fn request_of<'a>(name: &str, matches: &ArgMatches<'a>) -> Option<Request<'a>>
             source: value(matches, "source")?,
             output: value(matches, "output"),
         });
+    }
+    if name == "console" {
+        return Some(console_request(matches));
     }
     let image = value(matches, "image")?;
     match name {

@@ -64,6 +64,15 @@ pub enum Request<'a> {
         /// Whether its end is explained on the error output.
         explain: bool,
     },
+    /// Read lines and run each.
+    Console {
+        /// The path of the image that is run first, if there is one.
+        image: Option<&'a str>,
+        /// The path of the file of devices that answer questions, in place of the standard board.
+        board: Option<&'a str>,
+        /// How many steps are made at most for the image, and for each line.
+        limit: u64,
+    },
     /// Make the image of a source.
     Tok {
         /// The path of the source.

@@ -4,4 +4,5 @@ pub mod Faults
 pub mod Reading
 pub mod Replies
 pub mod Seen
+pub mod Sessions
 pub mod Written

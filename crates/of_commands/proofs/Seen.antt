@@ -1,6 +1,6 @@
 -- What is seen of the definitions that an image makes.
 use Rattle.std.proofs.Common.{◌≡◌, ◌∙◌, ◌==◌, ℕ, suc, ◌+◌, List, [], ◌∷◌, ◌++◌, length}
-use Rattle.std.proofs.Common.{Bool, false, true≢false, arith, ap}
+use Rattle.std.proofs.Common.{false, true≢false, arith, ap}
 use Rattle.std.proofs.Common.{subst, sym}
 use Rattle.of_cells.specs.declared.cells.Cell.{Cell}
 use Rattle.of_compile.specs.Coding.{Coding}

@@ -2,5 +2,6 @@ pub mod Clients
 pub mod Definitions
 pub mod Files
 pub mod Listings
+pub mod Consoles
 pub mod Messages
 pub mod Runs

@@ -31,7 +31,7 @@ use Rattle.of_tok.specs.declared.fault.TokFault.{TokFault}
 use Rattle.of_tok.specs.declared.fault.TokFault.TheVariants as tok
 use Rattle.of_tok.specs.Image.{tokenized}
 use Rattle.of_tok.specs.Image.{IsRefused as HasNoImage}
-use Rattle.of_arguments.specs.Asked.{Appendix, Asked, a_run, an_image, a_listing, client_calls, no_appendix}
+use Rattle.of_arguments.specs.Asked.{Appendix, Asked, a_console, a_run, an_image, a_listing, client_calls, no_appendix}
 use Rattle.of_arguments.specs.declared.request.Listing.{Listing}
 use Rattle.of_arguments.specs.declared.request.Listing.TheVariants as listing
 use Rattle.of_commands.specs.Files.{image_in, FaultsReading, IsUnread}
@@ -358,11 +358,12 @@ Writes bytes old new _ = ⊥
 
 -- ---- requests
 
--- what was printed of the file, where this was asked for, or why it wasn't: of `client` the run alone
+-- what was printed of the file, where this was asked for, or why it wasn't: of `client` and `console` the run alone
 abbrev pub Does :
     Asked → Outside → List ℕ → Option (List ℕ) → Option (List ℕ) → Result Status Fault → Type 0
 Does (a_run image lines path limit a explain) o file old new r = Prints a file o limit old new r
 Does (client_calls image calls lines path limit explain) o file old new r = Prints no_appendix file o limit old new r
+Does (a_console image board limit) o file old new r = Prints no_appendix file o limit old new r
 Does (an_image source output) o file old new r = Tokenizes file old new r
 Does (a_listing image l partial) o file old new r = Lists l partial file old new r
 
@@ -379,6 +380,7 @@ is_done status.NoMemory = false
 abbrev pub is_explained : Asked → Bool
 is_explained (a_run image lines o limit a explain) = explain
 is_explained (client_calls image calls lines o limit explain) = explain
+is_explained (a_console image board limit) = false
 is_explained (an_image source output) = false
 is_explained (a_listing image l partial) = false
 

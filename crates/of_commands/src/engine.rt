@@ -53,7 +53,7 @@ pub struct Run<'a> {
 }
 
 /// The fault that a refusal of an image of so many bytes is.
-fn refused(length: usize, refusal: Refusal) -> Fault
+pub(crate) fn refused(length: usize, refusal: Refusal) -> Fault
     ensures { result ≡ refused_as length refusal }
 {
     match refusal {
@@ -452,6 +452,16 @@ fn perform<R: Read, W: Write, E: Write>(
             };
             print_run(alloc, run, file, out, errors)
         }
+        Request::Console { limit, .. } => {
+            let run = Run {
+                image: path_of(request),
+                outside,
+                limit,
+                listings: no_listings(),
+                explain: false,
+            };
+            print_run(alloc, run, file, out, errors)
+        }
         Request::Tok { .. } => tok(alloc, file, out),
         Request::Detok {
             listing,
@@ -466,13 +476,14 @@ fn path_of(request: Request<'_>) -> &str {
     match request {
         Request::Run { image, .. } => image,
         Request::Client { image, .. } => image,
+        Request::Console { image, .. } => image.unwrap_or(""),
         Request::Tok { source, .. } => source,
         Request::Detok { image, .. } => image,
     }
 }
 
-/// Does what was asked for with the file at its path, and gives the status. Of `client` this is the run alone. The
-/// questions of a run are answered by `outside`.
+/// Does what was asked for with the file at its path, and gives the status. Of `client` and `console` this is the run of
+/// the image alone. The questions of a run are answered by `outside`.
 ///
 /// What is wrong is said on the error output, behind the path of the file; and how a run ended, where that is to be
 /// explained. Else nothing is said.

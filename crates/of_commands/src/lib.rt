@@ -3,6 +3,7 @@
 
 mod clients;
 mod console_lines;
+mod consoles;
 mod definitions;
 mod devices;
 mod engine;
@@ -18,6 +19,7 @@ mod place;
 
 pub use clients::{ClientRun, client};
 pub use console_lines::lines;
+pub use consoles::{ConsoleRun, console, rom};
 pub use devices::{answers, board};
 pub use engine::{Run, answer, image, keep};
 pub use fault::Fault;

@@ -28,7 +28,7 @@ pub(crate) fn no_listings<'a>() -> Listings<'a>
 }
 
 /// Whether no line is open at the end of a text.
-fn ends_line(text: &[u8]) -> bool
+pub(crate) fn ends_line(text: &[u8]) -> bool
     ensures { result ≡ ends_line text.now }
 {
     match text.get(text.len().saturating_sub(1)) {

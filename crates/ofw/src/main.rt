@@ -4,10 +4,10 @@
 use clap::Error;
 use of_arguments::{Listings, Outside as Asked, Request, Status, parse, status_of};
 use of_asking::Answer;
-use of_commands::{Answerer, ClientRun, Fault, Messages, Outside, Run};
+use of_commands::{Answerer, ClientRun, ConsoleRun, Fault, Messages, Outside, Run};
 use of_devices::{Board, standard_board};
 use std::fs::File;
-use std::io::Stderr;
+use std::io::{BufReader, Stderr};
 use std::process::ExitCode;
 use std::{env, io};
 
@@ -169,6 +169,55 @@ fn call<'a>(
     client(rt, &ClientRun { run, calls })
 }
 
+/// The image of the file at a path, for a console.
+fn read_rom(rt: &HostRuntime, path: &str) -> Result<Vec<u8>, Status> {
+    match File::open(rt, path) {
+        Ok(mut file) => of_commands::rom(rt.alloc(), path, &mut file, &mut messages(rt)),
+        Err(error) => Err(unopened(rt, path, &error)),
+    }
+}
+
+/// The devices that answer a console: those of the file at a path, or the standard board.
+fn read_devices(rt: &HostRuntime, path: Option<&str>) -> Result<Board, Status> {
+    let asked = match path {
+        Some(path) => Asked::Board(path),
+        None => Asked::Standard,
+    };
+    match read_outside(rt, asked)? {
+        Source::Board(board) => Ok(board),
+        Source::Answers(_) => Err(Status::Usage),
+    }
+}
+
+/// Runs an image, if there is one, and then the lines of the standard input, as they come.
+fn converse(rt: &HostRuntime, image: Option<(&str, &[u8])>, board: &Board, limit: u64) -> Status {
+    let Ok(mut lines) = BufReader::new(rt.alloc(), rt.stdin()) else {
+        return report(rt, "", Fault::NoMemory);
+    };
+    let console = ConsoleRun {
+        image,
+        board,
+        limit,
+    };
+    let (mut out, mut errors) = (rt.stdout(), messages(rt));
+    of_commands::console(rt.alloc(), console, &mut lines, &mut out, &mut errors)
+}
+
+/// Reads the files of a console, and begins it.
+fn console(rt: &HostRuntime, path: Option<&str>, board: Option<&str>, limit: u64) -> Status {
+    let board = match read_devices(rt, board) {
+        Ok(board) => board,
+        Err(status) => return status,
+    };
+    let Some(path) = path else {
+        return converse(rt, None, &board, limit);
+    };
+    match read_rom(rt, path) {
+        Ok(image) => converse(rt, Some((path, &image)), &board, limit),
+        Err(status) => status,
+    }
+}
+
 /// Opens the file at a path, and does with it what was asked for.
 fn perform(rt: &HostRuntime, path: &str, request: Request, outside: Outside) -> Status {
     let mut file = match File::open(rt, path) {
@@ -225,6 +274,11 @@ fn answer(rt: &HostRuntime, request: Request) -> Status {
             Ok(handed) => call(rt, image, calls, &handed, limit, explain),
             Err(status) => status,
         },
+        Request::Console {
+            image,
+            board,
+            limit,
+        } => console(rt, image, board, limit),
         Request::Tok { source, .. } => translate(rt, source, request),
         Request::Detok { image, .. } => translate(rt, image, request),
     }

@@ -66,6 +66,13 @@ ofw client a.hex --calls a.calls --calls b.calls:
 ofw client a.hex b.hex --calls a.calls:
 ofw client a.hex --calls a.calls --limit 1000000001:
 ofw run a.hex --calls a.calls:
+ofw console:console no image 1000000
+ofw console a.hex:console a.hex 1000000
+ofw console --limit 5 --board a.board a.hex:console a.hex board a.board 5
+ofw console --board a.board:console no image board a.board 1000000
+ofw console a.hex b.hex:
+ofw console --lines a.lines:
+ofw console --limit 1000000001:
 ofw tok a.fs:a.fs
 ofw tok:
 ofw tok a.fs --limit 5:
@@ -129,6 +136,11 @@ fn shown(alloc: Global, request: Request) -> Result<String, Fail> {
             let lines = shown_lines(alloc, lines)?;
             Ok(format!(in alloc; "{image} {run}{lines}")?)
         }
+        Request::Console {
+            image,
+            board,
+            limit,
+        } => shown_console(alloc, image, board, limit),
         Request::Tok { source, output } => shown_tok(alloc, source, output),
         Request::Detok {
             image,
@@ -167,6 +179,20 @@ fn shown_run(
         Outside::Standard => format!(in alloc; "{image} {limit}{explained}")?,
         Outside::Answers(path) => format!(in alloc; "{image} answers {path} {limit}{explained}")?,
         Outside::Board(path) => format!(in alloc; "{image} board {path} {limit}{explained}")?,
+    })
+}
+
+/// What a console asks for.
+fn shown_console(
+    alloc: Global,
+    image: Option<&str>,
+    board: Option<&str>,
+    limit: u64,
+) -> Result<String, Fail> {
+    let image = image.unwrap_or("no image");
+    Ok(match board {
+        Some(path) => format!(in alloc; "console {image} board {path} {limit}")?,
+        None => format!(in alloc; "console {image} {limit}")?,
     })
 }
 

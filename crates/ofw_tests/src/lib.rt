@@ -10,6 +10,8 @@ mod clients;
 #[cfg(test)]
 mod commands;
 #[cfg(test)]
+mod consoles;
+#[cfg(test)]
 mod devices;
 #[cfg(test)]
 mod doubles;
