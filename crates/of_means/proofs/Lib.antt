@@ -1,0 +1,11 @@
+pub mod Steps
+pub mod Runs
+pub mod Level
+pub mod Aims
+pub mod Control
+pub mod Following
+pub mod Turning
+pub mod Bare
+pub mod Nests
+pub mod Stops
+pub mod Main

@@ -1,0 +1,321 @@
+-- The step of each word of control at the source.
+use Rattle.std.proofs.Common.{◌≡◌, ℕ, ℤ, zero, suc, ◌+◌, ◌≤◌, Bool, true, false, nat_eq, nat_lt, List, [], ◌∷◌, length}
+use Rattle.std.proofs.Common.{◌++◌, ◌/◌, ◌%◌}
+use Rattle.std.proofs.Common.{Some, None, Result, Ok, Err, refl, sym, ap, ◌∙◌, subst, arith, if◌then◌else◌}
+use Rattle.of_cells.specs.declared.cells.Cell.{Cell}
+use Rattle.of_stacks.specs.declared.throws.Throw.{Throw}
+use Rattle.of_stacks.specs.declared.return_item.LoopExit.TheVariants as exit
+use Rattle.of_stacks.specs.declared.return_item.ReturnItem.{ReturnItem}
+use Rattle.of_stream.specs.declared.stream.OffsetSize.{OffsetSize}
+use Rattle.of_stream.specs.declared.stream.OffsetSize.TheVariants.{One, Two}
+use Rattle.of_stream.specs.Bytes.{offset_bytes, token_bytes}
+use Rattle.of_stream.specs.Decoding.{Offset, Token, token_from}
+use Rattle.of_stream.specs.Targets.{target_at, within_tokens}
+use Rattle.of_source.specs.Keywords.{fcode}
+use Rattle.of_source.specs.Nest.{Nest}
+use Rattle.of_tok.specs.declared.place.Place.{Place}
+use Rattle.of_tok.specs.Laws.{Leads}
+use Rattle.of_tok.specs.Places.{behind, past_offset}
+use Rattle.of_tok.specs.Tokens.{Written, aimed, branch_code, do_code, loop_code, offset_of, token_of}
+use Rattle.of_flow.specs.declared.control.ControlWord.{ControlWord}
+use Rattle.of_flow.specs.declared.control.ControlWord.TheVariants as control
+use Rattle.of_flow.specs.Turns.{Turn, control_entry}
+use Rattle.of_eval.specs.Items.{Position}
+use Rattle.of_eval.specs.Registers.{by_turn, landed}
+use Rattle.of_state.specs.State.{Calls, State, done}
+use Rattle.of_steps.specs.Steps.{settled_of}
+use Rattle.of_eval_laws.specs.Throws.{ThrowsSettle}
+use Rattle.of_eval_laws.specs.Tokens.{IsControl, TokensAreTyped}
+use Rattle.of_means.specs.Moments.{Moment, made, with_state}
+use Rattle.of_means.specs.Courses.{Course, On, through}
+use Rattle.of_means.specs.Means.{at, back, controlled, counted, do_word, fallen, forked, loop_word, one_way}
+use Rattle.of_means.specs.Means.{token_at, turned, turns}
+use Rattle.of_means.specs.Sources.{IsInImage, IsLevel}
+use Rattle.of_means.specs.Laws.{StaysKept}
+use Rattle.of_means.proofs.Steps.{one_step, plain_step, stays}
+use Rattle.of_means.proofs.Runs.{at_any, token_found}
+use Rattle.of_means.proofs.Level.{Leveled, control_level, exit_free, level_rests, level_unguarded}
+use Rattle.of_means.proofs.Control.{offset_at, target_is}
+use Rattle.of_means.proofs.Following.{Reached, Stands, after_one, fewer, go_on, here, placed, still}
+
+-- ---- how many bytes a token has
+
+shape : (y : OffsetSize) (n k : ℕ) (by : ℤ) (b v : Bool) (xs : List ℕ) → b ≡ true → v ≡ false
+    → let there : Place = record {
+      position = n + length ((if b then k ∷ [] else xs) ++ offset_bytes y by);
+      size = if v then Two else y;
+    } in there ≡ past_offset (record { position = n; size = y })
+shape One n k by true false xs e f = refl
+shape Two n k by true false xs e f = refl
+shape y n k by false v xs e f = absurd (no e)
+  where
+    no : false ≡ true → ⊥
+    no h = cc
+shape y n k by true true xs e f = absurd (no f)
+  where
+    no : true ≡ false → ⊥
+    no h = cc
+
+-- a token with an offset, whose FCode has one byte and isn't `offset16`
+pub offset_behind : (k : ℕ) (by : ℤ) (p : Place) → nat_lt k 256 ≡ true → nat_eq k 0x0cc ≡ false
+    → behind (record { code = fcode k; argument = Offset by }) p ≡ past_offset p
+unfolding token_bytes
+offset_behind k by p short same =
+    shape p.size p.position k by (nat_lt k 256) (nat_eq k 0x0cc) (k / 256 ∷ k % 256 ∷ []) short same
+
+-- ---- what words of control say, where they need nothing
+
+branch_goes : (e : ℕ) (s : List Cell) (r : List ReturnItem)
+    → control_entry control.Branch true (exit.Position e) s r ≡ Ok (record { stack = s; items = r; goes = true })
+unfolding control_entry
+branch_goes e s r = refl
+
+endof_goes : (e : ℕ) (s : List Cell) (r : List ReturnItem)
+    → control_entry control.EndOf true (exit.Position e) s r ≡ Ok (record { stack = s; items = r; goes = true })
+unfolding control_entry
+endof_goes e s r = refl
+
+module _ {S : Type 0} (c : Calls S) (own : Nest → Calls S) (image : List ℕ) (z : OffsetSize) (Keeps : State S → Type 0)
+    (settles : ThrowsSettle S) (typed : TokensAreTyped) (kept : StaysKept c Keeps) where
+  abbrev Stand : Moment S → Type 0
+  Stand m = Stands c own image z Keeps m
+
+  abbrev spot : ℕ → Moment S → Moment S
+  spot k m = here c own image z Keeps k m
+
+  abbrev Reach : ℕ → Moment S → ℕ → ℕ → List ℕ → Bool → ℕ → Course S → Type 0
+  Reach n s0 k d aims cases out f = Reached c own image z Keeps n s0 k d aims cases out f
+
+  -- a token stands at a place, and its offset leads into the image
+  abbrev pub IsFound : Written → Place → Type 0
+  IsFound w p =
+      (token_from image p.position p.size ≡ Some (token_of w, (behind (token_of w) p).position))
+      × Leads (length image) w
+
+  pub rests : (u : Moment S) → IsLevel image u.state.flow.items → settled_of c (done u.state) ≡ u.state
+  rests u l = settles.rests c u.state (level_rests image u.state.flow.items l)
+
+  pub falls : (t : Throw) (u : Moment S) → IsLevel image u.state.flow.items
+      → (fallen c t u).state.flow.is_running ≡ false
+  falls t u l = (settles.ends c t u.state (level_unguarded image u.state.flow.items l)).running
+
+  -- what is left of the stacks stands at the source, if a step leads there
+  pub turned_stands : (t : Turn) (s s0 : Moment S) (k : ℕ) → Stand s → IsLevel image t.items → Keeps s0.state
+      → made c s0 ≡ Some (spot k (turned t s)) → Stand (turned t s)
+  turned_stands t s s0 k h l k0 e = record {
+    running = h.running;
+    next = h.next;
+    compiles = h.compiles;
+    defines = h.defines;
+    opened = h.opened;
+    level = l;
+    bytes = h.bytes;
+    kept = λ p. kept.place (record { position = k; size = z }) p (turned t s).state
+        (kept.step s0 (spot k (turned t s)) k0 e);
+  }
+
+  way : (n : ℕ) (s0 s : Moment S) (t : Turn) (k1 tgt k d : ℕ) (aims : List ℕ) (cases : Bool) (out : ℕ)
+      (g h : Moment S → Course S) (b : Bool) → Stand s → IsLevel image t.items → Keeps s0.state
+      → made c s0
+      ≡ Some (with_state (settled_of c (done (landed b (Some (Position tgt)) (spot k1 (turned t s)).state))) s)
+      → ((u : Moment S) → Stand u → Reach n (spot tgt u) k d aims cases out (g u))
+      → ((u : Moment S) → Stand u → Reach n (spot k1 u) k d aims cases out (h u))
+      → Reach (suc n) s0 k d aims cases out (one_way b g h (spot k1 (turned t s)))
+  way n s0 s t k1 tgt k d aims cases out g h true stand l k0 e rg rh =
+      let u = turned t s in
+      let w = spot k1 u in
+      let step : made c s0 ≡ Some (spot tgt u) = e ∙ ap (λ x. Some (with_state x s)) (rests (spot tgt u) l) in
+      let there = turned_stands t s s0 tgt stand l k0 step in
+      after_one c own image z Keeps n s0 (spot tgt w) k d aims cases out (g w) step
+      (rg w (at_any image Keeps false (record { position = k1; size = z }) u.state there))
+  way n s0 s t k1 tgt k d aims cases out g h false stand l k0 e rg rh =
+      let u = turned t s in
+      let w = spot k1 u in
+      let step : made c s0 ≡ Some (spot k1 u) = e ∙ ap (λ x. Some (with_state x s)) (rests (spot k1 u) l) in
+      let there = turned_stands t s s0 k1 stand l k0 step in
+      after_one c own image z Keeps n s0 (spot k1 w) k d aims cases out (h w) step
+      (rh w (at_any image Keeps false (record { position = k1; size = z }) u.state there))
+
+  fork_reached : (n : ℕ) (s0 s : Moment S) (k1 tgt k d : ℕ) (aims : List ℕ) (cases : Bool) (out : ℕ)
+      (g h : Moment S → Course S) (x : Result Turn Throw) → Stand s → Leveled image x → Keeps s0.state
+      → made c s0 ≡ Some (with_state (settled_of c (by_turn (Some (Position tgt)) x (spot k1 s).state)) s)
+      → ((u : Moment S) → Stand u → Reach n (spot tgt u) k d aims cases out (g u))
+      → ((u : Moment S) → Stand u → Reach n (spot k1 u) k d aims cases out (h u))
+      → Reach (suc n) s0 k d aims cases out (forked c x (spot k1 s) g h)
+  fork_reached n s0 s k1 tgt k d aims cases out g h (Ok t) stand l k0 e rg rh =
+      way n s0 s t k1 tgt k d aims cases out g h t.goes stand l k0 e rg rh
+  fork_reached n s0 s k1 tgt k d aims cases out g h (Err t) stand l k0 e rg rh =
+      (falls t (spot k1 s) stand.level, one_step c s0 _ e)
+
+  -- ---- tokens with an offset
+
+  -- a token with an offset is done
+  aimed_step : (w k : ℕ) (p : Place) (to : ℕ) (cw : ControlWord) (s : Moment S) → p.size ≡ z → IsControl k cw
+      → nat_lt k 256 ≡ true → nat_eq k 0x0cc ≡ false → Stand s → IsFound (aimed w k p to) p
+      → made c (spot p.position s)
+      ≡ Some (with_state
+      (settled_of c (by_turn (Some (Position to)) (controlled cw to s) (spot (past_offset p).position s).state)) s)
+  aimed_step w k p to cw s e is short same stand found =
+      let q = past_offset p in
+      let by = offset_of (record { word = w; place = p; code = fcode k; target = to }) in
+      let t : Token = record { code = fcode k; argument = Offset by } in
+      let there : token_from image p.position p.size ≡ Some (t, q.position) =
+      found.0 ∙ ap (λ (y : Place). Some (t, y.position)) (offset_behind k by p short same) in
+      let size : q.size ≡ (behind t p).size = sym (ap (λ (y : Place). y.size) (offset_behind k by p short same)) in
+      let o = by_turn (Some (Position to)) (controlled cw to s) (at q s).state in
+      ap (made c) (sym (placed c own image z Keeps p s e))
+      ∙ token_found c image Keeps false p q t s stand there size
+      ∙ plain_step c (token_at c t p q) s o
+      (offset_at c image Keeps t cw by p q to s.state (is by) stand found.1)
+      (asks_none (controlled cw to s) (at q s).state)
+      ∙ ap (λ (u : Moment S). Some
+      (with_state (settled_of c (by_turn (Some (Position to)) (controlled cw to s) u.state)) s))
+      (placed c own image z Keeps q s e)
+    where
+      asks_none : (x : Result Turn Throw) (u : State S) → (by_turn (Some (Position to)) x u).asks ≡ None
+      asks_none (Ok t) u = refl
+      asks_none (Err t) u = refl
+
+  pub fork_at : (n w k : ℕ) (p : Place) (to : ℕ) (cw : ControlWord) (end : ℕ) (s : Moment S) (l d : ℕ)
+      (aims : List ℕ) (cases : Bool) (out : ℕ) (g h : Moment S → Course S) → p.size ≡ z → IsControl k cw
+      → nat_lt k 256 ≡ true → nat_eq k 0x0cc ≡ false → controlled cw to s ≡ controlled cw end s → Stand s
+      → IsFound (aimed w k p to) p
+      → ((u : Moment S) → Stand u → Reach n (spot to u) l d aims cases out (g u))
+      → ((u : Moment S) → Stand u → Reach n (spot (past_offset p).position u) l d aims cases out (h u))
+      → Reach (suc n) (spot p.position s) l d aims cases out
+      (forked c (controlled cw end s) (at (past_offset p) s) g h)
+  fork_at n w k p to cw end s l d aims cases out g h e is short wide same stand found rg rh =
+      let q = past_offset p in
+      let by = offset_of (record { word = w; place = p; code = fcode k; target = to }) in
+      let lands : IsInImage image to = within found.1 in
+      let leveled = control_level image cw true to s.state.board.stack s.state.flow.items stand.level lands in
+      subst (λ (u : Moment S). Reach (suc n) (spot p.position s) l d aims cases out
+      (forked c (controlled cw end s) u g h))
+      (sym (placed c own image z Keeps q s e))
+      (fork_reached n (spot p.position s) s q.position to l d aims cases out g h (controlled cw end s) stand
+      (subst (λ x. Leveled image x) same leveled) (stand.kept (record { position = p.position; size = z }))
+      (aimed_step w k p to cw s e is short wide stand found
+      ∙ ap (λ x. Some (with_state (settled_of c (by_turn (Some (Position to)) x (spot q.position s).state)) s)) same)
+      rg rh)
+    where
+      within : Leads (length image) (aimed w k p to) → IsInImage image to
+      within leads =
+          let by = offset_of (record { word = w; place = p; code = fcode k; target = to }) in
+          subst (λ o. within_tokens (length image) o ≡ Some to)
+          (target_is (length image) (target_at p.position by) to leads) leads
+
+  -- where control always goes
+  pub always_step : (w k : ℕ) (p : Place) (to : ℕ) (cw : ControlWord) (s : Moment S) → p.size ≡ z → IsControl k cw
+      → nat_lt k 256 ≡ true → nat_eq k 0x0cc ≡ false
+      → controlled cw to s ≡ Ok (record { stack = s.state.board.stack; items = s.state.flow.items; goes = true })
+      → Stand s → IsFound (aimed w k p to) p → made c (spot p.position s) ≡ Some (spot to s)
+  always_step w k p to cw s e is short wide goes stand found =
+      let q = past_offset p in
+      aimed_step w k p to cw s e is short wide stand found
+      ∙ ap (λ x. Some (with_state (settled_of c (by_turn (Some (Position to)) x (spot q.position s).state)) s)) goes
+      ∙ ap (λ x. Some (with_state x s)) (rests (spot to s) stand.level)
+
+  -- ---- the turns of a `begin`
+
+  back_reached : (n : ℕ) (v : Bool) (l : ℕ) (e : Place) (b : ℕ) (d : ℕ) (aims : List ℕ) (cases : Bool) (out : ℕ)
+      (again : Moment S → Course S) → e.size ≡ z → IsFound (aimed l (branch_code v) e b) e
+      → ((s : Moment S) → Stand s → Reach n (spot b s) (past_offset e).position d aims cases out (again s))
+      → (s : Moment S) → Stand s
+      → Reach (suc n) (spot e.position s) (past_offset e).position d aims cases out
+      (back c own v (past_offset e) again s)
+  back_reached n true l e b d aims cases out again ze found h s stand =
+      let q = (past_offset e).position in
+      fork_at n l 0x014 e b control.BranchIfZero 0 s q d aims cases out again On ze typed.branch_if_zero refl refl
+      (exit_free control.BranchIfZero true (exit.Position b)
+      (exit.Position 0) s.state.board.stack s.state.flow.items refl)
+      stand found h (λ t there. (there, stays c (spot q t)))
+  back_reached n false l e b d aims cases out again ze found h s stand =
+      let q = (past_offset e).position in
+      after_one c own image z Keeps n (spot e.position s) (spot b s) q d aims cases out (again s)
+      (always_step l 0x013 e b control.Branch s ze typed.branch refl refl
+      (branch_goes b s.state.board.stack s.state.flow.items) stand found)
+      (h s stand)
+
+  turned_over : (n m : ℕ) (s0 : Moment S) (k q d : ℕ) (aims : List ℕ) (cases : Bool) (out : ℕ) (f : Course S)
+      (g : Moment S → Course S) → suc m ≤ n → Reach n s0 k d aims cases out f
+      → ((s : Moment S) → Stand s → Reach (suc m) (spot k s) q d aims cases out (g s))
+      → Reach (suc m) s0 q d aims cases out (through f g)
+  turned_over n m s0 k q d aims cases out f g le r h =
+      go_on c own image z Keeps (suc m) s0 k q d d aims aims cases out f g (still c own image z Keeps d aims)
+      (fewer c own image z Keeps (suc m) n s0 k d aims cases out f le r) h
+
+  pub turns_run : (n : ℕ) (v : Bool) (l : ℕ) (e : Place) (b : ℕ) (d : ℕ) (aims : List ℕ) (cases : Bool) (out : ℕ)
+      (inside : Moment S → Course S) → e.size ≡ z → IsFound (aimed l (branch_code v) e b) e
+      → ((s : Moment S) → Stand s → Reach n (spot b s) e.position d aims cases out (inside s))
+      → (m : ℕ) → m ≤ n → (s : Moment S) → Stand s
+      → Reach m (spot b s) (past_offset e).position d aims cases out (turns c own m v (past_offset e) inside s)
+  turns_run n v l e b d aims cases out inside ze found h zero le s stand = (0, spot b s, omega arith, refl, refl, refl)
+  turns_run n v l e b d aims cases out inside ze found h (suc m) le s stand =
+      let q = past_offset e in
+      let again = turns c own m v q inside in
+      turned_over n m (spot b s) e.position q.position d aims cases out (inside s) (back c own v q again) le
+      (h s stand)
+      (back_reached m v l e b d aims cases out again ze found
+      (turns_run n v l e b d aims cases out inside ze found h m (omega (arith, le))))
+
+  -- ---- the turns of a `do`
+
+  loop_reached : (n : ℕ) (v : Bool) (l : ℕ) (e : Place) (b : ℕ) (d : ℕ) (aims : List ℕ) (cases : Bool) (out : ℕ)
+      (again : Moment S → Course S) → e.size ≡ z → IsFound (aimed l (loop_code v) e b) e
+      → ((s : Moment S) → Stand s → Reach n (spot b s) (past_offset e).position d aims cases out (again s))
+      → (s : Moment S) → Stand s
+      → Reach (suc n) (spot e.position s) (past_offset e).position d aims cases out
+      (forked c (controlled (loop_word v) 0 s) (at (past_offset e) s) again On)
+  loop_reached n true l e b d aims cases out again ze found h s stand =
+      let q = (past_offset e).position in
+      fork_at n l 0x016 e b control.PlusLoop 0 s q d aims cases out again On ze typed.plus_loop refl refl
+      (exit_free control.PlusLoop true (exit.Position b) (exit.Position 0) s.state.board.stack s.state.flow.items refl)
+      stand found h (λ t there. (there, stays c (spot q t)))
+  loop_reached n false l e b d aims cases out again ze found h s stand =
+      let q = (past_offset e).position in
+      fork_at n l 0x015 e b control.Loop 0 s q d aims cases out again On ze typed.«loop» refl refl
+      (exit_free control.Loop true (exit.Position b) (exit.Position 0) s.state.board.stack s.state.flow.items refl)
+      stand found h (λ t there. (there, stays c (spot q t)))
+
+  pub counted_run : (n : ℕ) (v : Bool) (l : ℕ) (e : Place) (b : ℕ) (d : ℕ) (aims : List ℕ) (cases : Bool) (out : ℕ)
+      (inside : Moment S → Course S) → e.size ≡ z → IsFound (aimed l (loop_code v) e b) e
+      → ((s : Moment S) → Stand s → Reach n (spot b s) e.position d aims cases out (inside s))
+      → (m : ℕ) → m ≤ n → (s : Moment S) → Stand s
+      → Reach m (spot b s) (past_offset e).position d aims cases out (counted c own m v (past_offset e) inside s)
+  counted_run n v l e b d aims cases out inside ze found h zero le s stand =
+      (0, spot b s, omega arith, refl, refl, refl)
+  counted_run n v l e b d aims cases out inside ze found h (suc m) le s stand =
+      let q = past_offset e in
+      let again = counted c own m v q inside in
+      turned_over n m (spot b s) e.position q.position d aims cases out (inside s)
+      (λ t. forked c (controlled (loop_word v) 0 t) (at q t) again On) le (h s stand)
+      (loop_reached m v l e b d aims cases out again ze found
+      (counted_run n v l e b d aims cases out inside ze found h m (omega (arith, le))))
+
+  -- a loop is entered, or passed
+  pub do_reached : (n : ℕ) (v : Bool) (l : ℕ) (p : Place) (end : ℕ) (k d : ℕ) (aims : List ℕ) (cases : Bool) (out : ℕ)
+      (g h : Moment S → Course S) → p.size ≡ z → IsFound (aimed l (do_code v) p end) p
+      → ((t : Moment S) → Stand t → Reach n (spot end t) k d aims cases out (g t))
+      → ((t : Moment S) → Stand t → Reach n (spot (past_offset p).position t) k d aims cases out (h t))
+      → (s : Moment S) → Stand s
+      → Reach (suc n) (spot p.position s) k d aims cases out
+      (forked c (controlled (do_word v) end s) (at (past_offset p) s) g h)
+  do_reached n true l p end k d aims cases out g h zp found rg rh s stand =
+      fork_at n l 0x018 p end control.QuestionDo end s k d aims cases out g h zp typed.question_do refl refl refl stand
+      found
+      rg rh
+  do_reached n false l p end k d aims cases out g h zp found rg rh s stand =
+      fork_at n l 0x017 p end control.Do end s k d aims cases out g h zp typed.begin_loop refl refl refl stand found rg
+      rh
+
+  pub endof_step : (s : Moment S) (l : ℕ) (e : Place) (out : ℕ) → e.size ≡ z → Stand s
+      → IsFound (aimed l 0x0c6 e out) e → made c (spot e.position s) ≡ Some (spot out s)
+  endof_step s l e out ze stand found =
+      always_step l 0x0c6 e out control.EndOf s ze typed.endof refl refl
+      (endof_goes out s.state.board.stack s.state.flow.items) stand found
+
+  pub branch_step : (s : Moment S) (l : ℕ) (e : Place) (to : ℕ) → e.size ≡ z → Stand s
+      → IsFound (aimed l 0x013 e to) e → made c (spot e.position s) ≡ Some (spot to s)
+  branch_step s l e to ze stand found =
+      always_step l 0x013 e to control.Branch s ze typed.branch refl refl
+      (branch_goes to s.state.board.stack s.state.flow.items) stand found

@@ -1,0 +1,7 @@
+pub mod Moments
+pub mod Courses
+pub mod Means
+pub mod Correct
+pub mod Sources
+pub mod Kept
+pub mod Laws

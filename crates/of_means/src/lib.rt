@@ -1,0 +1,6 @@
+//! What a source means, and that its image does so.
+#![tactic(auto)]
+
+mod laws;
+
+pub use laws::source_is_followed;
