@@ -41,7 +41,7 @@ use Rattle.of_means.proofs.Runs.{token_found}
 use Rattle.of_means.proofs.Level.{Leveled}
 use Rattle.of_means.proofs.Control.{ends_case, executed_at}
 use Rattle.of_means.proofs.Following.{Reached, Stands, here, placed}
-use Rattle.of_means.proofs.Turning.{IsFound, falls, rests, turned_stands}
+use Rattle.of_means.proofs.Turning.{Before as TurningBefore, IsFound, falls, rests, turned_stands}
 
 -- whether control goes to the target
 abbrev went : Result Turn Throw → Bool
@@ -58,6 +58,9 @@ module _ {S : Type 0} (c : Calls S) (own : Nest → Calls S) (image : List ℕ) 
 
   abbrev Reach : ℕ → Moment S → ℕ → ℕ → List ℕ → Bool → ℕ → Course S → Type 0
   Reach n s0 k d aims cases out f = Reached c own image z Keeps n s0 k d aims cases out f
+
+  abbrev Before : Moment S → Moment S → Type 0
+  Before s0 s = TurningBefore c own image z Keeps settles typed kept s0 s
 
   abbrev Found : ℕ → Place → Type 0
   Found k p = IsFound c own image z Keeps settles typed kept (straight k p) p
@@ -118,7 +121,7 @@ module _ {S : Type 0} (c : Calls S) (own : Nest → Calls S) (image : List ℕ) 
   unlooped m = with_state (with_items (drop 1 m.state.flow.items) m.state) m
 
   leave_ok : (n : ℕ) (s0 s : Moment S) (k1 : ℕ) (k d : ℕ) (aims : List ℕ) (cases : Bool) (out : ℕ) (l : LoopParameters)
-      (r : List ReturnItem) (x : LoopExit) → l.exit ≡ x → s.state.flow.items ≡ Loop l ∷ r → Stand s → Keeps s0.state
+      (r : List ReturnItem) (x : LoopExit) → l.exit ≡ x → s.state.flow.items ≡ Loop l ∷ r → Stand s → Before s0 s
       → made c s0 ≡ Some (with_state
       (settled_of c (acted c (leave_act (length image) s.state.board.stack (Ok l)) (spot k1 s).state)) s)
       → Reach n s0 k d aims cases out (leaves c (Ok l) (spot k1 s))
@@ -167,7 +170,7 @@ module _ {S : Type 0} (c : Calls S) (own : Nest → Calls S) (image : List ℕ) 
   thrown n s0 s k1 k d aims cases out t stand st = (fall t (spot k1 s) stand.level, one_step c s0 _ st)
 
   leave_items : (n : ℕ) (s0 s : Moment S) (k1 : ℕ) (k d : ℕ) (aims : List ℕ) (cases : Bool) (out : ℕ)
-      (items : List ReturnItem) → s.state.flow.items ≡ items → Stand s → Keeps s0.state
+      (items : List ReturnItem) → s.state.flow.items ≡ items → Stand s → Before s0 s
       → made c s0
       ≡ Some (with_state (settled_of c
       (acted c (leave_act (length image) s.state.board.stack (loop_on_top items)) (spot k1 s).state)) s)
@@ -213,7 +216,7 @@ module _ {S : Type 0} (c : Calls S) (own : Nest → Calls S) (image : List ℕ) 
       subst (λ (u : Moment S). Reach n (spot p.position s) k1 d aims cases out (leaves c x u))
       (sym (placed c own image z Keeps q s e))
       (leave_items n (spot p.position s) s k1 k1 d aims cases out s.state.flow.items refl stand
-      (stand.kept (record { position = p.position; size = z }))
+      (stand.kept (record { position = p.position; size = z }), refl)
       (bare_step 0x01b token.Leave p s (does (at_place q s.state)) e typed.leave refl stand found
       (ap (λ (m : List ℕ). acted c (leave_act (length m) s.state.board.stack x) (at_place q s.state)) stand.bytes)
       (leave_asks x (at_place q s.state))
@@ -235,7 +238,7 @@ module _ {S : Type 0} (c : Calls S) (own : Nest → Calls S) (image : List ℕ) 
 
   endcase_reached : (n : ℕ) (s0 s : Moment S) (q d : ℕ) (aims : List ℕ) (cases : Bool) (out : ℕ)
       (x : Result Turn Throw)
-      → Stand s → Leveled image x → ((t : Turn) → x ≡ Ok t → t.goes ≡ false) → Keeps s0.state
+      → Stand s → Leveled image x → ((t : Turn) → x ≡ Ok t → t.goes ≡ false) → Before s0 s
       → made c s0 ≡ Some (with_state (settled_of c (by_turn (Some (Position 0)) x (spot q s).state)) s)
       → Reach n s0 q d aims cases out (forked c x (spot q s) On On)
   endcase_reached n s0 s q d aims cases out (Ok t) stand l stay k0 e =
@@ -276,7 +279,7 @@ module _ {S : Type 0} (c : Calls S) (own : Nest → Calls S) (image : List ℕ) 
       (endcase_reached n (spot p.position s) s q.position d aims cases out x stand
       (endcase_level s.state.board.stack s.state.flow.items stand.level)
       (λ t h. endcase_stays s.state.board.stack s.state.flow.items t h)
-      (stand.kept (record { position = p.position; size = z }))
+      (stand.kept (record { position = p.position; size = z }), refl)
       (bare_step 0x0c5 token.EndCase p s
       (by_turn (Some (Position 0)) x (at_place q s.state)) e typed.endcase refl stand found
       (ends_case c 0 (exit.Position 0) (exit.Position 0) s.state.board.stack (at_place q s.state))

@@ -23,7 +23,7 @@ use Rattle.of_means.proofs.Runs.{aim, aim_latest, aim_under, token_found}
 module _ {S : Type 0} (c : Calls S) (own : Nest → Calls S) (image : List ℕ) (z : OffsetSize) (Keeps : State S → Type 0)
   where
     abbrev pub Stands : Moment S → Type 0
-    Stands m = IsAt c own image Keeps m
+    Stands m = IsAt c image Keeps m
 
     -- the machine stands at a position
     abbrev pub here : ℕ → Moment S → Moment S

@@ -9,3 +9,8 @@ pub mod Bare
 pub mod Nests
 pub mod Stops
 pub mod Main
+pub mod Keeping
+pub mod Leading
+pub mod Quiet
+pub mod Started
+pub mod Words

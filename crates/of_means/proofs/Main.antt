@@ -29,7 +29,7 @@ use Rattle.of_means.proofs.Nests.{runs, sized}
 
 module _ {S : Type 0} (c : Calls S) (own : Nest → Calls S) (image : List ℕ) (z : OffsetSize) (Keeps : State S → Type 0)
     (settles : ThrowsSettle S) (typed : TokensAreTyped) (ends : NestsEndAtTheirPlaces) (kept : StaysKept c Keeps)
-    (comes : WordsComeBack c own image Keeps) (defines : DefinitionsAreRead c own image Keeps) (x : Nest)
+    (comes : WordsComeBack c image Keeps) (defines : DefinitionsAreRead c image Keeps own) (x : Nest)
     (m : Moment S)
   where
     abbrev begin : Moment S
@@ -48,7 +48,7 @@ module _ {S : Type 0} (c : Calls S) (own : Nest → Calls S) (image : List ℕ) 
 
     -- what a course says of the run
     abbrev Follows : ℕ → Course S → Type 0
-    Follows n (On t) = IsAt c own image Keeps t × ((k : ℕ) × (steps c k begin ≡ Some (source_ended c own x z t)))
+    Follows n (On t) = IsAt c image Keeps t × ((k : ℕ) × (steps c k begin ≡ Some (source_ended c own x z t)))
     Follows n (Off b t) = ⊥
     Follows n (Out t) = ⊥
     Follows n (Left e t) = ⊥
@@ -70,7 +70,7 @@ module _ {S : Type 0} (c : Calls S) (own : Nest → Calls S) (image : List ℕ) 
     no_out e = cc
 
     -- the end of the source is a step
-    end_made : (t : Moment S) → IsAt c own image Keeps t → (end_of x (first_place z)).size ≡ z
+    end_made : (t : Moment S) → IsAt c image Keeps t → (end_of x (first_place z)).size ≡ z
         → token_from image (end_of x (first_place z)).position (end_of x (first_place z)).size
         ≡ Some (bare 0x000, (past 1 (end_of x (first_place z))).position)
         → made c (here c own image z Keeps (end_of x (first_place z)).position t) ≡ Some (source_ended c own x z t)
@@ -107,7 +107,7 @@ module _ {S : Type 0} (c : Calls S) (own : Nest → Calls S) (image : List ℕ) 
 
     -- the image of a whole nest
     follows : (n : ℕ) → IsWhole x → HasWords x → HasTokens image (first_place z) (tokens_of z x)
-        → IsAt c own image Keeps m → NeverLeft (source_means c own x z n m) → Follows n (source_means c own x z n m)
+        → IsAt c image Keeps m → NeverLeft (source_means c own x z n m) → Follows n (source_means c own x z n m)
     unfolding token_bytes tokens_of
     follows n whole words has stand never =
         let p = first_place z in
@@ -141,7 +141,7 @@ module _ {S : Type 0} (c : Calls S) (own : Nest → Calls S) (image : List ℕ) 
         let le = no_longer c k r.0 begin last r.1 e d r.3 in absurd (omega (arith, le, r.2))
     rests_too k last Beyond e d r = inr (inr (inr refl))
 
-    pub behaves : IsWhole x → HasWords x → HasTokens image (first_place z) (tokens_of z x) → IsAt c own image Keeps m
+    pub behaves : IsWhole x → HasWords x → HasTokens image (first_place z) (tokens_of z x) → IsAt c image Keeps m
         → ((n e : ℕ) (t : Moment S) → source_means c own x z n m ≡ Left e t → ⊥) → Behaves c own x z m
     behaves whole words has stand never =
         let f = λ (n : ℕ). follows n whole words has stand (never n) in

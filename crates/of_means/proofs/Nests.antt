@@ -109,7 +109,7 @@ past_aimed image l k p to ws short wide h =
 
 module _ {S : Type 0} (c : Calls S) (own : Nest → Calls S) (image : List ℕ) (z : OffsetSize) (Keeps : State S → Type 0)
     (settles : ThrowsSettle S) (typed : TokensAreTyped) (ends : NestsEndAtTheirPlaces) (kept : StaysKept c Keeps)
-    (comes : WordsComeBack c own image Keeps) (defines : DefinitionsAreRead c own image Keeps) where
+    (comes : WordsComeBack c image Keeps) (defines : DefinitionsAreRead c image Keeps own) where
   abbrev Stand : Moment S → Type 0
   Stand m = Stands c own image z Keeps m
 
@@ -134,11 +134,11 @@ module _ {S : Type 0} (c : Calls S) (own : Nest → Calls S) (image : List ℕ) 
       → Reach n (spot p.position m) (behind t p).position d aims cases out (word c n t p m)
   word_run n t p d aims cases out e is steady found m stand =
       word_reached c own image z Keeps n t p m d aims cases out e (size_kept t.code.0 p.size steady ∙ e) stand found
-      (λ u h. comes n t p m u is steady stand h)
+      (λ u h. comes n t p m u is steady stand found h)
 
   -- a definition
   read_reached : (n : ℕ) (p q : Place) (m : Moment S) (d : ℕ) (aims : List ℕ) (cases : Bool) (out : ℕ) (f : Course S)
-      → p.size ≡ z → q.size ≡ z → IsRead c own image Keeps p q m f
+      → p.size ≡ z → q.size ≡ z → IsRead c image Keeps p q m f
       → Reach n (spot p.position m) q.position d aims cases out f
   read_reached n p q m d aims cases out (On t) e zq r = (
     r.0,

@@ -86,6 +86,10 @@ module _ {S : Type 0} (c : Calls S) (own : Nest → Calls S) (image : List ℕ) 
   abbrev Reach : ℕ → Moment S → ℕ → ℕ → List ℕ → Bool → ℕ → Course S → Type 0
   Reach n s0 k d aims cases out f = Reached c own image z Keeps n s0 k d aims cases out f
 
+  -- what was kept before a step that leaves the data space
+  abbrev pub Before : Moment S → Moment S → Type 0
+  Before s0 s = Keeps s0.state × (s.state.board.memory ≡ s0.state.board.memory)
+
   -- a token stands at a place, and its offset leads into the image
   abbrev pub IsFound : Written → Place → Type 0
   IsFound w p =
@@ -100,7 +104,7 @@ module _ {S : Type 0} (c : Calls S) (own : Nest → Calls S) (image : List ℕ) 
   falls t u l = (settles.ends c t u.state (level_unguarded image u.state.flow.items l)).running
 
   -- what is left of the stacks stands at the source, if a step leads there
-  pub turned_stands : (t : Turn) (s s0 : Moment S) (k : ℕ) → Stand s → IsLevel image t.items → Keeps s0.state
+  pub turned_stands : (t : Turn) (s s0 : Moment S) (k : ℕ) → Stand s → IsLevel image t.items → Before s0 s
       → made c s0 ≡ Some (spot k (turned t s)) → Stand (turned t s)
   turned_stands t s s0 k h l k0 e = record {
     running = h.running;
@@ -111,11 +115,11 @@ module _ {S : Type 0} (c : Calls S) (own : Nest → Calls S) (image : List ℕ) 
     level = l;
     bytes = h.bytes;
     kept = λ p. kept.place (record { position = k; size = z }) p (turned t s).state
-        (kept.step s0 (spot k (turned t s)) k0 e);
+        (kept.step s0 (spot k (turned t s)) k0.0 e k0.1);
   }
 
   way : (n : ℕ) (s0 s : Moment S) (t : Turn) (k1 tgt k d : ℕ) (aims : List ℕ) (cases : Bool) (out : ℕ)
-      (g h : Moment S → Course S) (b : Bool) → Stand s → IsLevel image t.items → Keeps s0.state
+      (g h : Moment S → Course S) (b : Bool) → Stand s → IsLevel image t.items → Before s0 s
       → made c s0
       ≡ Some (with_state (settled_of c (done (landed b (Some (Position tgt)) (spot k1 (turned t s)).state))) s)
       → ((u : Moment S) → Stand u → Reach n (spot tgt u) k d aims cases out (g u))
@@ -137,7 +141,7 @@ module _ {S : Type 0} (c : Calls S) (own : Nest → Calls S) (image : List ℕ) 
       (rh w (at_any image Keeps false (record { position = k1; size = z }) u.state there))
 
   fork_reached : (n : ℕ) (s0 s : Moment S) (k1 tgt k d : ℕ) (aims : List ℕ) (cases : Bool) (out : ℕ)
-      (g h : Moment S → Course S) (x : Result Turn Throw) → Stand s → Leveled image x → Keeps s0.state
+      (g h : Moment S → Course S) (x : Result Turn Throw) → Stand s → Leveled image x → Before s0 s
       → made c s0 ≡ Some (with_state (settled_of c (by_turn (Some (Position tgt)) x (spot k1 s).state)) s)
       → ((u : Moment S) → Stand u → Reach n (spot tgt u) k d aims cases out (g u))
       → ((u : Moment S) → Stand u → Reach n (spot k1 u) k d aims cases out (h u))
@@ -193,7 +197,7 @@ module _ {S : Type 0} (c : Calls S) (own : Nest → Calls S) (image : List ℕ) 
       (forked c (controlled cw end s) u g h))
       (sym (placed c own image z Keeps q s e))
       (fork_reached n (spot p.position s) s q.position to l d aims cases out g h (controlled cw end s) stand
-      (subst (λ x. Leveled image x) same leveled) (stand.kept (record { position = p.position; size = z }))
+      (subst (λ x. Leveled image x) same leveled) (stand.kept (record { position = p.position; size = z }), refl)
       (aimed_step w k p to cw s e is short wide stand found
       ∙ ap (λ x. Some (with_state (settled_of c (by_turn (Some (Position to)) x (spot q.position s).state)) s)) same)
       rg rh)

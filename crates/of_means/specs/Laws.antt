@@ -2,7 +2,7 @@
 -- (IEEE 1275-1994, 5.2.2, 5.3.3).
 use Rattle.std.specs.Prelude.{◌≡◌, ℕ, false, List, ◌∷◌, Some}
 use Rattle.of_stream.specs.declared.stream.OffsetSize.{OffsetSize}
-use Rattle.of_stream.specs.Decoding.{Token}
+use Rattle.of_stream.specs.Decoding.{Token, token_from}
 use Rattle.of_source.specs.Nest.{Fits, IsWhole, Nest, open_behind}
 use Rattle.of_tok.specs.declared.place.Place.{Place}
 use Rattle.of_tok.specs.Laws.{HasTokens}
@@ -16,12 +16,14 @@ use Rattle.of_means.specs.Means.{at, at_place, defined, word}
 use Rattle.of_means.specs.Correct.{Behaves, source_means}
 use Rattle.of_means.specs.Sources.{AtSource, HasWords, IsSteady, IsWord}
 
--- What is kept stays so in each step, and doesn't depend on where the source stands.
+-- What is kept stays so in a step that leaves the data space as it was, and doesn't depend on where the source stands.
 pub record StaysKept {S : Type 0} (c : Calls S) (Keeps : State S → Type 0) : Type 0 where
-  pub step : (m t : Moment S) → Keeps m.state → made c m ≡ Some t → Keeps t.state
+  pub step :
+      (m t : Moment S) → Keeps m.state → made c m ≡ Some t → t.state.board.memory ≡ m.state.board.memory →
+      Keeps t.state
   pub place : (p q : Place) (s : State S) → Keeps (at_place p s) → Keeps (at_place q s)
 
-module _ {S : Type 0} (c : Calls S) (own : Nest → Calls S) (image : List ℕ) (Keeps : State S → Type 0) where
+module _ {S : Type 0} (c : Calls S) (image : List ℕ) (Keeps : State S → Type 0) where
   -- control is at the source, which executes words
   abbrev pub IsAt : Moment S → Type 0
   IsAt m = AtSource image Keeps false m.state
@@ -29,7 +31,8 @@ module _ {S : Type 0} (c : Calls S) (own : Nest → Calls S) (image : List ℕ) 
   -- What a word of the source started comes back to it, behind the word's token.
   abbrev pub WordsComeBack : Type 0
   WordsComeBack =
-      (n : ℕ) (t : Token) (p : Place) (m u : Moment S) → IsWord t → IsSteady t → IsAt m → word c n t p m ≡ On u →
+      (n : ℕ) (t : Token) (p : Place) (m u : Moment S) → IsWord t → IsSteady t → IsAt m →
+      token_from image p.position p.size ≡ Some (t, (behind t p).position) → word c n t p m ≡ On u →
       IsAt u × (at (behind t p) u ≡ u)
 
   -- What becomes of a definition between two places: its tokens are read up to its end, or one throws.
@@ -44,8 +47,8 @@ module _ {S : Type 0} (c : Calls S) (own : Nest → Calls S) (image : List ℕ) 
   IsRead p q m (Cut t) = ⊥
 
   -- So each definition whose tokens stand at a place, from `b(:)` on.
-  abbrev pub DefinitionsAreRead : Type 0
-  DefinitionsAreRead =
+  abbrev pub DefinitionsAreRead : (Nest → Calls S) → Type 0
+  DefinitionsAreRead own =
       (i : Nest) (d : ℕ) (p : Place) (to : List ℕ) (out : ℕ) (ws : List Written) (m : Moment S) → HasWords i →
       Fits i in_definition d d → open_behind i d ≡ d →
       let e = end_of i (past 1 p) in
@@ -57,10 +60,10 @@ pub record SourceIsFollowed (S : Type 0) (Keeps : List ℕ → State S → Type 
   pub followed :
       (c : Calls S) (own : Nest → Calls S) (image : List ℕ) (z : OffsetSize) (x : Nest) (m : Moment S) →
       -- a whole source, whose tokens stand in the image, at which control is
-      IsWhole x → HasWords x → HasTokens image (first_place z) (tokens_of z x) → IsAt c own image (Keeps image) m →
+      IsWhole x → HasWords x → HasTokens image (first_place z) (tokens_of z x) → IsAt c image (Keeps image) m →
       -- what is kept is kept, words come back, and definitions are read
-      StaysKept c (Keeps image) → WordsComeBack c own image (Keeps image)
-      → DefinitionsAreRead c own image (Keeps image) →
+      StaysKept c (Keeps image) → WordsComeBack c image (Keeps image)
+      → DefinitionsAreRead c image (Keeps image) own →
       -- and no `leave` goes past a loop that isn't there
       ((n e : ℕ) (t : Moment S) → source_means c own x z n m ≡ Left e t → ⊥) →
       Behaves c own x z m
