@@ -14,3 +14,12 @@ pub mod Leading
 pub mod Quiet
 pub mod Started
 pub mod Words
+pub mod Alone
+pub mod Listing
+pub mod Inner
+pub mod Compiling
+pub mod Standing
+pub mod Elements
+pub mod Compiled
+pub mod Opening
+pub mod Defined

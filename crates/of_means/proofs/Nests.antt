@@ -49,31 +49,31 @@ makes_steady Unnamed name c h = omega (arith, h)
 makes_steady Named name c h = omega (arith, h)
 makes_steady External name c h = omega (arith, h)
 
-maker_steady : (m : Made) → IsSteady (maker_token m)
+pub maker_steady : (m : Made) → IsSteady (maker_token m)
 maker_steady m = makes_steady m.maker m.name (own_code m.number)
 
-kind_steady : (t : FCode) → is_kind t.0 ≡ true → IsSteady (call t)
+pub kind_steady : (t : FCode) → is_kind t.0 ≡ true → IsSteady (call t)
 kind_steady t k h = no (sym (ap is_kind h) ∙ k)
   where
     no : false ≡ true → ⊥
     no e = cc
 
-size_kept : (code : ℕ) (size : OffsetSize) → (code ≡ 0x0cc → ⊥) → size_behind code size ≡ size
+pub size_kept : (code : ℕ) (size : OffsetSize) → (code ≡ 0x0cc → ⊥) → size_behind code size ≡ size
 size_kept code size h = same (nat_eq code 0x0cc) refl
   where
     same : (b : Bool) → nat_eq code 0x0cc ≡ b → size_behind code size ≡ size
     same true e = absurd (h (eqb-true code 0x0cc e))
     same false e = ap (λ (b : Bool). if b then Two else size) e
 
-branch_short : (v : Bool) → (nat_lt (branch_code v) 256 ≡ true) × (nat_eq (branch_code v) 0x0cc ≡ false)
+pub branch_short : (v : Bool) → (nat_lt (branch_code v) 256 ≡ true) × (nat_eq (branch_code v) 0x0cc ≡ false)
 branch_short true = (refl, refl)
 branch_short false = (refl, refl)
 
-do_short : (v : Bool) → (nat_lt (do_code v) 256 ≡ true) × (nat_eq (do_code v) 0x0cc ≡ false)
+pub do_short : (v : Bool) → (nat_lt (do_code v) 256 ≡ true) × (nat_eq (do_code v) 0x0cc ≡ false)
 do_short true = (refl, refl)
 do_short false = (refl, refl)
 
-loop_short : (v : Bool) → (nat_lt (loop_code v) 256 ≡ true) × (nat_eq (loop_code v) 0x0cc ≡ false)
+pub loop_short : (v : Bool) → (nat_lt (loop_code v) 256 ≡ true) × (nat_eq (loop_code v) 0x0cc ≡ false)
 loop_short true = (refl, refl)
 loop_short false = (refl, refl)
 
@@ -174,7 +174,7 @@ module _ {S : Type 0} (c : Calls S) (own : Nest → Calls S) (image : List ℕ) 
       let A = aims_of r q to in
       runs r n a floor d q to out ws s0 _ zq st.2 le fits has.3
       (go_on c own image z Keeps n s0 p.position q.position d d A A a.cases out f (word c n t p)
-      (still c own image z Keeps d A) r0 (word_run n t p d A a.cases out e st.0 st.1 has.1))
+      (still c own image z Keeps d A) r0 (word_run n t p d A a.cases out e (inl st.0) st.1 has.1))
   runs (Definition y i r) n a floor d p to out ws s0 f e st le fits has r0 =
       let t = maker_token y in
       let k = behind t p in

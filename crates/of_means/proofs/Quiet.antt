@@ -147,7 +147,7 @@ module _ {S : Type 0} (c : Calls S) where
   method_quiet (Some nodes) n u = (refl, refl)
   method_quiet None n u = (refl, refl)
 
-  known_quiet : (e : Result (Unit {0}) Throw) (home : Option Phandle) (n : ℕ) (u : State S)
+  pub known_quiet : (e : Result (Unit {0}) Throw) (home : Option Phandle) (n : ℕ) (u : State S)
       → Quiet u (known_if e home n u)
   known_quiet (Ok x) home n u =
       method_quiet (method_made home (name_in (word_at u.words.dictionary n)) (xt_cell n) u.board.tree) n u

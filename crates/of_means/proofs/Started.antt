@@ -71,7 +71,7 @@ none_low (r ∷ rs) n h l =
     by_number true same low none = absurd (omega (arith, same refl, low, l))
     by_number false same low none = none
 
-own_is_none : (n : ℕ) → 0x800 ≤ n → word_numbered n ≡ None
+pub own_is_none : (n : ℕ) → 0x800 ≤ n → word_numbered n ≡ None
 unfolding row_numbered rows first_rows second_rows third_rows fourth_rows fifth_rows sixth_rows seventh_rows
 own_is_none n l = ap (option_map (λ (r : Row). r.word)) (none_low rows n refl l)
 
@@ -93,7 +93,7 @@ ordinary_typed (Some (word.Console w)) k h = refl
 ordinary_typed (Some (word.Parsing w)) k h = refl
 ordinary_typed (Some (word.Compiling w)) k h = refl
 
-bare_typed : (a b d : Bool) (k : FCode) → nat_le 0x800 k.0 ≡ a → is_ordinary (word_numbered k.0) ≡ b
+pub bare_typed : (a b d : Bool) (k : FCode) → nat_le 0x800 k.0 ≡ a → is_ordinary (word_numbered k.0) ≡ b
     → nat_eq k.0 0x0cc ≡ d → (k.0 ≡ 0x0cc → ⊥) → (a || (b || d)) ≡ true
     → typed (word_numbered k.0) k Nothing ≡ Plain (token.Word k)
 bare_typed true b d k own ordinary wide steady h =

@@ -3,5 +3,6 @@ pub mod Courses
 pub mod Means
 pub mod Correct
 pub mod Sources
+pub mod Nested
 pub mod Kept
 pub mod Laws

@@ -28,10 +28,10 @@ IsWord t =
 abbrev pub IsSteady : Token → Type 0
 IsSteady t = t.code.0 ≡ 0x0cc → ⊥
 
--- so each word of a nest
+-- its plain words are such, and its defining words
 abbrev pub HasWords : Nest → Type 0
 HasWords Stop = Unit {0}
-HasWords (Plain t r) = IsWord t × IsSteady t × HasWords r
+HasWords (Plain t r) = IsPlain t × IsSteady t × HasWords r
 HasWords (Definition m i r) = HasWords i × HasWords r
 HasWords (Defining m t r) = (is_kind t.0 ≡ true) × HasWords r
 HasWords (If l r) = HasWords r
