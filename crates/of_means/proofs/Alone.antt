@@ -1,12 +1,13 @@
 -- The tokens of a part that closes all don't see where others lead.
-use Rattle.std.proofs.Common.{◌≡◌, ℕ, zero, suc, ◌+◌, ◌-◌, ◌<◌, ◌≤◌, Bool, true, false, List, [], ◌∷◌, refl, sym, ap, ◌∙◌}
-use Rattle.std.proofs.Common.{subst, arith}
+use Rattle.std.proofs.Common.{◌≡◌, ℕ, zero, suc, ◌+◌, ◌-◌, ◌<◌, ◌≤◌, true, false, List, [], ◌∷◌, refl, sym, ap, ◌∙◌}
+use Rattle.std.proofs.Common.{arith}
 use Rattle.of_source.specs.Nest.{Nest, Stop, Plain, Definition, Defining, If, Else, Then, Begin, Do, Leave, Case, Of}
 use Rattle.of_source.specs.Nest.{Around, Fits, in_part, open_behind}
 use Rattle.of_source.specs.Items.{call, maker_token}
 use Rattle.of_tok.specs.declared.place.Place.{Place}
 use Rattle.of_tok.specs.Places.{behind, past, past_offset}
-use Rattle.of_tok.specs.Tokens.{Written, Straight, aimed, aims_of, branch_code, do_code, end_of, first, loop_code, others}
+use Rattle.of_tok.specs.Tokens.{Written, Straight, aimed, aims_of, branch_code, do_code, end_of, first, loop_code}
+use Rattle.of_tok.specs.Tokens.{others}
 use Rattle.of_tok.specs.Tokens.{straight, written}
 use Rattle.of_means.proofs.Aims.{least}
 
@@ -90,7 +91,7 @@ aims_agree (Of k i y r) a floor d m p to to' l le f h =
     (at_count d (open_behind i d) m (aims_of r q to) (aims_of r q to') (sym f.3)
     (aims_agree r a floor d m q to to' l le f.4 h))
 
--- the tokens of a part, where those that are open above m behind it lead to the same, and all that it closes is above m;
+-- the tokens of a part, where those that are open above m behind it lead to the same, and it closes none beneath m;
 -- where no arm of a case may stand, it matters not where those end
 pub written_agree : (x : Nest) (a : Around) (floor d m : ℕ) (p : Place) (to to' : List ℕ) (out out' : ℕ)
     (ws : List Written) → (a.cases ≡ true → out ≡ out') → m ≤ floor → floor ≤ d → Fits x a floor d
@@ -108,7 +109,8 @@ written_agree (Definition x i r) a floor d m p to to' out out' ws o l le f h =
     let e = end_of i b in
     let q = past 1 e in
     let g = aims_agree r a floor d m q to to' l le f.3 h in
-    ap (λ y. Straight p.size (maker_token x) ∷ straight 0x0b7 c ∷ written i b (aims_of r q to) out (straight 0x0c2 e ∷ y))
+    ap (λ y. Straight p.size (maker_token x) ∷ straight 0x0b7 c ∷ written i b (aims_of r q to) out
+    (straight 0x0c2 e ∷ y))
     (written_agree r a floor d m q to to' out out' ws o l le f.3 h)
     ∙ ap (λ y. Straight p.size (maker_token x) ∷ straight 0x0b7 c ∷ y)
     (written_agree i _ d d m b _ _ out out' _ (λ c. absurd cc) (omega (arith, l, le)) (omega arith) f.1
@@ -145,7 +147,8 @@ written_agree (Do v k i z y r) a floor d m p to to' out out' ws o l le f h =
     let e = end_of i b in
     let q = past_offset e in
     let g = aims_agree r a floor d m q to to' l le f.2 h in
-    ap (λ u. aimed k (do_code v) p q.position ∷ written i b (aims_of r q to) q.position (aimed y (loop_code z) e b.position ∷ u))
+    ap (λ u. aimed k (do_code v) p q.position ∷ written i b (aims_of r q to) q.position
+    (aimed y (loop_code z) e b.position ∷ u))
     (written_agree r a floor d m q to to' out out' ws o l le f.2 h)
     ∙ ap (λ u. aimed k (do_code v) p q.position ∷ u)
     (written_agree i _ d d m b _ _ q.position q.position _ (λ c. refl) (omega (arith, l, le)) (omega arith) f.0
@@ -169,10 +172,12 @@ written_agree (Of k i y r) a floor d m p to to' out out' ws o l le f h =
     let g = aims_agree r a floor d m q to to' l le f.4 h in
     ap (λ u. aimed k 0x01c p q.position ∷ written i b (aims_of r q to) q.position (aimed y 0x0c6 e out ∷ u))
     (written_agree r a floor d m q to to' out out' ws o l le f.4 h)
-    ∙ ap (λ u. aimed k 0x01c p q.position ∷ written i b (aims_of r q to) q.position (aimed y 0x0c6 e u ∷ written r q to' out' ws))
+    ∙ ap (λ u. aimed k 0x01c p q.position ∷ written i b (aims_of r q to) q.position
+    (aimed y 0x0c6 e u ∷ written r q to' out' ws))
     (o f.0)
     ∙ ap (λ u. aimed k 0x01c p q.position ∷ u)
-    (written_agree i (in_part a) d d m b _ _ q.position q.position _ (λ c. refl) (omega (arith, l, le)) (omega arith) f.2
+    (written_agree i (in_part a) d d m b _ _ q.position q.position _ (λ c. refl) (omega (arith, l, le))
+    (omega arith) f.2
     (at_count d (open_behind i d) m (aims_of r q to) (aims_of r q to') (sym f.3) g))
 
 -- a definition's

@@ -1,16 +1,13 @@
 -- The tokens of a definition are compiled one after another.
-use Rattle.std.proofs.Common.{◌≡◌, ◌⊎◌, inl, inr, ⊎_elim, ℕ, ◌+◌, Bool, true, false, List, [], ◌∷◌, ◌++◌, length, Option}
-use Rattle.std.proofs.Common.{Some, None, Result, Ok, Err, refl, sym, ap, ◌∙◌, subst, is_some}
+use Rattle.std.proofs.Common.{◌≡◌, inl, inr, ℕ, Bool, true, false, List, [], ◌∷◌, ◌++◌}
+use Rattle.std.proofs.Common.{Some, refl, sym, ap, ◌∙◌, is_some}
 use Rattle.of_stream.specs.Decoding.{Token, token_from}
 use Rattle.of_control.specs.Element.{Element}
-use Rattle.of_control.specs.Element as element
 use Rattle.of_compile.specs.declared.element.PlainItem.{PlainItem}
 use Rattle.of_compile.specs.declared.element.PlainItem.TheVariants as plain
 use Rattle.of_compile.specs.Structured.{Definitions}
-use Rattle.of_stacks.specs.declared.return_item.Reading.{Reading}
 use Rattle.of_flow.specs.declared.control_state.Flow.{Flow}
-use Rattle.of_flow.specs.Tokens.{Typed, typed_of}
-use Rattle.of_source.specs.Plain.{IsPlain}
+use Rattle.of_flow.specs.Tokens.{typed_of}
 use Rattle.of_tok.specs.declared.place.Place.{Place}
 use Rattle.of_tok.specs.Laws.{HasTokens}
 use Rattle.of_tok.specs.Places.{behind}
@@ -32,7 +29,7 @@ use Rattle.of_means.specs.Kept.{IsKept}
 use Rattle.of_means.specs.Sources.{AtSource}
 use Rattle.of_means.proofs.Steps.{Comes, one_step, plain_step, stays, then_comes}
 use Rattle.of_means.proofs.Runs.{token_found}
-use Rattle.of_means.proofs.Inner.{AreInner, IsInner, IsOfControl}
+use Rattle.of_means.proofs.Inner.{AreInner, IsInner}
 use Rattle.of_means.proofs.Listing.{all_behind}
 use Rattle.of_means.proofs.Elements.{control_left, first_left, plain_left, with_first}
 use Rattle.of_means.proofs.Compiling.{Adds, IsItem, control_adds, plain_adds}
@@ -79,46 +76,59 @@ module _ (typing : TokensAreTyped) (settles : ThrowsSettle Definitions) (placing
       → token_from image p.position p.size ≡ Some (t, (behind t p).position)
       → Adds P (at_place (behind t p) m.state) (token_at c t p (behind t p) m.state)
       → ((e : Element PlainItem) → P e
-      → (x : PlainItem) × (e ∷ elements_of m ≡ left_behind (control_element t p.position) (λ t q. x) t p (elements_of m)))
+      → (x : PlainItem) × (e ∷ elements_of m
+      ≡ left_behind (control_element t p.position) (λ t q. x) t p (elements_of m)))
       → One t p m (left_by c (token_at c t p (behind t p) m.state) m)
   one_left P t p m h found a back = by_running v.state.flow.is_running refl
     where
       q : Place
       q = behind t p
+
       o : Outcome Definitions
       o = token_at c t p q m.state
+
       v : Moment Definitions
       v = with_state (settled_of c o) m
+
       step : made c (at p m) ≡ Some v
       step =
           token_found c image (IsKept image) true p q t m h found refl
           ∙ plain_step c (token_at c t p q) m o refl a.2
+
       by_running : (b : Bool) → v.state.flow.is_running ≡ b → One t p m (unless_thrown b v)
       by_running false r = (r, one_step c (at p m) v step)
       by_running true r =
           let k = stands_on settles placing sounding reading runs image true true p q m v o h step refl
-                  (adds_behind P q m.state o h a) r in
+          (adds_behind P q m.state o h a) r in
           let e = a.3 k.0 in
-          let l = back e.0 e.1 in
-          (k.2, one_step c (at p m) (at q v) (step ∙ ap (λ (y : Moment Definitions). Some y) (sym k.3)),
-          (l.0, ap (λ (y : State Definitions). y.code.elements) k.1 ∙ e.2 ∙ l.1))
+          let l = back e.0 e.1 in (
+            k.2,
+            one_step c (at p m) (at q v) (step ∙ ap (λ (y : Moment Definitions). Some y) (sym k.3)),
+            (l.0, ap (λ (y : State Definitions). y.code.elements) k.1 ∙ e.2 ∙ l.1),
+          )
 
-  one_token : (t : Token) (p : Place) (m : Moment Definitions) (b : Bool) → is_executed (typed_of t) m.state.words.table ≡ b
+  one_token : (t : Token) (p : Place) (m : Moment Definitions) (b : Bool)
+      → is_executed (typed_of t) m.state.words.table ≡ b
       → Open m → IsInner t → token_from image p.position p.size ≡ Some (t, (behind t p).position)
       → One t p m (token_compiled c b t p m)
   one_token t p m true i h inner found = tt
   one_token t p m false i h (steady, inl is) found =
       one_left IsItem t p m h found
       (plain_adds image (IsKept image) typing t.argument t.code p (behind t p) m.state h is steady i)
-      (λ e k. (k.0, ap (λ (y : Element PlainItem). y ∷ elements_of m) k.1
-      ∙ sym (plain_left (λ u q. k.0) t p (elements_of m) is steady)))
+      (λ e k. (
+        k.0,
+        ap (λ (y : Element PlainItem). y ∷ elements_of m) k.1
+            ∙ sym (plain_left (λ u q. k.0) t p (elements_of m) is steady),
+      ))
   one_token t p m false i h (steady, inr k) found =
       one_left (λ e. e ≡ k.left p.position) t p m h found
       (control_adds image (IsKept image) typing t k p (behind t p) m.state h)
       (λ e f.
-      let none : PlainItem = plain.Literal (record { 0 = 0 }) in
-      (none, ap (λ (y : Element PlainItem). y ∷ elements_of m) f
-      ∙ sym (control_left (λ u q. none) t p (k.left p.position) (elements_of m) (k.listed p.position))))
+      let none : PlainItem = plain.Literal (record { 0 = 0 }) in (
+        none,
+        ap (λ (y : Element PlainItem). y ∷ elements_of m) f
+            ∙ sym (control_left (λ u q. none) t p (k.left p.position) (elements_of m) (k.listed p.position)),
+      ))
 
   -- tokens are read, one after another
   abbrev pub Compiles : List Written → Place → Moment Definitions → Course Definitions → Type 0
@@ -136,11 +146,15 @@ module _ (typing : TokensAreTyped) (settles : ThrowsSettle Definitions) (placing
   then_compiles : (w : Written) (ws : List Written) (p : Place) (m u : Moment Definitions) (f : Course Definitions)
       → One (token_of w) p m (On u) → Compiles ws (behind (token_of w) p) u f → Compiles (w ∷ ws) p m f
   then_compiles w ws p m u (On v) l r =
-      let q = behind (token_of w) p in
-      (r.0, then_comes c (at p m) (at q u) _ l.1 r.1,
-      (with_first p.position l.2.0 r.2.0,
-      r.2.1 ∙ ap (λ (y : List (Element PlainItem)). elements_left r.2.0 ws q y) l.2.1
-      ∙ sym (first_left l.2.0 r.2.0 w ws p (elements_of m))))
+      let q = behind (token_of w) p in (
+        r.0,
+        then_comes c (at p m) (at q u) _ l.1 r.1,
+        (
+          with_first p.position l.2.0 r.2.0,
+          r.2.1 ∙ ap (λ (y : List (Element PlainItem)). elements_left r.2.0 ws q y) l.2.1
+              ∙ sym (first_left l.2.0 r.2.0 w ws p (elements_of m)),
+        ),
+      )
   then_compiles w ws p m u (Thrown v) l r = (r.0, then_comes c (at p m) (at (behind (token_of w) p) u) v l.1 r.1)
   then_compiles w ws p m u Beyond l r = r
   then_compiles w ws p m u (Off b v) l r = r

@@ -1,13 +1,13 @@
 -- A token in a definition appends one element to it, and control goes on behind the token, unless something is thrown.
-use Rattle.std.proofs.Common.{◌≡◌, ◌⊎◌, inl, inr, ℕ, Bool, true, false, nat_eq, nat_le, List, [], ◌∷◌, length, Option}
-use Rattle.std.proofs.Common.{Some, None, Result, Ok, Err, refl, sym, ap, ◌∙◌, subst, is_some, if◌then◌else◌}
+use Rattle.std.proofs.Common.{◌≡◌, inl, inr, ℕ, Bool, true, false, nat_eq, nat_le, List, [], ◌∷◌, length, Option}
+use Rattle.std.proofs.Common.{Some, None, Result, Ok, Err, refl, sym, ap, ◌∙◌, subst, if◌then◌else◌}
 use Rattle.of_cells.specs.declared.cells.Cell.{Cell}
 use Rattle.of_stacks.specs.declared.throws.Throw.{Throw}
 use Rattle.of_stacks.specs.Throws.{dictionary_overflow}
 use Rattle.of_fcodes.specs.declared.codes.FCode.{FCode}
 use Rattle.of_fcodes.specs.declared.token_table.TokenEntry.{TokenEntry}
 use Rattle.of_fcodes.specs.Lookup.{word_numbered}
-use Rattle.of_fcodes.specs.Tokens.{Table, entry_in}
+use Rattle.of_fcodes.specs.Tokens.{entry_in}
 use Rattle.of_stream.specs.Decoding.{Argument, Code, Literal, Named, Nothing, Offset, String, Token}
 use Rattle.of_memory.specs.DataSpace.{DataSpace}
 use Rattle.of_memory.specs.Growth.{append_copied}
@@ -17,26 +17,26 @@ use Rattle.of_control.specs.Element as element
 use Rattle.of_compile.specs.declared.element.PlainItem.{PlainItem}
 use Rattle.of_compile.specs.declared.element.PlainItem.TheVariants as plain
 use Rattle.of_compile.specs.Elements.{own_item}
-use Rattle.of_compile.specs.Structured.{Definitions, Told, element_told, has_room, refused, told}
+use Rattle.of_compile.specs.Structured.{Definitions, has_room, refused, told}
 use Rattle.of_compile.specs.Tokens.{called}
 use Rattle.of_compile.specs.Words.{is_word}
 use Rattle.of_source.specs.Keywords.{is_ordinary}
-use Rattle.of_source.specs.Plain.{IsPlain, IsPlainWith}
+use Rattle.of_source.specs.Plain.{IsPlainWith}
 use Rattle.of_tok.specs.declared.place.Place.{Place}
 use Rattle.of_flow.specs.declared.token.Token.{Token as Typing}
 use Rattle.of_flow.specs.declared.token.Token.TheVariants as token
 use Rattle.of_flow.specs.Tokens.{Plain, Typed, typed_of}
 use Rattle.of_eval.specs.Acts.{Act, Appends, Copies, Does, Fails, WordAct, front_of}
-use Rattle.of_eval.specs.Defining.{string_compiled, string_element, string_kept, string_put, string_refused}
-use Rattle.of_eval.specs.Doing.{acted, appended, left_by, worked}
+use Rattle.of_eval.specs.Defining.{string_element, string_kept, string_put, string_refused}
+use Rattle.of_eval.specs.Doing.{acted, left_by, worked}
 use Rattle.of_eval.specs.Reading.{token_done}
-use Rattle.of_eval.specs.Tokens.{appending, calling, compiling_act, named, spot_in, string_address, token_act}
-use Rattle.of_state.specs.State.{Answered, Calls, Outcome, State, by_code}
-use Rattle.of_eval_laws.specs.Structured.{structured_calls, told_answer}
+use Rattle.of_eval.specs.Tokens.{appending, calling, compiling_act, named, spot_in, token_act}
+use Rattle.of_state.specs.State.{Answered, Calls, Outcome, State}
+use Rattle.of_eval_laws.specs.Structured.{structured_calls}
 use Rattle.of_eval_laws.specs.Tokens.{TokensAreTyped}
 use Rattle.of_means.specs.Means.{at_place, is_executed, is_immediate_entry, token_at}
-use Rattle.of_means.specs.Sources.{AtSource, IsSteady}
-use Rattle.of_means.proofs.Inner.{IsInner, IsOfControl}
+use Rattle.of_means.specs.Sources.{AtSource}
+use Rattle.of_means.proofs.Inner.{IsOfControl}
 use Rattle.of_means.proofs.Started.{bare_typed}
 
 err_ok : (x : Result (Unit {0}) Throw) (t : Throw) → x ≡ Err t → x ≡ Ok tt → ⊥
@@ -48,8 +48,8 @@ not_both e = cc
 abbrev pub c : Calls Definitions
 c = structured_calls
 
--- control and the open definition stay, nothing is asked, and where nothing was thrown there is one more element, which
--- is such
+-- control and the open definition stay, nothing is asked, and where nothing was thrown there is one more element, such
+-- a one
 abbrev pub Adds : (Element PlainItem → Type 0) → State Definitions → Outcome Definitions → Type 0
 Adds P u o =
     (o.state.flow ≡ u.flow) × (o.state.words.defining ≡ u.words.defining) × (o.asks ≡ None)
@@ -103,12 +103,14 @@ module _ (P : Element PlainItem → Type 0) where
   kept_adds e h u a (Ok x) more = put_adds e h u a a.ended x.1 refl more
   kept_adds e h u a (Err fault) more = refused_adds u a.ended _
 
-  pub copies : (a n : ℕ) (u : State Definitions) → ((e : Element PlainItem) → e ≡ string_element u.board.memory.here n → P e)
+  pub copies : (a n : ℕ) (u : State Definitions)
+      → ((e : Element PlainItem) → e ≡ string_element u.board.memory.here n → P e)
       → Adds P u (acted c (Copies a n) u)
   unfolding acted
   copies a n u h =
       let e = string_element u.board.memory.here n in
-      kept_adds e (h e refl) u (c.element e u.code) (append_copied u.board.memory a n []) (λ ok. element_adds e u.code ok)
+      kept_adds e (h e refl) u (c.element e u.code) (append_copied u.board.memory a n [])
+      (λ ok. element_adds e u.code ok)
 
 -- ---- plain words
 
@@ -121,13 +123,17 @@ named_adds None g u = failing IsItem _ u
 named_adds (Some e) g u = appends IsItem (element.Plain (g e.xt)) u.board.stack u (g e.xt, refl)
 
 listed_adds : (b : Bool) (xt : ℕ) (t : Throw) (u : State Definitions)
-    → Adds IsItem u (acted c (Does (if b then appending (element.Plain (called (record { 0 = xt }))) (front_of u) else Fails t)) u)
+    → Adds IsItem u (acted c
+    (Does (if b then appending (element.Plain (called (record { 0 = xt }))) (front_of u) else Fails t)) u)
 listed_adds true xt t u =
     appends IsItem (element.Plain (called (record { 0 = xt }))) u.board.stack u (called (record { 0 = xt }), refl)
 listed_adds false xt t u = failing IsItem t u
 
 called_by : (b : Bool) (a : WordAct) (e : TokenEntry) (t : Throw) (u : State Definitions) → b ≡ false
-    → Adds IsItem u (acted c (Does (if b then a else (if is_word u.words.dictionary e.xt then appending (element.Plain (called (record { 0 = e.xt }))) (front_of u) else Fails t))) u)
+    → Adds IsItem u (acted c
+    (Does (if b then a else
+    (if is_word u.words.dictionary e.xt then appending (element.Plain (called (record { 0 = e.xt })))
+    (front_of u) else Fails t))) u)
 called_by true a e t u f = absurd (not_both f)
 called_by false a e t u f = listed_adds (is_word u.words.dictionary e.xt) e.xt t u
 
@@ -151,7 +157,8 @@ module _ (image : List ℕ) (Keeps : State Definitions → Type 0) (typing : Tok
   pub compiled_at : (t : Token) (w : Typing) (p q : Place) (s : State Definitions) → typed_of t ≡ Plain w
       → AtSource image Keeps true s
       → token_at c t p q s
-      ≡ acted c (compiling_act w (spot_in s.board.memory p.position q.position) (front_of (at_place q s))) (at_place q s)
+      ≡ acted c (compiling_act w (spot_in s.board.memory p.position q.position) (front_of (at_place q s)))
+      (at_place q s)
   compiled_at t w p q s e h =
       let u = at_place q s in
       let here = spot_in s.board.memory p.position q.position in
@@ -208,7 +215,8 @@ module _ (image : List ℕ) (Keeps : State Definitions → Type 0) (typing : Tok
   plain_adds (Offset by) k p q s h is steady i = absurd is
 
   -- a word of control
-  pub control_adds : (t : Token) (k : IsOfControl t) (p q : Place) (s : State Definitions) → AtSource image Keeps true s
+  pub control_adds : (t : Token) (k : IsOfControl t) (p q : Place) (s : State Definitions)
+      → AtSource image Keeps true s
       → AddsAt (λ e. e ≡ k.left p.position) t p q s
   control_adds t k p q s h =
       let u = at_place q s in

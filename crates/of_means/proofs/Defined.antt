@@ -1,18 +1,17 @@
 -- The tokens of a definition are read up to its end, and its word gets the body of its nest.
-use Rattle.std.proofs.Common.{◌≡◌, ℕ, Bool, true, false, List, [], ◌∷◌, ◌++◌, Option, Some, None, refl, sym, ap, ◌∙◌}
-use Rattle.std.proofs.Common.{subst, is_some}
+use Rattle.std.proofs.Common.{◌≡◌, ℕ, Bool, true, false, List, [], ◌∷◌, ◌++◌, Some, None, refl, sym, ap, ◌∙◌}
+use Rattle.std.proofs.Common.{subst}
 use Rattle.of_stream.specs.Bytes.{token_bytes}
-use Rattle.of_stream.specs.Decoding.{Token, token_from}
+use Rattle.of_stream.specs.Decoding.{token_from}
 use Rattle.of_control.specs.Element.{Element}
 use Rattle.of_control.specs.Reading.{body_in}
 use Rattle.of_compile.specs.declared.element.PlainItem.{PlainItem}
 use Rattle.of_compile.specs.Structured.{Definitions}
 use Rattle.of_source.specs.Items.{bare}
-use Rattle.of_source.specs.Nest.{Fits, Nest, Stop, Plain, Definition, Defining, If, Else, Then, Begin, Do, Leave, Case, Of}
-use Rattle.of_source.specs.Nest.{open_behind}
+use Rattle.of_source.specs.Nest.{Nest, Stop, Plain, Definition, Defining, If, Else, Then, Begin, Do, Leave, Case, Of}
 use Rattle.of_tok.specs.declared.place.Place.{Place}
 use Rattle.of_tok.specs.Laws.{HasTokens, NestsEndAtTheirPlaces}
-use Rattle.of_tok.specs.Places.{behind, past}
+use Rattle.of_tok.specs.Places.{past}
 use Rattle.of_tok.specs.Tokens.{Written, end_of, straight, written}
 use Rattle.of_eval.specs.Defining.{semicolon_entry}
 use Rattle.of_state.specs.State.{Calls, Outcome, State}
@@ -27,7 +26,7 @@ use Rattle.of_eval_laws.specs.Tokens.{TokensAreTyped}
 use Rattle.of_meaning.specs.Elements.{ArePlain, elements_left}
 use Rattle.of_meaning.specs.Laws.{BodyOfNest, in_definition}
 use Rattle.of_meaning.specs.Pairs.{nest_body}
-use Rattle.of_means.specs.Moments.{Moment, made, steps, with_state}
+use Rattle.of_means.specs.Moments.{Moment, made, with_state}
 use Rattle.of_means.specs.Courses.{Course, On, Off, Out, Left, Thrown, Waits, Cut, Beyond, through}
 use Rattle.of_means.specs.Means.{at, at_place, compiled, defined, left_by, token_at, unless_thrown}
 use Rattle.of_means.specs.Nested.{nest_calls}
@@ -39,10 +38,10 @@ use Rattle.of_means.proofs.Runs.{token_found}
 use Rattle.of_means.proofs.Alone.{alone}
 use Rattle.of_means.proofs.Listing.{all_behind, before, ends_at}
 use Rattle.of_means.proofs.Leading.{none_open}
-use Rattle.of_means.proofs.Inner.{AreInner, inner_all}
+use Rattle.of_means.proofs.Inner.{inner_all}
 use Rattle.of_means.proofs.Elements.{plain_none}
 use Rattle.of_means.proofs.Standing.{StaysBehind, stands_on}
-use Rattle.of_means.proofs.Compiled.{Compiles, Open, all_compiled}
+use Rattle.of_means.proofs.Compiled.{Compiles, all_compiled}
 use Rattle.of_means.proofs.Opening.{colon_turns, same_end, semicolon_at, semicolon_turns}
 
 -- the plain words of a nest are plain there, too
@@ -129,18 +128,24 @@ module _ (typing : TokensAreTyped) (settles : ThrowsSettle Definitions) (placing
     where
       o : Outcome Definitions
       o = semicolon_entry c u.state.words.defining (at_place q u.state)
+
       v : Moment Definitions
       v = with_state (settled_of c o) u
+
       turns : (o.asks ≡ None) × ((settled_of c o).flow.is_running ≡ true → StaysBehind q u.state false o.state)
       turns = semicolon_turns image (IsKept image) settles typing q u.state h
+
       step : made c (at e u) ≡ Some v
       step =
           token_found c image (IsKept image) true e q (bare 0x0c2) u h found size
-          ∙ plain_step c (token_at c (bare 0x0c2) e q) u o (semicolon_at image (IsKept image) settles typing e q u.state h) turns.0
+          ∙ plain_step c (token_at c (bare 0x0c2) e q) u o
+          (semicolon_at image (IsKept image) settles typing e q u.state h) turns.0
+
       by_running : (b : Bool) → v.state.flow.is_running ≡ b → ReadFrom (at e u) q (unless_thrown b v)
       by_running false r = (r, one_step c (at e u) v step)
       by_running true r =
-          let k = stands_on settles placing sounding reading runs image true false e q u v o h step refl (turns.1 r) r in
+          let k = stands_on settles placing sounding reading runs image true false e q u v o h step refl
+          (turns.1 r) r in
           (k.2, one_step c (at e u) (at q v) (step ∙ ap (λ (y : Moment Definitions). Some y) (sym k.3)))
 
   -- ---- from `b(:)` on
@@ -155,22 +160,28 @@ module _ (typing : TokensAreTyped) (settles : ThrowsSettle Definitions) (placing
     where
       o : Outcome Definitions
       o = token_at c (bare 0x0b7) p b m.state
+
       v : Moment Definitions
       v = with_state (settled_of c o) m
+
       turns : ((o.asks ≡ None) × ((settled_of c o).flow.is_running ≡ true → StaysBehind b m.state true o.state))
           × (o.state.code ≡ m.state.code)
       turns = colon_turns image (IsKept image) settles typing p b m.state h
+
       step : made c (at p m) ≡ Some v
       step =
           token_found c image (IsKept image) false p b (bare 0x0b7) m h found size
           ∙ plain_step c (token_at c (bare 0x0b7) p b) m o refl turns.0.0
+
       by_running : (x : Bool) → v.state.flow.is_running ≡ x → ReadFrom (at p m) q (through (unless_thrown x v) g)
       by_running false r = (r, one_step c (at p m) v step)
       by_running true r =
-          let k = stands_on settles placing sounding reading runs image false true p b m v o h step refl (turns.0.1 r) r in
-          let empty : m.state.code.elements ≡ [] = (h.kept p).placed.closed (none_open m.state.words.defining h.defines) in
+          let k = stands_on settles placing sounding reading runs image false true p b m v o h step refl
+          (turns.0.1 r) r in
+          let empty : m.state.code.elements
+          ≡ [] = (h.kept p).placed.closed (none_open m.state.words.defining h.defines) in
           let elements : v.state.code.elements ≡ [] =
-              ap (λ (y : State Definitions). y.code.elements) k.1 ∙ ap (λ (y : Definitions). y.elements) turns.1 ∙ empty in
+          ap (λ (y : State Definitions). y.code.elements) k.1 ∙ ap (λ (y : Definitions). y.elements) turns.1 ∙ empty in
           then_read (at p m) (at b v) q (g v)
           (one_step c (at p m) (at b v) (step ∙ ap (λ (y : Moment Definitions). Some y) (sym k.3)))
           (more v k.2 elements)
@@ -184,7 +195,7 @@ module _ (typing : TokensAreTyped) (settles : ThrowsSettle Definitions) (placing
       let vs = written i b [] 0 [] in
       let more = straight 0x0c2 e ∷ ws in
       let stand : HasTokens image b (vs ++ more) =
-          subst (λ y. HasTokens image b y) (alone i d b to out more fits closed ∙ before i b [] 0 [] more) has.3 in
+      subst (λ y. HasTokens image b y) (alone i d b to out more fits closed ∙ before i b [] 0 [] more) has.3 in
       let last : all_behind vs b ≡ e = ends_at i b [] 0 [] in
       let end = ends image i b to out more has.3 in
       let inner = inner_all typing i in_definition d d b [] 0 [] refl fits words tt in
@@ -196,10 +207,10 @@ module _ (typing : TokensAreTyped) (settles : ThrowsSettle Definitions) (placing
       (λ u r.
       let es = elements_left r.2.0 vs b [] in
       let left : u.state.code.elements ≡ es =
-          r.2.1 ∙ ap (λ (y : List (Element PlainItem)). elements_left r.2.0 vs b y) none in
+      r.2.1 ∙ ap (λ (y : List (Element PlainItem)). elements_left r.2.0 vs b y) none in
       let body : body_in 32 u.state.code.elements ≡ nest_body i u.state.code.elements =
-          subst (λ (y : List (Element PlainItem)). body_in 32 y ≡ nest_body i y) (sym left)
-          (bodies.inside i d fits closed (words_plain i words) r.2.0 b [] 0) in
+      subst (λ (y : List (Element PlainItem)). body_in 32 y ≡ nest_body i y) (sym left)
+      (bodies.inside i d fits closed (words_plain i words) r.2.0 b [] 0) in
       subst (λ (y : Place). ReadFrom (at y u) q
       (left_by c (semicolon_entry (nest_calls i) u.state.words.defining (at_place q u.state)) u))
       (sym last) (closes i e q u r.0 end.1 refl body))))

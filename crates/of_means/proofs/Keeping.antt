@@ -1,16 +1,14 @@
 -- What is kept while a source runs over structured definitions stays so in a step.
-use Rattle.std.proofs.Common.{◌≡◌, ◌⊎◌, inl, inr, ⊎_elim, ℕ, zero, suc, ◌+◌, ◌≤◌, Bool, true, false, List, [], ◌∷◌, length}
-use Rattle.std.proofs.Common.{drop, Option, Some, None, refl, sym, ap, ◌∙◌, subst, arith, if◌then◌else◌, is_some}
+use Rattle.std.proofs.Common.{◌≡◌, ◌⊎◌, inl, inr, ℕ, zero, suc, Bool, true, false, List, [], ◌∷◌, length}
+use Rattle.std.proofs.Common.{drop, Option, Some, None, refl, sym, ap, ◌∙◌, subst, if◌then◌else◌}
 use Rattle.of_asking.specs.declared.query.Answer.{Answer}
 use Rattle.of_asking.specs.declared.query.Query.{Query}
-use Rattle.of_stacks.specs.declared.return_item.Input.{Input}
 use Rattle.of_stacks.specs.declared.return_item.Input.TheVariants as input
 use Rattle.of_stacks.specs.declared.return_item.ReturnItem.{ReturnItem}
 use Rattle.of_stacks.specs.declared.return_item.ReturnItem.TheVariants.{Return, Loop, User, Handler, Source, Caller}
 use Rattle.of_stream.specs.declared.stream.OffsetSize.{OffsetSize}
 use Rattle.of_memory.specs.DataSpace.{DataSpace}
 use Rattle.of_compile.specs.Structured.{Definitions}
-use Rattle.of_tok.specs.declared.place.Place.{Place}
 use Rattle.of_state.specs.State.{Calls, Outcome, State}
 use Rattle.of_steps.specs.Steps.{due, replied, settled_of, stepped}
 use Rattle.of_eval_laws.specs.Placed.{AllPlaced, StatesStayPlaced}
@@ -18,8 +16,7 @@ use Rattle.of_eval_laws.specs.Readings.{BeganInside, HasItsImages, ImagesAreRead
 use Rattle.of_eval_laws.specs.Running.{GoOn, ImagesRun, RunningImage, SomeEnd, images_to, running}
 use Rattle.of_eval_laws.specs.Sound.{HasSoundSpace, SpaceStaysSound}
 use Rattle.of_eval_laws.specs.Structured.{structured_calls}
-use Rattle.of_means.specs.Moments.{Moment, answered_step, asked_step, fitting, made, next_due, step_by, with_state}
-use Rattle.of_means.specs.Means.{at_place}
+use Rattle.of_means.specs.Moments.{Moment, answered_step, asked_step, fitting, made, next_due, step_by}
 use Rattle.of_means.specs.Kept.{BeganFirst, IsKept}
 use Rattle.of_means.specs.Laws.{StaysKept}
 
@@ -53,6 +50,7 @@ module _ {S : Type 0} (c : Calls S) where
       answered : (o : Option Answer) → answered_step c does o m ≡ Some t → IsStep c does m.state t.state
       answered None f = absurd (none_some t f)
       answered (Some a) f = inr (a, sym (ap (λ (x : Moment S). x.state) (some_is _ t f)))
+
       asked : (o : Option Query) → asked_step c does o m ≡ Some t → IsStep c does m.state t.state
       asked None f = inl (sym (ap (λ (x : Moment S). x.state) (some_is _ t f)))
       asked (Some q) f = answered (fitting q m.answers) f
@@ -74,10 +72,12 @@ module _ {S : Type 0} (c : Calls S) where
           → (m.state.flow.is_running ≡ true) × IsLeft c m.state t.state
       by_running false r =
           absurd (none_some t (sym (ap (λ (b : Bool). if b then step_by c (next_due c) m else None) r) ∙ e))
-      by_running true r =
-          (r, machine_step m.state t.state r
-          (step_leaves (next_due c) m t
-          (sym (ap (λ (b : Bool). if b then step_by c (next_due c) m else None) r) ∙ e)))
+      by_running true r = (
+        r,
+        machine_step m.state t.state r
+            (step_leaves (next_due c) m t
+            (sym (ap (λ (b : Bool). if b then step_by c (next_due c) m else None) r) ∙ e)),
+      )
 
 -- ---- the images that run
 
@@ -105,11 +105,13 @@ none_run m e = none (m.images) e
   where
     not_none : (r : RunningImage) (rs : List RunningImage) → (r ∷ rs) ≡ [] → ⊥
     not_none r rs h = cc
+
     none : (ends : List ℕ) → images_to m ends ≡ [] → length ends ≡ 0
     none [] h = refl
     none (x ∷ xs) h = absurd (not_none _ _ h)
 
-pub first_stays : (image : List ℕ) (m after : DataSpace) → SomeEnd m after ⊎ GoOn m after → BeganFirst image (running m)
+pub first_stays : (image : List ℕ) (m after : DataSpace) → SomeEnd m after ⊎ GoOn m after
+    → BeganFirst image (running m)
     → (length after.images ≡ 0 → ⊥) → BeganFirst image (running after)
 first_stays image m after (inl x) h some =
     subst (λ r. BeganFirst image r) (sym x.1)
@@ -141,12 +143,13 @@ some_stand image m h = none m.images h
   where
     not_none : (n : ℕ) → suc n ≡ 0 → ⊥
     not_none n e = cc
+
     none : (ends : List ℕ) → BeganFirst image (images_to m ends) → length ends ≡ 0 → ⊥
     none [] k e = absurd k
     none (x ∷ xs) k e = not_none (length xs) e
 
-module _ (placing : StatesStayPlaced) (sounding : SpaceStaysSound Definitions) (reading : ImagesAreReadings Definitions)
-    (runs : ImagesRun Definitions) (image : List ℕ) where
+module _ (placing : StatesStayPlaced) (sounding : SpaceStaysSound Definitions)
+    (reading : ImagesAreReadings Definitions) (runs : ImagesRun Definitions) (image : List ℕ) where
   placed_on : (s t : State Definitions) → IsLeft structured_calls s t → AllPlaced s → AllPlaced t
   placed_on s t (inl e) h = subst (λ x. AllPlaced x) (sym e) (placing.step s h)
   placed_on s t (inr (a, e)) h = subst (λ x. AllPlaced x) (sym e) (placing.step (replied a s) h)
@@ -166,10 +169,12 @@ module _ (placing : StatesStayPlaced) (sounding : SpaceStaysSound Definitions) (
   first_on : (s t : State Definitions) → IsLeft structured_calls s t → HasSoundSpace s
       → SomeEnd s.board.memory t.board.memory ⊎ GoOn s.board.memory t.board.memory
   first_on s t (inl e) k =
-      subst (λ (x : State Definitions). SomeEnd s.board.memory x.board.memory ⊎ GoOn s.board.memory x.board.memory) (sym e)
+      subst (λ (x : State Definitions). SomeEnd s.board.memory x.board.memory ⊎ GoOn s.board.memory x.board.memory)
+      (sym e)
       (runs.step structured_calls s k)
   first_on s t (inr (a, e)) k =
-      subst (λ (x : State Definitions). SomeEnd s.board.memory x.board.memory ⊎ GoOn s.board.memory x.board.memory) (sym e)
+      subst (λ (x : State Definitions). SomeEnd s.board.memory x.board.memory ⊎ GoOn s.board.memory x.board.memory)
+      (sym e)
       (runs.step structured_calls (replied a s) k)
 
   -- it is kept in a step behind which images stand
@@ -188,8 +193,9 @@ module _ (placing : StatesStayPlaced) (sounding : SpaceStaysSound Definitions) (
   pub stays_kept : StaysKept structured_calls (IsKept image)
   stays_kept = record {
     step = λ m t h e same.
-      kept_on m.state t.state (made_leaves structured_calls m t e).1 h
-      (λ none. some_stand image m.state.board.memory h.first (ap (λ (x : DataSpace). length x.images) (sym same) ∙ none));
+        kept_on m.state t.state (made_leaves structured_calls m t e).1 h
+        (λ none. some_stand image m.state.board.memory h.first
+        (ap (λ (x : DataSpace). length x.images) (sym same) ∙ none));
     place = λ p q s h. record {
       placed = h.placed;
       sound = h.sound;

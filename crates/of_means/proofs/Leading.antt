@@ -1,10 +1,9 @@
 -- The return stack at the source leads back to it, and where control is back it is that of the source.
-use Rattle.std.proofs.Common.{◌≡◌, inl, inr, ℕ, zero, suc, Bool, true, false, List, [], ◌∷◌, length, Option, Some, None}
+use Rattle.std.proofs.Common.{◌≡◌, inl, inr, ℕ, suc, Bool, true, false, List, [], ◌∷◌, length, Option, Some, None}
 use Rattle.std.proofs.Common.{refl, sym, ap, ◌∙◌, subst, is_some}
 use Rattle.std.specs.Prelude.{◌-◌, ◌&&◌}
 use Rattle.of_stacks.specs.declared.return_item.Continuation.{Continuation}
 use Rattle.of_stacks.specs.declared.return_item.Continuation.TheVariants as continuation
-use Rattle.of_stacks.specs.declared.return_item.ExceptionFrame.{ExceptionFrame}
 use Rattle.of_stacks.specs.declared.return_item.Input.{Input}
 use Rattle.of_stacks.specs.declared.return_item.Input.TheVariants as input
 use Rattle.of_stacks.specs.declared.return_item.LoopExit.{LoopExit}
@@ -17,9 +16,9 @@ use Rattle.of_memory.specs.DataSpace.{DataSpace, bytes_from, free_after}
 use Rattle.of_memory.specs.Images.{latest_image, latest_start}
 use Rattle.of_tok.specs.declared.place.Place.{Place}
 use Rattle.of_state.specs.State.{State}
-use Rattle.of_eval_laws.specs.Readings.{BeganInside, HasItsImages, is_image, kept_readings, readings, readings_over}
-use Rattle.of_eval_laws.specs.Returning.{IsBase, IsInside, IsPosition, IsRead, IsSource, Leads, LeadsBack, LeadsOn}
-use Rattle.of_eval_laws.specs.Returning.{is_back, is_code, is_outer, is_outermost, is_read_on, is_return_top, reads_nothing}
+use Rattle.of_eval_laws.specs.Readings.{BeganInside, HasItsImages, is_image, kept_readings, readings_over}
+use Rattle.of_eval_laws.specs.Returning.{IsInside, IsPosition, IsSource, Leads, LeadsBack, LeadsOn}
+use Rattle.of_eval_laws.specs.Returning.{is_back, is_code, is_outer, is_read_on, reads_nothing}
 use Rattle.of_eval_laws.specs.Running.{images_to, running}
 use Rattle.of_eval_laws.specs.Throws.{image_more}
 use Rattle.of_means.specs.Kept.{BeganFirst}
@@ -136,7 +135,8 @@ pub source_latest : {S : Type 0} (image : List ℕ) (s : State S) → IsLevel im
     → latest_image s.board.memory ≡ image
 source_latest image s level o h first =
     only_one image s.board.memory s.board.memory.images
-    (h.as_many ∙ more_one s.flow.reading.input _ o (none_kept image s.flow.reading.input s.flow.items level h.inside)) first
+    (h.as_many ∙ more_one s.flow.reading.input _ o (none_kept image s.flow.reading.input s.flow.items level h.inside))
+    first
 
 -- ---- control at the source
 
@@ -163,8 +163,9 @@ module _ {S : Type 0} (image : List ℕ) (Keeps : State S → Type 0) where
   source_leads q s h = (
     (
       (tt, h.opened),
-      subst (λ (to : Continuation). LeadsBack image (at_place q s).flow.reading (at_place q s).flow.reading (is_code to) (Some to) s.flow.items)
-      (sym h.next) (level_leads image (at_place q s).flow.reading (Some continuation.Source) s.flow.items h.level),
+      subst (λ (to : Continuation). LeadsBack image (at_place q s).flow.reading (at_place q s).flow.reading
+          (is_code to) (Some to) s.flow.items)
+          (sym h.next) (level_leads image (at_place q s).flow.reading (Some continuation.Source) s.flow.items h.level),
     ),
     (λ o. none_open s.words.defining h.defines),
   )
@@ -179,21 +180,23 @@ module _ {S : Type 0} (image : List ℕ) (Keeps : State S → Type 0) where
       let to = source_next s.flow.next (both_first (is_read_on s.flow.next) _ back) in
       let outermost : is_outer s.flow.items ≡ true = both_second (is_read_on s.flow.next) _ back in
       let leads : LeadsBack image outer s.flow.reading false None s.flow.items =
-          subst (λ (x : Continuation). LeadsBack image outer s.flow.reading (is_code x) None s.flow.items) to h.0.1 in
+      subst (λ (x : Continuation). LeadsBack image outer s.flow.reading (is_code x) None s.flow.items) to h.0.1 in
       let level = back_level image outer s.flow.reading s.flow.items outermost leads in
       let read : s.flow.reading.input ≡ input.Image q.size q.position =
-          ap (λ (r : Reading). r.input) level.1 ∙ i in
+      ap (λ (r : Reading). r.input) level.1 ∙ i in
       let closed = h.1 outermost in
       let there : at_place q s ≡ s =
-          ap (λ (x : Input). record s { flow = record s.flow { reading = record s.flow.reading { input = x } } }) (sym read) in
-      (record {
-        running = running;
-        next = to;
-        compiles = compiles closed;
-        defines = ap is_some closed;
-        opened = ap (λ (r : Reading). r.opened) level.1 ∙ o;
-        level = level.0;
-        bytes = source_latest image s level.0 (ap is_image read) images first;
-        kept = kept there;
-      },
-      there)
+      ap (λ (x : Input). record s { flow = record s.flow { reading = record s.flow.reading { input = x } } })
+      (sym read) in (
+        record {
+          running = running;
+          next = to;
+          compiles = compiles closed;
+          defines = ap is_some closed;
+          opened = ap (λ (r : Reading). r.opened) level.1 ∙ o;
+          level = level.0;
+          bytes = source_latest image s level.0 (ap is_image read) images first;
+          kept = kept there;
+        },
+        there,
+      )

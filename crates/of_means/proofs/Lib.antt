@@ -23,3 +23,4 @@ pub mod Elements
 pub mod Compiled
 pub mod Opening
 pub mod Defined
+pub mod Whole

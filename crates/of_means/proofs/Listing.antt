@@ -1,5 +1,5 @@
 -- The tokens of a nest as a list: what stands before others, and where they end.
-use Rattle.std.proofs.Common.{◌≡◌, ℕ, ◌+◌, Bool, true, false, nat_eq, nat_lt, List, [], ◌∷◌, ◌++◌, refl, sym, ap, ◌∙◌}
+use Rattle.std.proofs.Common.{◌≡◌, ℕ, true, false, nat_eq, nat_lt, List, [], ◌∷◌, ◌++◌, refl, ap, ◌∙◌}
 use Rattle.of_stream.specs.Bytes.{token_bytes}
 use Rattle.of_source.specs.Items.{call, maker_token}
 use Rattle.of_source.specs.Nest.{Nest, Stop, Plain, Definition, Defining, If, Else, Then, Begin, Do, Leave, Case, Of}
@@ -28,7 +28,8 @@ before (Definition x i r) p to out vs ws =
     (before i b A out (straight 0x0c2 e ∷ written r q to out vs) ws)
 before (Defining x t r) p to out vs ws =
     let c = behind (maker_token x) p in
-    ap (λ y. Straight p.size (maker_token x) ∷ Straight c.size (call t) ∷ y) (before r (behind (call t) c) to out vs ws)
+    ap (λ y. Straight p.size (maker_token x) ∷ Straight c.size (call t) ∷ y)
+    (before r (behind (call t) c) to out vs ws)
 before (If l r) p to out vs ws =
     let q = past_offset p in
     ap (λ y. aimed l 0x014 p (first (aims_of r q to)) ∷ y) (before r q to out vs ws)
@@ -42,7 +43,8 @@ before (Begin i v l r) p to out vs ws =
     let q = past_offset e in
     let A = aims_of r q to in
     ap (λ y. straight 0x0b1 p ∷ written i b A out (aimed l (branch_code v) e b.position ∷ y)) (before r q to out vs ws)
-    ∙ ap (λ y. straight 0x0b1 p ∷ y) (before i b A out (aimed l (branch_code v) e b.position ∷ written r q to out vs) ws)
+    ∙ ap (λ y. straight 0x0b1 p ∷ y)
+    (before i b A out (aimed l (branch_code v) e b.position ∷ written r q to out vs) ws)
 before (Do v k i l m r) p to out vs ws =
     let b = past_offset p in
     let e = end_of i b in
@@ -126,7 +128,8 @@ ends_at (Of k i m r) p to out ws =
     let b = past_offset p in
     let e = end_of i b in
     let q = past_offset e in
-    behind_aimed k 0x01c p q.position (written i b (aims_of r q to) q.position (aimed m 0x0c6 e out ∷ written r q to out ws))
+    behind_aimed k 0x01c p q.position
+    (written i b (aims_of r q to) q.position (aimed m 0x0c6 e out ∷ written r q to out ws))
     refl refl
     ∙ ends_at i b (aims_of r q to) q.position (aimed m 0x0c6 e out ∷ written r q to out ws)
     ∙ behind_aimed m 0x0c6 e out (written r q to out ws) refl refl ∙ ends_at r q to out ws

@@ -1,20 +1,19 @@
 -- `b(:)` opens a definition, and `b(;)` ends it.
-use Rattle.std.proofs.Common.{◌≡◌, ℕ, Bool, true, false, List, [], ◌∷◌, length, Option, Some, None, Result, Ok, Err, refl}
+use Rattle.std.proofs.Common.{◌≡◌, ℕ, Bool, true, false, List, [], ◌∷◌, length, Option, Some, None, Result, Ok, Err}
+use Rattle.std.proofs.Common.{refl}
 use Rattle.std.proofs.Common.{sym, ap, ◌∙◌, subst, is_some, if◌then◌else◌}
 use Rattle.std.specs.Prelude.{is_none, nat_le}
-use Rattle.of_cells.specs.declared.cells.Cell.{Cell}
 use Rattle.of_stacks.specs.declared.throws.Throw.{Throw}
 use Rattle.of_stacks.specs.Order.{counted, counting, fault_if, unless}
 use Rattle.of_stacks.specs.Throws.{compiler_nesting, dictionary_overflow, stack_underflow}
 use Rattle.of_dict.specs.Words.{capacity, xt_of}
 use Rattle.of_dict.specs.declared.word.Kind.TheVariants as kind
-use Rattle.of_nodes.specs.declared.phandles.Phandle.{Phandle}
 use Rattle.of_control.specs.Reading.{body_in}
 use Rattle.of_control.specs.Body.{Body}
 use Rattle.of_compile.specs.declared.defining.DefiningWord.TheVariants as defining
 use Rattle.of_compile.specs.declared.element.PlainItem.{PlainItem}
 use Rattle.of_compile.specs.declared.words.Pending.{Pending}
-use Rattle.of_compile.specs.Defining.{Made, Making, closed, closed_by, defining_faults, has_no_bytes, made_by, making, one}
+use Rattle.of_compile.specs.Defining.{Made, Making, closed_by, defining_faults, has_no_bytes, making, one}
 use Rattle.of_compile.specs.Defining.{word_made}
 use Rattle.of_compile.specs.SlotWords.{awaited, slot_of}
 use Rattle.of_compile.specs.Structured.{Definitions, finished_told}
@@ -24,9 +23,9 @@ use Rattle.of_source.specs.Nest.{Nest}
 use Rattle.of_tok.specs.declared.place.Place.{Place}
 use Rattle.of_flow.specs.declared.control_state.Flow.{Flow}
 use Rattle.of_flow.specs.declared.token.Token.TheVariants as token
-use Rattle.of_eval.specs.Defining.{by_making, closed_if, define_entry, definition_ended, semicolon_entry, word_made_as}
+use Rattle.of_eval.specs.Defining.{by_making, closed_if, semicolon_entry, word_made_as}
 use Rattle.of_eval.specs.Doing.{acted}
-use Rattle.of_eval.specs.Methods.{known_if, then_known}
+use Rattle.of_eval.specs.Methods.{then_known}
 use Rattle.of_eval.specs.Tokens.{compiling_act, token_act}
 use Rattle.of_state.specs.State.{Answered, Calls, Outcome, State, by_code}
 use Rattle.of_state.specs.Settling.{settled, thrown_in}
@@ -42,7 +41,7 @@ use Rattle.of_means.specs.Sources.{AtSource}
 use Rattle.of_means.proofs.Compiling.{compiled_at}
 use Rattle.of_means.proofs.Control.{executed_at}
 use Rattle.of_means.proofs.Level.{level_unguarded}
-use Rattle.of_means.proofs.Quiet.{Quiet, known_quiet}
+use Rattle.of_means.proofs.Quiet.{known_quiet}
 use Rattle.of_means.proofs.Standing.{StaysBehind}
 
 not_both : true ≡ false → ⊥
@@ -71,8 +70,8 @@ made_open g (Some p) x e f = refl
 made_open g None x e f =
     let first = fault_if (is_some g.words.defining) compiler_nesting in
     let bad : counted first (counted (Some compiler_nesting) (later g x)) ≡ None =
-        subst (λ (y : Option Pending). counted first (counted (fault_if (is_none y) compiler_nesting) (later g x)) ≡ None)
-        f e in
+    subst (λ (y : Option Pending). counted first (counted (fault_if (is_none y) compiler_nesting) (later g x)) ≡ None)
+    f e in
     absurd (some_later first (later g x) compiler_nesting bad)
 
 -- no `instance` makes a definition another
@@ -113,14 +112,17 @@ module _ (image : List ℕ) (Keeps : State Definitions → Type 0) (settles : Th
       let o = by_making defining.Colon (unless (Some t) g) (at_place q s) in
       ((refl, (λ running. absurd (thrown_off false t q s o h refl refl running))), refl)
   opens_by None g q s h d = (
-    (refl, (λ running. record {
-      items = refl;
-      reading = refl;
-      next = refl;
-      running = refl;
-      compiles = refl;
-      defines = d refl;
-    })),
+    (
+      refl,
+      (λ running. record {
+        items = refl;
+        reading = refl;
+        next = refl;
+        running = refl;
+        compiles = refl;
+        defines = d refl;
+      }),
+    ),
     refl,
   )
 
@@ -132,11 +134,13 @@ module _ (image : List ℕ) (Keeps : State Definitions → Type 0) (settles : Th
       let g = making u.words u.board.stack u.board.memory in
       let x : Made = one (kind.Colon (c.ends_at u.code)) 0 u.board.stack in
       let f = counting (defining_faults g (Some x)) in
-      let same : token_at c (bare 0x0b7) p q s ≡ by_making defining.Colon (unless f (word_made defining.Colon g g.words.pending (Some x))) u =
-          executed_at c image Keeps (bare 0x0b7) (token.Define defining.Colon) p q s typing.colon h
-          ∙ ap (λ o. word_made_as c defining.Colon o u) (never_awaited u.words) in
+      let same : token_at c (bare 0x0b7) p q s
+      ≡ by_making defining.Colon (unless f (word_made defining.Colon g g.words.pending (Some x))) u =
+      executed_at c image Keeps (bare 0x0b7) (token.Define defining.Colon) p q s typing.colon h
+      ∙ ap (λ o. word_made_as c defining.Colon o u) (never_awaited u.words) in
       subst (λ (o : Outcome Definitions). Turns true q s o × (o.state.code ≡ s.code)) (sym same)
-      (opens_by f (word_made defining.Colon g g.words.pending (Some x)) q s h (λ e. made_open g g.words.pending x e refl))
+      (opens_by f (word_made defining.Colon g g.words.pending (Some x)) q s h
+      (λ e. made_open g g.words.pending x e refl))
 
   -- ---- `b(;)`
 
@@ -165,15 +169,17 @@ module _ (image : List ℕ) (Keeps : State Definitions → Type 0) (settles : Th
       let u = at_place q s in
       let b = by_code (record { code = a.code; ended = Ok x }) (closed_if (Ok x) u) in
       let k = known_quiet c (Ok x) s.flow.home n b.state in
-      let shut : b.state.words.defining ≡ None = shut_by s.words.defining s.words refl in
-      (refl, (λ running. record {
-        items = ap (λ (f : Flow). f.items) k.0;
-        reading = ap (λ (f : Flow). f.reading) k.0;
-        next = ap (λ (f : Flow). f.next) k.0;
-        running = ap (λ (f : Flow). f.is_running) k.0;
-        compiles = ap (λ (f : Flow). f.is_compiling) k.0;
-        defines = ap is_some (k.1 ∙ shut);
-      }))
+      let shut : b.state.words.defining ≡ None = shut_by s.words.defining s.words refl in (
+        refl,
+        (λ running. record {
+          items = ap (λ (f : Flow). f.items) k.0;
+          reading = ap (λ (f : Flow). f.reading) k.0;
+          next = ap (λ (f : Flow). f.next) k.0;
+          running = ap (λ (f : Flow). f.is_running) k.0;
+          compiles = ap (λ (f : Flow). f.is_compiling) k.0;
+          defines = ap is_some (k.1 ∙ shut);
+        }),
+      )
 
   ends_open : (o : Option ℕ) (q : Place) (s : State Definitions) → AtSource image Keeps true s → s.words.defining ≡ o
       → Turns false q s (semicolon_entry c o (at_place q s))

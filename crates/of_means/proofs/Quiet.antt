@@ -1,9 +1,10 @@
 -- Which acts of a source's words leave where control is, and no definition open.
-use Rattle.std.proofs.Common.{◌≡◌, ℕ, Bool, true, false, List, [], ◌∷◌, Option, Some, None, Result, Ok, Err, refl, sym, ap}
-use Rattle.std.proofs.Common.{◌∙◌, length, if◌then◌else◌}
+use Rattle.std.proofs.Common.{◌≡◌, ℕ, Bool, true, false, List, [], ◌∷◌, Option, Some, None, Result, Ok, Err, refl, sym}
+use Rattle.std.proofs.Common.{ap}
+use Rattle.std.proofs.Common.{◌∙◌, length}
 use Rattle.of_cells.specs.declared.cells.Cell.{Cell}
 use Rattle.of_stacks.specs.declared.throws.Throw.{Throw}
-use Rattle.of_stacks.specs.Order.{counting, unless}
+use Rattle.of_stacks.specs.Order.{unless}
 use Rattle.of_fcodes.specs.declared.codes.FCode.{FCode}
 use Rattle.of_fcodes.specs.declared.token_table.TokenEntry.{TokenEntry}
 use Rattle.of_memory.specs.DataSpace.{DataSpace}
@@ -15,21 +16,18 @@ use Rattle.of_ihandles.specs.Table.{InstanceTable}
 use Rattle.of_ihandles.specs.declared.instance_fault.InstanceFault.{InstanceFault}
 use Rattle.of_compile.specs.declared.defining.DefiningWord.{DefiningWord}
 use Rattle.of_compile.specs.declared.words.Pending.{Pending}
-use Rattle.of_compile.specs.Defining.{Made, Making, defining_entry, defining_faults, made_by, making, opened_in, opens, word_made}
+use Rattle.of_compile.specs.Defining.{Made, Making, making, opened_in, opens, word_made}
 use Rattle.of_compile.specs.DictionaryWords.{stored_kind, with_kind, with_stored, kind_at, store_entry}
-use Rattle.of_compile.specs.SlotWords.{SlotMade, SlotMaking, awaited, slot_defined, slot_entry, slot_faults, slot_given, slot_made}
+use Rattle.of_compile.specs.SlotWords.{SlotMade, SlotMaking, awaited, slot_given, slot_made}
 use Rattle.of_compile.specs.SlotWords.{slot_making, slot_word_made}
 use Rattle.of_compile.specs.Words.{WordsState, numbered, own_number}
-use Rattle.of_own.specs.Slots.{slot_span}
 use Rattle.of_own.specs.Stores.{in_slot, in_word, into_slot, slot_written, stored_by, stored_slot}
-use Rattle.of_own.specs.Stores as own
 use Rattle.of_board.specs.declared.board.Board.{Board}
-use Rattle.of_eval.specs.Acts.{Act, WordAct, keeping, knowing_under, leaving, front_of}
-use Rattle.of_eval.specs.Acts as act
-use Rattle.of_eval.specs.Defining.{by_making, by_slot_making, define_entry, known_at_once, opened, slot_word_defined, word_defined}
+use Rattle.of_eval.specs.Acts.{keeping, knowing_under, leaving, front_of}
+use Rattle.of_eval.specs.Defining.{by_making, by_slot_making, define_entry, known_at_once, opened, word_defined}
 use Rattle.of_eval.specs.Defining.{word_made_as}
-use Rattle.of_eval.specs.Doing.{acted, worked}
-use Rattle.of_eval.specs.Methods.{as_method, known, known_if, method_made, then_known, xt_cell}
+use Rattle.of_eval.specs.Doing.{worked}
+use Rattle.of_eval.specs.Methods.{as_method, known_if, method_made, then_known, xt_cell}
 use Rattle.of_dict.specs.Words.{name_in, word_at}
 use Rattle.of_eval.specs.Tokens.{storing}
 use Rattle.of_state.specs.State.{Calls, Outcome, State}
@@ -115,9 +113,10 @@ module _ {S : Type 0} (c : Calls S) where
   by_making_quiet : (d : DefiningWord) (o : Option Throw) (g : Making) (u : State S) → opens d ≡ false
       → u.words.defining ≡ None → g.words.defining ≡ None → Quiet u (by_making d (unless o g) u).state
   by_making_quiet d None g u e shut h =
-      let v = record u { words = g.words; board = record u.board { stack = g.stack; memory = g.memory } } in
-      (ap (λ (s : State S). s.flow) (opened_quiet (opens d) v e),
-      ap (λ (s : State S). s.words.defining) (opened_quiet (opens d) v e) ∙ h ∙ sym shut)
+      let v = record u { words = g.words; board = record u.board { stack = g.stack; memory = g.memory } } in (
+        ap (λ (s : State S). s.flow) (opened_quiet (opens d) v e),
+        ap (λ (s : State S). s.words.defining) (opened_quiet (opens d) v e) ∙ h ∙ sym shut,
+      )
   by_making_quiet d (Some t) g u e shut h = (refl, refl)
 
   slot_keeps : (k : Slot) (p : Option Pending) (x : Option SlotMade)

@@ -1,20 +1,18 @@
 -- Behind the token of a definition control stands at the source again, unless something is thrown.
-use Rattle.std.proofs.Common.{◌≡◌, ◌⊎◌, inl, inr, ⊎_elim, ℕ, zero, suc, Bool, true, false, List, [], ◌∷◌, length, Option}
-use Rattle.std.proofs.Common.{Some, None, Result, Ok, Err, refl, sym, ap, ◌∙◌, subst, is_some}
+use Rattle.std.proofs.Common.{◌≡◌, ℕ, suc, Bool, true, false, List}
+use Rattle.std.proofs.Common.{Some, Result, Ok, Err, refl, sym, ap, ◌∙◌, subst, is_some}
 use Rattle.of_stacks.specs.declared.throws.Throw.{Throw}
-use Rattle.of_stacks.specs.declared.return_item.Continuation.{Continuation}
 use Rattle.of_stacks.specs.declared.return_item.Input.{Input}
 use Rattle.of_stacks.specs.declared.return_item.Input.TheVariants as input
 use Rattle.of_stacks.specs.declared.return_item.Reading.{Reading}
 use Rattle.of_stacks.specs.declared.return_item.ReturnItem.{ReturnItem}
 use Rattle.of_compile.specs.Structured.{Definitions}
 use Rattle.of_tok.specs.declared.place.Place.{Place}
-use Rattle.of_flow.specs.declared.control_state.Flow.{Flow}
 use Rattle.of_state.specs.State.{Calls, Outcome, State}
 use Rattle.of_state.specs.Settling.{settled, thrown_in}
 use Rattle.of_steps.specs.Steps.{settled_of}
 use Rattle.of_eval_laws.specs.Placed.{StatesStayPlaced}
-use Rattle.of_eval_laws.specs.Readings.{HasItsImages, ImagesAreReadings, is_image, kept_readings, readings}
+use Rattle.of_eval_laws.specs.Readings.{ImagesAreReadings, is_image, kept_readings}
 use Rattle.of_eval_laws.specs.Running.{ImagesRun}
 use Rattle.of_eval_laws.specs.Sound.{SpaceStaysSound}
 use Rattle.of_eval_laws.specs.Structured.{structured_calls}
@@ -68,30 +66,37 @@ module _ (settles : ThrowsSettle Definitions) (placing : StatesStayPlaced) (soun
       let s = m.state in
       let x = o.state in
       let level : IsLevel image x.flow.items =
-          subst (λ (r : List ReturnItem). IsLevel image r) (sym behind.items) h.level in
+      subst (λ (r : List ReturnItem). IsLevel image r) (sym behind.items) h.level in
       let k = calm x o.ended level (ap (λ (y : Moment Definitions). y.state.flow.is_running) (sym e) ∙ running) in
       let same : v.state ≡ x = ap (λ (y : Moment Definitions). y.state) e ∙ k.1 in
       let read : v.state.flow.reading ≡ (at_place q s).flow.reading =
-          ap (λ (y : State Definitions). y.flow.reading) same ∙ behind.reading in
+      ap (λ (y : State Definitions). y.flow.reading) same ∙ behind.reading in
       let input_is : v.state.flow.reading.input ≡ input.Image q.size q.position = ap (λ (r : Reading). r.input) read in
       let there : at_place q v.state ≡ v.state =
-          ap (λ (i : Input). record v.state { flow = record v.state.flow { reading = record v.state.flow.reading { input = i } } })
-          (sym input_is) in
+      ap (λ (i : Input). record v.state {
+        flow =
+            record v.state.flow { reading = record v.state.flow.reading { input = i } };
+      })
+      (sym input_is) in
       let left = (made_leaves c (at p m) v step).1 in
       let images = image_count placing sounding reading runs image (at p m).state v.state left (h.kept p) in
       let keeps = kept_on placing sounding reading runs image (at p m).state v.state left (h.kept p)
-                  (λ none. more_than_none v.state.flow.reading.input (kept_readings v.state.flow.items) (ap is_image input_is)
-                  (sym images.as_many ∙ none)) in
+      (λ none. more_than_none v.state.flow.reading.input (kept_readings v.state.flow.items) (ap is_image input_is)
+      (sym images.as_many ∙ none)) in
       let level' : IsLevel image v.state.flow.items =
-          subst (λ (y : State Definitions). IsLevel image y.flow.items) (sym same) level in
-      let stays = stays_kept placing sounding reading runs image in
-      (k.0, same, record {
-        running = running;
-        next = ap (λ (y : State Definitions). y.flow.next) same ∙ behind.next ∙ h.next;
-        compiles = ap (λ (y : State Definitions). y.flow.is_compiling) same ∙ behind.compiles;
-        defines = ap (λ (y : State Definitions). is_some y.words.defining) same ∙ behind.defines;
-        opened = ap (λ (r : Reading). r.opened) read ∙ h.opened;
-        level = level';
-        bytes = source_latest image v.state level' (ap is_image input_is) keeps.images keeps.first;
-        kept = λ p'. stays.place q p' v.state (subst (λ (y : State Definitions). IsKept image y) (sym there) keeps);
-      }, ap (λ (y : State Definitions). with_state y v) there)
+      subst (λ (y : State Definitions). IsLevel image y.flow.items) (sym same) level in
+      let stays = stays_kept placing sounding reading runs image in (
+        k.0,
+        same,
+        record {
+          running = running;
+          next = ap (λ (y : State Definitions). y.flow.next) same ∙ behind.next ∙ h.next;
+          compiles = ap (λ (y : State Definitions). y.flow.is_compiling) same ∙ behind.compiles;
+          defines = ap (λ (y : State Definitions). is_some y.words.defining) same ∙ behind.defines;
+          opened = ap (λ (r : Reading). r.opened) read ∙ h.opened;
+          level = level';
+          bytes = source_latest image v.state level' (ap is_image input_is) keeps.images keeps.first;
+          kept = λ p'. stays.place q p' v.state (subst (λ (y : State Definitions). IsKept image y) (sym there) keeps);
+        },
+        ap (λ (y : State Definitions). with_state y v) there,
+      )

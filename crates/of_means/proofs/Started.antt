@@ -1,11 +1,11 @@
 -- What a word of the source starts leads back to it.
-use Rattle.std.proofs.Common.{◌≡◌, ◌⊎◌, inl, inr, ⊎_elim, ℕ, zero, suc, ◌+◌, ◌-◌, ◌<◌, ◌≤◌, ◌||◌, ◌&&◌, Bool, true, false}
-use Rattle.std.proofs.Common.{nat_eq, nat_le, nat_lt, List, [], ◌∷◌, length, Option, Some, None, refl, sym, ap, ◌∙◌, subst}
+use Rattle.std.proofs.Common.{◌≡◌, inl, inr, ℕ, zero, suc, ◌+◌, ◌-◌, ◌<◌, ◌≤◌, ◌||◌, ◌&&◌, Bool, true, false}
+use Rattle.std.proofs.Common.{nat_eq, nat_le, nat_lt, List, [], ◌∷◌, length, Option, Some, None, refl, sym, ap, ◌∙◌}
+use Rattle.std.proofs.Common.{subst}
 use Rattle.std.proofs.Common.{arith, eqb-true, if◌then◌else◌}
 use Rattle.std.specs.List.{list_all}
 use Rattle.std.specs.Option.{option_map}
 use Rattle.std.proofs.lemmas.Bool.{leb-true, ltb-true}
-use Rattle.of_cells.specs.declared.cells.Cell.{Cell}
 use Rattle.of_stacks.specs.declared.return_item.Reading.{Reading}
 use Rattle.of_fcodes.specs.declared.codes.FCode.{FCode}
 use Rattle.of_fcodes.specs.declared.token_table.TokenEntry.{TokenEntry}
@@ -22,16 +22,15 @@ use Rattle.of_compile.specs.Defining.{opens}
 use Rattle.of_compile.specs.Words.{is_debugging}
 use Rattle.of_source.specs.declared.keyword.Maker.{Maker}
 use Rattle.of_source.specs.declared.keyword.Maker.TheVariants as maker
-use Rattle.of_source.specs.Items.{Made, call, maker_token, making, own_code}
-use Rattle.of_source.specs.Keywords.{fcode, is_ordinary}
-use Rattle.of_source.specs.Plain.{IsPlain, IsPlainWith, is_kind}
+use Rattle.of_source.specs.Items.{call, making, own_code}
+use Rattle.of_source.specs.Keywords.{is_ordinary}
+use Rattle.of_source.specs.Plain.{IsPlainWith, is_kind}
 use Rattle.of_tok.specs.declared.place.Place.{Place}
 use Rattle.of_flow.specs.declared.token.Token.{Token as Typing}
 use Rattle.of_flow.specs.declared.token.Token.TheVariants as token
 use Rattle.of_flow.specs.Tokens.{ExternalToken, NamedToken, Plain, Typed, typed, typed_of}
-use Rattle.of_eval.specs.Acts.{WordAct, front_of, leaving}
-use Rattle.of_eval.specs.Acts as act
-use Rattle.of_eval.specs.Doing.{acted, executed, worked}
+use Rattle.of_eval.specs.Acts.{front_of, leaving}
+use Rattle.of_eval.specs.Doing.{acted, worked}
 use Rattle.of_eval.specs.Executing.{execution}
 use Rattle.of_eval.specs.Reading.{token_done}
 use Rattle.of_eval.specs.Tokens.{act_of, named, spot_in, token_act}
@@ -106,9 +105,10 @@ bare_typed false false false k own ordinary wide steady h = absurd cc
 
 module _ {S : Type 0} (image : List ℕ) (outer : Reading) where
   quiet_leads : (u v : State S) → Leads image outer u → Quiet u v → Leads image outer v
-  quiet_leads u v h q =
-      (subst (λ (f : Flow). IsDue image outer f) (sym q.0) h.0,
-      (λ o. q.1 ∙ h.1 (sym (ap (λ (f : Flow). is_outer f.items) q.0) ∙ o)))
+  quiet_leads u v h q = (
+    subst (λ (f : Flow). IsDue image outer f) (sym q.0) h.0,
+    (λ o. q.1 ∙ h.1 (sym (ap (λ (f : Flow). is_outer f.items) q.0) ∙ o)),
+  )
 
 module _ {S : Type 0} (c : Calls S) (image : List ℕ) (Keeps : State S → Type 0) (typing : TokensAreTyped)
     (back : StackLeadsBack S) where
@@ -149,7 +149,8 @@ module _ {S : Type 0} (c : Calls S) (image : List ℕ) (Keeps : State S → Type
       let u = at_place q s in
       let here = spot_in s.board.memory p.position q.position in
       subst (λ (o : Outcome S). Leads image u.flow.reading o.state) (sym (executed_at c image Keeps t w p q s e h))
-      (quiet_leads image u.flow.reading u (acted c (token_act w here (front_of u)) u).state (source_leads image Keeps q s h) quiet)
+      (quiet_leads image u.flow.reading u (acted c (token_act w here (front_of u)) u).state
+      (source_leads image Keeps q s h) quiet)
 
   -- ---- plain words
 
@@ -170,7 +171,8 @@ module _ {S : Type 0} (c : Calls S) (image : List ℕ) (Keeps : State S → Type
   unfolding token_act acted
   plain_starts Nothing k p q s h plain steady =
       starts_word (record { code = k; argument = Nothing }) p q s h
-      (bare_typed (nat_le 0x800 k.0) (is_ordinary (word_numbered k.0)) (nat_eq k.0 0x0cc) k refl refl refl steady plain)
+      (bare_typed (nat_le 0x800 k.0) (is_ordinary (word_numbered k.0))
+      (nat_eq k.0 0x0cc) k refl refl refl steady plain)
   plain_starts (Literal x) k p q s h plain steady =
       starts_quiet (record { code = k; argument = Literal x }) (token.Literal x) p q s h
       (code_is (Literal x) (token.Literal x) k.0 0x010 plain (typing.literal x))

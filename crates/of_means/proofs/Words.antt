@@ -1,5 +1,6 @@
 -- What a word of the source started comes back to it, over structured definitions.
-use Rattle.std.proofs.Common.{◌≡◌, inl, inr, ℕ, zero, suc, Bool, true, false, List, length, Option, Some, None, refl, sym}
+use Rattle.std.proofs.Common.{◌≡◌, inl, inr, ℕ, zero, suc, Bool, true, false, List, length, Option, Some, None, refl}
+use Rattle.std.proofs.Common.{sym}
 use Rattle.std.proofs.Common.{ap, ◌∙◌, subst}
 use Rattle.of_asking.specs.declared.query.Answer.{Answer}
 use Rattle.of_stacks.specs.declared.return_item.Input.TheVariants as input
@@ -8,19 +9,19 @@ use Rattle.of_stream.specs.Decoding.{Token, token_from}
 use Rattle.of_compile.specs.Structured.{Definitions}
 use Rattle.of_tok.specs.declared.place.Place.{Place}
 use Rattle.of_tok.specs.Places.{behind}
-use Rattle.of_state.specs.State.{Calls, Outcome, State}
+use Rattle.of_state.specs.State.{Calls, State}
 use Rattle.of_state.specs.Settling.{thrown_in}
-use Rattle.of_steps.specs.Steps.{replied, settled_of, stepped}
+use Rattle.of_steps.specs.Steps.{replied}
 use Rattle.of_eval_laws.specs.Placed.{StatesStayPlaced}
 use Rattle.of_eval_laws.specs.Readings.{HasItsImages, ImagesAreReadings, is_image}
-use Rattle.of_eval_laws.specs.Returning.{Leads, LeadsOn, StackLeadsBack, is_back, is_code}
+use Rattle.of_eval_laws.specs.Returning.{LeadsOn, StackLeadsBack, is_back, is_code}
 use Rattle.of_eval_laws.specs.Running.{ImagesRun}
 use Rattle.of_eval_laws.specs.Sound.{SpaceStaysSound}
 use Rattle.of_eval_laws.specs.Structured.{structured_calls}
 use Rattle.of_eval_laws.specs.Tokens.{TokensAreTyped}
 use Rattle.of_means.specs.Moments.{Moment, made, step_by, with_state}
-use Rattle.of_means.specs.Courses.{Course, On, Off, Out, Left, Thrown, Waits, Cut, Beyond}
-use Rattle.of_means.specs.Means.{after_step, at, at_place, comes_back, over, token_at, word}
+use Rattle.of_means.specs.Courses.{Course, On, Thrown, Waits, Cut}
+use Rattle.of_means.specs.Means.{after_step, at, at_place, comes_back, over, token_at}
 use Rattle.of_means.specs.Sources.{AtSource, IsSteady, IsWord}
 use Rattle.of_means.specs.Kept.{IsKept}
 use Rattle.of_means.specs.Laws.{IsAt, WordsComeBack}
@@ -100,7 +101,8 @@ module _ (typing : TokensAreTyped) (back : StackLeadsBack Definitions) (placing 
       (ap (λ (x : State Definitions). x.flow.is_running) (sym e) ∙ running))
   starts_on t p q s u is steady h (inr (a, e)) running =
       let o = token_at c t p q (replied a s) in
-      let leads = starts c image Free typing back t p q (replied a s) (free_answered image (IsKept image) a s h) is steady in
+      let leads = starts c image Free typing back t p q (replied a s)
+      (free_answered image (IsKept image) a s h) is steady in
       subst (λ x. LeadsOn image (at_place q s).flow.reading x) (sym e)
       (back.settled image (at_place q s).flow.reading c (thrown_in o.ended) o.state leads
       (ap (λ (x : State Definitions). x.flow.is_running) (sym e) ∙ running))
@@ -121,7 +123,7 @@ module _ (typing : TokensAreTyped) (back : StackLeadsBack Definitions) (placing 
     home m e r b h k =
         let stays = stays_kept placing sounding reading runs image in
         let there = source_back image (IsKept image) q outer m.state i o r b h k.placed.compiles k.images k.first
-                    (λ f p. stays.place q p m.state (subst (λ x. IsKept image x) (sym f) k)) in
+        (λ f p. stays.place q p m.state (subst (λ x. IsKept image x) (sym f) k)) in
         subst (λ (x : Moment Definitions). IsAt c image (IsKept image) x × (at q x ≡ x)) (on_is m u e)
         (there.0, ap (λ (x : State Definitions). with_state x m) there.1)
 
@@ -137,9 +139,11 @@ module _ (typing : TokensAreTyped) (back : StackLeadsBack Definitions) (placing 
         → (m.state.flow.is_running ≡ true → LeadsOn image outer m.state × IsKept image m.state)
         → comes_back c n m ≡ On u → Home
     comes zero m h e =
-        come_on zero m m.state.flow.is_running (is_back m.state) (Cut m) refl refl e h (λ r b f. absurd (not_cut m u f))
+        come_on zero m m.state.flow.is_running (is_back m.state) (Cut m) refl refl e h
+        (λ r b f. absurd (not_cut m u f))
     comes (suc n) m h e =
-        come_on (suc n) m m.state.flow.is_running (is_back m.state) (after_step (made c m) m (λ t. comes_back c n t)) refl
+        come_on (suc n) m m.state.flow.is_running (is_back m.state)
+        (after_step (made c m) m (λ t. comes_back c n t)) refl
         refl e h (λ r b f. next (made c m) refl f r b (λ t. comes n t))
       where
         next : (x : Option (Moment Definitions)) → made c m ≡ x → after_step x m (λ t. comes_back c n t) ≡ On u
@@ -153,9 +157,11 @@ module _ (typing : TokensAreTyped) (back : StackLeadsBack Definitions) (placing 
             more t
             (λ r'.
             let leads = leads_on outer m.state t.state left r b (h r).0 r' in
-            let counted = image_count placing sounding reading runs image m.state t.state left (h r).1 in
-            (leads, kept_on placing sounding reading runs image m.state t.state left (h r).1
-            (images_stand outer t.state (ap is_image i) leads counted)))
+            let counted = image_count placing sounding reading runs image m.state t.state left (h r).1 in (
+              leads,
+              kept_on placing sounding reading runs image m.state t.state left (h r).1
+                  (images_stand outer t.state (ap is_image i) leads counted),
+            ))
             f
 
   word_comes : (n : ℕ) (t : Token) (p : Place) (m u : Moment Definitions) → IsWord t → IsSteady t
@@ -173,9 +179,11 @@ module _ (typing : TokensAreTyped) (back : StackLeadsBack Definitions) (placing 
       comes q outer refl h.opened u n v
       (λ r.
       let leads = starts_on t p q m.state v.state is steady h (step_leaves c (token_at c t p q) m v g) r in
-      let counted = image_count placing sounding reading runs image (at p m).state v.state left before in
-      (leads, kept_on placing sounding reading runs image (at p m).state v.state left before
-      (images_stand outer v.state refl leads counted)))
+      let counted = image_count placing sounding reading runs image (at p m).state v.state left before in (
+        leads,
+        kept_on placing sounding reading runs image (at p m).state v.state left before
+            (images_stand outer v.state refl leads counted),
+      ))
       e
 
   pub words_come_back : WordsComeBack c image (IsKept image)

@@ -55,6 +55,10 @@ module _ {S : Type 0} (c : Calls S) (image : List ℕ) (Keeps : State S → Type
       HasTokens image p (straight 0x0b7 p ∷ written i (past 1 p) to out (straight 0x0c2 e ∷ ws)) → IsAt m →
       IsRead p (past 1 e) m (defined c own i p m)
 
+-- No `leave` of a source goes past a loop that isn't there.
+abbrev pub NeverLeft : {S : Type 0} → Calls S → (Nest → Calls S) → Nest → OffsetSize → Moment S → Type 0
+NeverLeft {S} c own x z m = (n e : ℕ) (t : Moment S) → source_means c own x z n m ≡ Left e t → ⊥
+
 -- The image of a source does what the source means, over any code of definitions.
 pub record SourceIsFollowed (S : Type 0) (Keeps : List ℕ → State S → Type 0) : Type 0 where
   pub followed :
@@ -64,6 +68,4 @@ pub record SourceIsFollowed (S : Type 0) (Keeps : List ℕ → State S → Type 
       -- what is kept is kept, words come back, and definitions are read
       StaysKept c (Keeps image) → WordsComeBack c image (Keeps image)
       → DefinitionsAreRead c image (Keeps image) own →
-      -- and no `leave` goes past a loop that isn't there
-      ((n e : ℕ) (t : Moment S) → source_means c own x z n m ≡ Left e t → ⊥) →
-      Behaves c own x z m
+      NeverLeft c own x z m → Behaves c own x z m

@@ -6,3 +6,4 @@ pub mod Sources
 pub mod Nested
 pub mod Kept
 pub mod Laws
+pub mod Accepted

@@ -1,20 +1,66 @@
 // A law has no parameters and does nothing: its contract is the law.
 ghost use Rattle.of_compile.specs.Structured.{Definitions};
+ghost use Rattle.of_means.specs.Accepted.{SourcesBehave, WordsAreFollowed};
 ghost use Rattle.of_means.specs.Kept.{IsKept};
 ghost use Rattle.of_means.specs.Laws.{SourceIsFollowed};
 
-use of_eval_laws::{throws_settle, tokens_are_typed};
-use of_tok::nests_end_at_their_places;
+use of_eval_laws::{
+    images_are_readings, images_run, space_stays_sound, stack_leads_back, states_stay_placed,
+    throws_settle, tokens_are_typed,
+};
+use of_meaning::body_of_nest;
+use of_source::{accepted_is_plain, items_give_nest, parsed_is_nested};
+use of_tok::{header_is_the_sum, image_has_tokens, nests_end_at_their_places};
 
 /// The image of a source does what the source means, and only that: it ends, throws and waits for an answer where the
-/// source does, in the same state. These are premises: what is kept at the source stays so in each step; what a word of
-/// the source started comes back to it; the tokens of a definition are read up to its end; no `leave` goes past a loop
-/// that isn't there.
-#[tactic(auto, using(crate::proofs::Main::source_is_followed, crate::proofs::Keeping::stays_kept, crate::proofs::Leading::source_back, crate::proofs::Quiet::define_quiet, crate::proofs::Words::words_come_back, crate::proofs::Alone::alone, crate::proofs::Listing::ends_at, crate::proofs::Inner::inner_all, crate::proofs::Compiling::control_adds, crate::proofs::Standing::stands_on, crate::proofs::Elements::first_left, crate::proofs::Compiled::all_compiled, crate::proofs::Opening::semicolon_at, crate::proofs::Defined::definitions_are_read))]
+/// source does, in the same state. These are premises: what is kept at the source stays so in each step; what a word
+/// of the source started comes back to it; the tokens of a definition are read up to its end; no `leave` goes past a
+/// loop that isn't there.
+#[tactic(auto, using(crate::proofs::Main::source_is_followed))]
 pub fn source_is_followed()
     ensures { SourceIsFollowed Definitions IsKept }
 {
     throws_settle();
     tokens_are_typed();
     nests_end_at_their_places();
+}
+
+/// What a word of a source started comes back to the source, behind the word's token, and the tokens of a definition
+/// are read up to its end, where its word gets the body of its nest: so two of these premises hold of each source over
+/// structured definitions.
+#[tactic(auto, using(crate::proofs::Whole::words_are_followed))]
+pub fn words_are_followed()
+    ensures { WordsAreFollowed }
+{
+    tokens_are_typed();
+    throws_settle();
+    stack_leads_back();
+    states_stay_placed();
+    space_stays_sound();
+    images_are_readings();
+    images_run();
+    nests_end_at_their_places();
+    body_of_nest();
+}
+
+/// The image of an accepted source does what the source means, and only that, from where it begins on. These are
+/// premises: no word of the source is `offset16`; no `leave` goes past a loop that isn't there.
+#[tactic(auto, using(crate::proofs::Whole::sources_behave))]
+pub fn sources_behave()
+    ensures { SourcesBehave }
+{
+    tokens_are_typed();
+    throws_settle();
+    stack_leads_back();
+    states_stay_placed();
+    space_stays_sound();
+    images_are_readings();
+    images_run();
+    nests_end_at_their_places();
+    image_has_tokens();
+    header_is_the_sum();
+    parsed_is_nested();
+    accepted_is_plain();
+    items_give_nest();
+    words_are_followed();
 }
