@@ -2,10 +2,10 @@
 use crate::element::Element;
 use crate::item::{Action, Items};
 use of_cells::Cell;
-use of_code::{CodeStore, Item, ListCode, Place};
+use of_code::{CodeStore, Item, Place};
 use of_compile::{Coding, Element as Compiled, PlainItem};
 use of_stacks::Throw;
-use std::alloc::{AllocError, Global};
+use std::alloc::AllocError;
 
 /// A written word, which takes one cell.
 const WORD: PlainItem = PlainItem::Operation(Cell(0xc000_0080));
@@ -34,7 +34,10 @@ fn element_of(element: Element) -> Compiled {
 }
 
 /// Compiles the elements of a list; false where one is refused.
-pub fn compile_all(coding: &mut Coding<ListCode>, list: &[Element]) -> Result<bool, AllocError> {
+pub fn compile_all<C: CodeStore>(
+    coding: &mut Coding<C>,
+    list: &[Element],
+) -> Result<bool, AllocError> {
     for element in list {
         let element = element_of(*element);
         coding.reserve(1)?;
@@ -46,14 +49,15 @@ pub fn compile_all(coding: &mut Coding<ListCode>, list: &[Element]) -> Result<bo
 }
 
 /// Whether the list comes to these items laid out one after another, and can be finished exactly where all is closed:
-/// else it is refused with -22 and stays, and leaves nothing once it is given up. Answers the code, too.
-pub fn coded(
-    alloc: Global,
+/// else it is refused with -22 and stays, and leaves nothing once it is given up. Answers the code, too, which is made
+/// in a store that holds nothing yet.
+pub fn coded<C: CodeStore + Drop>(
+    store: C,
     list: &[Element],
     items: &Items,
     is_closed: bool,
-) -> Result<(Coding<ListCode>, bool), AllocError> {
-    let mut coding = Coding::new(ListCode::new(alloc));
+) -> Result<(Coding<C>, bool), AllocError> {
+    let mut coding = Coding::new(store);
     let is_compiled = compile_all(&mut coding, list)? && is_laid(coding.code(), items);
     coding.reserve(1)?;
     let is_ended = match coding.semicolon(NAME) {
@@ -106,13 +110,13 @@ pub fn action_of(item: Item) -> Option<Action> {
 
 /// Whether the code holds just these items, one after another, each with the place of the item that it goes to; 0
 /// where that isn't known.
-fn is_laid(code: &ListCode, items: &Items) -> bool {
+fn is_laid<C: CodeStore>(code: &C, items: &Items) -> bool {
     (0..items.len()).all(|number| holds(code, items, number))
         && code.end() == place(items, items.len())
 }
 
 /// Whether the code holds item `number` at its place.
-fn holds(code: &ListCode, items: &Items, number: usize) -> bool {
+fn holds<C: CodeStore>(code: &C, items: &Items, number: usize) -> bool {
     let Some(found) = code.item_at(place(items, number)) else {
         return false;
     };
@@ -128,7 +132,7 @@ fn holds(code: &ListCode, items: &Items, number: usize) -> bool {
 }
 
 /// Whether a return stands behind these items, and the word begins at the first.
-fn is_finished(code: &ListCode, items: &Items) -> bool {
+fn is_finished<C: CodeStore>(code: &C, items: &Items) -> bool {
     (0..items.len()).all(|number| holds(code, items, number))
         && code.item_at(place(items, items.len())) == Some(Item::Return)
         && code.start_of(NAME) == Some(Place { cell: 0 })

@@ -1,7 +1,7 @@
 //! Tries all short lists of elements, each as far as its beginning has a matching: a plain search for matchings and for
 //! tight bodies, against the calls of `Control` and what is compiled from their answers; a plain layout of the items,
 //! against the code that the compiler of definitions makes; and runs by the structure of the body, against runs by the
-//! cells of the code.
+//! cells of the code. What is closed is made in a store of bytes, too.
 #![tactic(auto)]
 
 mod body;

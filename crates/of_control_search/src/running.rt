@@ -3,18 +3,18 @@ use crate::body::Kind;
 use crate::code::place;
 use crate::item::{Action, Items};
 use crate::text::Text;
-use of_code::{CodeStore, Item, ListCode, Place};
+use of_code::{CodeStore, Item, Place};
 
 /// So many steps of each run are compared.
 const STEPS: u32 = 6;
 
 /// Whether both go on alike, whatever is decided at each step.
-pub fn runs_alike(code: &ListCode, text: &Text, items: &Items) -> bool {
+pub fn runs_alike<C: CodeStore>(code: &C, text: &Text, items: &Items) -> bool {
     (0..1 << STEPS).all(|decisions| run(code, text, items, decisions))
 }
 
 /// One run: a bit of `decisions` for each step says whether a test is met there.
-fn run(code: &ListCode, text: &Text, items: &Items, decisions: u32) -> bool {
+fn run<C: CodeStore>(code: &C, text: &Text, items: &Items, decisions: u32) -> bool {
     let mut at = text.next_item(0);
     let mut cell = Place { cell: 0 };
     for step in 0..STEPS {
@@ -38,7 +38,7 @@ fn run(code: &ListCode, text: &Text, items: &Items, decisions: u32) -> bool {
 }
 
 /// Where the code goes on.
-fn by_cells(code: &ListCode, cell: Place, is_met: bool) -> Option<Place> {
+fn by_cells<C: CodeStore>(code: &C, cell: Place, is_met: bool) -> Option<Place> {
     let (item, next) = code.item_and_next(cell)?;
     let goes = match item {
         Item::BranchIfZero(to) | Item::QuestionDo(to) | Item::Loop(to) | Item::Of(to) if is_met => {

@@ -3,9 +3,12 @@ use crate::body::bodies;
 use crate::calls::{Answered, called, compiled};
 use crate::code::coded;
 use crate::element::{Element, LENGTH};
+use crate::item::Items;
 use crate::matching::{Partners, matchings, open_at};
 use crate::running::runs_alike;
 use crate::text::Text;
+use of_cell_code::CellCode;
+use of_code::ListCode;
 use of_control::Control;
 use std::alloc::{AllocError, Global};
 use std::fmt;
@@ -55,11 +58,12 @@ impl Tally {
             (0, Text::default())
         };
         let has_body = count_of_bodies == 1;
-        let (coding, is_coded) = coded(alloc, list, &items, is_closed)?;
+        let (coding, is_coded) = coded(ListCode::new(alloc), list, &items, is_closed)?;
         let agrees = found.len() < 2
             && has_body == is_closed
             && is_coded
             && (!is_closed || runs_alike(coding.code(), &text, &items))
+            && (!is_closed || is_same_in_bytes(alloc, list, &items, &text)?)
             && is_answered(list, matching, &called(&mut wide, list))
             && is_answered(list, bounded, &called(&mut narrow, list));
         count(&mut self.lists, true);
@@ -71,6 +75,17 @@ impl Tally {
         count(&mut self.differing, !agrees);
         Ok(matching.is_some())
     }
+}
+
+/// Whether a closed list comes to the same code in a store of bytes.
+fn is_same_in_bytes(
+    alloc: Global,
+    list: &[Element],
+    items: &Items,
+    text: &Text,
+) -> Result<bool, AllocError> {
+    let (coding, is_coded) = coded(CellCode::new(alloc)?, list, items, true)?;
+    Ok(is_coded && runs_alike(coding.code(), text, items))
 }
 
 fn count(counter: &mut u64, is_one: bool) {
