@@ -23,4 +23,5 @@ pub mod Elements
 pub mod Compiled
 pub mod Opening
 pub mod Defined
+pub mod Loops
 pub mod Whole

@@ -51,6 +51,7 @@ use Rattle.of_means.specs.Accepted.{AreSteady, IsIdle, SourcesBehave, WordsAreFo
 use Rattle.of_means.proofs.Keeping.{stays_kept}
 use Rattle.of_means.proofs.Leading.{source_back}
 use Rattle.of_means.proofs.Words.{words_come_back}
+use Rattle.of_means.proofs.Loops.{never_left}
 use Rattle.of_means.proofs.Defined.{definitions_are_read}
 use Rattle.of_means.proofs.Main.{source_is_followed}
 
@@ -216,6 +217,7 @@ sources_behave typing settles back placing sounding reading runs ends tokens sum
   first = idle_first back placing sounding reading runs;
   begins = begins back placing sounding reading runs;
   at_first = at_first back placing sounding reading runs sums;
+  without_leave = λ x z m none. never_left structured_calls nest_calls x z m none;
   behaves = λ text image source m accepted encodable made stand steady never.
       let nest = (nested text source accepted).0 in
       let whole = whole_words give source.items nest (plain text source accepted) steady in

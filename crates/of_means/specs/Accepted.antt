@@ -2,13 +2,14 @@
 use Rattle.std.specs.Prelude.{◌≡◌, ℕ, false, List, [], ◌∷◌, None, Ok}
 use Rattle.of_asking.specs.declared.query.Answer.{Answer}
 use Rattle.of_stacks.specs.declared.return_item.Input.TheVariants as input
+use Rattle.of_stream.specs.declared.stream.OffsetSize.{OffsetSize}
 use Rattle.of_memory.specs.SoundChanges.{AreBytes}
 use Rattle.of_nodes.specs.declared.phandles.Phandle.{Phandle}
 use Rattle.of_compile.specs.Structured.{Definitions}
 use Rattle.of_source.specs.Encodable.{AreEncodable}
 use Rattle.of_source.specs.Items.{Item, Source, Plain, Colon, Defining, Semicolon, If, Else, Then, Begin, Back, Do}
 use Rattle.of_source.specs.Items.{Loop, Leave, Case, Of, EndOf, EndCase}
-use Rattle.of_source.specs.Nest.{nest_of}
+use Rattle.of_source.specs.Nest.{Nest, nest_of}
 use Rattle.of_source.specs.Parsing.{parsed}
 use Rattle.of_tok.specs.Image.{tokenized}
 use Rattle.of_tok.specs.Places.{first_place}
@@ -22,7 +23,7 @@ use Rattle.of_means.specs.Moments.{Moment}
 use Rattle.of_means.specs.Means.{at}
 use Rattle.of_means.specs.Nested.{nest_calls}
 use Rattle.of_means.specs.Correct.{Behaves}
-use Rattle.of_means.specs.Sources.{IsSteady}
+use Rattle.of_means.specs.Sources.{HasNoLeave, IsSteady}
 use Rattle.of_means.specs.Kept.{IsKept}
 use Rattle.of_means.specs.Laws.{DefinitionsAreRead, IsAt, NeverLeft, WordsComeBack}
 
@@ -77,6 +78,10 @@ pub record SourcesBehave : Type 0 where
       (source : Source) (image : List ℕ) (node : Phandle) (answers : List Answer) (s : State Definitions) →
       tokenized source ≡ Ok image → load_fault image node s ≡ None →
       at (first_place source.size) (begun_at image node answers s) ≡ begun_at image node answers s
+  -- no source goes past a loop that isn't there by a `leave` that it hasn't
+  pub without_leave :
+      (x : Nest) (z : OffsetSize) (m : Moment Definitions) → HasNoLeave x →
+      NeverLeft structured_calls nest_calls x z m
   -- from wherever its first token is next
   pub behaves :
       (text image : List ℕ) (source : Source) (m : Moment Definitions) → parsed text ≡ Ok source →

@@ -43,6 +43,21 @@ HasWords (Leave r) = HasWords r
 HasWords (Case i r) = HasWords i × HasWords r
 HasWords (Of k i y r) = HasWords i × HasWords r
 
+-- no word of control is `leave`, but for those in definitions
+abbrev pub HasNoLeave : Nest → Type 0
+HasNoLeave Stop = Unit {0}
+HasNoLeave (Plain t r) = HasNoLeave r
+HasNoLeave (Definition m i r) = HasNoLeave r
+HasNoLeave (Defining m t r) = HasNoLeave r
+HasNoLeave (If l r) = HasNoLeave r
+HasNoLeave (Else l r) = HasNoLeave r
+HasNoLeave (Then r) = HasNoLeave r
+HasNoLeave (Begin i z l r) = HasNoLeave i × HasNoLeave r
+HasNoLeave (Do v k i l y r) = HasNoLeave i × HasNoLeave r
+HasNoLeave (Leave r) = ⊥
+HasNoLeave (Case i r) = HasNoLeave i × HasNoLeave r
+HasNoLeave (Of k i y r) = HasNoLeave i × HasNoLeave r
+
 -- ---- control at the source
 
 module _ (image : List ℕ) where
