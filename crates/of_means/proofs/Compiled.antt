@@ -1,6 +1,12 @@
 -- The tokens of a definition are compiled one after another.
 use Rattle.std.proofs.Common.{◌≡◌, inl, inr, ℕ, Bool, true, false, List, [], ◌∷◌, ◌++◌}
 use Rattle.std.proofs.Common.{Some, refl, sym, ap, ◌∙◌, is_some}
+use Rattle.of_fcodes.specs.declared.words.StreamWord.TheVariants as stream
+use Rattle.of_fcodes.specs.declared.words.Word.TheVariants as word
+use Rattle.of_fcodes.specs.Lookup.{word_numbered}
+use Rattle.of_meaning.specs.Pairs.{offset16_code}
+use Rattle.std.proofs.Common.{nat_eq, eqb-true, None, Ok}
+use Rattle.std.proofs.lemmas.Bool.{eq-eqb}
 use Rattle.of_stream.specs.Decoding.{Token, token_from}
 use Rattle.of_control.specs.Element.{Element}
 use Rattle.of_compile.specs.declared.element.PlainItem.{PlainItem}
@@ -31,11 +37,12 @@ use Rattle.of_means.proofs.Steps.{Comes, one_step, plain_step, stays, then_comes
 use Rattle.of_means.proofs.Runs.{token_found}
 use Rattle.of_means.proofs.Inner.{AreInner, IsInner}
 use Rattle.of_means.proofs.Listing.{all_behind}
-use Rattle.of_means.proofs.Elements.{control_left, first_left, plain_left, with_first}
-use Rattle.of_means.proofs.Compiling.{Adds, IsItem, control_adds, plain_adds}
+use Rattle.of_means.proofs.Elements.{control_left, first_left, plain_left, wide_bare, wide_left, with_first}
+use Rattle.of_means.proofs.Compiling.{Adds, IsItem, control_adds, plain_adds, wide_keeps}
 use Rattle.of_means.proofs.Standing.{StaysBehind, stands_on}
 
-module _ (typing : TokensAreTyped) (settles : ThrowsSettle Definitions) (placing : StatesStayPlaced)
+module _ (typing : TokensAreTyped) (wider : word_numbered offset16_code ≡ Some (word.Stream stream.Offset16))
+    (settles : ThrowsSettle Definitions) (placing : StatesStayPlaced)
     (sounding : SpaceStaysSound Definitions) (reading : ImagesAreReadings Definitions) (runs : ImagesRun Definitions)
     (image : List ℕ) where
   abbrev c : Calls Definitions
@@ -72,14 +79,15 @@ module _ (typing : TokensAreTyped) (settles : ThrowsSettle Definitions) (placing
     defines = ap is_some a.1 ∙ h.defines;
   }
 
-  one_left : (P : Element PlainItem → Type 0) (t : Token) (p : Place) (m : Moment Definitions) → Open m
+  one_left : (t : Token) (p : Place) (m : Moment Definitions) → Open m
       → token_from image p.position p.size ≡ Some (t, (behind t p).position)
-      → Adds P (at_place (behind t p) m.state) (token_at c t p (behind t p) m.state)
-      → ((e : Element PlainItem) → P e
-      → (x : PlainItem) × (e ∷ elements_of m
+      → let o = token_at c t p (behind t p) m.state in
+      StaysBehind (behind t p) m.state true o.state → o.asks ≡ None
+      → (o.ended ≡ Ok tt
+      → (x : PlainItem) × (o.state.code.elements
       ≡ left_behind (control_element t p.position) (λ t q. x) t p (elements_of m)))
-      → One t p m (left_by c (token_at c t p (behind t p) m.state) m)
-  one_left P t p m h found a back = by_running v.state.flow.is_running refl
+      → One t p m (left_by c o m)
+  one_left t p m h found stays asks more = by_running v.state.flow.is_running refl
     where
       q : Place
       q = behind t p
@@ -92,36 +100,72 @@ module _ (typing : TokensAreTyped) (settles : ThrowsSettle Definitions) (placing
 
       step : made c (at p m) ≡ Some v
       step =
-          token_found c image (IsKept image) true p q t m h found refl
-          ∙ plain_step c (token_at c t p q) m o refl a.2
+          token_found c image (IsKept image) true p q t m h found refl ∙ plain_step c (token_at c t p q) m o refl asks
 
       by_running : (b : Bool) → v.state.flow.is_running ≡ b → One t p m (unless_thrown b v)
       by_running false r = (r, one_step c (at p m) v step)
       by_running true r =
-          let k = stands_on settles placing sounding reading runs image true true p q m v o h step refl
-          (adds_behind P q m.state o h a) r in
-          let e = a.3 k.0 in
-          let l = back e.0 e.1 in (
+          let k = stands_on settles placing sounding reading runs image true true p q m v o h step refl stays r in
+          let l = more k.0 in (
             k.2,
             one_step c (at p m) (at q v) (step ∙ ap (λ (y : Moment Definitions). Some y) (sym k.3)),
-            (l.0, ap (λ (y : State Definitions). y.code.elements) k.1 ∙ e.2 ∙ l.1),
+            (l.0, ap (λ (y : State Definitions). y.code.elements) k.1 ∙ l.1),
           )
 
+  one_added : (P : Element PlainItem → Type 0) (t : Token) (p : Place) (m : Moment Definitions) → Open m
+      → token_from image p.position p.size ≡ Some (t, (behind t p).position)
+      → Adds P (at_place (behind t p) m.state) (token_at c t p (behind t p) m.state)
+      → ((e : Element PlainItem) → P e
+      → (x : PlainItem) × (e ∷ elements_of m
+      ≡ left_behind (control_element t p.position) (λ t q. x) t p (elements_of m)))
+      → One t p m (left_by c (token_at c t p (behind t p) m.state) m)
+  one_added P t p m h found a back =
+      one_left t p m h found (adds_behind P (behind t p) m.state _ h a) a.2
+      (λ ok. let e = a.3 ok in let l = back e.0 e.1 in (l.0, e.2 ∙ l.1))
+
   one_token : (t : Token) (p : Place) (m : Moment Definitions) (b : Bool)
-      → is_executed (typed_of t) m.state.words.table ≡ b
-      → Open m → IsInner t → token_from image p.position p.size ≡ Some (t, (behind t p).position)
-      → One t p m (token_compiled c b t p m)
+      → is_executed (typed_of t) m.state.words.table ≡ b → Open m → IsInner t
+      → token_from image p.position p.size ≡ Some (t, (behind t p).position) → One t p m (token_compiled c b t p m)
   one_token t p m true i h inner found = tt
-  one_token t p m false i h (steady, inl is) found =
-      one_left IsItem t p m h found
-      (plain_adds image (IsKept image) typing t.argument t.code p (behind t p) m.state h is steady i)
-      (λ e k. (
-        k.0,
-        ap (λ (y : Element PlainItem). y ∷ elements_of m) k.1
-            ∙ sym (plain_left (λ u q. k.0) t p (elements_of m) is steady),
-      ))
-  one_token t p m false i h (steady, inr k) found =
-      one_left (λ e. e ≡ k.left p.position) t p m h found
+  one_token t p m false i h (inl is) found = by_size (nat_eq t.code.0 0x0cc) refl
+    where
+      no : false ≡ true → ⊥
+      no e = cc
+
+      item : PlainItem
+      item = plain.Literal (record { 0 = 0 })
+
+      by_size : (b : Bool) → nat_eq t.code.0 0x0cc ≡ b → One t p m (left_by c (token_at c t p (behind t p) m.state) m)
+      by_size false e =
+          let steady = λ (f : t.code.0 ≡ 0x0cc). no (sym e ∙ eq-eqb t.code.0 0x0cc f) in
+          one_added IsItem t p m h found
+          (plain_adds image (IsKept image) typing t.argument t.code p (behind t p) m.state h is steady i)
+          (λ x k. (
+            k.0,
+            ap (λ (y : Element PlainItem). y ∷ elements_of m) k.1
+                ∙ sym (plain_left (λ u q. k.0) t p (elements_of m) is steady),
+          ))
+      by_size true e =
+          let k = eqb-true t.code.0 0x0cc e in
+          let none = wide_bare t is k in
+          let a = wide_keeps image (IsKept image) typing t p (behind t p) m.state h k none in
+          one_left t p m h found
+          (record {
+            items = ap (λ (f : Flow). f.items) a.0;
+            reading = ap (λ (f : Flow). f.reading) a.0;
+            next = ap (λ (f : Flow). f.next) a.0;
+            running = ap (λ (f : Flow). f.is_running) a.0;
+            compiles = ap (λ (f : Flow). f.is_compiling) a.0 ∙ h.compiles;
+            defines = ap is_some a.1 ∙ h.defines;
+          })
+          a.2
+          (λ ok. (
+            item,
+            ap (λ (y : Definitions). y.elements) a.3
+                ∙ sym (wide_left (λ u q. item) t p (elements_of m) wider k none).1,
+          ))
+  one_token t p m false i h (inr k) found =
+      one_added (λ e. e ≡ k.left p.position) t p m h found
       (control_adds image (IsKept image) typing t k p (behind t p) m.state h)
       (λ e f.
       let none : PlainItem = plain.Literal (record { 0 = 0 }) in (

@@ -224,3 +224,21 @@ module _ (image : List ℕ) (Keeps : State Definitions → Type 0) (typing : Tok
       adds_as (λ e. e ≡ k.left p.position) t k.word p q s k.kind h
       (subst (λ (a : Act). Adds (λ e. e ≡ k.left p.position) u (acted c a u)) (sym (k.does here (front_of u)))
       (appends (λ e. e ≡ k.left p.position) (k.left p.position) s.board.stack u refl))
+
+  -- `offset16`
+  pub wide_keeps : (t : Token) (p q : Place) (s : State Definitions) → AtSource image Keeps true s → t.code.0 ≡ 0x0cc
+      → t.argument ≡ Nothing
+      → let o = token_at c t p q s in
+      (o.state.flow ≡ (at_place q s).flow) × (o.state.words.defining ≡ s.words.defining) × (o.asks ≡ None)
+      × (o.state.code ≡ s.code)
+  unfolding compiling_act token_act acted worked
+  wide_keeps t p q s h e a =
+      let kind : typed_of t ≡ Plain token.Offset16 =
+      ap (λ (x : Argument). typed_of (record { code = t.code; argument = x })) a
+      ∙ code_is Nothing token.Offset16 t.code.0 0x0cc e typing.offset16 in
+      let same = compiled_at t token.Offset16 p q s kind h in (
+        ap (λ (o : Outcome Definitions). o.state.flow) same,
+        ap (λ (o : Outcome Definitions). o.state.words.defining) same,
+        ap (λ (o : Outcome Definitions). o.asks) same,
+        ap (λ (o : Outcome Definitions). o.state.code) same,
+      )

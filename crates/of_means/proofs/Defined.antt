@@ -2,7 +2,7 @@
 use Rattle.std.proofs.Common.{◌≡◌, ℕ, Bool, true, false, List, [], ◌∷◌, ◌++◌, Some, None, refl, sym, ap, ◌∙◌}
 use Rattle.std.proofs.Common.{subst}
 use Rattle.of_stream.specs.Bytes.{token_bytes}
-use Rattle.of_stream.specs.Decoding.{token_from}
+use Rattle.of_stream.specs.Decoding.{Argument, Nothing, Token, token_from}
 use Rattle.of_control.specs.Element.{Element}
 use Rattle.of_control.specs.Reading.{body_in}
 use Rattle.of_compile.specs.declared.element.PlainItem.{PlainItem}
@@ -23,9 +23,16 @@ use Rattle.of_eval_laws.specs.Sound.{SpaceStaysSound}
 use Rattle.of_eval_laws.specs.Structured.{structured_calls}
 use Rattle.of_eval_laws.specs.Throws.{ThrowsSettle}
 use Rattle.of_eval_laws.specs.Tokens.{TokensAreTyped}
-use Rattle.of_meaning.specs.Elements.{ArePlain, elements_left}
+use Rattle.of_meaning.specs.Elements.{ArePlain, control_element, element_by, elements_left}
+use Rattle.of_fcodes.specs.declared.words.StreamWord.TheVariants as stream
+use Rattle.of_fcodes.specs.declared.words.Word.{Word}
+use Rattle.of_fcodes.specs.declared.words.Word.TheVariants as word
+use Rattle.of_fcodes.specs.Lookup.{word_numbered}
+use Rattle.of_source.specs.Plain.{IsPlain}
+use Rattle.std.proofs.lemmas.Bool.{eq-eqb}
+use Rattle.std.proofs.Common.{nat_eq, eqb-true, Option, Some, None}
 use Rattle.of_meaning.specs.Laws.{BodyOfNest, in_definition}
-use Rattle.of_meaning.specs.Pairs.{nest_body}
+use Rattle.of_meaning.specs.Pairs.{nest_body, offset16_code}
 use Rattle.of_means.specs.Moments.{Moment, made, with_state}
 use Rattle.of_means.specs.Courses.{Course, On, Off, Out, Left, Thrown, Waits, Cut, Beyond, through}
 use Rattle.of_means.specs.Means.{at, at_place, compiled, defined, left_by, token_at, unless_thrown}
@@ -39,25 +46,38 @@ use Rattle.of_means.proofs.Alone.{alone}
 use Rattle.of_means.proofs.Listing.{all_behind, before, ends_at}
 use Rattle.of_means.proofs.Leading.{none_open}
 use Rattle.of_means.proofs.Inner.{inner_all}
-use Rattle.of_means.proofs.Elements.{plain_none}
+use Rattle.of_means.proofs.Elements.{plain_none, wide_bare}
 use Rattle.of_means.proofs.Standing.{StaysBehind, stands_on}
 use Rattle.of_means.proofs.Compiled.{Compiles, all_compiled}
 use Rattle.of_means.proofs.Opening.{colon_turns, same_end, semicolon_at, semicolon_turns}
 
 -- the plain words of a nest are plain there, too
-words_plain : (x : Nest) → HasWords x → ArePlain x
-words_plain Stop h = tt
-words_plain (Plain t r) h = ((λ n. plain_none t n h.0 h.1), words_plain r h.2)
-words_plain (Definition m i r) h = (words_plain i h.0, words_plain r h.1)
-words_plain (Defining m t r) h = words_plain r h.1
-words_plain (If l r) h = words_plain r h
-words_plain (Else l r) h = words_plain r h
-words_plain (Then r) h = words_plain r h
-words_plain (Begin i z l r) h = (words_plain i h.0, words_plain r h.1)
-words_plain (Do v k i l m r) h = (words_plain i h.0, words_plain r h.1)
-words_plain (Leave r) h = words_plain r h
-words_plain (Case i r) h = (words_plain i h.0, words_plain r h.1)
-words_plain (Of k i m r) h = (words_plain i h.0, words_plain r h.1)
+word_none : word_numbered offset16_code ≡ Some (word.Stream stream.Offset16) → (t : Token) (position : ℕ) → IsPlain t
+    → (b : Bool) → nat_eq t.code.0 0x0cc ≡ b → control_element t position ≡ None
+word_none wider t position h true e =
+    let k = eqb-true t.code.0 0x0cc e in
+    ap (λ (x : Argument). element_by x (word_numbered t.code.0) position) (wide_bare t h k)
+    ∙ ap (λ (n : ℕ). element_by Nothing (word_numbered n) position) k
+    ∙ ap (λ (w : Option Word). element_by Nothing w position) wider
+word_none wider t position h false e = plain_none t position h (λ f. no (sym e ∙ eq-eqb t.code.0 0x0cc f))
+  where
+    no : false ≡ true → ⊥
+    no g = cc
+
+words_plain : word_numbered offset16_code ≡ Some (word.Stream stream.Offset16) → (x : Nest) → HasWords x → ArePlain x
+words_plain wider Stop h = tt
+words_plain wider (Plain t r) h =
+    ((λ n. word_none wider t n h.0 (nat_eq t.code.0 0x0cc) refl), words_plain wider r h.1)
+words_plain wider (Definition m i r) h = (words_plain wider i h.0, words_plain wider r h.1)
+words_plain wider (Defining m t r) h = words_plain wider r h.1
+words_plain wider (If l r) h = words_plain wider r h
+words_plain wider (Else l r) h = words_plain wider r h
+words_plain wider (Then r) h = words_plain wider r h
+words_plain wider (Begin i z l r) h = (words_plain wider i h.0, words_plain wider r h.1)
+words_plain wider (Do v k i l m r) h = (words_plain wider i h.0, words_plain wider r h.1)
+words_plain wider (Leave r) h = words_plain wider r h
+words_plain wider (Case i r) h = (words_plain wider i h.0, words_plain wider r h.1)
+words_plain wider (Of k i m r) h = (words_plain wider i h.0, words_plain wider r h.1)
 
 module _ (typing : TokensAreTyped) (settles : ThrowsSettle Definitions) (placing : StatesStayPlaced)
     (sounding : SpaceStaysSound Definitions) (reading : ImagesAreReadings Definitions) (runs : ImagesRun Definitions)
@@ -99,7 +119,7 @@ module _ (typing : TokensAreTyped) (settles : ThrowsSettle Definitions) (placing
   then_read x y q (Cut t) l r = r
 
   abbrev Compiled : List Written → Place → Moment Definitions → Course Definitions → Type 0
-  Compiled ws p m f = Compiles typing settles placing sounding reading runs image ws p m f
+  Compiled ws p m f = Compiles typing bodies.wider settles placing sounding reading runs image ws p m f
 
   through_read : (ws : List Written) (b q : Place) (v : Moment Definitions) (f : Course Definitions)
       (g : Moment Definitions → Course Definitions) → Compiled ws b v f
@@ -203,14 +223,14 @@ module _ (typing : TokensAreTyped) (settles : ThrowsSettle Definitions) (placing
       (opens p b q m _ h has.1 refl
       (λ v opened none.
       through_read vs b q v (compiled c vs b v) _
-      (all_compiled typing settles placing sounding reading runs image vs more b v inner stand opened)
+      (all_compiled typing bodies.wider settles placing sounding reading runs image vs more b v inner stand opened)
       (λ u r.
       let es = elements_left r.2.0 vs b [] in
       let left : u.state.code.elements ≡ es =
       r.2.1 ∙ ap (λ (y : List (Element PlainItem)). elements_left r.2.0 vs b y) none in
       let body : body_in 32 u.state.code.elements ≡ nest_body i u.state.code.elements =
       subst (λ (y : List (Element PlainItem)). body_in 32 y ≡ nest_body i y) (sym left)
-      (bodies.inside i d fits closed (words_plain i words) r.2.0 b [] 0) in
+      (bodies.inside i d fits closed (words_plain bodies.wider i words) r.2.0 b [] 0) in
       subst (λ (y : Place). ReadFrom (at y u) q
       (left_by c (semicolon_entry (nest_calls i) u.state.words.defining (at_place q u.state)) u))
       (sym last) (closes i e q u r.0 end.1 refl body))))

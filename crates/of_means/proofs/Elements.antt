@@ -1,9 +1,11 @@
 -- The elements that tokens leave, where each plain token leaves an item of its own.
 use Rattle.std.proofs.Common.{◌≡◌, ℕ, ◌<◌, ◌≤◌, ◌||◌, Bool, true, false, not, nat_eq, nat_le, nat_lt}
-use Rattle.std.proofs.Common.{List, [], ◌∷◌, ◌++◌, length, Option, Some, None, refl, ap, ◌∙◌, arith, eqb-true}
+use Rattle.std.proofs.Common.{List, [], ◌∷◌, ◌++◌, length, Option, Some, None, refl, ap, ◌∙◌, arith, eqb-true, inl}
+use Rattle.std.proofs.Common.{inr}
 use Rattle.std.proofs.Common.{if◌then◌else◌}
 use Rattle.std.specs.Prelude.{◌==◌, ◌/◌, ◌%◌}
 use Rattle.std.proofs.lemmas.Bool.{eq-eqb, leb-true, ne_eqb}
+use Rattle.of_fcodes.specs.declared.words.StreamWord.TheVariants as stream
 use Rattle.of_fcodes.specs.declared.words.Word.{Word}
 use Rattle.of_fcodes.specs.declared.words.Word.TheVariants as word
 use Rattle.of_fcodes.specs.Lookup.{word_numbered}
@@ -18,7 +20,7 @@ use Rattle.of_tok.specs.declared.place.Place.{Place}
 use Rattle.of_tok.specs.Places.{behind}
 use Rattle.of_tok.specs.Tokens.{Written, token_of}
 use Rattle.of_meaning.specs.Elements.{control_element, element_by, elements_left, left_behind}
-use Rattle.of_meaning.specs.Pairs.{leaves_one}
+use Rattle.of_meaning.specs.Pairs.{leaves_one, offset16_code}
 use Rattle.of_means.specs.Sources.{IsSteady}
 use Rattle.of_means.proofs.Started.{own_is_none}
 
@@ -78,6 +80,33 @@ pub control_left : (f : Token → Place → PlainItem) (t : Token) (p : Place) (
     (es : List (Element PlainItem)) → control_element t p.position ≡ Some e
     → left_behind (control_element t p.position) f t p es ≡ e ∷ es
 control_left f t p e es h = ap (λ (o : Option (Element PlainItem)). left_behind o f t p es) h
+
+-- `offset16` leaves none
+pub wide_left : (f : Token → Place → PlainItem) (t : Token) (p : Place) (es : List (Element PlainItem))
+    → word_numbered offset16_code ≡ Some (word.Stream stream.Offset16) → t.code.0 ≡ 0x0cc → t.argument ≡ Nothing
+    → (control_element t p.position ≡ None) × (left_behind (control_element t p.position) f t p es ≡ es)
+wide_left f t p es wider e a =
+    let none : control_element t p.position ≡ None =
+    ap (λ (x : Argument). element_by x (word_numbered t.code.0) p.position) a
+    ∙ ap (λ (n : ℕ). element_by Nothing (word_numbered n) p.position) e
+    ∙ ap (λ (w : Option Word). element_by Nothing w p.position) wider in (
+      none,
+      ap (λ (o : Option (Element PlainItem)). left_behind o f t p es) none
+          ∙ ap (λ (n : ℕ). if not (nat_eq n offset16_code) then element.Plain (f t p) ∷ es else es) e,
+    )
+
+-- it has nothing behind it
+pub wide_bare : (t : Token) → IsPlain t → t.code.0 ≡ 0x0cc → t.argument ≡ Nothing
+wide_bare t h e = bare_with t.argument t.code.0 h e
+  where
+    bare_with : (a : Argument) (k : ℕ) → IsPlainWith a k → k ≡ 0x0cc → a ≡ Nothing
+    bare_with Nothing k i f = refl
+    bare_with (Literal x) k i f = absurd (omega (arith, i, f))
+    bare_with (String s) k i f = absurd (omega (arith, i, f))
+    bare_with (Code c) k (inl i) f = absurd (omega (arith, i, f))
+    bare_with (Code c) k (inr i) f = absurd (omega (arith, i, f))
+    bare_with (Named s c) k i f = absurd i
+    bare_with (Offset by) k i f = absurd i
 
 -- ---- items by places
 

@@ -195,6 +195,19 @@ module _ {S : Type 0} (c : Calls S) (own : Nest → Calls S) (image : List ℕ) 
     came_behind n s0 q d aims cases out (Cut t) zq r h = (r.0, t, r.1, r.2, refl, refl)
     came_behind n s0 q d aims cases out Beyond zq r h = absurd r
 
+    -- a word that comes back, from its own place
+    pub word_behind : (n : ℕ) (t : Token) (p : Place) (m : Moment S) (d : ℕ) (aims : List ℕ) (cases : Bool) (out : ℕ)
+        → (behind t p).size ≡ z → Stands m → token_from image p.position p.size ≡ Some (t, (behind t p).position)
+        → ((u : Moment S) → word c n t p m ≡ On u → Stands u × (at (behind t p) u ≡ u))
+        → Reached n (at p m) (behind t p).position d aims cases out (word c n t p m)
+    word_behind n t p m d aims cases out zq h found back =
+        let q = behind t p in
+        let step : made c (at p m) ≡ step_by c (token_at c t p q) m =
+        token_found c image Keeps false p q t m h found refl in
+        let r = stepped_on n (at p m) (step_by c (token_at c t p q) m) (λ u. comes_back c n u) h.running step
+        (λ u. returned n u) in
+        came_behind n (at p m) q d aims cases out (word c n t p m) zq (sooner n (at p m) (word c n t p m) r) back
+
     -- a word that comes back
     pub word_reached : (n : ℕ) (t : Token) (p : Place) (m : Moment S) (d : ℕ) (aims : List ℕ) (cases : Bool) (out : ℕ)
         → p.size ≡ z → (behind t p).size ≡ z → Stands m
@@ -202,13 +215,8 @@ module _ {S : Type 0} (c : Calls S) (own : Nest → Calls S) (image : List ℕ) 
         → ((u : Moment S) → word c n t p m ≡ On u → Stands u × (at (behind t p) u ≡ u))
         → Reached n (here p.position m) (behind t p).position d aims cases out (word c n t p m)
     word_reached n t p m d aims cases out e zq h found back =
-        let q = behind t p in
-        let step : made c (at p m) ≡ step_by c (token_at c t p q) m =
-        token_found c image Keeps false p q t m h found refl in
-        let r = stepped_on n (at p m) (step_by c (token_at c t p q) m) (λ u. comes_back c n u) h.running step
-        (λ u. returned n u) in
-        subst (λ (x : Moment S). Reached n x q.position d aims cases out (word c n t p m)) (placed p m e)
-        (came_behind n (at p m) q d aims cases out (word c n t p m) zq (sooner n (at p m) (word c n t p m) r) back)
+        subst (λ (x : Moment S). Reached n x (behind t p).position d aims cases out (word c n t p m)) (placed p m e)
+        (word_behind n t p m d aims cases out zq h found back)
 
     -- ---- where words close
 

@@ -1,6 +1,6 @@
 -- The tokens that stand in a definition: each is plain, or leaves the element of its word of control.
 use Rattle.std.proofs.Common.{◌≡◌, ◌⊎◌, inl, inr, ℕ, ℤ, Bool, true, false, List, [], ◌∷◌, ◌+◌, Some, refl, sym}
-use Rattle.std.proofs.Common.{◌∙◌, arith}
+use Rattle.std.proofs.Common.{◌∙◌}
 use Rattle.of_fcodes.specs.Lookup.{row_numbered}
 use Rattle.of_fcodes.specs.Rows.{rows, first_rows, second_rows, third_rows, fourth_rows, fifth_rows, sixth_rows}
 use Rattle.of_fcodes.specs.Rows.{seventh_rows}
@@ -29,7 +29,7 @@ use Rattle.of_eval.specs.Tokens as eval
 use Rattle.of_eval_laws.specs.Tokens.{TokensAreTyped}
 use Rattle.of_meaning.specs.Elements.{control_element}
 use Rattle.of_means.specs.Means.{is_executed}
-use Rattle.of_means.specs.Sources.{HasWords, IsSteady}
+use Rattle.of_means.specs.Sources.{HasWords}
 
 -- a token of control, and what it leaves at a position
 pub record IsOfControl (t : Token) : Type 0 where
@@ -41,7 +41,7 @@ pub record IsOfControl (t : Token) : Type 0 where
   pub waits : (table : Table) → is_executed (typed.Plain word) table ≡ false
 
 abbrev pub IsInner : Token → Type 0
-IsInner t = IsSteady t × (IsPlain t ⊎ IsOfControl t)
+IsInner t = IsPlain t ⊎ IsOfControl t
 
 abbrev pub AreInner : List Written → Type 0
 AreInner [] = Unit {0}
@@ -65,185 +65,159 @@ module _ (typing : TokensAreTyped) where
 
   branch_inner : (by : ℤ) → IsInner (with_offset 0x013 by)
   unfolding tables
-  branch_inner by = (
-    (λ e. omega (arith, e)),
-    inr (record {
-      word = token.Control control.Branch by;
-      left = λ n. eval.control_element control.Branch n by;
-      kind = typing.branch by;
-      does = λ here f. refl;
-      listed = λ n. refl;
-      waits = λ table. refl;
-    }),
-  )
+  branch_inner by =
+      inr (record {
+        word = token.Control control.Branch by;
+        left = λ n. eval.control_element control.Branch n by;
+        kind = typing.branch by;
+        does = λ here f. refl;
+        listed = λ n. refl;
+        waits = λ table. refl;
+      })
 
   if_inner : (by : ℤ) → IsInner (with_offset 0x014 by)
   unfolding tables
-  if_inner by = (
-    (λ e. omega (arith, e)),
-    inr (record {
-      word = token.Control control.BranchIfZero by;
-      left = λ n. eval.control_element control.BranchIfZero n by;
-      kind = typing.branch_if_zero by;
-      does = λ here f. refl;
-      listed = λ n. refl;
-      waits = λ table. refl;
-    }),
-  )
+  if_inner by =
+      inr (record {
+        word = token.Control control.BranchIfZero by;
+        left = λ n. eval.control_element control.BranchIfZero n by;
+        kind = typing.branch_if_zero by;
+        does = λ here f. refl;
+        listed = λ n. refl;
+        waits = λ table. refl;
+      })
 
   loop_inner : (by : ℤ) → IsInner (with_offset 0x015 by)
   unfolding tables
-  loop_inner by = (
-    (λ e. omega (arith, e)),
-    inr (record {
-      word = token.Control control.Loop by;
-      left = λ n. eval.control_element control.Loop n by;
-      kind = typing.«loop» by;
-      does = λ here f. refl;
-      listed = λ n. refl;
-      waits = λ table. refl;
-    }),
-  )
+  loop_inner by =
+      inr (record {
+        word = token.Control control.Loop by;
+        left = λ n. eval.control_element control.Loop n by;
+        kind = typing.«loop» by;
+        does = λ here f. refl;
+        listed = λ n. refl;
+        waits = λ table. refl;
+      })
 
   plus_loop_inner : (by : ℤ) → IsInner (with_offset 0x016 by)
   unfolding tables
-  plus_loop_inner by = (
-    (λ e. omega (arith, e)),
-    inr (record {
-      word = token.Control control.PlusLoop by;
-      left = λ n. eval.control_element control.PlusLoop n by;
-      kind = typing.plus_loop by;
-      does = λ here f. refl;
-      listed = λ n. refl;
-      waits = λ table. refl;
-    }),
-  )
+  plus_loop_inner by =
+      inr (record {
+        word = token.Control control.PlusLoop by;
+        left = λ n. eval.control_element control.PlusLoop n by;
+        kind = typing.plus_loop by;
+        does = λ here f. refl;
+        listed = λ n. refl;
+        waits = λ table. refl;
+      })
 
   do_inner : (by : ℤ) → IsInner (with_offset 0x017 by)
   unfolding tables
-  do_inner by = (
-    (λ e. omega (arith, e)),
-    inr (record {
-      word = token.Control control.Do by;
-      left = λ n. eval.control_element control.Do n by;
-      kind = typing.begin_loop by;
-      does = λ here f. refl;
-      listed = λ n. refl;
-      waits = λ table. refl;
-    }),
-  )
+  do_inner by =
+      inr (record {
+        word = token.Control control.Do by;
+        left = λ n. eval.control_element control.Do n by;
+        kind = typing.begin_loop by;
+        does = λ here f. refl;
+        listed = λ n. refl;
+        waits = λ table. refl;
+      })
 
   question_do_inner : (by : ℤ) → IsInner (with_offset 0x018 by)
   unfolding tables
-  question_do_inner by = (
-    (λ e. omega (arith, e)),
-    inr (record {
-      word = token.Control control.QuestionDo by;
-      left = λ n. eval.control_element control.QuestionDo n by;
-      kind = typing.question_do by;
-      does = λ here f. refl;
-      listed = λ n. refl;
-      waits = λ table. refl;
-    }),
-  )
+  question_do_inner by =
+      inr (record {
+        word = token.Control control.QuestionDo by;
+        left = λ n. eval.control_element control.QuestionDo n by;
+        kind = typing.question_do by;
+        does = λ here f. refl;
+        listed = λ n. refl;
+        waits = λ table. refl;
+      })
 
   of_inner : (by : ℤ) → IsInner (with_offset 0x01c by)
   unfolding tables
-  of_inner by = (
-    (λ e. omega (arith, e)),
-    inr (record {
-      word = token.Control control.Of by;
-      left = λ n. eval.control_element control.Of n by;
-      kind = typing.of by;
-      does = λ here f. refl;
-      listed = λ n. refl;
-      waits = λ table. refl;
-    }),
-  )
+  of_inner by =
+      inr (record {
+        word = token.Control control.Of by;
+        left = λ n. eval.control_element control.Of n by;
+        kind = typing.of by;
+        does = λ here f. refl;
+        listed = λ n. refl;
+        waits = λ table. refl;
+      })
 
   endof_inner : (by : ℤ) → IsInner (with_offset 0x0c6 by)
   unfolding tables
-  endof_inner by = (
-    (λ e. omega (arith, e)),
-    inr (record {
-      word = token.Control control.EndOf by;
-      left = λ n. eval.control_element control.EndOf n by;
-      kind = typing.endof by;
-      does = λ here f. refl;
-      listed = λ n. refl;
-      waits = λ table. refl;
-    }),
-  )
+  endof_inner by =
+      inr (record {
+        word = token.Control control.EndOf by;
+        left = λ n. eval.control_element control.EndOf n by;
+        kind = typing.endof by;
+        does = λ here f. refl;
+        listed = λ n. refl;
+        waits = λ table. refl;
+      })
 
   leave_inner : IsInner (bare 0x01b)
   unfolding tables
-  leave_inner = (
-    (λ e. omega (arith, e)),
-    inr (record {
-      word = token.Leave;
-      left = λ n. element.Leave;
-      kind = typing.leave;
-      does = λ here f. refl;
-      listed = λ n. refl;
-      waits = λ table. refl;
-    }),
-  )
+  leave_inner =
+      inr (record {
+        word = token.Leave;
+        left = λ n. element.Leave;
+        kind = typing.leave;
+        does = λ here f. refl;
+        listed = λ n. refl;
+        waits = λ table. refl;
+      })
 
   mark_inner : IsInner (bare 0x0b1)
   unfolding tables
-  mark_inner = (
-    (λ e. omega (arith, e)),
-    inr (record {
-      word = token.Mark;
-      left = λ n. element.Mark (Some n);
-      kind = typing.mark;
-      does = λ here f. refl;
-      listed = λ n. refl;
-      waits = λ table. refl;
-    }),
-  )
+  mark_inner =
+      inr (record {
+        word = token.Mark;
+        left = λ n. element.Mark (Some n);
+        kind = typing.mark;
+        does = λ here f. refl;
+        listed = λ n. refl;
+        waits = λ table. refl;
+      })
 
   resolve_inner : IsInner (bare 0x0b2)
   unfolding tables
-  resolve_inner = (
-    (λ e. omega (arith, e)),
-    inr (record {
-      word = token.Resolve;
-      left = λ n. element.Resolve (Some n);
-      kind = typing.resolve;
-      does = λ here f. refl;
-      listed = λ n. refl;
-      waits = λ table. refl;
-    }),
-  )
+  resolve_inner =
+      inr (record {
+        word = token.Resolve;
+        left = λ n. element.Resolve (Some n);
+        kind = typing.resolve;
+        does = λ here f. refl;
+        listed = λ n. refl;
+        waits = λ table. refl;
+      })
 
   case_inner : IsInner (bare 0x0c4)
   unfolding tables
-  case_inner = (
-    (λ e. omega (arith, e)),
-    inr (record {
-      word = token.Case;
-      left = λ n. element.Case;
-      kind = typing.case;
-      does = λ here f. refl;
-      listed = λ n. refl;
-      waits = λ table. refl;
-    }),
-  )
+  case_inner =
+      inr (record {
+        word = token.Case;
+        left = λ n. element.Case;
+        kind = typing.case;
+        does = λ here f. refl;
+        listed = λ n. refl;
+        waits = λ table. refl;
+      })
 
   endcase_inner : IsInner (bare 0x0c5)
   unfolding tables
-  endcase_inner = (
-    (λ e. omega (arith, e)),
-    inr (record {
-      word = token.EndCase;
-      left = λ n. element.EndCase;
-      kind = typing.endcase;
-      does = λ here f. refl;
-      listed = λ n. refl;
-      waits = λ table. refl;
-    }),
-  )
+  endcase_inner =
+      inr (record {
+        word = token.EndCase;
+        left = λ n. element.EndCase;
+        kind = typing.endcase;
+        does = λ here f. refl;
+        listed = λ n. refl;
+        waits = λ table. refl;
+      })
 
   back_inner : (v : Bool) (by : ℤ) → IsInner (with_offset (branch_code v) by)
   back_inner true by = if_inner by
@@ -262,7 +236,7 @@ module _ (typing : TokensAreTyped) where
       → a.defines ≡ true → Fits x a floor d → HasWords x → AreInner ws → AreInner (written x p to out ws)
   inner_all Stop a floor d p to out ws e f h k = k
   inner_all (Plain t r) a floor d p to out ws e f h k =
-      ((h.1, inl h.0), inner_all r a floor d _ to out ws e f h.2 k)
+      (inl h.0, inner_all r a floor d _ to out ws e f h.1 k)
   inner_all (Definition x i r) a floor d p to out ws e f h k = absurd (not_both (sym e ∙ f.0))
   inner_all (Defining x t r) a floor d p to out ws e f h k = absurd (not_both (sym e ∙ f.0))
   inner_all (If l r) a floor d p to out ws e f h k = (if_inner _, inner_all r a floor (d + 1) _ to out ws e f h k)

@@ -7,6 +7,8 @@ pub mod Following
 pub mod Turning
 pub mod Bare
 pub mod Nests
+pub mod Loops
+pub mod Spine
 pub mod Stops
 pub mod Main
 pub mod Keeping
@@ -23,5 +25,5 @@ pub mod Elements
 pub mod Compiled
 pub mod Opening
 pub mod Defined
-pub mod Loops
+pub mod Straight
 pub mod Whole

@@ -1,6 +1,6 @@
 -- A source without `leave` goes past no loop.
-use Rattle.std.proofs.Common.{◌≡◌, ℕ, zero, suc, ◌-◌, ◌+◌, Bool, true, false, List, [], ◌∷◌, Option, Some, None, Result, Ok}
-use Rattle.std.proofs.Common.{Err, refl, subst}
+use Rattle.std.proofs.Common.{ℕ, zero, suc, ◌-◌, ◌+◌, Bool, true, false, List, [], ◌∷◌, Option, Some, None, Result, Ok}
+use Rattle.std.proofs.Common.{Err, subst}
 use Rattle.std.specs.Prelude.{◌==◌}
 use Rattle.of_stacks.specs.declared.throws.Throw.{Throw}
 use Rattle.of_stream.specs.declared.stream.OffsetSize.{OffsetSize}
@@ -15,20 +15,22 @@ use Rattle.of_flow.specs.declared.control.ControlWord.TheVariants as control
 use Rattle.of_flow.specs.Tokens.{typed_of}
 use Rattle.of_flow.specs.Turns.{Turn}
 use Rattle.of_eval.specs.Defining.{semicolon_entry}
-use Rattle.of_state.specs.State.{Calls, Outcome, State}
+use Rattle.of_state.specs.State.{Calls, Outcome}
 use Rattle.of_steps.specs.Steps.{settled_of}
 use Rattle.of_eval_laws.specs.Returning.{is_back}
 use Rattle.of_means.specs.Moments.{Moment, made, step_by, with_state}
-use Rattle.of_means.specs.Courses.{Course, On, Off, Out, Left, Thrown, Waits, Cut, Beyond, arrives, joins, on_if, past_if}
+use Rattle.of_means.specs.Courses.{Course, On, Off, Out, Left, Thrown, Waits, Cut, Beyond, arrives, joins, on_if}
 use Rattle.of_means.specs.Courses.{past_loop, swaps, through}
-use Rattle.of_means.specs.Means.{after_step, at, at_place, back, comes_back, compiled, controlled, counted, defined, do_word}
-use Rattle.of_means.specs.Means.{forked, is_executed, left_by, loop_word, means, one_way, over, token_at, token_compiled}
+use Rattle.of_means.specs.Means.{after_step, at, at_place, back, comes_back, compiled, controlled, counted, defined}
+use Rattle.of_means.specs.Means.{do_word}
+use Rattle.of_means.specs.Means.{forked, is_executed, left_by, loop_word, means, one_way, over, token_at}
+use Rattle.of_means.specs.Means.{token_compiled}
 use Rattle.of_means.specs.Means.{turned, turns, unless_thrown, word}
 use Rattle.of_means.specs.Sources.{HasNoLeave}
 use Rattle.of_means.specs.Laws.{NeverLeft}
 
 -- a course that goes past no loop
-abbrev Stays : {S : Type 0} → Course S → Type 0
+abbrev pub Stays : {S : Type 0} → Course S → Type 0
 Stays (Left e m) = ⊥
 Stays (On m) = Unit {0}
 Stays (Off b m) = Unit {0}
@@ -158,7 +160,8 @@ module _ {S : Type 0} (c : Calls S) (own : Nest → Calls S) where
       through_stays (compiled c (written i b [] 0 []) b t) _ (compiled_stays c (written i b [] 0 []) b t)
       (λ u. left_stays c (semicolon_entry (own i) u.state.words.defining (at_place q u.state)) u))
 
-  back_stays : (z : Bool) (q : Place) (again : Moment S → Course S) → ((m : Moment S) → Stays (again m)) → (m : Moment S)
+  back_stays : (z : Bool) (q : Place) (again : Moment S → Course S) → ((m : Moment S) → Stays (again m))
+      → (m : Moment S)
       → Stays (back c own z q again m)
   back_stays true q again h m =
       forked_stays c (controlled control.BranchIfZero 0 m) (at q m) again On h (λ t. tt)
@@ -175,7 +178,8 @@ module _ {S : Type 0} (c : Calls S) (own : Nest → Calls S) where
       → (m : Moment S) → Stays (counted c own n l q inside m)
   counted_stay zero l q inside h m = tt
   counted_stay (suc n) l q inside h m =
-      through_stays (inside m) (λ t. forked c (controlled (loop_word l) 0 t) (at q t) (counted c own n l q inside) On) (h m)
+      through_stays (inside m) (λ t. forked c (controlled (loop_word l) 0 t) (at q t) (counted c own n l q inside) On)
+      (h m)
       (λ t.
       forked_stays c (controlled (loop_word l) 0 t) (at q t) (counted c own n l q inside) On
       (counted_stay n l q inside h) (λ u. tt))
@@ -189,7 +193,8 @@ module _ {S : Type 0} (c : Calls S) (own : Nest → Calls S) where
       let t = maker_token m in
       let b = behind t p in
       means_stays r n (past 1 (end_of i (past 1 b))) d _ h
-      (through_stays (through f (word c n t p)) (defined c own i b) (through_stays f (word c n t p) k (word_stays c n t p))
+      (through_stays (through f (word c n t p)) (defined c own i b)
+      (through_stays f (word c n t p) k (word_stays c n t p))
       (defined_stays i b))
   means_stays (Defining m y r) n p d f h k =
       let t = maker_token m in

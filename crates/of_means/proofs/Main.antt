@@ -8,7 +8,7 @@ use Rattle.of_stream.specs.declared.stream.OffsetSize.{OffsetSize}
 use Rattle.of_stream.specs.Bytes.{token_bytes}
 use Rattle.of_stream.specs.Decoding.{token_from}
 use Rattle.of_source.specs.Items.{bare}
-use Rattle.of_source.specs.Nest.{IsWhole, Nest, outside}
+use Rattle.of_source.specs.Nest.{IsWhole, Nest}
 use Rattle.of_tok.specs.Laws.{HasTokens, NestsEndAtTheirPlaces}
 use Rattle.of_tok.specs.Places.{first_place, past}
 use Rattle.of_tok.specs.Tokens.{end_of, straight, tokens_of}
@@ -19,13 +19,14 @@ use Rattle.of_means.specs.Moments.{IsWaiting, Moment, answered_step, asked_step,
 use Rattle.of_means.specs.Courses.{Course, On, Off, Out, Left, Thrown, Waits, Cut, Beyond}
 use Rattle.of_means.specs.Means.{at, token_at}
 use Rattle.of_means.specs.Correct.{Behaves, source_ended, source_means}
-use Rattle.of_means.specs.Sources.{HasWords}
+use Rattle.of_means.specs.Sources.{HasWords, WidensOutside}
 use Rattle.of_means.specs.Laws.{DefinitionsAreRead, IsAt, SourceIsFollowed, StaysKept, WordsComeBack}
 use Rattle.of_means.proofs.Steps.{no_longer, none_off, one_rest, plain_step, stays, steps_on}
 use Rattle.of_means.proofs.Runs.{token_found}
 use Rattle.of_means.proofs.Stops.{end_does, end_stops}
-use Rattle.of_means.proofs.Following.{Reached, here, placed}
-use Rattle.of_means.proofs.Nests.{runs, sized}
+use Rattle.of_means.proofs.Following.{Reached}
+use Rattle.of_means.proofs.Spine.{follows as spine}
+use Rattle.of_means.proofs.Loops.{Stays}
 
 module _ {S : Type 0} (c : Calls S) (own : Nest → Calls S) (image : List ℕ) (z : OffsetSize) (Keeps : State S → Type 0)
     (settles : ThrowsSettle S) (typed : TokensAreTyped) (ends : NestsEndAtTheirPlaces) (kept : StaysKept c Keeps)
@@ -59,10 +60,6 @@ module _ {S : Type 0} (c : Calls S) (own : Nest → Calls S) (image : List ℕ) 
         × (u.answers ≡ t.answers)
     Follows n Beyond = Unit {0}
 
-    -- no course ends past a loop that isn't there
-    abbrev NeverLeft : Course S → Type 0
-    NeverLeft f = (e : ℕ) (t : Moment S) → f ≡ Left e t → ⊥
-
     none_less : (b : ℕ) → b < 0 → ⊥
     none_less b lt = omega (arith, lt)
 
@@ -70,56 +67,67 @@ module _ {S : Type 0} (c : Calls S) (own : Nest → Calls S) (image : List ℕ) 
     no_out e = cc
 
     -- the end of the source is a step
-    end_made : (t : Moment S) → IsAt c image Keeps t → (end_of x (first_place z)).size ≡ z
+    end_made : (t : Moment S) → IsAt c image Keeps t
         → token_from image (end_of x (first_place z)).position (end_of x (first_place z)).size
         ≡ Some (bare 0x000, (past 1 (end_of x (first_place z))).position)
-        → made c (here c own image z Keeps (end_of x (first_place z)).position t) ≡ Some (source_ended c own x z t)
-    end_made t stand ze found =
+        → made c (at (end_of x (first_place z)) t) ≡ Some (source_ended c own x z t)
+    end_made t stand found =
         let e = end_of x (first_place z) in
         let q = past 1 e in
-        let o = token_at c (bare 0x000) e q t.state in
-        ap (made c) (sym (placed c own image z Keeps e t ze))
-        ∙ token_found c image Keeps false e q (bare 0x000) t stand found refl
-        ∙ plain_step c (token_at c (bare 0x000) e q) t o refl
+        token_found c image Keeps false e q (bare 0x000) t stand found refl
+        ∙ plain_step c (token_at c (bare 0x000) e q) t (token_at c (bare 0x000) e q t.state) refl
         (ap (λ x. x.asks) (end_does c image Keeps typed e q t.state stand))
 
-    follows_from : (n : ℕ) (f : Course S) → (end_of x (first_place z)).size ≡ z
+    follows_from : (n : ℕ) (f : Course S)
         → token_from image (end_of x (first_place z)).position (end_of x (first_place z)).size
         ≡ Some (bare 0x000, (past 1 (end_of x (first_place z))).position)
-        → NeverLeft f
-        → Reached c own image z Keeps n begin (end_of x (first_place z)).position 0 [] false 0 f
+        → Stays f
+        → Reached c own image (end_of x (first_place z)).size Keeps n begin
+        (end_of x (first_place z)).position 0 [] false 0 f
         → Follows n f
-    follows_from n (On t) ze end never r = (
+    follows_from n (On t) end never r = (
       r.0,
       (
         r.1.0 + 1,
         steps_on c r.1.0 1 begin _ r.1.1
-            ∙ ap (λ o. option_and_then (λ u. steps c 0 u) o) (end_made t r.0 ze end),
+            ∙ ap (λ o. option_and_then (λ u. steps c 0 u) o) (end_made t r.0 end),
       ),
     )
-    follows_from n (Off b t) ze end never r = absurd (none_less b r.0)
-    follows_from n (Out t) ze end never r = absurd (no_out r.0)
-    follows_from n (Left e t) ze end never r = absurd (never e t refl)
-    follows_from n (Thrown t) ze end never r = r
-    follows_from n (Waits t) ze end never r = r
-    follows_from n (Cut t) ze end never r = r
-    follows_from n Beyond ze end never r = tt
+    follows_from n (Off b t) end never r = absurd (none_less b r.0)
+    follows_from n (Out t) end never r = absurd (no_out r.0)
+    follows_from n (Left e t) end never r = absurd never
+    follows_from n (Thrown t) end never r = r
+    follows_from n (Waits t) end never r = r
+    follows_from n (Cut t) end never r = r
+    follows_from n Beyond end never r = tt
+
+    never_stays : (f : Course S) → ((e : ℕ) (t : Moment S) → f ≡ Left e t → ⊥) → Stays f
+    never_stays (Left e t) h = h e t refl
+    never_stays (On t) h = tt
+    never_stays (Off b t) h = tt
+    never_stays (Out t) h = tt
+    never_stays (Thrown t) h = tt
+    never_stays (Waits t) h = tt
+    never_stays (Cut t) h = tt
+    never_stays Beyond h = tt
 
     -- the image of a whole nest
-    follows : (n : ℕ) → IsWhole x → HasWords x → HasTokens image (first_place z) (tokens_of z x)
-        → IsAt c image Keeps m → NeverLeft (source_means c own x z n m) → Follows n (source_means c own x z n m)
+    follows : (n : ℕ) → IsWhole x → HasWords x → WidensOutside x 0 → HasTokens image (first_place z) (tokens_of z x)
+        → IsAt c image Keeps m → ((e : ℕ) (t : Moment S) → source_means c own x z n m ≡ Left e t → ⊥)
+        → Follows n (source_means c own x z n m)
     unfolding token_bytes tokens_of
-    follows n whole words has stand never =
+    follows n whole words widens has stand never =
         let p = first_place z in
         let e = end_of x p in
-        let r = runs c own image z Keeps settles typed ends kept comes defines x n outside 0 0 p [] 0
-        (straight 0x000 e ∷ [])
-        begin (On m) refl words (omega arith) whole.0 has (stand, stays c begin) in
-        let ze = sized z x p refl words in
+        let stays_on = never_stays (source_means c own x z n m) never in
+        let r = spine c own image Keeps settles typed ends kept comes defines x z n 0 p []
+        (straight 0x000 e ∷ []) begin (On m)
+        refl words widens whole.0 has stays_on (stand, stays c begin) in
         let end = ends image x p [] 0 (straight 0x000 e ∷ []) has in
-        let r' = subst (λ (d : ℕ). Reached c own image z Keeps n begin e.position d [] false 0
-        (source_means c own x z n m)) whole.1 r in
-        follows_from n (source_means c own x z n m) ze end.1 never r'
+        let r' = subst (λ (d : ℕ). Reached c own image e.size Keeps n begin e.position d [] false 0
+        (source_means c own x z n m))
+        whole.1 r in
+        follows_from n (source_means c own x z n m) end.1 stays_on r'
 
     -- where the run rests, the source ends, throws or waits
     rests_too : (k : ℕ) (last : Moment S) (f : Course S) → steps c k begin ≡ Some last → made c last ≡ None
@@ -141,10 +149,11 @@ module _ {S : Type 0} (c : Calls S) (own : Nest → Calls S) (image : List ℕ) 
         let le = no_longer c k r.0 begin last r.1 e d r.3 in absurd (omega (arith, le, r.2))
     rests_too k last Beyond e d r = inr (inr (inr refl))
 
-    pub behaves : IsWhole x → HasWords x → HasTokens image (first_place z) (tokens_of z x) → IsAt c image Keeps m
+    pub behaves : IsWhole x → HasWords x → WidensOutside x 0 → HasTokens image (first_place z) (tokens_of z x)
+        → IsAt c image Keeps m
         → ((n e : ℕ) (t : Moment S) → source_means c own x z n m ≡ Left e t → ⊥) → Behaves c own x z m
-    behaves whole words has stand never =
-        let f = λ (n : ℕ). follows n whole words has stand (never n) in
+    behaves whole words widens has stand never =
+        let f = λ (n : ℕ). follows n whole words widens has stand (never n) in
         let q = end_of x (first_place z) in
         record {
           ends = λ n t e. let r : Follows n (On t) = subst (Follows n) e (f n) in
@@ -159,6 +168,6 @@ module _ {S : Type 0} (c : Calls S) (own : Nest → Calls S) (image : List ℕ) 
 pub source_is_followed : {S : Type 0} (Keeps : List ℕ → State S → Type 0) → ThrowsSettle S → TokensAreTyped
     → NestsEndAtTheirPlaces → SourceIsFollowed S Keeps
 source_is_followed Keeps settles typed ends = record {
-  followed = λ c own image z x m whole words has stand kept comes defines never.
-      behaves c own image z (Keeps image) settles typed ends kept comes defines x m whole words has stand never;
+  followed = λ c own image z x m whole words widens has stand kept comes defines never.
+      behaves c own image z (Keeps image) settles typed ends kept comes defines x m whole words widens has stand never;
 }

@@ -12,7 +12,7 @@ use Rattle.of_fcodes.specs.declared.codes.FCode.{FCode}
 use Rattle.of_source.specs.declared.keyword.Maker.{Maker}
 use Rattle.of_source.specs.declared.keyword.Maker.TheVariants.{External, Named, Unnamed}
 use Rattle.of_source.specs.Items.{Made, call, maker_token, making, own_code}
-use Rattle.of_source.specs.Plain.{is_kind}
+use Rattle.of_source.specs.Plain.{IsPlain, is_kind}
 use Rattle.of_source.specs.Keywords.{fcode}
 use Rattle.of_source.specs.Nest.{Around, Fits, Nest, Stop, Plain, Definition, Defining, If, Else, Then, Begin, Do}
 use Rattle.of_source.specs.Nest.{Leave}
@@ -30,7 +30,7 @@ use Rattle.of_means.specs.Moments.{Moment, steps}
 use Rattle.of_means.specs.Courses.{Course, On, Off, Out, Left, Thrown, Waits, Cut, Beyond, joins, past_loop}
 use Rattle.of_means.specs.Courses.{through}
 use Rattle.of_means.specs.Means.{at, controlled, counted, defined, do_word, forked, leaves, means, turns, word}
-use Rattle.of_means.specs.Sources.{HasWords, IsSteady, IsWord}
+use Rattle.of_means.specs.Sources.{HasWords, IsSteady, IsWord, KeepsSize}
 use Rattle.of_means.specs.Laws.{DefinitionsAreRead, IsRead, StaysKept, WordsComeBack}
 use Rattle.of_means.proofs.Steps.{Comes, one_step, stays}
 use Rattle.of_means.proofs.Runs.{aim, aim_latest, aim_under}
@@ -77,7 +77,50 @@ pub loop_short : (v : Bool) → (nat_lt (loop_code v) 256 ≡ true) × (nat_eq (
 loop_short true = (refl, refl)
 loop_short false = (refl, refl)
 
-pub sized : (z : OffsetSize) (x : Nest) (p : Place) → p.size ≡ z → HasWords x → (end_of x p).size ≡ z
+-- a nest has words, and none makes offsets wider
+abbrev pub Fixed : Nest → Type 0
+Fixed Stop = Unit {0}
+Fixed (Plain t r) = IsPlain t × IsSteady t × Fixed r
+Fixed (Definition m i r) = Fixed i × Fixed r
+Fixed (Defining m t r) = (is_kind t.0 ≡ true) × Fixed r
+Fixed (If l r) = Fixed r
+Fixed (Else l r) = Fixed r
+Fixed (Then r) = Fixed r
+Fixed (Begin i z l r) = Fixed i × Fixed r
+Fixed (Do v k i l m r) = Fixed i × Fixed r
+Fixed (Leave r) = Fixed r
+Fixed (Case i r) = Fixed i × Fixed r
+Fixed (Of k i m r) = Fixed i × Fixed r
+
+pub fixed : (x : Nest) → HasWords x → KeepsSize x → Fixed x
+fixed Stop h k = tt
+fixed (Plain t r) h k = (h.0, k.0, fixed r h.1 k.1)
+fixed (Definition m i r) h k = (fixed i h.0 k.0, fixed r h.1 k.1)
+fixed (Defining m t r) h k = (h.0, fixed r h.1 k)
+fixed (If l r) h k = fixed r h k
+fixed (Else l r) h k = fixed r h k
+fixed (Then r) h k = fixed r h k
+fixed (Begin i z l r) h k = (fixed i h.0 k.0, fixed r h.1 k.1)
+fixed (Do v y i l m r) h k = (fixed i h.0 k.0, fixed r h.1 k.1)
+fixed (Leave r) h k = fixed r h k
+fixed (Case i r) h k = (fixed i h.0 k.0, fixed r h.1 k.1)
+fixed (Of y i m r) h k = (fixed i h.0 k.0, fixed r h.1 k.1)
+
+fixed_words : (x : Nest) → Fixed x → HasWords x
+fixed_words Stop h = tt
+fixed_words (Plain t r) h = (h.0, fixed_words r h.2)
+fixed_words (Definition m i r) h = (fixed_words i h.0, fixed_words r h.1)
+fixed_words (Defining m t r) h = (h.0, fixed_words r h.1)
+fixed_words (If l r) h = fixed_words r h
+fixed_words (Else l r) h = fixed_words r h
+fixed_words (Then r) h = fixed_words r h
+fixed_words (Begin i z l r) h = (fixed_words i h.0, fixed_words r h.1)
+fixed_words (Do v k i l m r) h = (fixed_words i h.0, fixed_words r h.1)
+fixed_words (Leave r) h = fixed_words r h
+fixed_words (Case i r) h = (fixed_words i h.0, fixed_words r h.1)
+fixed_words (Of k i m r) h = (fixed_words i h.0, fixed_words r h.1)
+
+pub sized : (z : OffsetSize) (x : Nest) (p : Place) → p.size ≡ z → Fixed x → (end_of x p).size ≡ z
 sized z Stop p e h = e
 sized z (Plain t r) p e h = sized z r (behind t p) (size_kept t.code.0 p.size h.1 ∙ e) h.2
 sized z (Definition m i r) p e h =
@@ -134,7 +177,7 @@ module _ {S : Type 0} (c : Calls S) (own : Nest → Calls S) (image : List ℕ) 
       → Reach n (spot p.position m) (behind t p).position d aims cases out (word c n t p m)
   word_run n t p d aims cases out e is steady found m stand =
       word_reached c own image z Keeps n t p m d aims cases out e (size_kept t.code.0 p.size steady ∙ e) stand found
-      (λ u h. comes n t p m u is steady stand found h)
+      (λ u h. comes n t p m u is stand found h)
 
   -- a definition
   read_reached : (n : ℕ) (p q : Place) (m : Moment S) (d : ℕ) (aims : List ℕ) (cases : Bool) (out : ℕ) (f : Course S)
@@ -160,7 +203,7 @@ module _ {S : Type 0} (c : Calls S) (own : Nest → Calls S) (image : List ℕ) 
   abbrev Runs : Nest → Type 0
   Runs x =
       (n : ℕ) (a : Around) (floor d : ℕ) (p : Place) (to : List ℕ) (out : ℕ) (ws : List Written) (s0 : Moment S)
-      (f : Course S) → p.size ≡ z → HasWords x → floor ≤ d → Fits x a floor d
+      (f : Course S) → p.size ≡ z → Fixed x → floor ≤ d → Fits x a floor d
       → HasTokens image p (written x p to out ws)
       → Reach n s0 p.position d (aims_of x p to) a.cases out f
       → Reach n s0 (end_of x p).position (open_behind x d) to a.cases out (means c own x n p d f)
@@ -194,7 +237,7 @@ module _ {S : Type 0} (c : Calls S) (own : Nest → Calls S) (image : List ℕ) 
       (word_run n t p d B a.cases out e (inr (inl (y, refl))) (maker_steady y) has.1))
       (λ s stand.
       read_reached n k q s d A a.cases out (defined c own i k s) zk zq
-      (defines i d k A out _ s st.0 fits.1 fits.2 has.3 stand)))
+      (defines i d k A out _ s (fixed_words i st.0) fits.1 fits.2 has.3 stand)))
   runs (Defining y t r) n a floor d p to out ws s0 f e st le fits has r0 =
       let w = maker_token y in
       let k = behind w p in

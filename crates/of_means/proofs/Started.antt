@@ -5,7 +5,7 @@ use Rattle.std.proofs.Common.{subst}
 use Rattle.std.proofs.Common.{arith, eqb-true, if◌then◌else◌}
 use Rattle.std.specs.List.{list_all}
 use Rattle.std.specs.Option.{option_map}
-use Rattle.std.proofs.lemmas.Bool.{leb-true, ltb-true}
+use Rattle.std.proofs.lemmas.Bool.{eq-eqb, leb-true, ltb-true}
 use Rattle.of_stacks.specs.declared.return_item.Reading.{Reading}
 use Rattle.of_fcodes.specs.declared.codes.FCode.{FCode}
 use Rattle.of_fcodes.specs.declared.token_table.TokenEntry.{TokenEntry}
@@ -40,7 +40,7 @@ use Rattle.of_eval_laws.specs.Returning.{IsDue, Leads, StackLeadsBack, is_outer}
 use Rattle.of_eval_laws.specs.Tokens.{TokensAreTyped}
 use Rattle.of_flow.specs.declared.control_state.Flow.{Flow}
 use Rattle.of_means.specs.Means.{at_place, token_at}
-use Rattle.of_means.specs.Sources.{AtSource, IsSteady, IsWord}
+use Rattle.of_means.specs.Sources.{AtSource, IsWord}
 use Rattle.of_means.proofs.Control.{executed_at}
 use Rattle.of_means.proofs.Leading.{both_first, both_second, none_open, source_leads}
 use Rattle.of_means.proofs.Quiet.{Quiet, define_quiet, leaving_quiet, numbered_quiet, storing_quiet}
@@ -73,6 +73,9 @@ none_low (r ∷ rs) n h l =
 pub own_is_none : (n : ℕ) → 0x800 ≤ n → word_numbered n ≡ None
 unfolding row_numbered rows first_rows second_rows third_rows fourth_rows fifth_rows sixth_rows seventh_rows
 own_is_none n l = ap (option_map (λ (r : Row). r.word)) (none_low rows n refl l)
+
+none_wider : false ≡ true → ⊥
+none_wider e = cc
 
 -- an FCode that is ordinary, or not listed, is that of a word
 ordinary_typed : (o : Option Word) (k : FCode) → is_ordinary o ≡ true → typed o k Nothing ≡ Plain (token.Word k)
@@ -166,31 +169,40 @@ module _ {S : Type 0} (c : Calls S) (image : List ℕ) (Keeps : State S → Type
   code_is a w n k e h =
       subst (λ (m : ℕ). typed_of (record { code = record { 0 = m }; argument = a }) ≡ Plain w) (sym e) h
 
-  plain_starts : (a : Argument) (k : FCode) (p q : Place) (s : State S) → AtSource image Keeps false s
-      → IsPlainWith a k.0 → (k.0 ≡ 0x0cc → ⊥) → Starts (record { code = k; argument = a }) p q s
-  unfolding token_act acted
-  plain_starts Nothing k p q s h plain steady =
+  -- `offset16` does nothing but make offsets wider
+  bare_starts : (k : FCode) (p q : Place) (s : State S) → AtSource image Keeps false s → IsPlainWith Nothing k.0
+      → (b : Bool) → nat_eq k.0 0x0cc ≡ b → Starts (record { code = k; argument = Nothing }) p q s
+  unfolding token_act acted worked
+  bare_starts k p q s h plain true e =
+      starts_quiet (record { code = k; argument = Nothing }) token.Offset16 p q s h
+      (code_is Nothing token.Offset16 k.0 0x0cc (eqb-true k.0 0x0cc e) typing.offset16) (refl, refl)
+  bare_starts k p q s h plain false e =
       starts_word (record { code = k; argument = Nothing }) p q s h
-      (bare_typed (nat_le 0x800 k.0) (is_ordinary (word_numbered k.0))
-      (nat_eq k.0 0x0cc) k refl refl refl steady plain)
-  plain_starts (Literal x) k p q s h plain steady =
+      (bare_typed (nat_le 0x800 k.0) (is_ordinary (word_numbered k.0)) (nat_eq k.0 0x0cc) k refl refl refl
+      (λ f. none_wider (sym e ∙ eq-eqb k.0 0x0cc f)) plain)
+
+  plain_starts : (a : Argument) (k : FCode) (p q : Place) (s : State S) → AtSource image Keeps false s
+      → IsPlainWith a k.0 → Starts (record { code = k; argument = a }) p q s
+  unfolding token_act acted
+  plain_starts Nothing k p q s h plain = bare_starts k p q s h plain (nat_eq k.0 0x0cc) refl
+  plain_starts (Literal x) k p q s h plain =
       starts_quiet (record { code = k; argument = Literal x }) (token.Literal x) p q s h
       (code_is (Literal x) (token.Literal x) k.0 0x010 plain (typing.literal x))
       (leaving_quiet c (pushed x s.board.stack) (at_place q s))
-  plain_starts (String bytes) k p q s h plain steady =
+  plain_starts (String bytes) k p q s h plain =
       starts_quiet (record { code = k; argument = String bytes }) (token.String (length bytes)) p q s h
       (code_is (String bytes) (token.String (length bytes)) k.0 0x012 plain (typing.string bytes))
       (leaving_quiet c _ (at_place q s))
-  plain_starts (Code n) k p q s h (inl plain) steady =
+  plain_starts (Code n) k p q s h (inl plain) =
       starts_quiet (record { code = k; argument = Code n }) (token.Tick n) p q s h
       (code_is (Code n) (token.Tick n) k.0 0x011 plain (typing.tick n))
       (tick_quiet (entry_in s.words.table n.0) (at_place q s))
-  plain_starts (Code n) k p q s h (inr plain) steady =
+  plain_starts (Code n) k p q s h (inr plain) =
       starts_quiet (record { code = k; argument = Code n }) (token.To n) p q s h
       (code_is (Code n) (token.To n) k.0 0x0c3 plain (typing.to n))
       (storing_quiet c (entry_in s.words.table n.0) s.board.stack (at_place q s))
-  plain_starts (Named name n) k p q s h plain steady = absurd plain
-  plain_starts (Offset by) k p q s h plain steady = absurd plain
+  plain_starts (Named name n) k p q s h plain = absurd plain
+  plain_starts (Offset by) k p q s h plain = absurd plain
 
   -- ---- what gives a definition its number
 
@@ -241,11 +253,11 @@ module _ {S : Type 0} (c : Calls S) (image : List ℕ) (Keeps : State S → Type
 
   -- ---- each word
 
-  pub starts : (t : Token) (p q : Place) (s : State S) → AtSource image Keeps false s → IsWord t → IsSteady t
+  pub starts : (t : Token) (p q : Place) (s : State S) → AtSource image Keeps false s → IsWord t
       → Starts t p q s
-  starts t p q s h (inl plain) steady = plain_starts t.argument t.code p q s h plain steady
-  starts t p q s h (inr (inl m)) steady =
+  starts t p q s h (inl plain) = plain_starts t.argument t.code p q s h plain
+  starts t p q s h (inr (inl m)) =
       subst (λ (x : Token). Starts x p q s) (sym m.1)
       (maker_starts m.0.maker m.0.name (own_code m.0.number) p q s h)
-  starts t p q s h (inr (inr k)) steady =
+  starts t p q s h (inr (inr k)) =
       subst (λ (x : Token). Starts x p q s) (sym k.1) (kind_starts t.code p q s h k.0)

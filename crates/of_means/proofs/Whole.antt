@@ -1,5 +1,5 @@
 -- The image of an accepted source, from where it begins to run.
-use Rattle.std.proofs.Common.{◌≡◌, ℕ, suc, Bool, true, false, List, [], ◌∷◌, ◌++◌, length, Option}
+use Rattle.std.proofs.Common.{◌≡◌, ℕ, suc, Bool, true, false, List, [], ◌∷◌, length, Option}
 use Rattle.std.proofs.Common.{Some, None, Result, Ok, Err, refl, sym, ap, ◌∙◌, subst, if◌then◌else◌}
 use Rattle.std.specs.Prelude.{is_ok}
 use Rattle.of_cells.specs.declared.cells.Cell.{Cell}
@@ -18,11 +18,9 @@ use Rattle.of_ihandles.specs.Table.{InstanceTable}
 use Rattle.of_ihandles.specs.declared.instance_fault.InstanceFault.{InstanceFault}
 use Rattle.of_compile.specs.Structured.{Definitions}
 use Rattle.of_source.specs.Items.{Item, Source}
-use Rattle.of_source.specs.Items as item
 use Rattle.of_source.specs.Laws.{ParsedIsNested}
-use Rattle.of_source.specs.Nest.{IsNested, IsWhole, ItemsGiveNest, Nest, Stop, Plain, Definition, Defining, If, Else}
-use Rattle.of_source.specs.Nest.{Then}
-use Rattle.of_source.specs.Nest.{Begin, Do, Leave, Case, Of, items_of, nest_of}
+use Rattle.of_source.specs.Nest.{IsNested, IsWhole, ItemsGiveNest}
+use Rattle.of_source.specs.Nest.{nest_of}
 use Rattle.of_source.specs.Plain.{AcceptedIsPlain, ArePlain}
 use Rattle.of_tok.specs.Image.{tokenized}
 use Rattle.of_tok.specs.Laws.{HeaderIsTheSum, ImageHasTokens, NestsEndAtTheirPlaces}
@@ -44,12 +42,15 @@ use Rattle.of_meaning.specs.Laws.{BodyOfNest}
 use Rattle.of_means.specs.Moments.{with_state}
 use Rattle.of_means.specs.Means.{at}
 use Rattle.of_means.specs.Nested.{nest_calls}
-use Rattle.of_means.specs.Sources.{HasWords}
+use Rattle.of_means.specs.Sources.{HasWords, WidensOutside}
 use Rattle.of_means.specs.Kept.{BeganFirst, IsKept}
 use Rattle.of_means.specs.Laws.{IsAt}
-use Rattle.of_means.specs.Accepted.{AreSteady, IsIdle, SourcesBehave, WordsAreFollowed, begun_at}
+use Rattle.of_means.specs.Accepted.{IsIdle, SourcesBehave, WordsAreFollowed, begun_at}
 use Rattle.of_means.proofs.Keeping.{stays_kept}
 use Rattle.of_means.proofs.Leading.{source_back}
+use Rattle.of_source.specs.Shapes.{nothing}
+use Rattle.std.proofs.Common.{arith}
+use Rattle.of_means.proofs.Straight.{walk}
 use Rattle.of_means.proofs.Words.{words_come_back}
 use Rattle.of_means.proofs.Loops.{never_left}
 use Rattle.of_means.proofs.Defined.{definitions_are_read}
@@ -57,46 +58,16 @@ use Rattle.of_means.proofs.Main.{source_is_followed}
 
 -- ---- from items to the nest
 
--- what is behind the items of a nest is plain as behind them, and the nest has words
-words_of : (x : Nest) (front more : List Item) → ArePlain front (items_of x more) → AreSteady (items_of x more)
-    → HasWords x × ((behind : List Item) × ArePlain behind more) × AreSteady more
-words_of Stop front more h k = (tt, (front, h), k)
-words_of (Plain t r) front more h k =
-    let n = words_of r (front ++ item.Plain t ∷ []) more h.2 k.1 in ((h.0, k.0, n.0), n.1, n.2)
-words_of (Definition m i r) front more h k =
-    let a = words_of i (front ++ item.Colon m ∷ []) (item.Semicolon ∷ items_of r more) h k in
-    let b = words_of r (a.1.0 ++ item.Semicolon ∷ []) more a.1.1 a.2 in
-    ((a.0, b.0), b.1, b.2)
-words_of (Defining m t r) front more h k =
-    let n = words_of r (front ++ item.Defining m t ∷ []) more h.1 k in ((h.0, n.0), n.1, n.2)
-words_of (If l r) front more h k = words_of r (front ++ item.If l ∷ []) more h k
-words_of (Else l r) front more h k = words_of r (front ++ item.Else l ∷ []) more h k
-words_of (Then r) front more h k = words_of r (front ++ item.Then ∷ []) more h k
-words_of (Begin i z l r) front more h k =
-    let a = words_of i (front ++ item.Begin ∷ []) (item.Back z l ∷ items_of r more) h k in
-    let b = words_of r (a.1.0 ++ item.Back z l ∷ []) more a.1.1 a.2 in
-    ((a.0, b.0), b.1, b.2)
-words_of (Do q y i l m r) front more h k =
-    let a = words_of i (front ++ item.Do q y ∷ []) (item.Loop l m ∷ items_of r more) h k in
-    let b = words_of r (a.1.0 ++ item.Loop l m ∷ []) more a.1.1 a.2 in
-    ((a.0, b.0), b.1, b.2)
-words_of (Leave r) front more h k = words_of r (front ++ item.Leave ∷ []) more h k
-words_of (Case i r) front more h k =
-    let a = words_of i (front ++ item.Case ∷ []) (item.EndCase ∷ items_of r more) h k in
-    let b = words_of r (a.1.0 ++ item.EndCase ∷ []) more a.1.1 a.2 in
-    ((a.0, b.0), b.1, b.2)
-words_of (Of y i m r) front more h k =
-    let a = words_of i (front ++ item.Of y ∷ []) (item.EndOf m ∷ items_of r more) h k in
-    let b = words_of r (a.1.0 ++ item.EndOf m ∷ []) more a.1.1 a.2 in
-    ((a.0, b.0), b.1, b.2)
-
--- an accepted source is a whole nest with words
-pub whole_words : ItemsGiveNest → (items : List Item) → IsNested items → ArePlain [] items → AreSteady items
-    → IsWhole (nest_of items) × HasWords (nest_of items)
-whole_words give items (x, e, whole) plain steady =
+-- an accepted source is a whole nest with words, which makes offsets wider only outside all
+whole_words : ItemsGiveNest → (items : List Item) → IsNested items → ArePlain [] items
+    → IsWhole (nest_of items) × HasWords (nest_of items) × WidensOutside (nest_of items) 0
+whole_words give items (x, e, whole) plain =
     let same : x ≡ nest_of items = sym (ap nest_of e ∙ give x) in
-    let words = (words_of x [] [] (subst (λ y. ArePlain [] y) e plain) (subst (λ y. AreSteady y) e steady)).0 in
-    (subst (λ y. IsWhole y) same whole, subst (λ y. HasWords y) same words)
+    let n = walk x nothing [] [] (omega arith) whole.0 refl (subst (λ y. ArePlain [] y) e plain) in (
+      subst (λ y. IsWhole y) same whole,
+      subst (λ y. HasWords y) same n.0,
+      subst (λ y. WidensOutside y 0) same (n.2 refl),
+    )
 
 -- ---- where an image begins
 
@@ -218,11 +189,11 @@ sources_behave typing settles back placing sounding reading runs ends tokens sum
   begins = begins back placing sounding reading runs;
   at_first = at_first back placing sounding reading runs sums;
   without_leave = λ x z m none. never_left structured_calls nest_calls x z m none;
-  behaves = λ text image source m accepted encodable made stand steady never.
+  behaves = λ text image source m accepted encodable made stand never.
       let nest = (nested text source accepted).0 in
-      let whole = whole_words give source.items nest (plain text source accepted) steady in
+      let whole = whole_words give source.items nest (plain text source accepted) in
       let law = source_is_followed IsKept settles typing ends in
-      law.followed structured_calls nest_calls image source.size (nest_of source.items) m whole.0 whole.1
+      law.followed structured_calls nest_calls image source.size (nest_of source.items) m whole.0 whole.1 whole.2
       (tokens source image nest encodable made) stand (stays_kept placing sounding reading runs image)
       (followed.words image) (followed.definitions image) never;
 }

@@ -22,7 +22,7 @@ use Rattle.of_eval_laws.specs.Tokens.{TokensAreTyped}
 use Rattle.of_means.specs.Moments.{Moment, made, step_by, with_state}
 use Rattle.of_means.specs.Courses.{Course, On, Thrown, Waits, Cut}
 use Rattle.of_means.specs.Means.{after_step, at, at_place, comes_back, over, token_at}
-use Rattle.of_means.specs.Sources.{AtSource, IsSteady, IsWord}
+use Rattle.of_means.specs.Sources.{AtSource, IsWord}
 use Rattle.of_means.specs.Kept.{IsKept}
 use Rattle.of_means.specs.Laws.{IsAt, WordsComeBack}
 use Rattle.of_means.proofs.Runs.{token_found}
@@ -90,19 +90,19 @@ module _ (typing : TokensAreTyped) (back : StackLeadsBack Definitions) (placing 
       (ap (λ (x : State Definitions). x.flow.is_running) (sym e) ∙ running))
 
   -- so does the step of a word's token
-  starts_on : (t : Token) (p q : Place) (s u : State Definitions) → IsWord t → IsSteady t
+  starts_on : (t : Token) (p q : Place) (s u : State Definitions) → IsWord t
       → AtSource image (IsKept image) false s → IsStep c (token_at c t p q) s u → u.flow.is_running ≡ true
       → LeadsOn image (at_place q s).flow.reading u
-  starts_on t p q s u is steady h (inl e) running =
+  starts_on t p q s u is h (inl e) running =
       let o = token_at c t p q s in
-      let leads = starts c image Free typing back t p q s (free_source image (IsKept image) s h) is steady in
+      let leads = starts c image Free typing back t p q s (free_source image (IsKept image) s h) is in
       subst (λ x. LeadsOn image (at_place q s).flow.reading x) (sym e)
       (back.settled image (at_place q s).flow.reading c (thrown_in o.ended) o.state leads
       (ap (λ (x : State Definitions). x.flow.is_running) (sym e) ∙ running))
-  starts_on t p q s u is steady h (inr (a, e)) running =
+  starts_on t p q s u is h (inr (a, e)) running =
       let o = token_at c t p q (replied a s) in
       let leads = starts c image Free typing back t p q (replied a s)
-      (free_answered image (IsKept image) a s h) is steady in
+      (free_answered image (IsKept image) a s h) is in
       subst (λ x. LeadsOn image (at_place q s).flow.reading x) (sym e)
       (back.settled image (at_place q s).flow.reading c (thrown_in o.ended) o.state leads
       (ap (λ (x : State Definitions). x.flow.is_running) (sym e) ∙ running))
@@ -164,13 +164,13 @@ module _ (typing : TokensAreTyped) (back : StackLeadsBack Definitions) (placing 
             ))
             f
 
-  word_comes : (n : ℕ) (t : Token) (p : Place) (m u : Moment Definitions) → IsWord t → IsSteady t
+  word_comes : (n : ℕ) (t : Token) (p : Place) (m u : Moment Definitions) → IsWord t
       → IsAt c image (IsKept image) m → token_from image p.position p.size ≡ Some (t, (behind t p).position)
       → (x : Option (Moment Definitions)) → step_by c (token_at c t p (behind t p)) m ≡ x
       → after_step x (at p m) (λ v. comes_back c n v) ≡ On u
       → IsAt c image (IsKept image) u × (at (behind t p) u ≡ u)
-  word_comes n t p m u is steady h found None g e = absurd (not_waiting (at p m) u e)
-  word_comes n t p m u is steady h found (Some v) g e =
+  word_comes n t p m u is h found None g e = absurd (not_waiting (at p m) u e)
+  word_comes n t p m u is h found (Some v) g e =
       let q = behind t p in
       let outer = (at_place q m.state).flow.reading in
       let step : made c (at p m) ≡ Some v = token_found c image (IsKept image) false p q t m h found refl ∙ g in
@@ -178,7 +178,7 @@ module _ (typing : TokensAreTyped) (back : StackLeadsBack Definitions) (placing 
       let before = h.kept p in
       comes q outer refl h.opened u n v
       (λ r.
-      let leads = starts_on t p q m.state v.state is steady h (step_leaves c (token_at c t p q) m v g) r in
+      let leads = starts_on t p q m.state v.state is h (step_leaves c (token_at c t p q) m v g) r in
       let counted = image_count placing sounding reading runs image (at p m).state v.state left before in (
         leads,
         kept_on placing sounding reading runs image (at p m).state v.state left before
@@ -187,5 +187,5 @@ module _ (typing : TokensAreTyped) (back : StackLeadsBack Definitions) (placing 
       e
 
   pub words_come_back : WordsComeBack c image (IsKept image)
-  words_come_back n t p m u is steady h found e =
-      word_comes n t p m u is steady h found (step_by c (token_at c t p (behind t p)) m) refl e
+  words_come_back n t p m u is h found e =
+      word_comes n t p m u is h found (step_by c (token_at c t p (behind t p)) m) refl e

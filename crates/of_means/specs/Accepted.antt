@@ -1,5 +1,5 @@
 -- The image of an accepted source, from where it begins to run.
-use Rattle.std.specs.Prelude.{◌≡◌, ℕ, false, List, [], ◌∷◌, None, Ok}
+use Rattle.std.specs.Prelude.{◌≡◌, ℕ, false, List, None, Ok}
 use Rattle.of_asking.specs.declared.query.Answer.{Answer}
 use Rattle.of_stacks.specs.declared.return_item.Input.TheVariants as input
 use Rattle.of_stream.specs.declared.stream.OffsetSize.{OffsetSize}
@@ -7,8 +7,7 @@ use Rattle.of_memory.specs.SoundChanges.{AreBytes}
 use Rattle.of_nodes.specs.declared.phandles.Phandle.{Phandle}
 use Rattle.of_compile.specs.Structured.{Definitions}
 use Rattle.of_source.specs.Encodable.{AreEncodable}
-use Rattle.of_source.specs.Items.{Item, Source, Plain, Colon, Defining, Semicolon, If, Else, Then, Begin, Back, Do}
-use Rattle.of_source.specs.Items.{Loop, Leave, Case, Of, EndOf, EndCase}
+use Rattle.of_source.specs.Items.{Source}
 use Rattle.of_source.specs.Nest.{Nest, nest_of}
 use Rattle.of_source.specs.Parsing.{parsed}
 use Rattle.of_tok.specs.Image.{tokenized}
@@ -23,29 +22,9 @@ use Rattle.of_means.specs.Moments.{Moment}
 use Rattle.of_means.specs.Means.{at}
 use Rattle.of_means.specs.Nested.{nest_calls}
 use Rattle.of_means.specs.Correct.{Behaves}
-use Rattle.of_means.specs.Sources.{HasNoLeave, IsSteady}
+use Rattle.of_means.specs.Sources.{HasNoLeave}
 use Rattle.of_means.specs.Kept.{IsKept}
 use Rattle.of_means.specs.Laws.{DefinitionsAreRead, IsAt, NeverLeft, WordsComeBack}
-
--- no word of the source is `offset16`
-abbrev pub AreSteady : List Item → Type 0
-AreSteady [] = Unit {0}
-AreSteady (Plain t ∷ is) = IsSteady t × AreSteady is
-AreSteady (Colon m ∷ is) = AreSteady is
-AreSteady (Defining m t ∷ is) = AreSteady is
-AreSteady (Semicolon ∷ is) = AreSteady is
-AreSteady (If l ∷ is) = AreSteady is
-AreSteady (Else l ∷ is) = AreSteady is
-AreSteady (Then ∷ is) = AreSteady is
-AreSteady (Begin ∷ is) = AreSteady is
-AreSteady (Back z l ∷ is) = AreSteady is
-AreSteady (Do q l ∷ is) = AreSteady is
-AreSteady (Loop q l ∷ is) = AreSteady is
-AreSteady (Leave ∷ is) = AreSteady is
-AreSteady (Case ∷ is) = AreSteady is
-AreSteady (Of l ∷ is) = AreSteady is
-AreSteady (EndOf l ∷ is) = AreSteady is
-AreSteady (EndCase ∷ is) = AreSteady is
 
 -- nothing runs, nothing is read, and no definition is open, in a state that is placed, sound and without images
 pub record IsIdle (s : State Definitions) : Type 0 where
@@ -78,7 +57,7 @@ pub record SourcesBehave : Type 0 where
       (source : Source) (image : List ℕ) (node : Phandle) (answers : List Answer) (s : State Definitions) →
       tokenized source ≡ Ok image → load_fault image node s ≡ None →
       at (first_place source.size) (begun_at image node answers s) ≡ begun_at image node answers s
-  -- no source goes past a loop that isn't there by a `leave` that it hasn't
+  -- no source whose words of control have no `leave` goes past a loop
   pub without_leave :
       (x : Nest) (z : OffsetSize) (m : Moment Definitions) → HasNoLeave x →
       NeverLeft structured_calls nest_calls x z m
@@ -86,6 +65,6 @@ pub record SourcesBehave : Type 0 where
   pub behaves :
       (text image : List ℕ) (source : Source) (m : Moment Definitions) → parsed text ≡ Ok source →
       AreEncodable source.items → tokenized source ≡ Ok image → IsAt structured_calls image (IsKept image) m →
-      -- where no offset is made wider, and no `leave` goes past a loop that isn't there
-      AreSteady source.items → NeverLeft structured_calls nest_calls (nest_of source.items) source.size m →
+      -- where no `leave` goes past a loop that isn't there
+      NeverLeft structured_calls nest_calls (nest_of source.items) source.size m →
       Behaves structured_calls nest_calls (nest_of source.items) source.size m

@@ -14,7 +14,7 @@ use Rattle.of_means.specs.Moments.{Moment, made, steps}
 use Rattle.of_means.specs.Courses.{Course, On, Off, Out, Left, Thrown, Waits, Cut, Beyond}
 use Rattle.of_means.specs.Means.{at, at_place, defined, word}
 use Rattle.of_means.specs.Correct.{Behaves, source_means}
-use Rattle.of_means.specs.Sources.{AtSource, HasWords, IsSteady, IsWord}
+use Rattle.of_means.specs.Sources.{AtSource, HasWords, IsWord, WidensOutside}
 
 -- What is kept stays so in a step that leaves the data space as it was, and doesn't depend on where the source stands.
 pub record StaysKept {S : Type 0} (c : Calls S) (Keeps : State S → Type 0) : Type 0 where
@@ -31,7 +31,7 @@ module _ {S : Type 0} (c : Calls S) (image : List ℕ) (Keeps : State S → Type
   -- What a word of the source started comes back to it, behind the word's token.
   abbrev pub WordsComeBack : Type 0
   WordsComeBack =
-      (n : ℕ) (t : Token) (p : Place) (m u : Moment S) → IsWord t → IsSteady t → IsAt m →
+      (n : ℕ) (t : Token) (p : Place) (m u : Moment S) → IsWord t → IsAt m →
       token_from image p.position p.size ≡ Some (t, (behind t p).position) → word c n t p m ≡ On u →
       IsAt u × (at (behind t p) u ≡ u)
 
@@ -64,7 +64,8 @@ pub record SourceIsFollowed (S : Type 0) (Keeps : List ℕ → State S → Type 
   pub followed :
       (c : Calls S) (own : Nest → Calls S) (image : List ℕ) (z : OffsetSize) (x : Nest) (m : Moment S) →
       -- a whole source, whose tokens stand in the image, at which control is
-      IsWhole x → HasWords x → HasTokens image (first_place z) (tokens_of z x) → IsAt c image (Keeps image) m →
+      IsWhole x → HasWords x → WidensOutside x 0 → HasTokens image (first_place z) (tokens_of z x)
+      → IsAt c image (Keeps image) m →
       -- what is kept is kept, words come back, and definitions are read
       StaysKept c (Keeps image) → WordsComeBack c image (Keeps image)
       → DefinitionsAreRead c image (Keeps image) own →

@@ -1,5 +1,5 @@
 -- Control at a source: its image is read, outside all words, images and texts that it started (IEEE 1275-1994, 5.2.2).
-use Rattle.std.specs.Prelude.{◌≡◌, ◌⊎◌, ℕ, Bool, true, is_some, List, [], ◌∷◌, length, Some, None}
+use Rattle.std.specs.Prelude.{◌+◌, ◌-◌, ◌≡◌, ◌⊎◌, ℕ, Bool, true, is_some, List, [], ◌∷◌, length, Some, None}
 use Rattle.of_stacks.specs.declared.return_item.Continuation.TheVariants as continuation
 use Rattle.of_stacks.specs.declared.return_item.Input.TheVariants as input
 use Rattle.of_stacks.specs.declared.return_item.LoopExit.{LoopExit}
@@ -11,6 +11,7 @@ use Rattle.of_stream.specs.Targets.{within_tokens}
 use Rattle.of_memory.specs.Images.{latest_image}
 use Rattle.of_source.specs.Items.{Made, call, maker_token}
 use Rattle.of_source.specs.Nest.{Nest, Stop, Plain, Definition, Defining, If, Else, Then, Begin, Do, Leave, Case, Of}
+use Rattle.of_source.specs.Nest.{open_behind}
 use Rattle.of_source.specs.Plain.{IsPlain, is_kind}
 use Rattle.of_tok.specs.declared.place.Place.{Place}
 use Rattle.of_state.specs.State.{State}
@@ -24,14 +25,14 @@ abbrev pub IsWord : Token → Type 0
 IsWord t =
     IsPlain t ⊎ (((m : Made) × (t ≡ maker_token m)) ⊎ ((is_kind t.code.0 ≡ true) × (t ≡ call t.code)))
 
--- none makes the offsets behind it wider
+-- a word that doesn't make the offsets behind it wider
 abbrev pub IsSteady : Token → Type 0
 IsSteady t = t.code.0 ≡ 0x0cc → ⊥
 
 -- its plain words are such, and its defining words
 abbrev pub HasWords : Nest → Type 0
 HasWords Stop = Unit {0}
-HasWords (Plain t r) = IsPlain t × IsSteady t × HasWords r
+HasWords (Plain t r) = IsPlain t × HasWords r
 HasWords (Definition m i r) = HasWords i × HasWords r
 HasWords (Defining m t r) = (is_kind t.0 ≡ true) × HasWords r
 HasWords (If l r) = HasWords r
@@ -42,6 +43,37 @@ HasWords (Do v k i l y r) = HasWords i × HasWords r
 HasWords (Leave r) = HasWords r
 HasWords (Case i r) = HasWords i × HasWords r
 HasWords (Of k i y r) = HasWords i × HasWords r
+
+-- no word of a nest makes them wider, its definitions' words neither
+abbrev pub KeepsSize : Nest → Type 0
+KeepsSize Stop = Unit {0}
+KeepsSize (Plain t r) = IsSteady t × KeepsSize r
+KeepsSize (Definition m i r) = KeepsSize i × KeepsSize r
+KeepsSize (Defining m t r) = KeepsSize r
+KeepsSize (If l r) = KeepsSize r
+KeepsSize (Else l r) = KeepsSize r
+KeepsSize (Then r) = KeepsSize r
+KeepsSize (Begin i z l r) = KeepsSize i × KeepsSize r
+KeepsSize (Do v k i l y r) = KeepsSize i × KeepsSize r
+KeepsSize (Leave r) = KeepsSize r
+KeepsSize (Case i r) = KeepsSize i × KeepsSize r
+KeepsSize (Of k i y r) = KeepsSize i × KeepsSize r
+
+-- Offsets are made wider only where no branch and no part is open, but for those of a definition: so their size is the
+-- same whichever way control goes. There are d branches open before the nest.
+abbrev pub WidensOutside : Nest → ℕ → Type 0
+WidensOutside Stop d = Unit {0}
+WidensOutside (Plain t r) d = (IsSteady t ⊎ (d ≡ 0)) × WidensOutside r d
+WidensOutside (Definition m i r) d = (KeepsSize i ⊎ (d ≡ 0)) × WidensOutside r d
+WidensOutside (Defining m t r) d = WidensOutside r d
+WidensOutside (If l r) d = WidensOutside r (d + 1)
+WidensOutside (Else l r) d = WidensOutside r d
+WidensOutside (Then r) d = WidensOutside r (d - 1)
+WidensOutside (Begin i z l r) d = KeepsSize i × WidensOutside r (open_behind i d)
+WidensOutside (Do v k i l y r) d = KeepsSize i × WidensOutside r d
+WidensOutside (Leave r) d = WidensOutside r d
+WidensOutside (Case i r) d = KeepsSize i × WidensOutside r d
+WidensOutside (Of k i y r) d = KeepsSize i × WidensOutside r d
 
 -- no word of control is `leave`, but for those in definitions
 abbrev pub HasNoLeave : Nest → Type 0
