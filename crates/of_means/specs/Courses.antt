@@ -2,7 +2,8 @@
 use Rattle.std.specs.Prelude.{ℕ, ◌==◌, Bool, true, false}
 use Rattle.of_means.specs.Moments.{Moment}
 
--- a branch is named by the number of branches that were open before it, a loop by the position at which it ends
+-- how a part ends, and in which state: a branch is named by the number of branches that were open before it, a loop by
+-- the position at which it ends
 pub data Course (S : Type 0) : Type 0 where
   On : Moment S → Course S  -- through
   Off : ℕ → Moment S → Course S  -- by a branch, up to the word that closes it
@@ -24,11 +25,12 @@ through (Waits m) go = Waits m
 through (Cut m) go = Cut m
 through Beyond go = Beyond
 
+-- through at the word that closes the branch, else on by it
 abbrev pub on_if : {S : Type 0} → Bool → ℕ → Moment S → Course S
 on_if true b m = On m
 on_if false b m = Off b m
 
--- at `then`, which closes branch x
+-- at `then`, which closes branch x: what left by it goes on
 abbrev pub arrives : {S : Type 0} → ℕ → Course S → Course S
 arrives x (Off b m) = on_if (b == x) b m
 arrives x (On m) = On m
@@ -50,7 +52,7 @@ swaps x (Waits m) = Waits m
 swaps x (Cut m) = Cut m
 swaps x Beyond = Beyond
 
--- at `endcase`
+-- at `endcase`: what left by an `endof` goes on
 abbrev pub joins : {S : Type 0} → Course S → Course S
 joins (Out m) = On m
 joins (On m) = On m
@@ -61,11 +63,12 @@ joins (Waits m) = Waits m
 joins (Cut m) = Cut m
 joins Beyond = Beyond
 
+-- through where the loop ends, else on past the next
 abbrev pub past_if : {S : Type 0} → Bool → ℕ → Moment S → Course S
 past_if true e m = On m
 past_if false e m = Left e m
 
--- behind the loop that ends at position x
+-- behind the loop that ends at position x: what left that goes on
 abbrev pub past_loop : {S : Type 0} → ℕ → Course S → Course S
 past_loop x (Left e m) = past_if (e == x) e m
 past_loop x (On m) = On m

@@ -38,6 +38,7 @@ use Rattle.of_means.specs.Courses.{swaps, through}
 abbrev pub at_place : {S : Type 0} → Place → State S → State S
 at_place p s = read_on p.size p.position s
 
+-- a moment at which it stands so
 abbrev pub at : {S : Type 0} → Place → Moment S → Moment S
 at p m = with_state (at_place p m.state) m
 
@@ -45,7 +46,7 @@ at p m = with_state (at_place p m.state) m
 abbrev pub token_at : {S : Type 0} → Calls S → Token → Place → Place → State S → Outcome S
 token_at c t p q s = token_done c (typed_of t) (spot_in s.board.memory p.position q.position) (at_place q s)
 
--- it is over where nothing runs any more, or control is back at the source
+-- what a word started is over where nothing runs any more, or control is back at the source
 abbrev pub over : {S : Type 0} → (is_running is_back : Bool) → Moment S → Course S → Course S
 over false b m further = Thrown m
 over true true m further = On m
@@ -72,6 +73,7 @@ word c n t p m = after_step (step_by c (token_at c t p (behind t p)) m) (at p m)
 abbrev pub controlled : {S : Type 0} → ControlWord → ℕ → Moment S → Result Turn Throw
 controlled w end m = control_entry w true (exit.Position end) m.state.board.stack m.state.flow.items
 
+-- with both stacks left so
 abbrev pub turned : {S : Type 0} → Turn → Moment S → Moment S
 turned t m = with_state (with_stack t.stack (with_items t.items m.state)) m
 
@@ -79,6 +81,7 @@ turned t m = with_state (with_stack t.stack (with_items t.items m.state)) m
 abbrev pub fallen : {S : Type 0} → Calls S → Throw → Moment S → Moment S
 fallen c t m = with_state (settled_of c (failed t m.state)) m
 
+-- the one way or the other
 abbrev pub one_way : {S : Type 0} → Bool → (Moment S → Course S) → (Moment S → Course S) → Moment S → Course S
 one_way true goes stays m = goes m
 one_way false goes stays m = stays m
@@ -90,6 +93,7 @@ abbrev pub forked : {S : Type 0} → Calls S → Result Turn Throw → Moment S 
 forked c (Ok t) m goes stays = one_way t.goes goes stays (turned t m)
 forked c (Err t) m goes stays = Thrown (fallen c t m)
 
+-- the position of the image at which a loop ends
 abbrev pub position_in : LoopExit → ℕ
 position_in (exit.Position n) = n
 position_in (exit.Code n) = 0
@@ -99,16 +103,19 @@ abbrev pub leaves : {S : Type 0} → Calls S → Result LoopParameters Throw →
 leaves c (Ok l) m = Left (position_in l.exit) (with_state (with_items (drop 1 m.state.flow.items) m.state) m)
 leaves c (Err t) m = Thrown (fallen c t m)
 
+-- `?do`, or `do`
 abbrev pub do_word : Bool → ControlWord
 do_word true = control.QuestionDo
 do_word false = control.Do
 
+-- `+loop`, or `loop`
 abbrev pub loop_word : Bool → ControlWord
 loop_word true = control.PlusLoop
 loop_word false = control.Loop
 
 -- ---- definitions
 
+-- an FCode names an immediate word
 abbrev pub is_immediate_entry : Option TokenEntry → Bool
 is_immediate_entry None = false
 is_immediate_entry (Some e) = e.immediate
@@ -123,9 +130,11 @@ abbrev pub unless_thrown : {S : Type 0} → Bool → Moment S → Course S
 unless_thrown true m = On m
 unless_thrown false m = Thrown m
 
+-- the state that is left when what is due has been worked off
 abbrev pub left_by : {S : Type 0} → Calls S → Outcome S → Moment S → Course S
 left_by c o m = let s = settled_of c o in unless_thrown s.flow.is_running (with_state s m)
 
+-- a token is compiled, unless it is executed
 abbrev pub token_compiled : {S : Type 0} → Calls S → Bool → Token → Place → Moment S → Course S
 token_compiled c true t p m = Beyond
 token_compiled c false t p m = left_by c (token_at c t p (behind t p) m.state) m

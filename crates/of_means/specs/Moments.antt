@@ -31,6 +31,7 @@ answered_step c does (Some answer) m = Some (record {
   answers = drop 1 m.answers;
 })
 
+-- a step by what it asks, if anything
 abbrev pub asked_step : {S : Type 0} → Calls S → (State S → Outcome S) → Option Query → Moment S → Option (Moment S)
 asked_step c does None m = Some (with_state (settled_of c (does m.state)) m)
 asked_step c does (Some q) m = answered_step c does (fitting q m.answers) m

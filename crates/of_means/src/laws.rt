@@ -44,8 +44,8 @@ pub fn words_are_followed()
 }
 
 /// The image of an accepted source does what the source means, and only that, from where it begins on. This is a
-/// premise: no `leave` of the source goes past a loop that isn't there. It holds of each source that has `leave` in its
-/// definitions alone.
+/// premise: no `leave` of the source goes past a loop that isn't there. It holds of each source that has `leave` in
+/// its definitions alone.
 #[tactic(auto, using(crate::proofs::Whole::sources_behave))]
 pub fn sources_behave()
     ensures { SourcesBehave }
