@@ -1,0 +1,2 @@
+-- Steps: the turns of a run are steps.
+pub mod Steps

@@ -1,0 +1,235 @@
+-- The turns of a run without lines and clients are steps.
+use Rattle.std.proofs.Common.{◌≡◌, ℕ, zero, suc, ◌+◌, ◌-◌, ◌<◌, ◌^◌, ◌&&◌, nat_lt, Bool, true, false}
+use Rattle.std.proofs.Common.{List, [], ◌∷◌, ◌++◌, drop, Option, Some, None, refl, sym, ap, subst, ◌∙◌, arith}
+use Rattle.std.proofs.Common.{if◌then◌else◌, option_and_then}
+use Rattle.std.proofs.lemmas.Bool.{lt-ltb}
+use Rattle.of_asking.specs.declared.query.Answer.{Answer}
+use Rattle.of_asking.specs.declared.query.Query.{Query}
+use Rattle.of_compile.specs.Structured.{Definitions}
+use Rattle.of_state.specs.Loading.{first_state}
+use Rattle.of_state.specs.State.{State}
+use Rattle.of_steps.specs.Steps.{asked_by, due, replied, settled_of, stepped}
+use Rattle.of_eval_laws.specs.Structured.{no_definitions, structured_calls}
+use Rattle.of_means.specs.Accepted.{SourcesBehave}
+use Rattle.of_means.specs.Moments.{Moment, answered_step, asked_step, made, next_due, step_by, steps, with_state}
+use Rattle.of_means.specs.Moments as moment
+use Rattle.of_machine.specs.Runs.{Feed, States, after, asking, beginning, clients_heard, fed_by, next, settled, told}
+use Rattle.of_machine.specs.Runs.{turned}
+use Rattle.of_machine.specs.Runs as run
+use Rattle.of_machine.specs.States.{MachineState, slot}
+use Rattle.of_source_runs.specs.Runs.{HasAsked, HasCome, TokenizedMeans, first_moment}
+
+-- ---- a feed at a moment
+
+-- behind so many steps, when this was asked
+abbrev feed : List Query → ℕ → Moment Definitions → Feed Definitions
+feed asked k t = record {
+  machine = record { eval = t.state; steps = k; replies = []; asked = asked; waiting = None };
+  lines = [];
+  answers = t.answers;
+  calls = [];
+}
+
+-- nothing is handed in
+fed_nothing : (b : Bool) (f : Feed Definitions) → fed_by b [] f ≡ f
+fed_nothing true f = refl
+fed_nothing false f = refl
+
+settled_same : (asked : List Query) (k : ℕ) (t : Moment Definitions) → settled (feed asked k t) ≡ feed asked k t
+settled_same asked k t = fed_nothing t.state.flow.is_running (feed asked k t)
+
+begins : (image : List ℕ) (answers : List Answer)
+    → beginning no_definitions image [] answers [] ≡ feed [] 0 (first_moment image answers)
+begins image answers = settled_same [] 0 (first_moment image answers)
+
+-- ---- a step
+
+same_answer : (q : Query) (answers : List Answer) → run.fitting q answers ≡ moment.fitting q answers
+same_answer q [] = refl
+same_answer q (a ∷ answers) = refl
+
+steps_on : (s : State Definitions) → s.flow.is_running ≡ true
+    → stepped structured_calls s ≡ settled_of structured_calls (due structured_calls s.flow.next s)
+unfolding stepped
+steps_on s e =
+    ap (λ b. if b then settled_of structured_calls (due structured_calls s.flow.next s) else s) e
+
+-- some feed stands at the moment behind one more step
+abbrev GoesOn : Feed Definitions → ℕ → Moment Definitions → Type 0
+GoesOn f k t = (asked : List Query) × (f ≡ feed asked k t)
+
+same_Some : {A : Type 0} {x y : A} → ◌≡◌ {A = Option A} (Some x) (Some y) → x ≡ y
+same_Some e = cc
+
+quiet_turn : (asked : List Query) (k : ℕ) (t u : Moment Definitions) → t.state.flow.is_running ≡ true
+    → asked_step structured_calls (next_due structured_calls) None t ≡ Some u
+    → GoesOn (turned structured_calls None (feed asked k t)) (k + 1) u
+quiet_turn asked k t u runs e =
+    let new = settled_of structured_calls (next_due structured_calls t.state) in
+    let there : with_state new t ≡ u = same_Some e in
+    let here : turned structured_calls None (feed asked k t)
+    ≡ settled (feed asked (k + 1) (with_state (stepped structured_calls t.state) t)) = refl in (
+      asked,
+      here ∙ settled_same asked (k + 1) (with_state (stepped structured_calls t.state) t)
+          ∙ ap (λ s. feed asked (k + 1) (with_state s t)) (steps_on t.state runs)
+          ∙ ap (feed asked (k + 1)) there,
+    )
+
+told_turn : (asked : List Query) (k : ℕ) (t u : Moment Definitions) (q : Query) (o : Option Answer)
+    → t.state.flow.is_running ≡ true
+    → answered_step structured_calls (next_due structured_calls) o t ≡ Some u
+    → GoesOn (told structured_calls o (asking q (feed asked k t))) (k + 1) u
+told_turn asked k t u q None runs e = absurd cc
+told_turn asked k t u q (Some a) runs e =
+    let old = t.state in
+    let new : State Definitions = record (stepped structured_calls (replied a old)) { reply = old.reply } in
+    let later : Moment Definitions = record { state = new; answers = drop 1 t.answers } in
+    let there : record {
+      state = record (settled_of structured_calls (next_due structured_calls (replied a old))) { reply = old.reply };
+      answers = drop 1 t.answers;
+    } ≡ u = same_Some e in
+    let here : told structured_calls (Some a) (asking q (feed asked k t))
+    ≡ settled (feed (asked ++ q ∷ []) (k + 1) later) = refl in (
+      asked ++ q ∷ [],
+      here ∙ settled_same (asked ++ q ∷ []) (k + 1) later
+          ∙ ap (λ (s : State Definitions). feed (asked ++ q ∷ []) (k + 1)
+          (record { state = record s { reply = old.reply }; answers = drop 1 t.answers })) (steps_on (replied a old) runs)
+          ∙ ap (feed (asked ++ q ∷ []) (k + 1)) there,
+    )
+
+turn_by : (asked : List Query) (k : ℕ) (t u : Moment Definitions) (o : Option Query) → t.state.flow.is_running ≡ true
+    → asked_step structured_calls (next_due structured_calls) o t ≡ Some u
+    → GoesOn (turned structured_calls o (feed asked k t)) (k + 1) u
+turn_by asked k t u None runs e = quiet_turn asked k t u runs e
+turn_by asked k t u (Some q) runs e =
+    subst (λ x. GoesOn (told structured_calls x (asking q (feed asked k t))) (k + 1) u)
+    (sym (same_answer q t.answers))
+    (told_turn asked k t u q (moment.fitting q t.answers) runs e)
+
+-- a turn that is made
+next_is : (asked : List Query) (k : ℕ) (t : Moment Definitions) → t.state.flow.is_running ≡ true → k + 1 < 2 ^ 64
+    → next structured_calls (feed asked k t)
+    ≡ turned structured_calls (asked_by structured_calls t.state) (feed asked k t)
+unfolding next
+next_is asked k t runs few =
+    let counted : nat_lt k (2 ^ 64 - 1) ≡ true = lt-ltb k (2 ^ 64 - 1) (omega (arith, few)) in
+    ap (λ b. if (b && nat_lt k (2 ^ 64 - 1)) && true
+    then turned structured_calls (asked_by structured_calls t.state) (feed asked k t)
+    else feed asked k t) runs
+    ∙ ap (λ b. if (true && b) && true
+    then turned structured_calls (asked_by structured_calls t.state) (feed asked k t)
+    else feed asked k t) counted
+
+runs_by : (b : Bool) (o : Option (Moment Definitions)) (u : Moment Definitions) → (if b then o else None) ≡ Some u
+    → b ≡ true
+runs_by true o u e = refl
+runs_by false o u e = absurd cc
+
+step_by_if : (b : Bool) (o : Option (Moment Definitions)) (u : Moment Definitions) → (if b then o else None) ≡ Some u
+    → o ≡ Some u
+step_by_if true o u e = e
+step_by_if false o u e = absurd cc
+
+turn : (asked : List Query) (k : ℕ) (t u : Moment Definitions) → k + 1 < 2 ^ 64 → made structured_calls t ≡ Some u
+    → GoesOn (next structured_calls (feed asked k t)) (k + 1) u
+turn asked k t u few e =
+    let o = step_by structured_calls (next_due structured_calls) t in
+    let runs : t.state.flow.is_running ≡ true = runs_by t.state.flow.is_running o u e in
+    let does : o ≡ Some u = step_by_if t.state.flow.is_running o u e in
+    subst (λ f. GoesOn f (k + 1) u) (sym (next_is asked k t runs few))
+    (turn_by asked k t u (asked_by structured_calls t.state) runs does)
+
+-- ---- so many steps
+
+after_next : (n : ℕ) (f : Feed Definitions)
+    → after structured_calls (suc n) f ≡ after structured_calls n (next structured_calls f)
+unfolding after
+after_next zero f = refl
+after_next (suc n) f = ap (next structured_calls) (after_next n f)
+
+comes_by : (n : ℕ) (o : Option (Moment Definitions)) (asked : List Query) (k : ℕ) (t v : Moment Definitions)
+    → made structured_calls t ≡ o → option_and_then (λ u. steps structured_calls n u) o ≡ Some v
+    → ((asked : List Query) (k : ℕ) (u : Moment Definitions) → k + n < 2 ^ 64 → steps structured_calls n u ≡ Some v
+    → GoesOn (after structured_calls n (feed asked k u)) (k + n) v)
+    → k + suc n < 2 ^ 64 → GoesOn (after structured_calls (suc n) (feed asked k t)) (k + suc n) v
+comes_by n None asked k t v e rest further few = absurd cc
+comes_by n (Some u) asked k t v e rest further few =
+    let one = turn asked k t u (omega (arith, few)) e in
+    let more : GoesOn (after structured_calls n (feed one.0 (k + 1) u)) ((k + 1) + n) v =
+    further one.0 (k + 1) u (omega (arith, few)) rest in
+    let same : (k + 1) + n ≡ k + suc n = omega arith in
+    subst (λ f. GoesOn f (k + suc n) v)
+    (sym (after_next n (feed asked k t) ∙ ap (after structured_calls n) one.1))
+    (subst (λ j. GoesOn (after structured_calls n (feed one.0 (k + 1) u)) j v) same more)
+
+comes_on : (n : ℕ) (asked : List Query) (k : ℕ) (t v : Moment Definitions) → k + n < 2 ^ 64
+    → steps structured_calls n t ≡ Some v → GoesOn (after structured_calls n (feed asked k t)) (k + n) v
+unfolding after
+comes_on zero asked k t v few e =
+    let same : t ≡ v = same_Some e in
+    let none : k ≡ k + 0 = omega arith in
+    (asked, ap (feed asked k) same ∙ ap (λ j. feed asked j v) none)
+comes_on (suc n) asked k t v few e =
+    comes_by n (made structured_calls t) asked k t v refl e
+    (λ a j u more s. comes_on n a j u v more s) few
+
+comes_from : (image : List ℕ) (answers : List Answer) (k : ℕ) (t : Moment Definitions) → k < 2 ^ 64
+    → steps structured_calls k (first_moment image answers) ≡ Some t
+    → GoesOn (after structured_calls k (beginning no_definitions image [] answers [])) k t
+comes_from image answers k t few e =
+    let there = comes_on k [] 0 (first_moment image answers) t (omega (arith, few)) e in
+    let same : 0 + k ≡ k = omega arith in
+    subst (λ f. GoesOn (after structured_calls k f) k t) (sym (begins image answers))
+    (subst (λ j. GoesOn (after structured_calls k (feed [] 0 (first_moment image answers))) j t) same there)
+
+comes : (image : List ℕ) (answers : List Answer) (k : ℕ) (t : Moment Definitions) → k < 2 ^ 64
+    → steps structured_calls k (first_moment image answers) ≡ Some t → HasCome (States image [] answers [] k) k t
+comes image answers k t few e =
+    let there = comes_from image answers k t few e in
+    let m = ap (λ (f : Feed Definitions). f.machine) there.1 in
+    record {
+      state = ap (λ (n : MachineState Definitions). n.eval) m;
+      made = ap (λ (n : MachineState Definitions). n.steps) m;
+      calm = ap (λ (n : MachineState Definitions). n.waiting) m;
+    }
+
+-- ---- a question without an answer
+
+waits : (image : List ℕ) (answers : List Answer) (k : ℕ) (t : Moment Definitions) (q : Query) → k + 1 < 2 ^ 64
+    → steps structured_calls k (first_moment image answers) ≡ Some t → t.state.flow.is_running ≡ true
+    → asked_by structured_calls t.state ≡ Some q → moment.fitting q t.answers ≡ None
+    → HasAsked (States image [] answers [] (k + 1)) k t q
+unfolding after
+waits image answers k t q few e runs asks none =
+    let there = comes_from image answers k t (omega (arith, few)) e in
+    let start = beginning no_definitions image [] answers [] in
+    let one : after structured_calls (k + 1) start ≡ next structured_calls (after structured_calls k start) =
+    ap (λ n. after structured_calls n start) (next_number k) in
+    let opened : next structured_calls (feed there.0 k t) ≡ asking q (feed there.0 k t) =
+    next_is there.0 k t runs few
+    ∙ ap (λ o. turned structured_calls o (feed there.0 k t)) asks
+    ∙ ap (λ o. told structured_calls o (asking q (feed there.0 k t))) (same_answer q t.answers ∙ none) in
+    let all : after structured_calls (k + 1) start ≡ asking q (feed there.0 k t) =
+    one ∙ ap (next structured_calls) there.1 ∙ opened in
+    let m = ap (λ (f : Feed Definitions). f.machine) all in
+    record {
+      state = ap (λ (n : MachineState Definitions). n.eval) m;
+      made = ap (λ (n : MachineState Definitions). n.steps) m;
+      asks = ap (λ (n : MachineState Definitions). n.waiting) m;
+    }
+  where
+    next_number : (n : ℕ) → n + 1 ≡ suc n
+    next_number n = omega arith
+
+-- ---- the law
+
+pub tokenized_means : SourcesBehave → TokenizedMeans
+tokenized_means law = record {
+  behaves = λ text image source answers accepted encodable made bytes taken never. (
+    law.behaves text image source (first_moment image answers) accepted encodable made
+        (law.begins image slot answers (first_state no_definitions) law.first bytes taken) never,
+    law.at_first source image slot answers (first_state no_definitions) made taken,
+  );
+  comes = comes;
+  waits = waits;
+}
