@@ -93,9 +93,9 @@ shut_by (Some n) e = absurd cc
 pub no : true ≡ false → ⊥
 no e = cc
 
-module _ (image : List ℕ) (outer : Reading) where
+module _ (image ends : List ℕ) (outer : Reading) where
   abbrev pub Back : Reading → Bool → Option Continuation → List ReturnItem → Type 0
-  Back = LeadsBack image outer
+  Back = LeadsBack image ends outer
 
   -- ---- moves
 
@@ -107,7 +107,7 @@ module _ (image : List ℕ) (outer : Reading) where
       → Back now code due r → BackAs now code after r (drop 1 r)
   unfolding latest_source
   looped now code due after [] (l, e) h = absurd cc
-  looped now code due after (Loop l ∷ r) t h = (due_too image outer now code after r h.1, refl)
+  looped now code due after (Loop l ∷ r) t h = (due_too image ends outer now code after r h.1, refl)
   looped now code due after (User x ∷ r) (l, e) h = absurd cc
   looped now code due after (Return to ∷ r) (l, e) h = absurd cc
   looped now code due after (Handler f ∷ r) (l, e) h = absurd cc
@@ -131,7 +131,7 @@ module _ (image : List ℕ) (outer : Reading) where
       → Back now code due r → BackAs now code after r (drop 1 r)
   unfolding latest_source
   celled now code due after [] (x, e) h = absurd cc
-  celled now code due after (User x ∷ r) t h = (due_too image outer now code after r h, refl)
+  celled now code due after (User x ∷ r) t h = (due_too image ends outer now code after r h, refl)
   celled now code due after (Loop l ∷ r) (x, e) h = absurd cc
   celled now code due after (Return to ∷ r) (x, e) h = absurd cc
   celled now code due after (Handler f ∷ r) (x, e) h = absurd cc
@@ -154,7 +154,7 @@ module _ (image : List ℕ) (outer : Reading) where
 
   -- control is in code, or an image is read
   abbrev pub Runs : {S : Type 0} → Bool → State S → Type 0
-  Runs code s = Leads image outer s × (is_code s.flow.next ≡ code)
+  Runs code s = Leads image ends outer s × (is_code s.flow.next ≡ code)
 
   -- nothing is due there
   abbrev pub Rests : {S : Type 0} → Bool → State S → Type 0
@@ -251,20 +251,20 @@ module _ (image : List ℕ) (outer : Reading) where
 
   move_leads : {S : Type 0} (code : Bool) (cells : List Cell) (m : Move) (to : To) (c : Calls S) (s : State S)
       → IsWork (leading S code) s (act.Moves cells m to) → Runs code s
-      → Leads image outer (worked c (act.Moves cells m to) s).state
+      → Leads image ends outer (worked c (act.Moves cells m to) s).state
   unfolding worked latest_source
   move_leads code cells act.Keeps act.Behind c s h p = p.0
   move_leads code cells act.Keeps (act.Next continuation.Source) c s h p = absurd h.2.0
   move_leads code cells act.Keeps (act.Next (continuation.Code n)) c s h p = (
     (
       p.0.0.0,
-      due_too image outer s.flow.reading true (Some (continuation.Code n)) s.flow.items
+      due_too image ends outer s.flow.reading true (Some (continuation.Code n)) s.flow.items
           (in_code s.flow.reading code true None s.flow.items h.2.0.0 h.2.0.1),
     ),
     p.0.1,
   )
   move_leads code cells (act.Pushes (User x)) act.Behind c s h p = (
-    (p.0.0.0, none_due image outer s.flow.reading (is_code s.flow.next) (Some s.flow.next) s.flow.items h.2 p.0.0.1),
+    (p.0.0.0, none_due image ends outer s.flow.reading (is_code s.flow.next) (Some s.flow.next) s.flow.items h.2 p.0.0.1),
     p.0.1,
   )
   move_leads code cells (act.Pushes (Loop l)) act.Behind c s h p = (
@@ -314,23 +314,23 @@ module _ (image : List ℕ) (outer : Reading) where
       (in_code s.flow.reading code true None s.flow.items h.2.0.0 h.2.0.1) in
       ((p.0.0.0, x.0), (λ o. p.0.1 (sym x.1 ∙ o)))
 
-  board_lead : {S : Type 0} (r : Result Board Throw) (s : State S) → Leads image outer s
-      → Leads image outer (by_board r s).state
+  board_lead : {S : Type 0} (r : Result Board Throw) (s : State S) → Leads image ends outer s
+      → Leads image ends outer (by_board r s).state
   board_lead (Ok x) s h = h
   board_lead (Err t) s h = h
 
-  asking_leads : {S : Type 0} (x : Asking Board) (s : State S) → Leads image outer s
-      → Leads image outer (by_asking x s).state
+  asking_leads : {S : Type 0} (x : Asking Board) (s : State S) → Leads image ends outer s
+      → Leads image ends outer (by_asking x s).state
   asking_leads (Gives r) s h = board_lead r s h
   asking_leads (Asks q) s h = h
 
   pub appended_leads : {S : Type 0} (code : S) (e : Result (Unit {0}) Throw) (cells : List Cell) (s : State S)
-      → Leads image outer s → Leads image outer (appended (record { code = code; ended = e }) cells s).state
+      → Leads image ends outer s → Leads image ends outer (appended (record { code = code; ended = e }) cells s).state
   appended_leads code (Ok x) cells s h = h
   appended_leads code (Err t) cells s h = h
 
   pub worked_leads : {S : Type 0} (code : Bool) (c : Calls S) (a : WordAct) (s : State S)
-      → IsWork (leading S code) s a → Runs code s → Leads image outer (worked c a s).state
+      → IsWork (leading S code) s a → Runs code s → Leads image ends outer (worked c a s).state
   unfolding worked
   worked_leads code c (act.Fails t) s h p = p.0
   worked_leads code c (act.Raises t cells) s h p = p.0

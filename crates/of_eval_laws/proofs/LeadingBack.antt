@@ -24,9 +24,9 @@ use Rattle.of_eval_laws.specs.Returning.{IsDue, IsRead, Leads, LeadsBack, is_cod
 use Rattle.of_eval_laws.specs.Returning.{is_return_top, reads_nothing}
 use Rattle.of_eval_laws.proofs.LeadingEnds.{due_too, given_flow, given_shut}
 
-module _ (image : List ℕ) (outer : Reading) where
+module _ (image ends : List ℕ) (outer : Reading) where
   abbrev Back : Reading → Bool → Option Continuation → List ReturnItem → Type 0
-  Back = LeadsBack image outer
+  Back = LeadsBack image ends outer
 
   -- what an image or a text that is read inside stands on
   record Below (r : List ReturnItem) : Type 0 where
@@ -87,45 +87,45 @@ module _ (image : List ℕ) (outer : Reading) where
     pub leads : Back s.flow.reading false None s.flow.items
     pub inner : is_outer s.flow.items ≡ false
 
-  pub both : {S : Type 0} (s : State S) → InImage s → Leads image outer s
+  pub both : {S : Type 0} (s : State S) → InImage s → Leads image ends outer s
   both s h =
       let code : is_code s.flow.next ≡ false = ap is_code h.next in
       let l = subst (λ (b : Bool). Back s.flow.reading b None s.flow.items) (sym code) h.leads in (
-        (h.read, due_too image outer s.flow.reading (is_code s.flow.next) (Some s.flow.next) s.flow.items l),
+        (h.read, due_too image ends outer s.flow.reading (is_code s.flow.next) (Some s.flow.next) s.flow.items l),
         (λ o. absurd (no (sym o ∙ h.inner))),
       )
 
   goes_back : {S : Type 0} (s : State S) → Below s.flow.items → s.words.defining ≡ None
-      → Leads image outer (source_ended s)
+      → Leads image ends outer (source_ended s)
   goes_back s b e =
       let o = reading_on (or_nothing (latest_source s.flow.items)) s in
       let reading : o.flow.reading ≡ b.before = ap or_nothing b.source in
       let back : going_back (beneath_source s.flow.items) o.flow ≡ record o.flow { items = b.rest; next = b.to } =
       ap (λ (x : List ReturnItem). going_back x o.flow) b.beneath in
-      let good : IsDue image outer (record o.flow { items = b.rest; next = b.to }) = (
+      let good : IsDue image ends outer (record o.flow { items = b.rest; next = b.to }) = (
         subst (λ (x : Reading). IsRead x) (sym reading) b.read,
         subst (λ (x : Reading). Back x (is_code b.to) (Some b.to) b.rest) (sym reading) b.leads,
       ) in
-      (subst (λ (f : Flow). IsDue image outer f) (sym back) good, (λ y. e))
+      (subst (λ (f : Flow). IsDue image ends outer f) (sym back) good, (λ y. e))
 
-  given_both : {S : Type 0} (c : Calls S) (s : State S) → InImage s → Leads image outer (given_up c s)
+  given_both : {S : Type 0} (c : Calls S) (s : State S) → InImage s → Leads image ends outer (given_up c s)
   given_both c s h =
-      let g = given_flow image outer c (is_some s.words.defining) s refl in
+      let g = given_flow image ends outer c (is_some s.words.defining) s refl in
       let b = both s h in
       let u = (given_up c s).flow in
-      let d : IsDue image outer (given_up c s).flow = (
+      let d : IsDue image ends outer (given_up c s).flow = (
         subst (λ (x : Reading). IsRead x) (sym g.1) b.0.0,
         subst (λ (x : Reading). Back x (is_code u.next) (Some u.next) u.items) (sym g.1)
             (subst (λ (x : Continuation). Back s.flow.reading (is_code x) (Some x) (given_up c s).flow.items) (sym g.2)
             (subst (λ (x : List ReturnItem). Back s.flow.reading (is_code s.flow.next) (Some s.flow.next) x) (sym g.0)
             b.0.1)),
       ) in
-      (d, (λ o. given_shut image outer c s.words.defining s refl))
+      (d, (λ o. given_shut image ends outer c s.words.defining s refl))
 
   -- `end0` and `end1`, and the end of a text
   ended_by : {S : Type 0} (c : Calls S) (s : State S) (o : Option ℕ) (at : Option Cell) (line : Bool)
       → s.words.defining ≡ o → at ≡ None → line ≡ false → InImage s
-      → Leads image outer
+      → Leads image ends outer
       (if is_some o && not (is_same (option_map (λ (m : ℕ). (let x : Cell = record { 0 = xt_of m } in x)) o) at)
       && not line
       then failed compiler_nesting (given_up c s) else done (source_ended s)).state
@@ -149,7 +149,7 @@ module _ (image : List ℕ) (outer : Reading) where
   no_line (input.Text n) items h = same_first (latest_source items) ∙ h
   no_line (input.Image size n) items h = refl
 
-  pub ended_due : {S : Type 0} (c : Calls S) (s : State S) → InImage s → Leads image outer (ended c s).state
+  pub ended_due : {S : Type 0} (c : Calls S) (s : State S) → InImage s → Leads image ends outer (ended c s).state
   ended_due c s h =
       ended_by c s s.words.defining s.flow.reading.opened (is_line s.flow.reading.input s.flow.items) refl h.read.1
       (no_line s.flow.reading.input s.flow.items h.inner) h

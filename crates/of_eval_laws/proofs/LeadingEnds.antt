@@ -26,9 +26,9 @@ use Rattle.of_eval_laws.specs.Throws.{ThrowsSettle}
 use Rattle.of_eval_laws.specs.Returning.{IsBase, IsNested, IsRead, IsShut, LeadsBack, LeadsOn, is_code}
 use Rattle.of_eval_laws.specs.Returning.{is_outer, is_return_top}
 
-module _ (image : List ℕ) (outer : Reading) where
+module _ (image ends : List ℕ) (outer : Reading) where
   abbrev Back : Reading → Bool → Option Continuation → List ReturnItem → Type 0
-  Back = LeadsBack image outer
+  Back = LeadsBack image ends outer
 
   -- where nothing is due, something may be
   pub due_too : (now : Reading) (code : Bool) (due : Option Continuation) (r : List ReturnItem) → Back now code None r
@@ -54,7 +54,7 @@ module _ (image : List ℕ) (outer : Reading) where
 
   -- if something runs, it leads back, and no definition is open at the outermost image
   abbrev pub IsSettled : {S : Type 0} → State S → Type 0
-  IsSettled s = s.flow.is_running ≡ true → LeadsOn image outer s
+  IsSettled s = s.flow.is_running ≡ true → LeadsOn image ends outer s
 
   -- ---- a definition that is given up
 
@@ -162,7 +162,7 @@ module _ (image : List ℕ) (outer : Reading) where
 
   module _ {S : Type 0} (c : Calls S) (laws : ThrowsSettle S) where
     rested : (r : List ReturnItem) (s : State S) → IsReady r s → Back s.flow.reading (is_code s.flow.next) None r
-        → IsNested image outer s.flow × IsShut image outer s
+        → IsNested image ends outer s.flow × IsShut image ends outer s
     rested r s x h =
         let lead = subst (λ (y : List ReturnItem). Back s.flow.reading (is_code s.flow.next) None y) (sym x.items) h in
         ((x.read, lead), (λ o. x.shut (subst (λ (y : List ReturnItem). is_outer y ≡ true) x.items o)))

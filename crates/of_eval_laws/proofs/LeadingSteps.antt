@@ -140,12 +140,12 @@ naming_goes c d name s =
     known_goes s.board.active.«package» (known_at_once d s.words.dictionary) s (word_named c d name s)
     (named_goes c d name (awaited d s.words) s)
 
-module _ (image : List ℕ) (outer : Reading) where
+module _ (image ends : List ℕ) (outer : Reading) where
   -- ---- an image inside
 
   -- inside, it matters not what is read
   now_free : (now after : Reading) (code : Bool) (behind : Option Continuation) (r : List ReturnItem)
-      → is_outer r ≡ false → Back image outer now code behind r → Back image outer after code behind r
+      → is_outer r ≡ false → Back image ends outer now code behind r → Back image ends outer after code behind r
   unfolding latest_source
   now_free now after code behind [] e h = h
   now_free now after code behind (Loop l ∷ r) e h = (h.0, now_free now after code None r e h.1)
@@ -162,14 +162,14 @@ module _ (image : List ℕ) (outer : Reading) where
   still_source n input.Nothing h = h
 
   -- control goes on as it did, inside the outermost image
-  goes_on : {S : Type 0} (s u : State S) → Leads image outer s → is_outer s.flow.items ≡ false → GoesOn s u
-      → Leads image outer u
+  goes_on : {S : Type 0} (s u : State S) → Leads image ends outer s → is_outer s.flow.items ≡ false → GoesOn s u
+      → Leads image ends outer u
   goes_on s u h inner g = (
     (
       subst (λ x. IsRead x) (sym g.1) h.0.0,
-      subst (λ x. Back image outer x (is_code u.flow.next) (Some u.flow.next) u.flow.items) (sym g.1)
-          (subst (λ x. Back image outer s.flow.reading (is_code x) (Some x) u.flow.items) (sym g.2)
-          (subst (λ x. Back image outer s.flow.reading (is_code s.flow.next) (Some s.flow.next) x) (sym g.0) h.0.1)),
+      subst (λ x. Back image ends outer x (is_code u.flow.next) (Some u.flow.next) u.flow.items) (sym g.1)
+          (subst (λ x. Back image ends outer s.flow.reading (is_code x) (Some x) u.flow.items) (sym g.2)
+          (subst (λ x. Back image ends outer s.flow.reading (is_code s.flow.next) (Some s.flow.next) x) (sym g.0) h.0.1)),
     ),
     (λ o. absurd (no (sym o ∙ ap is_outer g.0 ∙ inner))),
   )
@@ -177,43 +177,43 @@ module _ (image : List ℕ) (outer : Reading) where
   -- ---- acts
 
   put_leads : {S : Type 0} (e : Result (Unit {0}) Throw) (code : S) (m : DataSpace) (s : State S)
-      → Leads image outer s → Leads image outer (string_put e code m s).state
+      → Leads image ends outer s → Leads image ends outer (string_put e code m s).state
   put_leads (Ok x) code m s h = h
   put_leads (Err t) code m s h = h
 
-  refused_leads : {S : Type 0} (e : Result (Unit {0}) Throw) (t : Throw) (s : State S) → Leads image outer s
-      → Leads image outer (string_refused e t s).state
+  refused_leads : {S : Type 0} (e : Result (Unit {0}) Throw) (t : Throw) (s : State S) → Leads image ends outer s
+      → Leads image ends outer (string_refused e t s).state
   refused_leads (Ok x) t s h = h
   refused_leads (Err first) t s h = h
 
-  kept_leads : {S : Type 0} (a : Answered S) (r : Result (ℕ × DataSpace) MemFault) (s : State S) → Leads image outer s
-      → Leads image outer (string_kept a r s).state
+  kept_leads : {S : Type 0} (a : Answered S) (r : Result (ℕ × DataSpace) MemFault) (s : State S) → Leads image ends outer s
+      → Leads image ends outer (string_kept a r s).state
   kept_leads a (Ok x) s h = put_leads a.ended a.code x.1 s h
   kept_leads a (Err fault) s h = refused_leads a.ended _ s h
 
   -- what a move of a token of control leaves
-  turn_leads : {S : Type 0} (code : Bool) (m : Move) (s : State S) → IsMove (leading image outer S code) s m
-      → IsTurn m s.flow.items → Rests image outer code s
-      → BackAs image outer s.flow.reading code None s.flow.items (moved m s.flow.items)
+  turn_leads : {S : Type 0} (code : Bool) (m : Move) (s : State S) → IsMove (leading image ends outer S code) s m
+      → IsTurn m s.flow.items → Rests image ends outer code s
+      → BackAs image ends outer s.flow.reading code None s.flow.items (moved m s.flow.items)
   turn_leads code act.Keeps s h t p = (p, refl)
   turn_leads code (act.Pushes item) s h t p = absurd t
-  turn_leads code act.Drops s h t p = looped image outer s.flow.reading code None None s.flow.items t p
+  turn_leads code act.Drops s h t p = looped image ends outer s.flow.reading code None None s.flow.items t p
   turn_leads code (act.Turns l) s h t p =
-      turned image outer s.flow.reading code None None l s.flow.items t h.0.0 p
+      turned image ends outer s.flow.reading code None None l s.flow.items t h.0.0 p
 
   -- the image is read on with these items
-  on_with : {S : Type 0} (s u : State S) (code : Bool) → Runs image outer code s → IsInner image outer code s
+  on_with : {S : Type 0} (s u : State S) (code : Bool) → Runs image ends outer code s → IsInner image ends outer code s
       → code ≡ false → IsRead u.flow.reading → u.flow.next ≡ s.flow.next
-      → BackAs image outer s.flow.reading code None s.flow.items u.flow.items
-      → Leads image outer u
+      → BackAs image ends outer s.flow.reading code None s.flow.items u.flow.items
+      → Leads image ends outer u
   on_with s u code p i f read next b =
       let inner : is_outer u.flow.items ≡ false = b.1 ∙ i f in
       let l = now_free s.flow.reading u.flow.reading code None u.flow.items inner b.0 in
       let same : is_code u.flow.next ≡ code = ap is_code next ∙ p.1 in (
         (
           read,
-          due_too image outer u.flow.reading (is_code u.flow.next) (Some u.flow.next) u.flow.items
-              (subst (λ x. Back image outer u.flow.reading x None u.flow.items) (sym same) l),
+          due_too image ends outer u.flow.reading (is_code u.flow.next) (Some u.flow.next) u.flow.items
+              (subst (λ x. Back image ends outer u.flow.reading x None u.flow.items) (sym same) l),
         ),
         (λ o. absurd (no (sym o ∙ inner))),
       )
@@ -222,20 +222,20 @@ module _ (image : List ℕ) (outer : Reading) where
   read_source continuation.Source e = refl
   read_source (continuation.Code n) e = absurd (no e)
 
-  in_image : {S : Type 0} (s : State S) (code : Bool) → code ≡ false → Runs image outer code s
-      → Rests image outer code s → IsInner image outer code s → InImage image outer s
+  in_image : {S : Type 0} (s : State S) (code : Bool) → code ≡ false → Runs image ends outer code s
+      → Rests image ends outer code s → IsInner image ends outer code s → InImage image ends outer s
   in_image s code f p r i = record {
     read = p.0.0.0;
     next = read_source s.flow.next (p.1 ∙ f);
-    leads = subst (λ b. Back image outer s.flow.reading b None s.flow.items) f r;
+    leads = subst (λ b. Back image ends outer s.flow.reading b None s.flow.items) f r;
     inner = i f;
   }
 
   acted_leads : {S : Type 0} (code : Bool) (c : Calls S) (a : Act) (s : State S)
-      → IsAct (leading image outer S code) (leading_turns image outer S code) s a → Runs image outer code s
-      → Rests image outer code s → IsInner image outer code s → Leads image outer (acted c a s).state
+      → IsAct (leading image ends outer S code) (leading_turns image ends outer S code) s a → Runs image ends outer code s
+      → Rests image ends outer code s → IsInner image ends outer code s → Leads image ends outer (acted c a s).state
   unfolding acted
-  acted_leads code c (act.Does a) s h p r i = worked_leads image outer code c a s h p
+  acted_leads code c (act.Does a) s h p r i = worked_leads image ends outer code c a s h p
   acted_leads code c (act.Goes cells move n) s h p r i =
       on_with s (acted c (act.Goes cells move n) s).state code p i h.0
       (still_source n s.flow.reading.input p.0.0.0.0, p.0.0.0.1) refl (turn_leads code move s h.1 h.2 r)
@@ -243,66 +243,66 @@ module _ (image : List ℕ) (outer : Reading) where
   acted_leads code c (act.Makes d) s h p r i = goes_on s (define_entry c d s).state p.0 (i h) (define_goes c d s)
   acted_leads code c act.Closes s h p r i =
       goes_on s (semicolon_entry c s.words.defining s).state p.0 (i h) (semicolon_goes c s.words.defining s)
-  acted_leads code c act.Ends s h p r i = ended_due image outer c s (in_image s code h p r i)
+  acted_leads code c act.Ends s h p r i = ended_due image ends outer c s (in_image s code h p r i)
 
   -- ---- words, items and tokens
 
-  word_leads : {S : Type 0} (c : Calls S) (xt : ℕ) (s : State S) → Runs image outer (is_code s.flow.next) s
-      → Leads image outer (executed c xt s).state
+  word_leads : {S : Type 0} (c : Calls S) (xt : ℕ) (s : State S) → Runs image ends outer (is_code s.flow.next) s
+      → Leads image ends outer (executed c xt s).state
   word_leads {S} c xt s p =
       let code = is_code s.flow.next in
-      worked_leads image outer code c (execution xt (front_of s)) s
-      (execution_works (leading image outer S code) tt xt s p (λ e. tt) (λ x e. tt)) p
+      worked_leads image ends outer code c (execution xt (front_of s)) s
+      (execution_works (leading image ends outer S code) tt xt s p (λ e. tt) (λ x e. tt)) p
 
-  aims_in : {S : Type 0} (to : Option Place) (s : State S) → Rests image outer true s
-      → IsPlace (leading image outer S true) s to
+  aims_in : {S : Type 0} (to : Option Place) (s : State S) → Rests image ends outer true s
+      → IsPlace (leading image ends outer S true) s to
   aims_in None s r = tt
   aims_in (Some to) s r = (refl, r)
 
   -- a state in a definition
-  code_runs : {S : Type 0} (s : State S) → is_code s.flow.next ≡ true → LeadsOn image outer s
-      → Runs image outer true s × Rests image outer true s × IsInner image outer true s
+  code_runs : {S : Type 0} (s : State S) → is_code s.flow.next ≡ true → LeadsOn image ends outer s
+      → Runs image ends outer true s × Rests image ends outer true s × IsInner image ends outer true s
   code_runs s e h =
       let l = h.0.1 in (
         (
-          ((h.0.0, due_too image outer s.flow.reading (is_code s.flow.next) (Some s.flow.next) s.flow.items l), h.1),
+          ((h.0.0, due_too image ends outer s.flow.reading (is_code s.flow.next) (Some s.flow.next) s.flow.items l), h.1),
           e,
         ),
-        subst (λ b. Back image outer s.flow.reading b None s.flow.items) e l,
+        subst (λ b. Back image ends outer s.flow.reading b None s.flow.items) e l,
         (λ f. absurd (no f)),
       )
 
   item_leads : {S : Type 0} (c : Calls S) (i : Item) (s : State S) → is_code s.flow.next ≡ true
-      → LeadsOn image outer s → Leads image outer (item_done c i s).state
+      → LeadsOn image ends outer s → Leads image ends outer (item_done c i s).state
   item_leads {S} c i s e h =
       let p = code_runs s e h in
-      let R = leading image outer S true in
+      let R = leading image ends outer S true in
       acted_leads true c (item_act i (front_of s)) s
-      (item_acts R (leading_turns image outer S true) i s (aims_in (target_of i) s p.1) p
+      (item_acts R (leading_turns image ends outer S true) i s (aims_in (target_of i) s p.1) p
       (all_executed R tt (plan_of_item i (plan_in s)) s p.0 tt (λ y f. tt)))
       p.0 p.1 p.2
 
   item_due_leads : {S : Type 0} (c : Calls S) (x : Option (Item × Place)) (s : State S) → is_code s.flow.next ≡ true
-      → LeadsOn image outer s → Leads image outer (item_due c x s).state
+      → LeadsOn image ends outer s → Leads image ends outer (item_due c x s).state
   item_due_leads c None s e h = (code_runs s e h).0.0
   item_due_leads c (Some x) s e h =
       item_leads c x.0 (with_next (continuation.Code x.1.cell) s) refl
-      ((h.0.0, subst (λ b. Back image outer s.flow.reading b None s.flow.items) e h.0.1), h.1)
+      ((h.0.0, subst (λ b. Back image ends outer s.flow.reading b None s.flow.items) e h.0.1), h.1)
 
   -- a state in an image or a text inside
   record Inner {S : Type 0} (s : State S) : Type 0 where
     pub read : IsRead s.flow.reading
     pub next : is_code s.flow.next ≡ false
-    pub leads : Rests image outer false s
+    pub leads : Rests image ends outer false s
     pub inner : is_outer s.flow.items ≡ false
 
   inner_runs : {S : Type 0} (s : State S) → Inner s
-      → Runs image outer false s × Rests image outer false s × IsInner image outer false s
+      → Runs image ends outer false s × Rests image ends outer false s × IsInner image ends outer false s
   inner_runs s h =
-      let l = subst (λ b. Back image outer s.flow.reading b None s.flow.items) (sym h.next) h.leads in (
+      let l = subst (λ b. Back image ends outer s.flow.reading b None s.flow.items) (sym h.next) h.leads in (
         (
           (
-            (h.read, due_too image outer s.flow.reading (is_code s.flow.next) (Some s.flow.next) s.flow.items l),
+            (h.read, due_too image ends outer s.flow.reading (is_code s.flow.next) (Some s.flow.next) s.flow.items l),
             (λ o. absurd (no (sym o ∙ h.inner))),
           ),
           h.next,
@@ -312,13 +312,13 @@ module _ (image : List ℕ) (outer : Reading) where
       )
 
   found_leads : {S : Type 0} (c : Calls S) (x : Option (Token × ℕ)) (size : OffsetSize) (position : ℕ) (s : State S)
-      → Inner s → Leads image outer (found_token c x size position s).state
+      → Inner s → Leads image ends outer (found_token c x size position s).state
   found_leads c None size position s h = (inner_runs s h).0.0
   found_leads {S} c (Some x) size position s h =
       let on = read_on (size_behind x.0.code.0 size) x.1 s in
       let here = spot_in s.board.memory position x.1 in
-      let R = leading image outer S false in
-      let T = leading_turns image outer S false in
+      let R = leading image ends outer S false in
+      let T = leading_turns image ends outer S false in
       let inner : Inner on = record {
         read = (tt, h.read.1);
         next = h.next;
@@ -341,24 +341,24 @@ module _ (image : List ℕ) (outer : Reading) where
 
   -- ---- words of a text
 
-  all_lead : {S : Type 0} (a : Answered S) (cells : List Cell) (s : State S) → Leads image outer s
-      → Leads image outer (appended a cells s).state
-  all_lead a cells s h = appended_leads image outer a.code a.ended cells s h
+  all_lead : {S : Type 0} (a : Answered S) (cells : List Cell) (s : State S) → Leads image ends outer s
+      → Leads image ends outer (appended a cells s).state
+  all_lead a cells s h = appended_leads image ends outer a.code a.ended cells s h
 
-  said_leads : {S : Type 0} (r : Result (ℕ × Board) Throw) (s : State S) → Leads image outer s
-      → Leads image outer (by_string r s).state
+  said_leads : {S : Type 0} (r : Result (ℕ × Board) Throw) (s : State S) → Leads image ends outer s
+      → Leads image ends outer (by_string r s).state
   said_leads (Ok x) s h = h
   said_leads (Err t) s h = h
 
-  spelt_leads : {S : Type 0} (r : Result (S × DataSpace) Throw) (s : State S) → Leads image outer s
-      → Leads image outer (by_spelling r s).state
+  spelt_leads : {S : Type 0} (r : Result (S × DataSpace) Throw) (s : State S) → Leads image ends outer s
+      → Leads image ends outer (by_spelling r s).state
   spelt_leads (Ok x) s h = h
   spelt_leads (Err t) s h = h
 
   text_leads : {S : Type 0} (c : Calls S) (a : TextAct) (s : State S)
-      → IsTextAct (leading image outer S false) (leading_turns image outer S false) AnyBytes s a
-      → Runs image outer false s → Rests image outer false s → IsInner image outer false s
-      → Leads image outer (text_acted c a s).state
+      → IsTextAct (leading image ends outer S false) (leading_turns image ends outer S false) AnyBytes s a
+      → Runs image ends outer false s → Rests image ends outer false s → IsInner image ends outer false s
+      → Leads image ends outer (text_acted c a s).state
   unfolding text_acted worked
   text_leads c (Acts a) s h p r i = acted_leads false c a s h p r i
   text_leads c (AppendsAll es cells) s h p r i = all_lead (all_appended c es s.code) cells s p.0
@@ -370,11 +370,11 @@ module _ (image : List ℕ) (outer : Reading) where
   text_leads c (Sees xt) s h p r i = p.0
 
   spoken_leads : {S : Type 0} (c : Calls S) (x : Found) (s : State S) → IsSaid x.word → Inner s
-      → Leads image outer (word_done c x s).state
+      → Leads image ends outer (word_done c x s).state
   spoken_leads {S} c x s said h =
       let on = read_from x.next s in
-      let R = leading image outer S false in
-      let T = leading_turns image outer S false in
+      let R = leading image ends outer S false in
+      let T = leading_turns image ends outer S false in
       let inner : Inner on = record {
         read = (tt, h.read.1);
         next = h.next;
@@ -398,7 +398,7 @@ module _ (image : List ℕ) (outer : Reading) where
       p.0 p.1 p.2
 
   reading_leads : {S : Type 0} (c : Calls S) (i : Input) (s : State S) → s.flow.reading.input ≡ i → Inner s
-      → Leads image outer (reading_due c i s).state
+      → Leads image ends outer (reading_due c i s).state
   reading_leads c (input.Image size position) s e h =
       found_leads c (token_from (latest_image s.board.memory) position size) size position s h
   reading_leads c (input.Text position) s e h = spoken_leads c (word_at position s) s (word_said position s) h
@@ -406,34 +406,34 @@ module _ (image : List ℕ) (outer : Reading) where
 
   -- ---- a step
 
-  settled_leads : {S : Type 0} (c : Calls S) (thrown : Option Throw) (s : State S) → Leads image outer s
-      → IsSettled image outer (settled c s.flow.items thrown s)
+  settled_leads : {S : Type 0} (c : Calls S) (thrown : Option Throw) (s : State S) → Leads image ends outer s
+      → IsSettled image ends outer (settled c s.flow.items thrown s)
   settled_leads {S} c None s h =
-      settles image outer c (throws_settle S) s.flow.items None s
+      settles image ends outer c (throws_settle S) s.flow.items None s
       (record { items = refl; read = h.0.0; leads = h.0.1; shut = h.1 })
   settled_leads {S} c (Some t) s h =
-      settles image outer c (throws_settle S) s.flow.items (Some t) s
+      settles image ends outer c (throws_settle S) s.flow.items (Some t) s
       (is_code s.flow.next, Some s.flow.next, h.0.0, h.0.1)
 
   due_leads : {S : Type 0} (c : Calls S) (to : Continuation) (s : State S) → s.flow.next ≡ to → is_back s ≡ false
-      → LeadsOn image outer s → Leads image outer (due c to s).state
+      → LeadsOn image ends outer s → Leads image ends outer (due c to s).state
   due_leads c continuation.Source s e away h =
       reading_leads c s.flow.reading.input s refl
       (record {
         read = h.0.0;
         next = ap is_code e;
-        leads = subst (λ b. Back image outer s.flow.reading b None s.flow.items) (ap is_code e) h.0.1;
+        leads = subst (λ b. Back image ends outer s.flow.reading b None s.flow.items) (ap is_code e) h.0.1;
         inner = ap (λ (x : Continuation). is_read_on x && is_outer s.flow.items) (sym e) ∙ away;
       })
   due_leads c (continuation.Code n) s e away h =
       item_due_leads c (c.fetch s.code (record { cell = n })) s (ap is_code e) h
 
   step_leads : {S : Type 0} (c : Calls S) (s : State S) → s.flow.is_running ≡ true → is_back s ≡ false
-      → LeadsOn image outer s → IsSettled image outer (stepped c s)
+      → LeadsOn image ends outer s → IsSettled image ends outer (stepped c s)
   unfolding stepped
   step_leads c s running away h =
       let o = due c s.flow.next s in
-      subst (λ b. IsSettled image outer (if b then settled_of c o else s)) (sym running)
+      subst (λ b. IsSettled image ends outer (if b then settled_of c o else s)) (sym running)
       (settled_leads c (thrown_in o.ended) o.state (due_leads c s.flow.next s refl away h))
 
 -- ---- the law
@@ -441,21 +441,21 @@ module _ (image : List ℕ) (outer : Reading) where
 nothing_inside : (i : Input) → i ≡ input.Nothing → reads_nothing i ≡ true
 nothing_inside i e = ap reads_nothing e
 
-begun_leads : {S : Type 0} (image : List ℕ) (node : Phandle) (instance : Cell) (x : InstanceTable × DataSpace)
+begun_leads : {S : Type 0} (image ends : List ℕ) (node : Phandle) (instance : Cell) (x : InstanceTable × DataSpace)
     (s : State S) → s.flow.reading.input ≡ input.Nothing → s.words.defining ≡ None
     → (is_back (image_begun image node instance x s) ≡ true)
-    × LeadsOn image (image_begun image node instance x s).flow.reading (image_begun image node instance x s)
+    × LeadsOn image ends (image_begun image node instance x s).flow.reading (image_begun image node instance x s)
 unfolding latest_source latest_handler
-begun_leads image node instance x s e shut = (
+begun_leads image ends node instance x s e shut = (
   nothing_inside s.flow.reading.input e,
   (((tt, none_open s shut), (refl, inl (e, refl, (refl, refl)))), (λ o. shut)),
 )
 
 pub stack_leads_back : (S : Type 0) → StackLeadsBack S
 stack_leads_back S = record {
-  begun = λ image node instance x s e shut. begun_leads image node instance x s e shut;
-  words = λ image outer c xt s h. word_leads image outer c xt s (h, refl);
-  items = λ image outer c i s e h. item_leads image outer c i s e h;
-  settled = λ image outer c thrown s h. settled_leads image outer c thrown s h;
-  step = λ image outer c s running away h. step_leads image outer c s running away h;
+  begun = λ image ends node instance x s e shut. begun_leads image ends node instance x s e shut;
+  words = λ image ends outer c xt s h. word_leads image ends outer c xt s (h, refl);
+  items = λ image ends outer c i s e h. item_leads image ends outer c i s e h;
+  settled = λ image ends outer c thrown s h. settled_leads image ends outer c thrown s h;
+  step = λ image ends outer c s running away h. step_leads image ends outer c s running away h;
 }

@@ -87,11 +87,36 @@ IsPosition (exit.Code n) = ⊥
 abbrev pub IsBase : List ReturnItem → Type 0
 IsBase r = (latest_handler r ≡ None) × (is_return_top r ≡ false)
 
-module _ (image : List ℕ) (outer : Reading) where
-  -- the loop ends at a token of the outermost image, which has these bytes
-  abbrev pub IsInside : LoopExit → Type 0
-  IsInside (exit.Position e) = within_tokens (length image) (Some e) ≡ Some e
-  IsInside (exit.Code n) = ⊥
+-- ---- loops
+
+-- the position at which a loop of an image ends
+abbrev pub end_in : LoopExit → ℕ
+end_in (exit.Position e) = e
+end_in (exit.Code n) = 0
+
+-- where the loops end that stand above the latest source, the innermost first
+abbrev pub loop_ends : List ReturnItem → List ℕ
+loop_ends [] = []
+loop_ends (Loop l ∷ r) = end_in l.exit ∷ loop_ends r
+loop_ends (Source s ∷ r) = []
+loop_ends (User x ∷ r) = loop_ends r
+loop_ends (Return to ∷ r) = loop_ends r
+loop_ends (Handler h ∷ r) = loop_ends r
+loop_ends (Caller d ∷ r) = loop_ends r
+
+-- some of these, in their order
+abbrev pub AreAmong : List ℕ → List ℕ → Type 0
+AreAmong [] ys = Unit {0}
+AreAmong (x ∷ xs) [] = ⊥
+AreAmong (x ∷ xs) (y ∷ ys) = ((x ≡ y) × AreAmong xs ys) ⊎ AreAmong (x ∷ xs) ys
+
+module _ (image ends : List ℕ) (outer : Reading) where
+  -- The loop ends at a token of the outermost image, which has these bytes; and it and those beneath it are among the
+  -- loops of that image that end at these positions.
+  abbrev pub IsInside : LoopExit → List ReturnItem → Type 0
+  IsInside (exit.Position e) r =
+      (within_tokens (length image) (Some e) ≡ Some e) × AreAmong (e ∷ loop_ends r) ends
+  IsInside (exit.Code n) r = ⊥
 
   -- Control is in code or in what is read, and these items lead back to the outermost image, which is to be read on
   -- with `outer`. A handler or the caller of a method stands on top only where it is said where control goes on behind
@@ -99,7 +124,7 @@ module _ (image : List ℕ) (outer : Reading) where
   abbrev pub LeadsBack : Reading → (code : Bool) → (behind_due : Option Continuation) → List ReturnItem → Type 0
   LeadsBack now code due [] = ⊥
   LeadsBack now code due (Loop l ∷ r) =
-      (code ≡ false → IsPosition l.exit × (is_outer r ≡ true → IsInside l.exit)) × LeadsBack now code None r
+      (code ≡ false → IsPosition l.exit × (is_outer r ≡ true → IsInside l.exit r)) × LeadsBack now code None r
   LeadsBack now code due (User x ∷ r) = LeadsBack now code None r
   LeadsBack now code due (Return to ∷ r) = (code ≡ true) × LeadsBack now (is_code to) (Some to) r
   LeadsBack now code due (Handler h ∷ r) =
@@ -136,25 +161,25 @@ module _ (image : List ℕ) (outer : Reading) where
 pub record StackLeadsBack (S : Type 0) : Type 0 where
   -- An image that begins where nothing is read and no definition is open is the outermost.
   pub begun :
-      (image : List ℕ) (node : Phandle) (instance : Cell) (x : InstanceTable × DataSpace) (s : State S) →
+      (image ends : List ℕ) (node : Phandle) (instance : Cell) (x : InstanceTable × DataSpace) (s : State S) →
       s.flow.reading.input ≡ input.Nothing → s.words.defining ≡ None →
       let b = image_begun image node instance x s in
-      (is_back b ≡ true) × LeadsOn image b.flow.reading b
+      (is_back b ≡ true) × LeadsOn image ends b.flow.reading b
   -- What executing a word pushes leads back.
   pub words :
-      (image : List ℕ) (outer : Reading) (c : Calls S) (xt : ℕ) (s : State S) → Leads image outer s →
-      Leads image outer (executed c xt s).state
+      (image ends : List ℕ) (outer : Reading) (c : Calls S) (xt : ℕ) (s : State S) → Leads image ends outer s →
+      Leads image ends outer (executed c xt s).state
   -- So does what an item of a definition leaves.
   pub items :
-      (image : List ℕ) (outer : Reading) (c : Calls S) (i : Item) (s : State S) → is_code s.flow.next ≡ true →
-      LeadsOn image outer s → Leads image outer (item_done c i s).state
+      (image ends : List ℕ) (outer : Reading) (c : Calls S) (i : Item) (s : State S) → is_code s.flow.next ≡ true →
+      LeadsOn image ends outer s → Leads image ends outer (item_done c i s).state
   -- What is due is worked off, and what is thrown is caught, so that the rest leads back, or nothing runs.
   pub settled :
-      (image : List ℕ) (outer : Reading) (c : Calls S) (thrown : Option Throw) (s : State S) → Leads image outer s →
+      (image ends : List ℕ) (outer : Reading) (c : Calls S) (thrown : Option Throw) (s : State S) → Leads image ends outer s →
       (settled c s.flow.items thrown s).flow.is_running ≡ true →
-      LeadsOn image outer (settled c s.flow.items thrown s)
+      LeadsOn image ends outer (settled c s.flow.items thrown s)
   -- Each step keeps it while something runs, until control is back.
   pub step :
-      (image : List ℕ) (outer : Reading) (c : Calls S) (s : State S) → s.flow.is_running ≡ true →
-      is_back s ≡ false → LeadsOn image outer s → (stepped c s).flow.is_running ≡ true →
-      LeadsOn image outer (stepped c s)
+      (image ends : List ℕ) (outer : Reading) (c : Calls S) (s : State S) → s.flow.is_running ≡ true →
+      is_back s ≡ false → LeadsOn image ends outer s → (stepped c s).flow.is_running ≡ true →
+      LeadsOn image ends outer (stepped c s)

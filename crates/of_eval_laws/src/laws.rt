@@ -88,7 +88,8 @@ pub fn frames_hold()
 {}
 
 /// What runs inside an image that runs goes back to it: the return stack leads there, what executing a word pushes
-/// leads back, and each step keeps it so, until control is at that image again.
+/// leads back, and each step keeps it so, until control is at that image again; then no other loops of that image are
+/// open than some of those that were.
 #[tactic(auto, using(crate::proofs::LeadingSteps::stack_leads_back))]
 pub fn stack_leads_back()
     ensures cells { StackLeadsBack Coding }

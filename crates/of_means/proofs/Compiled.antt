@@ -44,12 +44,12 @@ use Rattle.of_means.proofs.Standing.{StaysBehind, stands_on}
 module _ (typing : TokensAreTyped) (wider : word_numbered offset16_code ≡ Some (word.Stream stream.Offset16))
     (settles : ThrowsSettle Definitions) (placing : StatesStayPlaced)
     (sounding : SpaceStaysSound Definitions) (reading : ImagesAreReadings Definitions) (runs : ImagesRun Definitions)
-    (image : List ℕ) where
+    (image loops : List ℕ) where
   abbrev c : Calls Definitions
   c = structured_calls
 
   abbrev pub Open : Moment Definitions → Type 0
-  Open m = AtSource image (IsKept image) true m.state
+  Open m = AtSource image loops (IsKept image) true m.state
 
   abbrev elements_of : Moment Definitions → List (Element PlainItem)
   elements_of m = m.state.code.elements
@@ -69,7 +69,7 @@ module _ (typing : TokensAreTyped) (wider : word_numbered offset16_code ≡ Some
   One t p m (Cut u) = ⊥
 
   adds_behind : (P : Element PlainItem → Type 0) (q : Place) (s : State Definitions) (o : Outcome Definitions)
-      → AtSource image (IsKept image) true s → Adds P (at_place q s) o → StaysBehind q s true o.state
+      → AtSource image loops (IsKept image) true s → Adds P (at_place q s) o → StaysBehind q s true o.state
   adds_behind P q s o h a = record {
     items = ap (λ (f : Flow). f.items) a.0;
     reading = ap (λ (f : Flow). f.reading) a.0;
@@ -100,12 +100,14 @@ module _ (typing : TokensAreTyped) (wider : word_numbered offset16_code ≡ Some
 
       step : made c (at p m) ≡ Some v
       step =
-          token_found c image (IsKept image) true p q t m h found refl ∙ plain_step c (token_at c t p q) m o refl asks
+          token_found c image loops (IsKept image) true p q t m h found refl
+          ∙ plain_step c (token_at c t p q) m o refl asks
 
       by_running : (b : Bool) → v.state.flow.is_running ≡ b → One t p m (unless_thrown b v)
       by_running false r = (r, one_step c (at p m) v step)
       by_running true r =
-          let k = stands_on settles placing sounding reading runs image true true p q m v o h step refl stays r in
+          let k = stands_on settles placing sounding reading runs image loops true true p q m v o h step refl stays r
+          in
           let l = more k.0 in (
             k.2,
             one_step c (at p m) (at q v) (step ∙ ap (λ (y : Moment Definitions). Some y) (sym k.3)),
@@ -139,7 +141,7 @@ module _ (typing : TokensAreTyped) (wider : word_numbered offset16_code ≡ Some
       by_size false e =
           let steady = λ (f : t.code.0 ≡ 0x0cc). no (sym e ∙ eq-eqb t.code.0 0x0cc f) in
           one_added IsItem t p m h found
-          (plain_adds image (IsKept image) typing t.argument t.code p (behind t p) m.state h is steady i)
+          (plain_adds image loops (IsKept image) typing t.argument t.code p (behind t p) m.state h is steady i)
           (λ x k. (
             k.0,
             ap (λ (y : Element PlainItem). y ∷ elements_of m) k.1
@@ -148,7 +150,7 @@ module _ (typing : TokensAreTyped) (wider : word_numbered offset16_code ≡ Some
       by_size true e =
           let k = eqb-true t.code.0 0x0cc e in
           let none = wide_bare t is k in
-          let a = wide_keeps image (IsKept image) typing t p (behind t p) m.state h k none in
+          let a = wide_keeps image loops (IsKept image) typing t p (behind t p) m.state h k none in
           one_left t p m h found
           (record {
             items = ap (λ (f : Flow). f.items) a.0;
@@ -166,7 +168,7 @@ module _ (typing : TokensAreTyped) (wider : word_numbered offset16_code ≡ Some
           ))
   one_token t p m false i h (inr k) found =
       one_added (λ e. e ≡ k.left p.position) t p m h found
-      (control_adds image (IsKept image) typing t k p (behind t p) m.state h)
+      (control_adds image loops (IsKept image) typing t k p (behind t p) m.state h)
       (λ e f.
       let none : PlainItem = plain.Literal (record { 0 = 0 }) in (
         none,

@@ -148,14 +148,14 @@ code_is : (a : Argument) (w : Typing) (n k : ℕ) → n ≡ k
 code_is a w n k e h =
     subst (λ (m : ℕ). typed_of (record { code = record { 0 = m }; argument = a }) ≡ Plain w) (sym e) h
 
-module _ (image : List ℕ) (Keeps : State Definitions → Type 0) (typing : TokensAreTyped) where
+module _ (image loops : List ℕ) (Keeps : State Definitions → Type 0) (typing : TokensAreTyped) where
   compiles : (b : Bool) (x y : Act) → b ≡ true → (if b then x else y) ≡ x
   compiles true x y e = refl
   compiles false x y e = absurd (not_both (sym e))
 
   -- a token in a definition does what the table says
   pub compiled_at : (t : Token) (w : Typing) (p q : Place) (s : State Definitions) → typed_of t ≡ Plain w
-      → AtSource image Keeps true s
+      → AtSource image loops Keeps true s
       → token_at c t p q s
       ≡ acted c (compiling_act w (spot_in s.board.memory p.position q.position) (front_of (at_place q s)))
       (at_place q s)
@@ -170,14 +170,14 @@ module _ (image : List ℕ) (Keeps : State Definitions → Type 0) (typing : Tok
   AddsAt P t p q s = Adds P (at_place q s) (token_at c t p q s)
 
   adds_as : (P : Element PlainItem → Type 0) (t : Token) (w : Typing) (p q : Place) (s : State Definitions)
-      → typed_of t ≡ Plain w → AtSource image Keeps true s
+      → typed_of t ≡ Plain w → AtSource image loops Keeps true s
       → let u = at_place q s in
       Adds P u (acted c (compiling_act w (spot_in s.board.memory p.position q.position) (front_of u)) u)
       → AddsAt P t p q s
   adds_as P t w p q s e h adds =
       subst (λ (o : Outcome Definitions). Adds P (at_place q s) o) (sym (compiled_at t w p q s e h)) adds
 
-  word_adds : (k : FCode) (p q : Place) (s : State Definitions) → AtSource image Keeps true s
+  word_adds : (k : FCode) (p q : Place) (s : State Definitions) → AtSource image loops Keeps true s
       → typed_of (record { code = k; argument = Nothing }) ≡ Plain (token.Word k)
       → is_executed (typed_of (record { code = k; argument = Nothing })) s.words.table ≡ false
       → AddsAt IsItem (record { code = k; argument = Nothing }) p q s
@@ -187,7 +187,7 @@ module _ (image : List ℕ) (Keeps : State Definitions → Type 0) (typing : Tok
       (calling_adds (entry_in s.words.table k.0) (at_place q s)
       (ap (λ (x : Typed). is_executed x s.words.table) (sym e) ∙ i))
 
-  pub plain_adds : (a : Argument) (k : FCode) (p q : Place) (s : State Definitions) → AtSource image Keeps true s
+  pub plain_adds : (a : Argument) (k : FCode) (p q : Place) (s : State Definitions) → AtSource image loops Keeps true s
       → IsPlainWith a k.0 → (k.0 ≡ 0x0cc → ⊥)
       → is_executed (typed_of (record { code = k; argument = a })) s.words.table ≡ false
       → AddsAt IsItem (record { code = k; argument = a }) p q s
@@ -216,7 +216,7 @@ module _ (image : List ℕ) (Keeps : State Definitions → Type 0) (typing : Tok
 
   -- a word of control
   pub control_adds : (t : Token) (k : IsOfControl t) (p q : Place) (s : State Definitions)
-      → AtSource image Keeps true s
+      → AtSource image loops Keeps true s
       → AddsAt (λ e. e ≡ k.left p.position) t p q s
   control_adds t k p q s h =
       let u = at_place q s in
@@ -226,7 +226,8 @@ module _ (image : List ℕ) (Keeps : State Definitions → Type 0) (typing : Tok
       (appends (λ e. e ≡ k.left p.position) (k.left p.position) s.board.stack u refl))
 
   -- `offset16`
-  pub wide_keeps : (t : Token) (p q : Place) (s : State Definitions) → AtSource image Keeps true s → t.code.0 ≡ 0x0cc
+  pub wide_keeps : (t : Token) (p q : Place) (s : State Definitions) → AtSource image loops Keeps true s
+      → t.code.0 ≡ 0x0cc
       → t.argument ≡ Nothing
       → let o = token_at c t p q s in
       (o.state.flow ≡ (at_place q s).flow) × (o.state.words.defining ≡ s.words.defining) × (o.asks ≡ None)

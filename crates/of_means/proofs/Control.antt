@@ -141,7 +141,7 @@ module _ (end : ℕ) where
 
 -- ---- tokens that are executed
 
-module _ {S : Type 0} (c : Calls S) (image : List ℕ) (Keeps : State S → Type 0) where
+module _ {S : Type 0} (c : Calls S) (image loops : List ℕ) (Keeps : State S → Type 0) where
   acts : (b : Bool) (x y : Act) → b ≡ false → (if b then x else y) ≡ y
   acts true x y e = absurd (no e)
     where
@@ -151,7 +151,7 @@ module _ {S : Type 0} (c : Calls S) (image : List ℕ) (Keeps : State S → Type
 
   -- a token at the source does what the table says
   pub executed_at : (t : Token) (w : Word) (p q : Place) (s : State S) → typed_of t ≡ Plain w
-      → AtSource image Keeps false s
+      → AtSource image loops Keeps false s
       → token_at c t p q s
       ≡ acted c (token_act w (spot_in s.board.memory p.position q.position) (front_of (at_place q s))) (at_place q s)
   executed_at t w p q s e h =
@@ -163,7 +163,7 @@ module _ {S : Type 0} (c : Calls S) (image : List ℕ) (Keeps : State S → Type
 
   -- a token with an offset that leads into the image
   pub offset_at : (t : Token) (w : ControlWord) (by : ℤ) (p q : Place) (to : ℕ) (s : State S)
-      → typed_of t ≡ Plain (token.Control w by) → AtSource image Keeps false s
+      → typed_of t ≡ Plain (token.Control w by) → AtSource image loops Keeps false s
       → landing (length image) p.position by ≡ Some to
       → token_at c t p q s
       ≡ by_turn (Some (Position to)) (control_entry w true (exit.Position to) s.board.stack s.flow.items)

@@ -81,13 +81,13 @@ words_plain wider (Of k i m r) h = (words_plain wider i h.0, words_plain wider r
 
 module _ (typing : TokensAreTyped) (settles : ThrowsSettle Definitions) (placing : StatesStayPlaced)
     (sounding : SpaceStaysSound Definitions) (reading : ImagesAreReadings Definitions) (runs : ImagesRun Definitions)
-    (ends : NestsEndAtTheirPlaces) (bodies : BodyOfNest) (image : List ℕ) where
+    (ends : NestsEndAtTheirPlaces) (bodies : BodyOfNest) (image loops : List ℕ) where
   abbrev c : Calls Definitions
   c = structured_calls
 
   -- what is read from a moment on
   abbrev ReadFrom : Moment Definitions → Place → Course Definitions → Type 0
-  ReadFrom x q (On t) = IsAt c image (IsKept image) t × Comes c x (at q t)
+  ReadFrom x q (On t) = IsAt c image loops (IsKept image) t × Comes c x (at q t)
   ReadFrom x q (Thrown t) = (t.state.flow.is_running ≡ false) × Comes c x t
   ReadFrom x q Beyond = Unit {0}
   ReadFrom x q (Off b t) = ⊥
@@ -97,7 +97,7 @@ module _ (typing : TokensAreTyped) (settles : ThrowsSettle Definitions) (placing
   ReadFrom x q (Cut t) = ⊥
 
   is_read : (p q : Place) (m : Moment Definitions) (f : Course Definitions) → ReadFrom (at p m) q f
-      → IsRead c image (IsKept image) p q m f
+      → IsRead c image loops (IsKept image) p q m f
   is_read p q m (On t) r = r
   is_read p q m (Thrown t) r = r
   is_read p q m Beyond r = r
@@ -119,7 +119,7 @@ module _ (typing : TokensAreTyped) (settles : ThrowsSettle Definitions) (placing
   then_read x y q (Cut t) l r = r
 
   abbrev Compiled : List Written → Place → Moment Definitions → Course Definitions → Type 0
-  Compiled ws p m f = Compiles typing bodies.wider settles placing sounding reading runs image ws p m f
+  Compiled ws p m f = Compiles typing bodies.wider settles placing sounding reading runs image loops ws p m f
 
   through_read : (ws : List Written) (b q : Place) (v : Moment Definitions) (f : Course Definitions)
       (g : Moment Definitions → Course Definitions) → Compiled ws b v f
@@ -136,14 +136,14 @@ module _ (typing : TokensAreTyped) (settles : ThrowsSettle Definitions) (placing
 
   -- ---- `b(;)`
 
-  closes : (i : Nest) (e q : Place) (u : Moment Definitions) → AtSource image (IsKept image) true u.state
+  closes : (i : Nest) (e q : Place) (u : Moment Definitions) → AtSource image loops (IsKept image) true u.state
       → token_from image e.position e.size ≡ Some (bare 0x0c2, q.position) → q.size ≡ e.size
       → body_in 32 u.state.code.elements ≡ nest_body i u.state.code.elements
       → ReadFrom (at e u) q
       (left_by c (semicolon_entry (nest_calls i) u.state.words.defining (at_place q u.state)) u)
   closes i e q u h found size body =
       subst (λ (o : Outcome Definitions). ReadFrom (at e u) q (left_by c o u))
-      (same_end image (IsKept image) settles typing i u.state.words.defining (at_place q u.state) body)
+      (same_end image loops (IsKept image) settles typing i u.state.words.defining (at_place q u.state) body)
       (by_running v.state.flow.is_running refl)
     where
       o : Outcome Definitions
@@ -153,27 +153,27 @@ module _ (typing : TokensAreTyped) (settles : ThrowsSettle Definitions) (placing
       v = with_state (settled_of c o) u
 
       turns : (o.asks ≡ None) × ((settled_of c o).flow.is_running ≡ true → StaysBehind q u.state false o.state)
-      turns = semicolon_turns image (IsKept image) settles typing q u.state h
+      turns = semicolon_turns image loops (IsKept image) settles typing q u.state h
 
       step : made c (at e u) ≡ Some v
       step =
-          token_found c image (IsKept image) true e q (bare 0x0c2) u h found size
+          token_found c image loops (IsKept image) true e q (bare 0x0c2) u h found size
           ∙ plain_step c (token_at c (bare 0x0c2) e q) u o
-          (semicolon_at image (IsKept image) settles typing e q u.state h) turns.0
+          (semicolon_at image loops (IsKept image) settles typing e q u.state h) turns.0
 
       by_running : (b : Bool) → v.state.flow.is_running ≡ b → ReadFrom (at e u) q (unless_thrown b v)
       by_running false r = (r, one_step c (at e u) v step)
       by_running true r =
-          let k = stands_on settles placing sounding reading runs image true false e q u v o h step refl
+          let k = stands_on settles placing sounding reading runs image loops true false e q u v o h step refl
           (turns.1 r) r in
           (k.2, one_step c (at e u) (at q v) (step ∙ ap (λ (y : Moment Definitions). Some y) (sym k.3)))
 
   -- ---- from `b(:)` on
 
   opens : (p b q : Place) (m : Moment Definitions) (g : Moment Definitions → Course Definitions)
-      → IsAt c image (IsKept image) m → token_from image p.position p.size ≡ Some (bare 0x0b7, b.position)
+      → IsAt c image loops (IsKept image) m → token_from image p.position p.size ≡ Some (bare 0x0b7, b.position)
       → b.size ≡ p.size
-      → ((v : Moment Definitions) → AtSource image (IsKept image) true v.state → v.state.code.elements ≡ []
+      → ((v : Moment Definitions) → AtSource image loops (IsKept image) true v.state → v.state.code.elements ≡ []
       → ReadFrom (at b v) q (g v))
       → ReadFrom (at p m) q (through (left_by c (token_at c (bare 0x0b7) p b m.state) m) g)
   opens p b q m g h found size more = by_running v.state.flow.is_running refl
@@ -186,17 +186,17 @@ module _ (typing : TokensAreTyped) (settles : ThrowsSettle Definitions) (placing
 
       turns : ((o.asks ≡ None) × ((settled_of c o).flow.is_running ≡ true → StaysBehind b m.state true o.state))
           × (o.state.code ≡ m.state.code)
-      turns = colon_turns image (IsKept image) settles typing p b m.state h
+      turns = colon_turns image loops (IsKept image) settles typing p b m.state h
 
       step : made c (at p m) ≡ Some v
       step =
-          token_found c image (IsKept image) false p b (bare 0x0b7) m h found size
+          token_found c image loops (IsKept image) false p b (bare 0x0b7) m h found size
           ∙ plain_step c (token_at c (bare 0x0b7) p b) m o refl turns.0.0
 
       by_running : (x : Bool) → v.state.flow.is_running ≡ x → ReadFrom (at p m) q (through (unless_thrown x v) g)
       by_running false r = (r, one_step c (at p m) v step)
       by_running true r =
-          let k = stands_on settles placing sounding reading runs image false true p b m v o h step refl
+          let k = stands_on settles placing sounding reading runs image loops false true p b m v o h step refl
           (turns.0.1 r) r in
           let empty : m.state.code.elements
           ≡ [] = (h.kept p).placed.closed (none_open m.state.words.defining h.defines) in
@@ -206,7 +206,7 @@ module _ (typing : TokensAreTyped) (settles : ThrowsSettle Definitions) (placing
           (one_step c (at p m) (at b v) (step ∙ ap (λ (y : Moment Definitions). Some y) (sym k.3)))
           (more v k.2 elements)
 
-  pub definitions_are_read : DefinitionsAreRead c image (IsKept image) nest_calls
+  pub definitions_are_read : DefinitionsAreRead c image loops (IsKept image) nest_calls
   unfolding token_bytes
   definitions_are_read i d p to out ws m words fits closed has h =
       let b = past 1 p in
@@ -223,7 +223,8 @@ module _ (typing : TokensAreTyped) (settles : ThrowsSettle Definitions) (placing
       (opens p b q m _ h has.1 refl
       (λ v opened none.
       through_read vs b q v (compiled c vs b v) _
-      (all_compiled typing bodies.wider settles placing sounding reading runs image vs more b v inner stand opened)
+      (all_compiled typing bodies.wider settles placing sounding reading runs image loops vs more b v inner stand
+      opened)
       (λ u r.
       let es = elements_left r.2.0 vs b [] in
       let left : u.state.code.elements ≡ es =

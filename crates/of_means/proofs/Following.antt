@@ -2,7 +2,9 @@
 use Rattle.std.proofs.Common.{◌≡◌, ℕ, zero, suc, ◌+◌, ◌-◌, ◌<◌, ◌≤◌, Bool, true, false, List, ◌∷◌, Option, Some, None}
 use Rattle.std.proofs.Common.{refl, sym, ap, ◌∙◌, subst, arith, eqb-true, if◌then◌else◌}
 use Rattle.std.specs.Prelude.{◌==◌}
-use Rattle.std.proofs.lemmas.Bool.{eqb-false}
+use Rattle.std.proofs.lemmas.Bool.{eq-eqb, eqb-false}
+use Rattle.std.proofs.Common.{inl, inr}
+use Rattle.of_means.proofs.Level.{drop_any, drop_both}
 use Rattle.of_stream.specs.declared.stream.OffsetSize.{OffsetSize}
 use Rattle.of_stream.specs.Decoding.{Token, token_from}
 use Rattle.of_source.specs.Nest.{Nest}
@@ -18,12 +20,14 @@ use Rattle.of_means.specs.Courses.{past_loop, swaps, through}
 use Rattle.of_means.specs.Means.{after_step, at, comes_back, over, token_at, word}
 use Rattle.of_means.specs.Laws.{IsAt}
 use Rattle.of_means.proofs.Steps.{Comes, made_by, one_step, stays, step_then, steps_on, then_comes, waits_on}
+use Rattle.of_eval_laws.specs.Returning.{AreAmong, loop_ends}
 use Rattle.of_means.proofs.Runs.{aim, aim_latest, aim_under, token_found}
 
-module _ {S : Type 0} (c : Calls S) (own : Nest → Calls S) (image : List ℕ) (z : OffsetSize) (Keeps : State S → Type 0)
+module _ {S : Type 0} (c : Calls S) (own : Nest → Calls S) (image loops : List ℕ) (lo : ℕ) (z : OffsetSize)
+    (Keeps : State S → Type 0)
   where
     abbrev pub Stands : Moment S → Type 0
-    Stands m = IsAt c image Keeps m
+    Stands m = IsAt c image loops Keeps m
 
     -- the machine stands at a position
     abbrev pub here : ℕ → Moment S → Moment S
@@ -36,9 +40,11 @@ module _ {S : Type 0} (c : Calls S) (own : Nest → Calls S) (image : List ℕ) 
     -- what left by one of d, at `out` what left by an `endof`, where one can.
     abbrev pub Reached : ℕ → Moment S → ℕ → ℕ → List ℕ → Bool → ℕ → Course S → Type 0
     Reached n s0 k d aims cases out (On t) = Stands t × Comes c s0 (here k t)
-    Reached n s0 k d aims cases out (Off b t) = (b < d) × Stands t × Comes c s0 (here (aim aims d b) t)
+    Reached n s0 k d aims cases out (Off b t) =
+        (lo ≤ b) × (b < d) × Stands t × Comes c s0 (here (aim aims d b) t)
     Reached n s0 k d aims cases out (Out t) = (cases ≡ true) × Stands t × Comes c s0 (here out t)
-    Reached n s0 k d aims cases out (Left e t) = Stands t × Comes c s0 (here e t)
+    Reached n s0 k d aims cases out (Left e t) =
+        Stands t × AreAmong (e ∷ loop_ends t.state.flow.items) loops × Comes c s0 (here e t)
     Reached n s0 k d aims cases out (Thrown t) = (t.state.flow.is_running ≡ false) × Comes c s0 t
     Reached n s0 k d aims cases out (Waits t) = IsWaiting c t × Comes c s0 t
     Reached n s0 k d aims cases out (Cut t) =
@@ -50,9 +56,9 @@ module _ {S : Type 0} (c : Calls S) (own : Nest → Calls S) (image : List ℕ) 
     pub after_comes : (n : ℕ) (s0 s1 : Moment S) (k d : ℕ) (aims : List ℕ) (cases : Bool) (out : ℕ) (f : Course S)
         → Comes c s0 s1 → Reached n s1 k d aims cases out f → Reached n s0 k d aims cases out f
     after_comes n s0 s1 k d aims cases out (On t) l r = (r.0, then_comes c s0 s1 _ l r.1)
-    after_comes n s0 s1 k d aims cases out (Off b t) l r = (r.0, r.1, then_comes c s0 s1 _ l r.2)
+    after_comes n s0 s1 k d aims cases out (Off b t) l r = (r.0, r.1, r.2, then_comes c s0 s1 _ l r.3)
     after_comes n s0 s1 k d aims cases out (Out t) l r = (r.0, r.1, then_comes c s0 s1 _ l r.2)
-    after_comes n s0 s1 k d aims cases out (Left e t) l r = (r.0, then_comes c s0 s1 _ l r.1)
+    after_comes n s0 s1 k d aims cases out (Left e t) l r = (r.0, r.1, then_comes c s0 s1 _ l r.2)
     after_comes n s0 s1 k d aims cases out (Thrown t) l r = (r.0, then_comes c s0 s1 t l r.1)
     after_comes n s0 s1 k d aims cases out (Waits t) l r = (r.0, then_comes c s0 s1 t l r.1)
     after_comes n s0 s1 k d aims cases out (Cut t) l r =
@@ -63,9 +69,10 @@ module _ {S : Type 0} (c : Calls S) (own : Nest → Calls S) (image : List ℕ) 
     pub after_one : (n : ℕ) (s0 s1 : Moment S) (k d : ℕ) (aims : List ℕ) (cases : Bool) (out : ℕ) (f : Course S)
         → made c s0 ≡ Some s1 → Reached n s1 k d aims cases out f → Reached (suc n) s0 k d aims cases out f
     after_one n s0 s1 k d aims cases out (On t) e r = (r.0, then_comes c s0 s1 _ (one_step c s0 s1 e) r.1)
-    after_one n s0 s1 k d aims cases out (Off b t) e r = (r.0, r.1, then_comes c s0 s1 _ (one_step c s0 s1 e) r.2)
+    after_one n s0 s1 k d aims cases out (Off b t) e r =
+        (r.0, r.1, r.2, then_comes c s0 s1 _ (one_step c s0 s1 e) r.3)
     after_one n s0 s1 k d aims cases out (Out t) e r = (r.0, r.1, then_comes c s0 s1 _ (one_step c s0 s1 e) r.2)
-    after_one n s0 s1 k d aims cases out (Left x t) e r = (r.0, then_comes c s0 s1 _ (one_step c s0 s1 e) r.1)
+    after_one n s0 s1 k d aims cases out (Left x t) e r = (r.0, r.1, then_comes c s0 s1 _ (one_step c s0 s1 e) r.2)
     after_one n s0 s1 k d aims cases out (Thrown t) e r = (r.0, then_comes c s0 s1 t (one_step c s0 s1 e) r.1)
     after_one n s0 s1 k d aims cases out (Waits t) e r = (r.0, then_comes c s0 s1 t (one_step c s0 s1 e) r.1)
     after_one n s0 s1 k d aims cases out (Cut t) e r =
@@ -119,7 +126,7 @@ module _ {S : Type 0} (c : Calls S) (own : Nest → Calls S) (image : List ℕ) 
     go_on n s0 k k' d d' aims aims' cases out (On t) g m r h =
         after_comes n s0 (here k t) k' d' aims' cases out (g t) r.1 (h t r.0)
     go_on n s0 k k' d d' aims aims' cases out (Off b t) g m r h =
-        let e = m b r.0 in (e.0, r.1, subst (λ (x : ℕ). Comes c s0 (here x t)) e.1 r.2)
+        let e = m b r.1 in (r.0, e.0, r.2, subst (λ (x : ℕ). Comes c s0 (here x t)) e.1 r.3)
     go_on n s0 k k' d d' aims aims' cases out (Out t) g m r h = r
     go_on n s0 k k' d d' aims aims' cases out (Left e t) g m r h = r
     go_on n s0 k k' d d' aims aims' cases out (Thrown t) g m r h = r
@@ -203,7 +210,7 @@ module _ {S : Type 0} (c : Calls S) (own : Nest → Calls S) (image : List ℕ) 
     word_behind n t p m d aims cases out zq h found back =
         let q = behind t p in
         let step : made c (at p m) ≡ step_by c (token_at c t p q) m =
-        token_found c image Keeps false p q t m h found refl in
+        token_found c image loops Keeps false p q t m h found refl in
         let r = stepped_on n (at p m) (step_by c (token_at c t p q) m) (λ u. comes_back c n u) h.running step
         (λ u. returned n u) in
         came_behind n (at p m) q d aims cases out (word c n t p m) zq (sooner n (at p m) (word c n t p m) r) back
@@ -221,18 +228,19 @@ module _ {S : Type 0} (c : Calls S) (own : Nest → Calls S) (image : List ℕ) 
     -- ---- where words close
 
     meets : (s0 : Moment S) (n q d b : ℕ) (aims : List ℕ) (cases : Bool) (out : ℕ) (t : Moment S) (v : Bool)
-        → (b == d - 1) ≡ v → b < d → Stands t → Comes c s0 (here (if v then q else aim aims (d - 1) b) t)
+        → (b == d - 1) ≡ v → lo ≤ b → b < d → Stands t → Comes c s0 (here (if v then q else aim aims (d - 1) b) t)
         → Reached n s0 q (d - 1) aims cases out (on_if v b t)
-    meets s0 n q d b aims cases out t true e lt h r = (h, r)
-    meets s0 n q d b aims cases out t false e lt h r =
-        let x = eqb-false b (d - 1) e in (omega (arith, x, lt), h, r)
+    meets s0 n q d b aims cases out t true e lb lt h r = (h, r)
+    meets s0 n q d b aims cases out t false e lb lt h r =
+        let x = eqb-false b (d - 1) e in (lb, omega (arith, x, lt), h, r)
 
     pub arrive : (n : ℕ) (s0 : Moment S) (k q d : ℕ) (aims : List ℕ) (cases : Bool) (out : ℕ) (f : Course S)
         → ((s : Moment S) → Stands s → made c (here k s) ≡ Some (here q s))
         → Reached n s0 k d (q ∷ aims) cases out f → Reached n s0 q (d - 1) aims cases out (arrives (d - 1) f)
     arrive n s0 k q d aims cases out (On t) h r =
         (r.0, then_comes c s0 (here k t) (here q t) r.1 (one_step c (here k t) (here q t) (h t r.0)))
-    arrive n s0 k q d aims cases out (Off b t) h r = meets s0 n q d b aims cases out t (b == d - 1) refl r.0 r.1 r.2
+    arrive n s0 k q d aims cases out (Off b t) h r =
+        meets s0 n q d b aims cases out t (b == d - 1) refl r.0 r.1 r.2 r.3
     arrive n s0 k q d aims cases out (Out t) h r = r
     arrive n s0 k q d aims cases out (Left e t) h r = r
     arrive n s0 k q d aims cases out (Thrown t) h r = r
@@ -241,18 +249,18 @@ module _ {S : Type 0} (c : Calls S) (own : Nest → Calls S) (image : List ℕ) 
     arrive n s0 k q d aims cases out Beyond h r = r
 
     crosses : (s0 : Moment S) (n q d b : ℕ) (aims : List ℕ) (cases : Bool) (out : ℕ) (t : Moment S) (v : Bool)
-        → (b == d - 1) ≡ v → 0 < d → b < d → Stands t
+        → (b == d - 1) ≡ v → lo < d → lo ≤ b → b < d → Stands t
         → Comes c s0 (here (if v then q else aim (others aims) (d - 1) b) t)
         → Reached n s0 q d aims cases out (on_if v b t)
-    crosses s0 n q d b aims cases out t true e p lt h r = (h, r)
-    crosses s0 n q d b aims cases out t false e p lt h r =
+    crosses s0 n q d b aims cases out t true e p lb lt h r = (h, r)
+    crosses s0 n q d b aims cases out t false e p lb lt h r =
         let x = eqb-false b (d - 1) e in
         let up : d - 1 + 1 ≡ d = omega (arith, p) in
         let same : aim (others aims) (d - 1) b ≡ aim aims d b =
         aim_under aims (d - 1) b (omega (arith, x, lt)) ∙ ap (λ (m : ℕ). aim aims m b) up in
-        (lt, h, subst (λ (y : ℕ). Comes c s0 (here y t)) same r)
+        (lb, lt, h, subst (λ (y : ℕ). Comes c s0 (here y t)) same r)
 
-    pub swap : (n : ℕ) (s0 : Moment S) (k q d : ℕ) (aims : List ℕ) (cases : Bool) (out : ℕ) (f : Course S) → 0 < d
+    pub swap : (n : ℕ) (s0 : Moment S) (k q d : ℕ) (aims : List ℕ) (cases : Bool) (out : ℕ) (f : Course S) → lo < d
         → ((s : Moment S) → Stands s → made c (here k s) ≡ Some (here (first aims) s))
         → Reached n s0 k d (q ∷ others aims) cases out f → Reached n s0 q d aims cases out (swaps (d - 1) f)
     swap n s0 k q d aims cases out (On t) p h r =
@@ -260,12 +268,13 @@ module _ {S : Type 0} (c : Calls S) (own : Nest → Calls S) (image : List ℕ) 
         let to : first aims ≡ aim aims d (d - 1) =
         sym (aim_latest aims (d - 1)) ∙ ap (λ (m : ℕ). aim aims m (d - 1)) up in (
           omega (arith, p),
+          omega (arith, p),
           r.0,
           then_comes c s0 (here k t) _ r.1
               (one_step c (here k t) _ (h t r.0 ∙ ap (λ (y : ℕ). Some (here y t)) to)),
         )
     swap n s0 k q d aims cases out (Off b t) p h r =
-        crosses s0 n q d b aims cases out t (b == d - 1) refl p r.0 r.1 r.2
+        crosses s0 n q d b aims cases out t (b == d - 1) refl p r.0 r.1 r.2 r.3
     swap n s0 k q d aims cases out (Out t) p h r = r
     swap n s0 k q d aims cases out (Left e t) p h r = r
     swap n s0 k q d aims cases out (Thrown t) p h r = r
@@ -284,20 +293,68 @@ module _ {S : Type 0} (c : Calls S) (own : Nest → Calls S) (image : List ℕ) 
     join_run n s0 q d aims cases out (Cut t) r = r
     join_run n s0 q d aims cases out Beyond r = r
 
-    leaves_loop : (n : ℕ) (s0 : Moment S) (q e d : ℕ) (aims : List ℕ) (cases : Bool) (out : ℕ) (t : Moment S)
-        (v : Bool)
-        → (e == q) ≡ v → Stands t → Comes c s0 (here e t) → Reached n s0 q d aims cases out (past_if v e t)
-    leaves_loop n s0 q e d aims cases out t true same h r =
-        (h, subst (λ (x : ℕ). Comes c s0 (here x t)) (eqb-true e q same) r)
-    leaves_loop n s0 q e d aims cases out t false same h r = (h, r)
+-- ---- out of a loop
 
-    pub past_run : (n : ℕ) (s0 : Moment S) (q d : ℕ) (aims : List ℕ) (cases : Bool) (out : ℕ) (f : Course S)
-        → Reached n s0 q d aims cases out f → Reached n s0 q d aims cases out (past_loop q f)
-    past_run n s0 q d aims cases out (On t) r = r
-    past_run n s0 q d aims cases out (Off b t) r = r
-    past_run n s0 q d aims cases out (Out t) r = r
-    past_run n s0 q d aims cases out (Left e t) r = leaves_loop n s0 q e d aims cases out t (e == q) refl r.0 r.1
-    past_run n s0 q d aims cases out (Thrown t) r = r
-    past_run n s0 q d aims cases out (Waits t) r = r
-    past_run n s0 q d aims cases out (Cut t) r = r
-    past_run n s0 q d aims cases out Beyond r = r
+-- What comes through the inside of a loop that ends at q goes on; what left that loop goes on behind it.
+module _ {S : Type 0} (c : Calls S) (own : Nest → Calls S) (image loops : List ℕ) (lo : ℕ) (z : OffsetSize)
+    (Keeps : State S → Type 0) (q d : ℕ) where
+  abbrev Outer : ℕ → Moment S → ℕ → List ℕ → Bool → ℕ → Course S → Type 0
+  Outer n s0 k aims cases out f = Reached c own image loops lo z Keeps n s0 k d aims cases out f
+
+  abbrev Within : ℕ → Moment S → ℕ → List ℕ → ℕ → Course S → Type 0
+  Within n s0 k aims out f = Reached c own image (q ∷ loops) d z Keeps n s0 k d aims false out f
+
+  outside : (m : Moment S) → IsAt c image (q ∷ loops) Keeps m → AreAmong (loop_ends m.state.flow.items) loops
+      → IsAt c image loops Keeps m
+  outside m h a = record {
+    running = h.running;
+    next = h.next;
+    compiles = h.compiles;
+    defines = h.defines;
+    opened = h.opened;
+    level = h.level;
+    among = a;
+    bytes = h.bytes;
+    kept = h.kept;
+  }
+
+  beyond : (e : ℕ) (xs ys : List ℕ) → (e == q) ≡ false → AreAmong (e ∷ xs) (q ∷ ys) → AreAmong (e ∷ xs) ys
+  beyond e xs ys f (inl h) = absurd (no (sym f ∙ eq-eqb e q h.0))
+    where
+      no : false ≡ true → ⊥
+      no g = cc
+  beyond e xs ys f (inr h) = h
+
+  leaves_loop : (n : ℕ) (s0 : Moment S) (e : ℕ) (aims : List ℕ) (cases : Bool) (out : ℕ) (t : Moment S) (v : Bool)
+      → (e == q) ≡ v → IsAt c image (q ∷ loops) Keeps t → AreAmong (e ∷ loop_ends t.state.flow.items) (q ∷ loops)
+      → Comes c s0 (here c own image loops lo z Keeps e t) → Outer n s0 q aims cases out (past_if v e t)
+  leaves_loop n s0 e aims cases out t true same h a r = (
+    outside t h (drop_both e (loop_ends t.state.flow.items) q loops a),
+    subst (λ (x : ℕ). Comes c s0 (here c own image loops lo z Keeps x t)) (eqb-true e q same) r,
+  )
+  leaves_loop n s0 e aims cases out t false same h a r =
+      let b = beyond e (loop_ends t.state.flow.items) loops same a in
+      (outside t h (drop_any e (loop_ends t.state.flow.items) loops b), b, r)
+
+  none_between : (b : ℕ) → d ≤ b → b < d → ⊥
+  none_between b le lt = omega (arith, le, lt)
+
+  pub cross : (n m : ℕ) (s0 : Moment S) (k : ℕ) (aims : List ℕ) (cases : Bool) (out out' : ℕ) (f : Course S)
+      (g : Moment S → Course S) → n ≤ m → Within m s0 k aims out' f
+      → ((t : Moment S) → IsAt c image (q ∷ loops) Keeps t
+      → Outer n (here c own image loops lo z Keeps k t) q aims cases out (past_loop q (g t)))
+      → Outer n s0 q aims cases out (past_loop q (through f g))
+  cross n m s0 k aims cases out out' (On t) g le r h =
+      after_comes c own image loops lo z Keeps n s0 (here c own image loops lo z Keeps k t) q d aims cases out
+      (past_loop q (g t)) r.1 (h t r.0)
+  cross n m s0 k aims cases out out' (Off b t) g le r h = absurd (none_between b r.0 r.1)
+  cross n m s0 k aims cases out out' (Out t) g le r h = absurd (no r.0)
+    where
+      no : false ≡ true → ⊥
+      no e = cc
+  cross n m s0 k aims cases out out' (Left e t) g le r h =
+      leaves_loop n s0 e aims cases out t (e == q) refl r.0 r.1 r.2
+  cross n m s0 k aims cases out out' (Thrown t) g le r h = r
+  cross n m s0 k aims cases out out' (Waits t) g le r h = r
+  cross n m s0 k aims cases out out' (Cut t) g le r h = (r.0, r.1, omega (arith, le, r.2), r.3, r.4, r.5)
+  cross n m s0 k aims cases out out' Beyond g le r h = r

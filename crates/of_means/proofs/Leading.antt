@@ -1,4 +1,6 @@
 -- The return stack at the source leads back to it, and where control is back it is that of the source.
+use Rattle.of_eval_laws.specs.Returning.{AreAmong, end_in, loop_ends}
+use Rattle.of_means.proofs.Level.{drop_any}
 use Rattle.std.proofs.Common.{◌≡◌, inl, inr, ℕ, suc, Bool, true, false, List, [], ◌∷◌, length, Option, Some, None}
 use Rattle.std.proofs.Common.{refl, sym, ap, ◌∙◌, subst, is_some}
 use Rattle.std.specs.Prelude.{◌-◌, ◌&&◌}
@@ -52,37 +54,42 @@ exit_position : (image : List ℕ) (x : LoopExit) → IsExit image x → IsPosit
 exit_position image (exit.Position e) h = tt
 exit_position image (exit.Code n) h = h
 
-exit_inside : (image : List ℕ) (outer : Reading) (x : LoopExit) → IsExit image x → IsInside image outer x
-exit_inside image outer (exit.Position e) h = h
-exit_inside image outer (exit.Code n) h = h
+exit_inside : (image loops : List ℕ) (outer : Reading) (x : LoopExit) (r : List ReturnItem) → IsExit image x
+    → AreAmong (end_in x ∷ loop_ends r) loops → IsInside image loops outer x r
+exit_inside image loops outer (exit.Position e) r h a = (h, a)
+exit_inside image loops outer (exit.Code n) r h a = h
 
-inside_exit : (image : List ℕ) (outer : Reading) (x : LoopExit) → IsInside image outer x → IsExit image x
-inside_exit image outer (exit.Position e) h = h
-inside_exit image outer (exit.Code n) h = h
+inside_exit : (image loops : List ℕ) (outer : Reading) (x : LoopExit) (r : List ReturnItem)
+    → IsInside image loops outer x r → IsExit image x × AreAmong (end_in x ∷ loop_ends r) loops
+inside_exit image loops outer (exit.Position e) r h = h
+inside_exit image loops outer (exit.Code n) r h = absurd h
 
-module _ (image : List ℕ) (outer : Reading) where
+module _ (image loops : List ℕ) (outer : Reading) where
   -- at the source the items lead back
-  pub level_leads : (due : Option Continuation) (r : List ReturnItem) → IsLevel image r
-      → LeadsBack image outer outer false due r
-  level_leads due [] h = absurd h
-  level_leads due (Loop l ∷ r) h =
-      ((λ e. (exit_position image l.exit h.0, λ o. exit_inside image outer l.exit h.0)), level_leads None r h.1)
-  level_leads due (User x ∷ r) h = level_leads None r h
-  level_leads due (Source s ∷ r) h = (refl, inl (h.0, refl, h.1))
-  level_leads due (Return to ∷ r) h = absurd h
-  level_leads due (Handler f ∷ r) h = absurd h
-  level_leads due (Caller d ∷ r) h = absurd h
+  pub level_leads : (due : Option Continuation) (r : List ReturnItem) → IsLevel image r → AreAmong (loop_ends r) loops
+      → LeadsBack image loops outer outer false due r
+  level_leads due [] h a = absurd h
+  level_leads due (Loop l ∷ r) h a = (
+    (λ e. (exit_position image l.exit h.0, λ o. exit_inside image loops outer l.exit r h.0 a)),
+    level_leads None r h.1 (drop_any (end_in l.exit) (loop_ends r) loops a),
+  )
+  level_leads due (User x ∷ r) h a = level_leads None r h a
+  level_leads due (Source s ∷ r) h a = (refl, inl (h.0, refl, h.1))
+  level_leads due (Return to ∷ r) h a = absurd h
+  level_leads due (Handler f ∷ r) h a = absurd h
+  level_leads due (Caller d ∷ r) h a = absurd h
 
   -- and where control is back, they are those of the source
-  pub back_level : (now : Reading) (r : List ReturnItem) → is_outer r ≡ true → LeadsBack image outer now false None r
-      → IsLevel image r × (now ≡ outer)
+  pub back_level : (now : Reading) (r : List ReturnItem) → is_outer r ≡ true
+      → LeadsBack image loops outer now false None r → IsLevel image r × AreAmong (loop_ends r) loops × (now ≡ outer)
   unfolding latest_source
   back_level now [] o h = absurd h
   back_level now (Loop l ∷ r) o h =
       let rest = back_level now r o h.1 in
-      ((inside_exit image outer l.exit ((h.0 refl).1 o), rest.0), rest.1)
+      let x = inside_exit image loops outer l.exit r ((h.0 refl).1 o) in
+      ((x.0, rest.0), x.1, rest.2)
   back_level now (User x ∷ r) o h = back_level now r o h
-  back_level now (Source s ∷ r) o (e, inl h) = ((h.0, h.2), h.1)
+  back_level now (Source s ∷ r) o (e, inl h) = ((h.0, h.2), tt, h.1)
   back_level now (Source s ∷ r) o (e, inr h) = absurd (source_not_nothing s.input h.0.0 o)
   back_level now (Return to ∷ r) o h = absurd (false_true h.0)
   back_level now (Handler f ∷ r) o h = absurd (none_some f.resume h.0)
@@ -90,7 +97,7 @@ module _ (image : List ℕ) (outer : Reading) where
 
   -- while it is so, an image is read
   pub reads_image : (now : Reading) (code : Bool) (due : Option Continuation) (r : List ReturnItem)
-      → is_image outer.input ≡ true → LeadsBack image outer now code due r → readings_over now.input r ≡ 0 → ⊥
+      → is_image outer.input ≡ true → LeadsBack image loops outer now code due r → readings_over now.input r ≡ 0 → ⊥
   reads_image now code due [] o h e = h
   reads_image now code due (Loop l ∷ r) o h e = reads_image now code None r o h.1 e
   reads_image now code due (User x ∷ r) o h e = reads_image now code None r o h e
@@ -156,34 +163,36 @@ pub none_open : {A : Type 0} (o : Option A) → is_some o ≡ false → o ≡ No
 none_open None e = refl
 none_open (Some x) e = absurd (true_false e)
 
-module _ {S : Type 0} (image : List ℕ) (Keeps : State S → Type 0) where
+module _ {S : Type 0} (image loops : List ℕ) (Keeps : State S → Type 0) where
   -- it leads back behind a token
-  pub source_leads : (q : Place) (s : State S) → AtSource image Keeps false s
-      → Leads image (at_place q s).flow.reading (at_place q s)
+  pub source_leads : (q : Place) (s : State S) → AtSource image loops Keeps false s
+      → Leads image loops (at_place q s).flow.reading (at_place q s)
   source_leads q s h = (
     (
       (tt, h.opened),
-      subst (λ (to : Continuation). LeadsBack image (at_place q s).flow.reading (at_place q s).flow.reading
+      subst (λ (to : Continuation). LeadsBack image loops (at_place q s).flow.reading (at_place q s).flow.reading
           (is_code to) (Some to) s.flow.items)
-          (sym h.next) (level_leads image (at_place q s).flow.reading (Some continuation.Source) s.flow.items h.level),
+          (sym h.next) (level_leads image loops (at_place q s).flow.reading
+          (Some continuation.Source) s.flow.items h.level h.among),
     ),
     (λ o. none_open s.words.defining h.defines),
   )
 
   -- where control is back, it is at the source again, behind the token
   pub source_back : (q : Place) (outer : Reading) (s : State S) → outer.input ≡ input.Image q.size q.position
-      → outer.opened ≡ None → s.flow.is_running ≡ true → is_back s ≡ true → LeadsOn image outer s
+      → outer.opened ≡ None → s.flow.is_running ≡ true → is_back s ≡ true → LeadsOn image loops outer s
       → (s.words.defining ≡ None → s.flow.is_compiling ≡ false) → HasItsImages s
       → BeganFirst image (running s.board.memory) → (at_place q s ≡ s → (p : Place) → Keeps (at_place p s))
-      → AtSource image Keeps false s × (at_place q s ≡ s)
+      → AtSource image loops Keeps false s × (at_place q s ≡ s)
   source_back q outer s i o running back h compiles images first kept =
       let to = source_next s.flow.next (both_first (is_read_on s.flow.next) _ back) in
       let outermost : is_outer s.flow.items ≡ true = both_second (is_read_on s.flow.next) _ back in
-      let leads : LeadsBack image outer s.flow.reading false None s.flow.items =
-      subst (λ (x : Continuation). LeadsBack image outer s.flow.reading (is_code x) None s.flow.items) to h.0.1 in
-      let level = back_level image outer s.flow.reading s.flow.items outermost leads in
+      let leads : LeadsBack image loops outer s.flow.reading false None s.flow.items =
+      subst (λ (x : Continuation). LeadsBack image loops outer s.flow.reading (is_code x) None s.flow.items) to h.0.1
+      in
+      let level = back_level image loops outer s.flow.reading s.flow.items outermost leads in
       let read : s.flow.reading.input ≡ input.Image q.size q.position =
-      ap (λ (r : Reading). r.input) level.1 ∙ i in
+      ap (λ (r : Reading). r.input) level.2 ∙ i in
       let closed = h.1 outermost in
       let there : at_place q s ≡ s =
       ap (λ (x : Input). record s { flow = record s.flow { reading = record s.flow.reading { input = x } } })
@@ -193,8 +202,9 @@ module _ {S : Type 0} (image : List ℕ) (Keeps : State S → Type 0) where
           next = to;
           compiles = compiles closed;
           defines = ap is_some closed;
-          opened = ap (λ (r : Reading). r.opened) level.1 ∙ o;
+          opened = ap (λ (r : Reading). r.opened) level.2 ∙ o;
           level = level.0;
+          among = level.1;
           bytes = source_latest image s level.0 (ap is_image read) images first;
           kept = kept there;
         },

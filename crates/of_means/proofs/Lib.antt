@@ -1,7 +1,7 @@
 -- Steps: runs of steps, and where they rest. Runs: where branches lead, and the step of the token at which the source
 -- stands. Level, Control: what words of control leave of the return stack, and their tokens. Aims: what a part leaves
 -- of the branches that are open. Following: what comes together where the machine follows a course. Turning, Bare: the
--- step of each word of control. Nests: the image follows the nest. Loops: a source without `leave`. Spine: the image
+-- step of each word of control. Nests: the image follows the nest. Spine: the image
 -- follows the nest where offsets are made wider, too. Stops: the end of the image. Main: the law `source_is_followed`.
 -- Keeping, Leading: what is kept in each step, and the return stack at the source. Quiet, Started, Words: what a word
 -- started comes back.
@@ -17,7 +17,6 @@ pub mod Following
 pub mod Turning
 pub mod Bare
 pub mod Nests
-pub mod Loops
 pub mod Spine
 pub mod Stops
 pub mod Main

@@ -26,11 +26,11 @@ use Rattle.of_means.proofs.Runs.{token_found}
 use Rattle.of_means.proofs.Stops.{end_does, end_stops}
 use Rattle.of_means.proofs.Following.{Reached}
 use Rattle.of_means.proofs.Spine.{follows as spine}
-use Rattle.of_means.proofs.Loops.{Stays}
 
 module _ {S : Type 0} (c : Calls S) (own : Nest → Calls S) (image : List ℕ) (z : OffsetSize) (Keeps : State S → Type 0)
     (settles : ThrowsSettle S) (typed : TokensAreTyped) (ends : NestsEndAtTheirPlaces) (kept : StaysKept c Keeps)
-    (comes : WordsComeBack c image Keeps) (defines : DefinitionsAreRead c image Keeps own) (x : Nest)
+    (comes : (loops : List ℕ) → WordsComeBack c image loops Keeps)
+    (defines : (loops : List ℕ) → DefinitionsAreRead c image loops Keeps own) (x : Nest)
     (m : Moment S)
   where
     abbrev begin : Moment S
@@ -49,7 +49,7 @@ module _ {S : Type 0} (c : Calls S) (own : Nest → Calls S) (image : List ℕ) 
 
     -- what a course says of the run
     abbrev Follows : ℕ → Course S → Type 0
-    Follows n (On t) = IsAt c image Keeps t × ((k : ℕ) × (steps c k begin ≡ Some (source_ended c own x z t)))
+    Follows n (On t) = IsAt c image [] Keeps t × ((k : ℕ) × (steps c k begin ≡ Some (source_ended c own x z t)))
     Follows n (Off b t) = ⊥
     Follows n (Out t) = ⊥
     Follows n (Left e t) = ⊥
@@ -67,25 +67,24 @@ module _ {S : Type 0} (c : Calls S) (own : Nest → Calls S) (image : List ℕ) 
     no_out e = cc
 
     -- the end of the source is a step
-    end_made : (t : Moment S) → IsAt c image Keeps t
+    end_made : (t : Moment S) → IsAt c image [] Keeps t
         → token_from image (end_of x (first_place z)).position (end_of x (first_place z)).size
         ≡ Some (bare 0x000, (past 1 (end_of x (first_place z))).position)
         → made c (at (end_of x (first_place z)) t) ≡ Some (source_ended c own x z t)
     end_made t stand found =
         let e = end_of x (first_place z) in
         let q = past 1 e in
-        token_found c image Keeps false e q (bare 0x000) t stand found refl
+        token_found c image [] Keeps false e q (bare 0x000) t stand found refl
         ∙ plain_step c (token_at c (bare 0x000) e q) t (token_at c (bare 0x000) e q t.state) refl
-        (ap (λ x. x.asks) (end_does c image Keeps typed e q t.state stand))
+        (ap (λ x. x.asks) (end_does c image [] Keeps typed e q t.state stand))
 
     follows_from : (n : ℕ) (f : Course S)
         → token_from image (end_of x (first_place z)).position (end_of x (first_place z)).size
         ≡ Some (bare 0x000, (past 1 (end_of x (first_place z))).position)
-        → Stays f
-        → Reached c own image (end_of x (first_place z)).size Keeps n begin
+        → Reached c own image [] 0 (end_of x (first_place z)).size Keeps n begin
         (end_of x (first_place z)).position 0 [] false 0 f
         → Follows n f
-    follows_from n (On t) end never r = (
+    follows_from n (On t) end r = (
       r.0,
       (
         r.1.0 + 1,
@@ -93,41 +92,30 @@ module _ {S : Type 0} (c : Calls S) (own : Nest → Calls S) (image : List ℕ) 
             ∙ ap (λ o. option_and_then (λ u. steps c 0 u) o) (end_made t r.0 end),
       ),
     )
-    follows_from n (Off b t) end never r = absurd (none_less b r.0)
-    follows_from n (Out t) end never r = absurd (no_out r.0)
-    follows_from n (Left e t) end never r = absurd never
-    follows_from n (Thrown t) end never r = r
-    follows_from n (Waits t) end never r = r
-    follows_from n (Cut t) end never r = r
-    follows_from n Beyond end never r = tt
-
-    never_stays : (f : Course S) → ((e : ℕ) (t : Moment S) → f ≡ Left e t → ⊥) → Stays f
-    never_stays (Left e t) h = h e t refl
-    never_stays (On t) h = tt
-    never_stays (Off b t) h = tt
-    never_stays (Out t) h = tt
-    never_stays (Thrown t) h = tt
-    never_stays (Waits t) h = tt
-    never_stays (Cut t) h = tt
-    never_stays Beyond h = tt
+    follows_from n (Off b t) end r = absurd (none_less b r.1)
+    follows_from n (Out t) end r = absurd (no_out r.0)
+    follows_from n (Left e t) end r = absurd r.1
+    follows_from n (Thrown t) end r = r
+    follows_from n (Waits t) end r = r
+    follows_from n (Cut t) end r = r
+    follows_from n Beyond end r = tt
 
     -- the image of a whole nest
     follows : (n : ℕ) → IsWhole x → HasWords x → WidensOutside x 0 → HasTokens image (first_place z) (tokens_of z x)
-        → IsAt c image Keeps m → ((e : ℕ) (t : Moment S) → source_means c own x z n m ≡ Left e t → ⊥)
+        → IsAt c image [] Keeps m
         → Follows n (source_means c own x z n m)
     unfolding token_bytes tokens_of
-    follows n whole words widens has stand never =
+    follows n whole words widens has stand =
         let p = first_place z in
         let e = end_of x p in
-        let stays_on = never_stays (source_means c own x z n m) never in
         let r = spine c own image Keeps settles typed ends kept comes defines x z n 0 p []
         (straight 0x000 e ∷ []) begin (On m)
-        refl words widens whole.0 has stays_on (stand, stays c begin) in
+        refl words widens whole.0 has (stand, stays c begin) in
         let end = ends image x p [] 0 (straight 0x000 e ∷ []) has in
-        let r' = subst (λ (d : ℕ). Reached c own image e.size Keeps n begin e.position d [] false 0
+        let r' = subst (λ (d : ℕ). Reached c own image [] 0 e.size Keeps n begin e.position d [] false 0
         (source_means c own x z n m))
         whole.1 r in
-        follows_from n (source_means c own x z n m) end.1 stays_on r'
+        follows_from n (source_means c own x z n m) end.1 r'
 
     -- where the run rests, the source ends, throws or waits
     rests_too : (k : ℕ) (last : Moment S) (f : Course S) → steps c k begin ≡ Some last → made c last ≡ None
@@ -136,7 +124,7 @@ module _ {S : Type 0} (c : Calls S) (own : Nest → Calls S) (image : List ℕ) 
         ⊎ (f ≡ Thrown last) ⊎ (f ≡ Waits last) ⊎ (f ≡ Beyond)
     rests_too k last (On t) e d r =
         let q = end_of x (first_place z) in
-        let off = none_off c (source_ended c own x z t) (end_stops c image Keeps typed q (past 1 q) t.state r.0) in
+        let off = none_off c (source_ended c own x z t) (end_stops c image [] Keeps typed q (past 1 q) t.state r.0) in
         inl (t, refl, one_rest c k r.1.0 begin last (source_ended c own x z t) e d r.1.1 off)
     rests_too k last (Off b t) e d r = absurd r
     rests_too k last (Out t) e d r = absurd r
@@ -150,14 +138,14 @@ module _ {S : Type 0} (c : Calls S) (own : Nest → Calls S) (image : List ℕ) 
     rests_too k last Beyond e d r = inr (inr (inr refl))
 
     pub behaves : IsWhole x → HasWords x → WidensOutside x 0 → HasTokens image (first_place z) (tokens_of z x)
-        → IsAt c image Keeps m
-        → ((n e : ℕ) (t : Moment S) → source_means c own x z n m ≡ Left e t → ⊥) → Behaves c own x z m
-    behaves whole words widens has stand never =
-        let f = λ (n : ℕ). follows n whole words widens has stand (never n) in
+        → IsAt c image [] Keeps m
+        → Behaves c own x z m
+    behaves whole words widens has stand =
+        let f = λ (n : ℕ). follows n whole words widens has stand in
         let q = end_of x (first_place z) in
         record {
           ends = λ n t e. let r : Follows n (On t) = subst (Follows n) e (f n) in
-              (r.1.0, r.1.1, end_stops c image Keeps typed q (past 1 q) t.state r.0);
+              (r.1.0, r.1.1, end_stops c image [] Keeps typed q (past 1 q) t.state r.0);
           throws = λ n t e. let r : Follows n (Thrown t) = subst (Follows n) e (f n) in (r.1.0, r.1.1, r.0);
           waits = λ n t e. let r : Follows n (Waits t) = subst (Follows n) e (f n) in (r.1.0, r.1.1, r.0);
           goes_on = λ n t e. subst (Follows n) e (f n);
@@ -168,6 +156,6 @@ module _ {S : Type 0} (c : Calls S) (own : Nest → Calls S) (image : List ℕ) 
 pub source_is_followed : {S : Type 0} (Keeps : List ℕ → State S → Type 0) → ThrowsSettle S → TokensAreTyped
     → NestsEndAtTheirPlaces → SourceIsFollowed S Keeps
 source_is_followed Keeps settles typed ends = record {
-  followed = λ c own image z x m whole words widens has stand kept comes defines never.
-      behaves c own image z (Keeps image) settles typed ends kept comes defines x m whole words widens has stand never;
+  followed = λ c own image z x m whole words widens has stand kept comes defines.
+      behaves c own image z (Keeps image) settles typed ends kept comes defines x m whole words widens has stand;
 }

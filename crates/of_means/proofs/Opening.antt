@@ -82,7 +82,7 @@ never_awaited w = either w.waiting
     either true = refl
     either false = refl
 
-module _ (image : List ℕ) (Keeps : State Definitions → Type 0) (settles : ThrowsSettle Definitions)
+module _ (image loops : List ℕ) (Keeps : State Definitions → Type 0) (settles : ThrowsSettle Definitions)
     (typing : TokensAreTyped) where
   abbrev c : Calls Definitions
   c = structured_calls
@@ -93,7 +93,7 @@ module _ (image : List ℕ) (Keeps : State Definitions → Type 0) (settles : Th
       (o.asks ≡ None) × ((settled_of c o).flow.is_running ≡ true → StaysBehind q s b o.state)
 
   thrown_off : (b : Bool) (t : Throw) (q : Place) (s : State Definitions) (o : Outcome Definitions)
-      → AtSource image Keeps b s → o.ended ≡ Err t → o.state.flow ≡ (at_place q s).flow
+      → AtSource image loops Keeps b s → o.ended ≡ Err t → o.state.flow ≡ (at_place q s).flow
       → (settled_of c o).flow.is_running ≡ true → ⊥
   thrown_off b t q s o h e f running =
       let guard = level_unguarded image s.flow.items h.level in
@@ -104,7 +104,7 @@ module _ (image : List ℕ) (Keeps : State Definitions → Type 0) (settles : Th
       ∙ ap (λ (y : Result (Unit {0}) Throw). (settled c o.state.flow.items (thrown_in y) o.state).flow.is_running) e
       ∙ ends)
 
-  opens_by : (f : Option Throw) (g : Making) (q : Place) (s : State Definitions) → AtSource image Keeps false s
+  opens_by : (f : Option Throw) (g : Making) (q : Place) (s : State Definitions) → AtSource image loops Keeps false s
       → (f ≡ None → is_some g.words.defining ≡ true)
       → let o = by_making defining.Colon (unless f g) (at_place q s) in
       Turns true q s o × (o.state.code ≡ s.code)
@@ -126,7 +126,7 @@ module _ (image : List ℕ) (Keeps : State Definitions → Type 0) (settles : Th
     refl,
   )
 
-  pub colon_turns : (p q : Place) (s : State Definitions) → AtSource image Keeps false s
+  pub colon_turns : (p q : Place) (s : State Definitions) → AtSource image loops Keeps false s
       → let o = token_at c (bare 0x0b7) p q s in Turns true q s o × (o.state.code ≡ s.code)
   unfolding token_act acted
   colon_turns p q s h =
@@ -136,7 +136,7 @@ module _ (image : List ℕ) (Keeps : State Definitions → Type 0) (settles : Th
       let f = counting (defining_faults g (Some x)) in
       let same : token_at c (bare 0x0b7) p q s
       ≡ by_making defining.Colon (unless f (word_made defining.Colon g g.words.pending (Some x))) u =
-      executed_at c image Keeps (bare 0x0b7) (token.Define defining.Colon) p q s typing.colon h
+      executed_at c image loops Keeps (bare 0x0b7) (token.Define defining.Colon) p q s typing.colon h
       ∙ ap (λ o. word_made_as c defining.Colon o u) (never_awaited u.words) in
       subst (λ (o : Outcome Definitions). Turns true q s o × (o.state.code ≡ s.code)) (sym same)
       (opens_by f (word_made defining.Colon g g.words.pending (Some x)) q s h
@@ -159,7 +159,7 @@ module _ (image : List ℕ) (Keeps : State Definitions → Type 0) (settles : Th
   shut_by (Some n) w e = refl
 
   ends_by : (n : ℕ) (a : Answered Definitions) (r : Result (Unit {0}) Throw) (q : Place) (s : State Definitions)
-      → AtSource image Keeps true s
+      → AtSource image loops Keeps true s
       → Turns false q s
       (then_known s.flow.home (Some n) (by_code (record { code = a.code; ended = r }) (closed_if r (at_place q s))))
   ends_by n a (Err t) q s h =
@@ -181,18 +181,19 @@ module _ (image : List ℕ) (Keeps : State Definitions → Type 0) (settles : Th
         }),
       )
 
-  ends_open : (o : Option ℕ) (q : Place) (s : State Definitions) → AtSource image Keeps true s → s.words.defining ≡ o
+  ends_open : (o : Option ℕ) (q : Place) (s : State Definitions) → AtSource image loops Keeps true s
+      → s.words.defining ≡ o
       → Turns false q s (semicolon_entry c o (at_place q s))
   ends_open None q s h e = absurd (not_both (sym h.defines ∙ ap is_some e))
   ends_open (Some n) q s h e =
       let a = c.semicolon (record { 0 = xt_of n }) s.code in
       ends_by n a a.ended q s h
 
-  pub semicolon_turns : (q : Place) (s : State Definitions) → AtSource image Keeps true s
+  pub semicolon_turns : (q : Place) (s : State Definitions) → AtSource image loops Keeps true s
       → Turns false q s (semicolon_entry c s.words.defining (at_place q s))
   semicolon_turns q s h = ends_open s.words.defining q s h refl
 
-  pub semicolon_at : (p q : Place) (s : State Definitions) → AtSource image Keeps true s
+  pub semicolon_at : (p q : Place) (s : State Definitions) → AtSource image loops Keeps true s
       → token_at c (bare 0x0c2) p q s ≡ semicolon_entry c s.words.defining (at_place q s)
   unfolding compiling_act token_act acted
-  semicolon_at p q s h = compiled_at image Keeps typing (bare 0x0c2) token.Semicolon p q s typing.semicolon h
+  semicolon_at p q s h = compiled_at image loops Keeps typing (bare 0x0c2) token.Semicolon p q s typing.semicolon h

@@ -45,15 +45,16 @@ aim_latest (x ∷ xs) d =
 -- ---- the machine at the source
 
 -- wherever it stands
-pub at_any : {S : Type 0} (image : List ℕ) (Keeps : State S → Type 0) (b : Bool) (p : Place) (s : State S)
-    → AtSource image Keeps b s → AtSource image Keeps b (at_place p s)
-at_any image Keeps b p s h = record {
+pub at_any : {S : Type 0} (image loops : List ℕ) (Keeps : State S → Type 0) (b : Bool) (p : Place) (s : State S)
+    → AtSource image loops Keeps b s → AtSource image loops Keeps b (at_place p s)
+at_any image loops Keeps b p s h = record {
   running = h.running;
   next = h.next;
   compiles = h.compiles;
   defines = h.defines;
   opened = h.opened;
   level = h.level;
+  among = h.among;
   bytes = h.bytes;
   kept = h.kept;
 }
@@ -70,10 +71,10 @@ module _ {S : Type 0} (c : Calls S) where
   asked_at p m (Some q) = answered_at p m (fitting q m.answers)
 
   -- what is due at a place
-  pub due_at : (image : List ℕ) (Keeps : State S → Type 0) (b : Bool) (p q : Place) (t : Token) (s : State S)
-      → AtSource image Keeps b s → token_from image p.position p.size ≡ Some (t, q.position)
+  pub due_at : (image loops : List ℕ) (Keeps : State S → Type 0) (b : Bool) (p q : Place) (t : Token) (s : State S)
+      → AtSource image loops Keeps b s → token_from image p.position p.size ≡ Some (t, q.position)
       → q.size ≡ size_behind t.code.0 p.size → next_due c (at_place p s) ≡ token_at c t p q s
-  due_at image Keeps b p q t s h e z =
+  due_at image loops Keeps b p q t s h e z =
       let s1 = at_place p s in
       ap (λ x. due c x s1) h.next
       ∙ ap (λ m. found_token c (token_from m p.position p.size) p.size p.position s1) h.bytes
@@ -81,12 +82,12 @@ module _ {S : Type 0} (c : Calls S) where
       ∙ ap (λ (y : OffsetSize). token_done c (typed_of t) (spot_in s.board.memory p.position q.position)
       (read_on y q.position s)) (sym z)
 
-  replied_at : (image : List ℕ) (Keeps : State S → Type 0) (b : Bool) (p q : Place) (t : Token) (a : Answer)
+  replied_at : (image loops : List ℕ) (Keeps : State S → Type 0) (b : Bool) (p q : Place) (t : Token) (a : Answer)
       (s : State S)
-      → AtSource image Keeps b s → token_from image p.position p.size ≡ Some (t, q.position)
+      → AtSource image loops Keeps b s → token_from image p.position p.size ≡ Some (t, q.position)
       → q.size ≡ size_behind t.code.0 p.size
       → next_due c (at_place p (replied a s)) ≡ token_at c t p q (replied a s)
-  replied_at image Keeps b p q t a s h e z =
+  replied_at image loops Keeps b p q t a s h e z =
       let s0 = replied a s in
       let s1 = at_place p s0 in
       ap (λ x. due c x s1) h.next
@@ -96,11 +97,13 @@ module _ {S : Type 0} (c : Calls S) where
       (read_on y q.position s0)) (sym z)
 
   -- the token that stands at a place is done
-  pub token_found : (image : List ℕ) (Keeps : State S → Type 0) (b : Bool) (p q : Place) (t : Token) (m : Moment S)
-      → AtSource image Keeps b m.state → token_from image p.position p.size ≡ Some (t, q.position)
+  pub token_found : (image loops : List ℕ) (Keeps : State S → Type 0) (b : Bool) (p q : Place) (t : Token)
+      (m : Moment S)
+      → AtSource image loops Keeps b m.state → token_from image p.position p.size ≡ Some (t, q.position)
       → q.size ≡ size_behind t.code.0 p.size → made c (at p m) ≡ step_by c (token_at c t p q) m
-  token_found image Keeps b p q t m h e z =
+  token_found image loops Keeps b p q t m h e z =
       made_by c (at p m) h.running
       ∙ asked_at p m (next_due c (at_place p m.state)).asks
-      ∙ same_step c (λ s. next_due c (at_place p s)) (token_at c t p q) m (due_at image Keeps b p q t m.state h e z)
-      (λ a. replied_at image Keeps b p q t a m.state h e z)
+      ∙ same_step c (λ s. next_due c (at_place p s)) (token_at c t p q) m
+      (due_at image loops Keeps b p q t m.state h e z)
+      (λ a. replied_at image loops Keeps b p q t a m.state h e z)

@@ -20,6 +20,7 @@ use Rattle.of_eval_laws.specs.Throws.{ThrowsSettle, image_more}
 use Rattle.of_means.specs.Moments.{Moment, made, with_state}
 use Rattle.of_means.specs.Kept.{IsKept}
 use Rattle.of_means.specs.Means.{at, at_place}
+use Rattle.of_eval_laws.specs.Returning.{AreAmong, loop_ends}
 use Rattle.of_means.specs.Sources.{AtSource, IsLevel}
 use Rattle.of_means.proofs.Keeping.{image_count, kept_on, made_leaves, stays_kept}
 use Rattle.of_means.proofs.Leading.{source_latest}
@@ -46,7 +47,7 @@ pub record StaysBehind (q : Place) (s : State Definitions) (b : Bool) (x : State
   pub defines : is_some x.words.defining ≡ b
 
 module _ (settles : ThrowsSettle Definitions) (placing : StatesStayPlaced) (sounding : SpaceStaysSound Definitions)
-    (reading : ImagesAreReadings Definitions) (runs : ImagesRun Definitions) (image : List ℕ) where
+    (reading : ImagesAreReadings Definitions) (runs : ImagesRun Definitions) (image loops : List ℕ) where
   abbrev c : Calls Definitions
   c = structured_calls
 
@@ -59,9 +60,9 @@ module _ (settles : ThrowsSettle Definitions) (placing : StatesStayPlaced) (soun
       absurd (not_both (sym r ∙ (settles.ends c t x (level_unguarded image x.flow.items l)).running))
 
   pub stands_on : (b b' : Bool) (p q : Place) (m v : Moment Definitions) (o : Outcome Definitions)
-      → AtSource image (IsKept image) b m.state → made c (at p m) ≡ Some v → v ≡ with_state (settled_of c o) m
+      → AtSource image loops (IsKept image) b m.state → made c (at p m) ≡ Some v → v ≡ with_state (settled_of c o) m
       → StaysBehind q m.state b' o.state → v.state.flow.is_running ≡ true
-      → (o.ended ≡ Ok tt) × (v.state ≡ o.state) × AtSource image (IsKept image) b' v.state × (at q v ≡ v)
+      → (o.ended ≡ Ok tt) × (v.state ≡ o.state) × AtSource image loops (IsKept image) b' v.state × (at q v ≡ v)
   stands_on b b' p q m v o h step e behind running =
       let s = m.state in
       let x = o.state in
@@ -95,6 +96,8 @@ module _ (settles : ThrowsSettle Definitions) (placing : StatesStayPlaced) (soun
           defines = ap (λ (y : State Definitions). is_some y.words.defining) same ∙ behind.defines;
           opened = ap (λ (r : Reading). r.opened) read ∙ h.opened;
           level = level';
+          among = subst (λ (r : List ReturnItem). AreAmong (loop_ends r) loops)
+              (sym (ap (λ (y : State Definitions). y.flow.items) same ∙ behind.items)) h.among;
           bytes = source_latest image v.state level' (ap is_image input_is) keeps.images keeps.first;
           kept = λ p'. stays.place q p' v.state (subst (λ (y : State Definitions). IsKept image y) (sym there) keeps);
         },

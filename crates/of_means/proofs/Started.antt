@@ -106,44 +106,46 @@ bare_typed false false false k own ordinary wide steady h = absurd cc
 
 -- ---- what the acts of such words leave
 
-module _ {S : Type 0} (image : List ℕ) (outer : Reading) where
-  quiet_leads : (u v : State S) → Leads image outer u → Quiet u v → Leads image outer v
+module _ {S : Type 0} (image loops : List ℕ) (outer : Reading) where
+  quiet_leads : (u v : State S) → Leads image loops outer u → Quiet u v → Leads image loops outer v
   quiet_leads u v h q = (
-    subst (λ (f : Flow). IsDue image outer f) (sym q.0) h.0,
+    subst (λ (f : Flow). IsDue image loops outer f) (sym q.0) h.0,
     (λ o. q.1 ∙ h.1 (sym (ap (λ (f : Flow). is_outer f.items) q.0) ∙ o)),
   )
 
-module _ {S : Type 0} (c : Calls S) (image : List ℕ) (Keeps : State S → Type 0) (typing : TokensAreTyped)
+module _ {S : Type 0} (c : Calls S) (image loops : List ℕ) (Keeps : State S → Type 0) (typing : TokensAreTyped)
     (back : StackLeadsBack S) where
   -- a token at the source leaves this of control
   abbrev pub Starts : Token → Place → Place → State S → Type 0
-  Starts t p q s = Leads image (at_place q s).flow.reading (token_at c t p q s).state
+  Starts t p q s = Leads image loops (at_place q s).flow.reading (token_at c t p q s).state
 
-  word_leads : (o : Option TokenEntry) (outer : Reading) (u : State S) → Leads image outer u
-      → Leads image outer (worked c (named o (λ xt. execution xt (front_of u))) u).state
+  word_leads : (o : Option TokenEntry) (outer : Reading) (u : State S) → Leads image loops outer u
+      → Leads image loops outer (worked c (named o (λ xt. execution xt (front_of u))) u).state
   unfolding worked
   word_leads None outer u h = h
-  word_leads (Some e) outer u h = back.words image outer c e.xt u h
+  word_leads (Some e) outer u h = back.words image loops outer c e.xt u h
 
-  starts_word : (t : Token) (p q : Place) (s : State S) → AtSource image Keeps false s
+  starts_word : (t : Token) (p q : Place) (s : State S) → AtSource image loops Keeps false s
       → typed_of t ≡ Plain (token.Word t.code) → Starts t p q s
   unfolding token_act acted
   starts_word t p q s h e =
       let u = at_place q s in
-      subst (λ o. Leads image u.flow.reading o.state) (sym (executed_at c image Keeps t (token.Word t.code) p q s e h))
-      (word_leads (entry_in u.words.table t.code.0) u.flow.reading u (source_leads image Keeps q s h))
+      subst (λ o. Leads image loops u.flow.reading o.state)
+      (sym (executed_at c image loops Keeps t (token.Word t.code) p q s e h))
+      (word_leads (entry_in u.words.table t.code.0) u.flow.reading u (source_leads image loops Keeps q s h))
 
-  starts_as : (t : Token) (w : Typed) (p q : Place) (s : State S) → AtSource image Keeps false s → typed_of t ≡ w
+  starts_as : (t : Token) (w : Typed) (p q : Place) (s : State S) → AtSource image loops Keeps false s → typed_of t ≡ w
       → let u = at_place q s in
       Quiet u (acted c (act_of w (spot_in s.board.memory p.position q.position) (front_of u)) u).state
       → Starts t p q s
   starts_as t w p q s h e quiet =
       let u = at_place q s in
       let here = spot_in s.board.memory p.position q.position in
-      subst (λ (x : Typed). Leads image u.flow.reading (token_done c x here u).state) (sym e)
-      (quiet_leads image u.flow.reading u (token_done c w here u).state (source_leads image Keeps q s h) quiet)
+      subst (λ (x : Typed). Leads image loops u.flow.reading (token_done c x here u).state) (sym e)
+      (quiet_leads image loops u.flow.reading u (token_done c w here u).state
+      (source_leads image loops Keeps q s h) quiet)
 
-  starts_quiet : (t : Token) (w : Typing) (p q : Place) (s : State S) → AtSource image Keeps false s
+  starts_quiet : (t : Token) (w : Typing) (p q : Place) (s : State S) → AtSource image loops Keeps false s
       → typed_of t ≡ Plain w
       → let u = at_place q s in
       Quiet u (acted c (token_act w (spot_in s.board.memory p.position q.position) (front_of u)) u).state
@@ -151,9 +153,10 @@ module _ {S : Type 0} (c : Calls S) (image : List ℕ) (Keeps : State S → Type
   starts_quiet t w p q s h e quiet =
       let u = at_place q s in
       let here = spot_in s.board.memory p.position q.position in
-      subst (λ (o : Outcome S). Leads image u.flow.reading o.state) (sym (executed_at c image Keeps t w p q s e h))
-      (quiet_leads image u.flow.reading u (acted c (token_act w here (front_of u)) u).state
-      (source_leads image Keeps q s h) quiet)
+      subst (λ (o : Outcome S). Leads image loops u.flow.reading o.state)
+      (sym (executed_at c image loops Keeps t w p q s e h))
+      (quiet_leads image loops u.flow.reading u (acted c (token_act w here (front_of u)) u).state
+      (source_leads image loops Keeps q s h) quiet)
 
   -- ---- plain words
 
@@ -170,7 +173,7 @@ module _ {S : Type 0} (c : Calls S) (image : List ℕ) (Keeps : State S → Type
       subst (λ (m : ℕ). typed_of (record { code = record { 0 = m }; argument = a }) ≡ Plain w) (sym e) h
 
   -- `offset16` does nothing but make offsets wider
-  bare_starts : (k : FCode) (p q : Place) (s : State S) → AtSource image Keeps false s → IsPlainWith Nothing k.0
+  bare_starts : (k : FCode) (p q : Place) (s : State S) → AtSource image loops Keeps false s → IsPlainWith Nothing k.0
       → (b : Bool) → nat_eq k.0 0x0cc ≡ b → Starts (record { code = k; argument = Nothing }) p q s
   unfolding token_act acted worked
   bare_starts k p q s h plain true e =
@@ -181,7 +184,7 @@ module _ {S : Type 0} (c : Calls S) (image : List ℕ) (Keeps : State S → Type
       (bare_typed (nat_le 0x800 k.0) (is_ordinary (word_numbered k.0)) (nat_eq k.0 0x0cc) k refl refl refl
       (λ f. none_wider (sym e ∙ eq-eqb k.0 0x0cc f)) plain)
 
-  plain_starts : (a : Argument) (k : FCode) (p q : Place) (s : State S) → AtSource image Keeps false s
+  plain_starts : (a : Argument) (k : FCode) (p q : Place) (s : State S) → AtSource image loops Keeps false s
       → IsPlainWith a k.0 → Starts (record { code = k; argument = a }) p q s
   unfolding token_act acted
   plain_starts Nothing k p q s h plain = bare_starts k p q s h plain (nat_eq k.0 0x0cc) refl
@@ -206,7 +209,8 @@ module _ {S : Type 0} (c : Calls S) (image : List ℕ) (Keeps : State S → Type
 
   -- ---- what gives a definition its number
 
-  maker_starts : (k : Maker) (name : List ℕ) (n : FCode) (p q : Place) (s : State S) → AtSource image Keeps false s
+  maker_starts : (k : Maker) (name : List ℕ) (n : FCode) (p q : Place) (s : State S)
+      → AtSource image loops Keeps false s
       → Starts (making k name n) p q s
   unfolding token_act acted
   maker_starts maker.Unnamed name n p q s h =
@@ -243,7 +247,7 @@ module _ {S : Type 0} (c : Calls S) (image : List ℕ) (Keeps : State S → Type
       let e : 0x0b8 + (k - 0x0b8) ≡ k = omega (arith, low) in
       subst (λ (m : ℕ). IsDefining m) e (kind_from (k - 0x0b8) (omega (arith, high)))
 
-  kind_starts : (t : FCode) (p q : Place) (s : State S) → AtSource image Keeps false s → is_kind t.0 ≡ true
+  kind_starts : (t : FCode) (p q : Place) (s : State S) → AtSource image loops Keeps false s → is_kind t.0 ≡ true
       → Starts (call t) p q s
   unfolding token_act acted
   kind_starts t p q s h k =
@@ -253,7 +257,7 @@ module _ {S : Type 0} (c : Calls S) (image : List ℕ) (Keeps : State S → Type
 
   -- ---- each word
 
-  pub starts : (t : Token) (p q : Place) (s : State S) → AtSource image Keeps false s → IsWord t
+  pub starts : (t : Token) (p q : Place) (s : State S) → AtSource image loops Keeps false s → IsWord t
       → Starts t p q s
   starts t p q s h (inl plain) = plain_starts t.argument t.code p q s h plain
   starts t p q s h (inr (inl m)) =

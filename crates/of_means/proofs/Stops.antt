@@ -95,7 +95,7 @@ base_beneath image (Return to ∷ r) h = absurd h
 base_beneath image (Handler f ∷ r) h = absurd h
 base_beneath image (Caller d ∷ r) h = absurd h
 
-module _ {S : Type 0} (c : Calls S) (image : List ℕ) (Keeps : State S → Type 0) (typed : TokensAreTyped) where
+module _ {S : Type 0} (c : Calls S) (image loops : List ℕ) (Keeps : State S → Type 0) (typed : TokensAreTyped) where
   ended_off : (u : State S) → IsLevel image u.flow.items
       → (settled_of c (done (source_ended u))).flow.is_running ≡ false
   ended_off u level =
@@ -119,13 +119,13 @@ module _ {S : Type 0} (c : Calls S) (image : List ℕ) (Keeps : State S → Type
       (shut u.words.defining (is_same (open_xt u) u.flow.reading.opened) (is_line u.flow.reading.input u.flow.items) e)
 
   -- `end0` of the source
-  pub end_does : (p q : Place) (s : State S) → AtSource image Keeps false s
+  pub end_does : (p q : Place) (s : State S) → AtSource image loops Keeps false s
       → token_at c (bare 0x000) p q s ≡ done (source_ended (at_place q s))
   unfolding token_act acted
   end_does p q s h =
-      executed_at c image Keeps (bare 0x000) token.End p q s typed.end0 h ∙ end_is (at_place q s) h.defines
+      executed_at c image loops Keeps (bare 0x000) token.End p q s typed.end0 h ∙ end_is (at_place q s) h.defines
 
-  pub end_stops : (p q : Place) (s : State S) → AtSource image Keeps false s
+  pub end_stops : (p q : Place) (s : State S) → AtSource image loops Keeps false s
       → (settled_of c (token_at c (bare 0x000) p q s)).flow.is_running ≡ false
   end_stops p q s h =
       ap (λ (o : Outcome S). (settled_of c o).flow.is_running) (end_does p q s h) ∙ ended_off (at_place q s) h.level

@@ -52,7 +52,6 @@ use Rattle.of_source.specs.Shapes.{nothing}
 use Rattle.std.proofs.Common.{arith}
 use Rattle.of_means.proofs.Straight.{walk}
 use Rattle.of_means.proofs.Words.{words_come_back}
-use Rattle.of_means.proofs.Loops.{never_left}
 use Rattle.of_means.proofs.Defined.{definitions_are_read}
 use Rattle.of_means.proofs.Main.{source_is_followed}
 
@@ -129,14 +128,14 @@ module _ (back : StackLeadsBack Definitions) (placing : StatesStayPlaced) (sound
 
   pub begins : (image : List ℕ) (node : Phandle) (answers : List Answer) (s : State Definitions) → IsIdle s
       → AreBytes image → load_fault image node s ≡ None
-      → IsAt structured_calls image (IsKept image) (begun_at image node answers s)
+      → IsAt structured_calls image [] (IsKept image) (begun_at image node answers s)
   begins image node answers s idle bytes fault =
       let b = begun image node s in
       let by = begins_by image node s fault in
       let b' = image_begun image node by.0 by.1 s in
       let e : b ≡ b' = by.2 in
       let q : Place = record { position = header_length; size = first_size image } in
-      let h = back.begun image node by.0 by.1 s idle.reads idle.closed in
+      let h = back.begun image [] node by.0 by.1 s idle.reads idle.closed in
       let placed = placing.begun image node s idle.placed in
       let sound = (sounding.begun image node s idle.sound bytes).sound in
       let images = reading.begun image node s idle.sound idle.images idle.stopped in
@@ -148,10 +147,10 @@ module _ (back : StackLeadsBack Definitions) (placing : StatesStayPlaced) (sound
       let first : BeganFirst image (running b.board.memory) = subst (λ rs. BeganFirst image rs) (sym now) refl in
       let kept : IsKept image b = record { placed = placed; sound = sound; images = images; first = first } in
       let stays = stays_kept placing sounding reading runs image in
-      (source_back image (IsKept image) q b'.flow.reading b refl
+      (source_back image [] (IsKept image) q b'.flow.reading b refl
       (ap (λ (o : Option ℕ). option_map (λ (n : ℕ). (let x : Cell = record { 0 = xt_of n } in x)) o) idle.closed)
       (ap (λ (y : State Definitions). y.flow.is_running) e) (ap (λ (y : State Definitions). is_back y) e ∙ h.0)
-      (subst (λ (y : State Definitions). LeadsOn image b'.flow.reading y) (sym e) h.1)
+      (subst (λ (y : State Definitions). LeadsOn image [] b'.flow.reading y) (sym e) h.1)
       placed.compiles images first
       (λ f p. stays.place q p b (subst (λ (y : State Definitions). IsKept image y) (sym f) kept))).0
 
@@ -176,8 +175,9 @@ pub words_are_followed : TokensAreTyped → ThrowsSettle Definitions → StackLe
     → SpaceStaysSound Definitions → ImagesAreReadings Definitions → ImagesRun Definitions → NestsEndAtTheirPlaces
     → BodyOfNest → WordsAreFollowed
 words_are_followed typing settles back placing sounding reading runs ends bodies = record {
-  words = λ image. words_come_back typing back placing sounding reading runs image;
-  definitions = λ image. definitions_are_read typing settles placing sounding reading runs ends bodies image;
+  words = λ image loops. words_come_back typing back placing sounding reading runs image loops;
+  definitions = λ image loops.
+      definitions_are_read typing settles placing sounding reading runs ends bodies image loops;
 }
 
 pub sources_behave : TokensAreTyped → ThrowsSettle Definitions → StackLeadsBack Definitions → StatesStayPlaced
@@ -188,12 +188,11 @@ sources_behave typing settles back placing sounding reading runs ends tokens sum
   first = idle_first back placing sounding reading runs;
   begins = begins back placing sounding reading runs;
   at_first = at_first back placing sounding reading runs sums;
-  without_leave = λ x z m none. never_left structured_calls nest_calls x z m none;
-  behaves = λ text image source m accepted encodable made stand never.
+  behaves = λ text image source m accepted encodable made stand.
       let nest = (nested text source accepted).0 in
       let whole = whole_words give source.items nest (plain text source accepted) in
       let law = source_is_followed IsKept settles typing ends in
       law.followed structured_calls nest_calls image source.size (nest_of source.items) m whole.0 whole.1 whole.2
       (tokens source image nest encodable made) stand (stays_kept placing sounding reading runs image)
-      (followed.words image) (followed.definitions image) never;
+      (followed.words image) (followed.definitions image);
 }

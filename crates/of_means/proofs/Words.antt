@@ -46,97 +46,100 @@ not_cut m u e = cc
 abbrev Free : {S : Type 0} → State S → Type 0
 Free s = Unit {0}
 
-free_source : {S : Type 0} (image : List ℕ) (Keeps : State S → Type 0) (s : State S) → AtSource image Keeps false s
-    → AtSource image Free false s
-free_source image Keeps s h = record {
+free_source : {S : Type 0} (image loops : List ℕ) (Keeps : State S → Type 0) (s : State S)
+    → AtSource image loops Keeps false s
+    → AtSource image loops Free false s
+free_source image loops Keeps s h = record {
   running = h.running;
   next = h.next;
   compiles = h.compiles;
   defines = h.defines;
   opened = h.opened;
   level = h.level;
+  among = h.among;
   bytes = h.bytes;
   kept = λ p. tt;
 }
 
-free_answered : {S : Type 0} (image : List ℕ) (Keeps : State S → Type 0) (a : Answer) (s : State S)
-    → AtSource image Keeps false s → AtSource image Free false (replied a s)
-free_answered image Keeps a s h = record {
+free_answered : {S : Type 0} (image loops : List ℕ) (Keeps : State S → Type 0) (a : Answer) (s : State S)
+    → AtSource image loops Keeps false s → AtSource image loops Free false (replied a s)
+free_answered image loops Keeps a s h = record {
   running = h.running;
   next = h.next;
   compiles = h.compiles;
   defines = h.defines;
   opened = h.opened;
   level = h.level;
+  among = h.among;
   bytes = h.bytes;
   kept = λ p. tt;
 }
 
 module _ (typing : TokensAreTyped) (back : StackLeadsBack Definitions) (placing : StatesStayPlaced)
     (sounding : SpaceStaysSound Definitions) (reading : ImagesAreReadings Definitions) (runs : ImagesRun Definitions)
-    (image : List ℕ) where
+    (image loops : List ℕ) where
   abbrev c : Calls Definitions
   c = structured_calls
 
   -- a step leads back
   leads_on : (outer : Reading) (s t : State Definitions) → IsLeft c s t → s.flow.is_running ≡ true
-      → is_back s ≡ false → LeadsOn image outer s → t.flow.is_running ≡ true → LeadsOn image outer t
+      → is_back s ≡ false → LeadsOn image loops outer s → t.flow.is_running ≡ true → LeadsOn image loops outer t
   leads_on outer s t (inl e) r away h running =
-      subst (λ x. LeadsOn image outer x) (sym e)
-      (back.step image outer c s r away h (ap (λ (x : State Definitions). x.flow.is_running) (sym e) ∙ running))
+      subst (λ x. LeadsOn image loops outer x) (sym e)
+      (back.step image loops outer c s r away h (ap (λ (x : State Definitions). x.flow.is_running) (sym e) ∙ running))
   leads_on outer s t (inr (a, e)) r away h running =
-      subst (λ x. LeadsOn image outer x) (sym e)
-      (back.step image outer c (replied a s) r away h
+      subst (λ x. LeadsOn image loops outer x) (sym e)
+      (back.step image loops outer c (replied a s) r away h
       (ap (λ (x : State Definitions). x.flow.is_running) (sym e) ∙ running))
 
   -- so does the step of a word's token
   starts_on : (t : Token) (p q : Place) (s u : State Definitions) → IsWord t
-      → AtSource image (IsKept image) false s → IsStep c (token_at c t p q) s u → u.flow.is_running ≡ true
-      → LeadsOn image (at_place q s).flow.reading u
+      → AtSource image loops (IsKept image) false s → IsStep c (token_at c t p q) s u → u.flow.is_running ≡ true
+      → LeadsOn image loops (at_place q s).flow.reading u
   starts_on t p q s u is h (inl e) running =
       let o = token_at c t p q s in
-      let leads = starts c image Free typing back t p q s (free_source image (IsKept image) s h) is in
-      subst (λ x. LeadsOn image (at_place q s).flow.reading x) (sym e)
-      (back.settled image (at_place q s).flow.reading c (thrown_in o.ended) o.state leads
+      let leads = starts c image loops Free typing back t p q s (free_source image loops (IsKept image) s h) is in
+      subst (λ x. LeadsOn image loops (at_place q s).flow.reading x) (sym e)
+      (back.settled image loops (at_place q s).flow.reading c (thrown_in o.ended) o.state leads
       (ap (λ (x : State Definitions). x.flow.is_running) (sym e) ∙ running))
   starts_on t p q s u is h (inr (a, e)) running =
       let o = token_at c t p q (replied a s) in
-      let leads = starts c image Free typing back t p q (replied a s)
-      (free_answered image (IsKept image) a s h) is in
-      subst (λ x. LeadsOn image (at_place q s).flow.reading x) (sym e)
-      (back.settled image (at_place q s).flow.reading c (thrown_in o.ended) o.state leads
+      let leads = starts c image loops Free typing back t p q (replied a s)
+      (free_answered image loops (IsKept image) a s h) is in
+      subst (λ x. LeadsOn image loops (at_place q s).flow.reading x) (sym e)
+      (back.settled image loops (at_place q s).flow.reading c (thrown_in o.ended) o.state leads
       (ap (λ (x : State Definitions). x.flow.is_running) (sym e) ∙ running))
 
   -- images stand while it leads back
-  images_stand : (outer : Reading) (s : State Definitions) → is_image outer.input ≡ true → LeadsOn image outer s
+  images_stand : (outer : Reading) (s : State Definitions) → is_image outer.input ≡ true → LeadsOn image loops outer s
       → HasItsImages s → length s.board.memory.images ≡ 0 → ⊥
   images_stand outer s o h k e =
-      reads_image image outer s.flow.reading (is_code s.flow.next) None s.flow.items o h.0.1 (sym k.as_many ∙ e)
+      reads_image image loops outer s.flow.reading (is_code s.flow.next) None s.flow.items o h.0.1 (sym k.as_many ∙ e)
 
   module _ (q : Place) (outer : Reading) (i : outer.input ≡ input.Image q.size q.position) (o : outer.opened ≡ None)
       (u : Moment Definitions) where
     abbrev Home : Type 0
-    Home = IsAt c image (IsKept image) u × (at q u ≡ u)
+    Home = IsAt c image loops (IsKept image) u × (at q u ≡ u)
 
     home : (m : Moment Definitions) → On m ≡ On u → m.state.flow.is_running ≡ true → is_back m.state ≡ true
-        → LeadsOn image outer m.state → IsKept image m.state → Home
+        → LeadsOn image loops outer m.state → IsKept image m.state → Home
     home m e r b h k =
         let stays = stays_kept placing sounding reading runs image in
-        let there = source_back image (IsKept image) q outer m.state i o r b h k.placed.compiles k.images k.first
+        let there = source_back image loops (IsKept image) q outer m.state i o r b h k.placed.compiles k.images k.first
         (λ f p. stays.place q p m.state (subst (λ x. IsKept image x) (sym f) k)) in
-        subst (λ (x : Moment Definitions). IsAt c image (IsKept image) x × (at q x ≡ x)) (on_is m u e)
+        subst (λ (x : Moment Definitions). IsAt c image loops (IsKept image) x × (at q x ≡ x)) (on_is m u e)
         (there.0, ap (λ (x : State Definitions). with_state x m) there.1)
 
     come_on : (n : ℕ) (m : Moment Definitions) (r b : Bool) (f : Course Definitions) → m.state.flow.is_running ≡ r
         → is_back m.state ≡ b → over r b m f ≡ On u
-        → (m.state.flow.is_running ≡ true → LeadsOn image outer m.state × IsKept image m.state)
+        → (m.state.flow.is_running ≡ true → LeadsOn image loops outer m.state × IsKept image m.state)
         → (m.state.flow.is_running ≡ true → is_back m.state ≡ false → f ≡ On u → Home) → Home
     come_on n m false b f er eb e h go = absurd (not_thrown m u e)
     come_on n m true true f er eb e h go = home m e er eb (h er).0 (h er).1
     come_on n m true false f er eb e h go = go er eb e
 
     pub comes : (n : ℕ) (m : Moment Definitions)
-        → (m.state.flow.is_running ≡ true → LeadsOn image outer m.state × IsKept image m.state)
+        → (m.state.flow.is_running ≡ true → LeadsOn image loops outer m.state × IsKept image m.state)
         → comes_back c n m ≡ On u → Home
     comes zero m h e =
         come_on zero m m.state.flow.is_running (is_back m.state) (Cut m) refl refl e h
@@ -149,7 +152,7 @@ module _ (typing : TokensAreTyped) (back : StackLeadsBack Definitions) (placing 
         next : (x : Option (Moment Definitions)) → made c m ≡ x → after_step x m (λ t. comes_back c n t) ≡ On u
             → m.state.flow.is_running ≡ true → is_back m.state ≡ false
             → ((t : Moment Definitions)
-            → (t.state.flow.is_running ≡ true → LeadsOn image outer t.state × IsKept image t.state)
+            → (t.state.flow.is_running ≡ true → LeadsOn image loops outer t.state × IsKept image t.state)
             → comes_back c n t ≡ On u → Home) → Home
         next None g f r b more = absurd (not_waiting m u f)
         next (Some t) g f r b more =
@@ -165,15 +168,15 @@ module _ (typing : TokensAreTyped) (back : StackLeadsBack Definitions) (placing 
             f
 
   word_comes : (n : ℕ) (t : Token) (p : Place) (m u : Moment Definitions) → IsWord t
-      → IsAt c image (IsKept image) m → token_from image p.position p.size ≡ Some (t, (behind t p).position)
+      → IsAt c image loops (IsKept image) m → token_from image p.position p.size ≡ Some (t, (behind t p).position)
       → (x : Option (Moment Definitions)) → step_by c (token_at c t p (behind t p)) m ≡ x
       → after_step x (at p m) (λ v. comes_back c n v) ≡ On u
-      → IsAt c image (IsKept image) u × (at (behind t p) u ≡ u)
+      → IsAt c image loops (IsKept image) u × (at (behind t p) u ≡ u)
   word_comes n t p m u is h found None g e = absurd (not_waiting (at p m) u e)
   word_comes n t p m u is h found (Some v) g e =
       let q = behind t p in
       let outer = (at_place q m.state).flow.reading in
-      let step : made c (at p m) ≡ Some v = token_found c image (IsKept image) false p q t m h found refl ∙ g in
+      let step : made c (at p m) ≡ Some v = token_found c image loops (IsKept image) false p q t m h found refl ∙ g in
       let left = (made_leaves c (at p m) v step).1 in
       let before = h.kept p in
       comes q outer refl h.opened u n v
@@ -186,6 +189,6 @@ module _ (typing : TokensAreTyped) (back : StackLeadsBack Definitions) (placing 
       ))
       e
 
-  pub words_come_back : WordsComeBack c image (IsKept image)
+  pub words_come_back : WordsComeBack c image loops (IsKept image)
   words_come_back n t p m u is h found e =
       word_comes n t p m u is h found (step_by c (token_at c t p (behind t p)) m) refl e

@@ -1,6 +1,6 @@
 -- The image of a source is followed: what is asked of the words that aren't of control, and what comes of it
 -- (IEEE 1275-1994, 5.2.2, 5.3.3).
-use Rattle.std.specs.Prelude.{◌≡◌, ℕ, false, List, ◌∷◌, Some}
+use Rattle.std.specs.Prelude.{◌≡◌, ℕ, false, List, [], ◌∷◌, Some}
 use Rattle.of_stream.specs.declared.stream.OffsetSize.{OffsetSize}
 use Rattle.of_stream.specs.Decoding.{Token, token_from}
 use Rattle.of_source.specs.Nest.{Fits, IsWhole, Nest, open_behind}
@@ -13,7 +13,7 @@ use Rattle.of_meaning.specs.Laws.{in_definition}
 use Rattle.of_means.specs.Moments.{Moment, made, steps}
 use Rattle.of_means.specs.Courses.{Course, On, Off, Out, Left, Thrown, Waits, Cut, Beyond}
 use Rattle.of_means.specs.Means.{at, at_place, defined, word}
-use Rattle.of_means.specs.Correct.{Behaves, source_means}
+use Rattle.of_means.specs.Correct.{Behaves}
 use Rattle.of_means.specs.Sources.{AtSource, HasWords, IsWord, WidensOutside}
 
 -- What is kept stays so in a step that leaves the data space as it was, and doesn't depend on where the source stands.
@@ -23,10 +23,10 @@ pub record StaysKept {S : Type 0} (c : Calls S) (Keeps : State S → Type 0) : T
       Keeps t.state
   pub place : (p q : Place) (s : State S) → Keeps (at_place p s) → Keeps (at_place q s)
 
-module _ {S : Type 0} (c : Calls S) (image : List ℕ) (Keeps : State S → Type 0) where
+module _ {S : Type 0} (c : Calls S) (image loops : List ℕ) (Keeps : State S → Type 0) where
   -- control is at the source, which executes words
   abbrev pub IsAt : Moment S → Type 0
-  IsAt m = AtSource image Keeps false m.state
+  IsAt m = AtSource image loops Keeps false m.state
 
   -- What a word of the source started comes back to it, behind the word's token.
   abbrev pub WordsComeBack : Type 0
@@ -55,18 +55,14 @@ module _ {S : Type 0} (c : Calls S) (image : List ℕ) (Keeps : State S → Type
       HasTokens image p (straight 0x0b7 p ∷ written i (past 1 p) to out (straight 0x0c2 e ∷ ws)) → IsAt m →
       IsRead p (past 1 e) m (defined c own i p m)
 
--- No `leave` of a source goes past a loop that isn't there.
-abbrev pub NeverLeft : {S : Type 0} → Calls S → (Nest → Calls S) → Nest → OffsetSize → Moment S → Type 0
-NeverLeft {S} c own x z m = (n e : ℕ) (t : Moment S) → source_means c own x z n m ≡ Left e t → ⊥
-
 -- The image of a source does what the source means, over any code of definitions.
 pub record SourceIsFollowed (S : Type 0) (Keeps : List ℕ → State S → Type 0) : Type 0 where
   pub followed :
       (c : Calls S) (own : Nest → Calls S) (image : List ℕ) (z : OffsetSize) (x : Nest) (m : Moment S) →
       -- a whole source, whose tokens stand in the image, at which control is
       IsWhole x → HasWords x → WidensOutside x 0 → HasTokens image (first_place z) (tokens_of z x)
-      → IsAt c image (Keeps image) m →
+      → IsAt c image [] (Keeps image) m →
       -- what is kept is kept, words come back, and definitions are read
-      StaysKept c (Keeps image) → WordsComeBack c image (Keeps image)
-      → DefinitionsAreRead c image (Keeps image) own →
-      NeverLeft c own x z m → Behaves c own x z m
+      StaysKept c (Keeps image) → ((loops : List ℕ) → WordsComeBack c image loops (Keeps image))
+      → ((loops : List ℕ) → DefinitionsAreRead c image loops (Keeps image) own) →
+      Behaves c own x z m

@@ -15,7 +15,7 @@ use Rattle.of_source.specs.Nest.{open_behind}
 use Rattle.of_source.specs.Plain.{IsPlain, is_kind}
 use Rattle.of_tok.specs.declared.place.Place.{Place}
 use Rattle.of_state.specs.State.{State}
-use Rattle.of_eval_laws.specs.Returning.{IsBase}
+use Rattle.of_eval_laws.specs.Returning.{AreAmong, IsBase, loop_ends}
 use Rattle.of_means.specs.Means.{at_place}
 
 -- ---- the words of a source
@@ -75,21 +75,6 @@ WidensOutside (Leave r) d = WidensOutside r d
 WidensOutside (Case i r) d = KeepsSize i × WidensOutside r d
 WidensOutside (Of k i y r) d = KeepsSize i × WidensOutside r d
 
--- no word of control is `leave`, but for those in definitions
-abbrev pub HasNoLeave : Nest → Type 0
-HasNoLeave Stop = Unit {0}
-HasNoLeave (Plain t r) = HasNoLeave r
-HasNoLeave (Definition m i r) = HasNoLeave r
-HasNoLeave (Defining m t r) = HasNoLeave r
-HasNoLeave (If l r) = HasNoLeave r
-HasNoLeave (Else l r) = HasNoLeave r
-HasNoLeave (Then r) = HasNoLeave r
-HasNoLeave (Begin i z l r) = HasNoLeave i × HasNoLeave r
-HasNoLeave (Do v k i l y r) = HasNoLeave i × HasNoLeave r
-HasNoLeave (Leave r) = ⊥
-HasNoLeave (Case i r) = HasNoLeave i × HasNoLeave r
-HasNoLeave (Of k i y r) = HasNoLeave i × HasNoLeave r
-
 -- ---- control at the source
 
 module _ (image : List ℕ) where
@@ -112,14 +97,16 @@ module _ (image : List ℕ) where
   IsLevel (Handler h ∷ r) = ⊥
   IsLevel (Caller d ∷ r) = ⊥
 
-  -- Control is at the source, wherever that stands; words are compiled, and a definition is open, or neither. And this
-  -- is kept, wherever the source stands.
-  pub record AtSource {S : Type 0} (Keeps : State S → Type 0) (compiling : Bool) (s : State S) : Type 0 where
+  -- Control is at the source, wherever that stands, within loops that end at these positions, the innermost first;
+  -- words are compiled, and a definition is open, or neither. And this is kept, wherever the source stands.
+  pub record AtSource {S : Type 0} (loops : List ℕ) (Keeps : State S → Type 0) (compiling : Bool) (s : State S)
+      : Type 0 where
     pub running : s.flow.is_running ≡ true
     pub next : s.flow.next ≡ continuation.Source
     pub compiles : s.flow.is_compiling ≡ compiling
     pub defines : is_some s.words.defining ≡ compiling
     pub opened : s.flow.reading.opened ≡ None
     pub level : IsLevel s.flow.items
+    pub among : AreAmong (loop_ends s.flow.items) loops
     pub bytes : latest_image s.board.memory ≡ image
     pub kept : (p : Place) → Keeps (at_place p s)

@@ -14,8 +14,7 @@ use of_tok::{header_is_the_sum, image_has_tokens, nests_end_at_their_places};
 
 /// The image of a source does what the source means, and only that: it ends, throws and waits for an answer where the
 /// source does, in the same state. These are premises: what is kept at the source stays so in each step; what a word
-/// of the source started comes back to it; the tokens of a definition are read up to its end; no `leave` goes past a
-/// loop that isn't there.
+/// of the source started comes back to it; the tokens of a definition are read up to its end.
 #[tactic(auto, using(crate::proofs::Main::source_is_followed))]
 pub fn source_is_followed()
     ensures { SourceIsFollowed Definitions IsKept }
@@ -25,9 +24,9 @@ pub fn source_is_followed()
     nests_end_at_their_places();
 }
 
-/// What a word of a source started comes back to the source, behind the word's token, and the tokens of a definition
-/// are read up to its end, where its word gets the body of its nest: so two of these premises hold of each source over
-/// structured definitions.
+/// What a word of a source started comes back to the source, behind the word's token and within the same loops or some
+/// of them, and the tokens of a definition are read up to its end, where its word gets the body of its nest: so these
+/// premises hold of each source over structured definitions.
 #[tactic(auto, using(crate::proofs::Whole::words_are_followed))]
 pub fn words_are_followed()
     ensures { WordsAreFollowed }
@@ -43,9 +42,8 @@ pub fn words_are_followed()
     body_of_nest();
 }
 
-/// The image of an accepted source does what the source means, and only that, from where it begins on. This is a
-/// premise: no `leave` of the source goes past a loop that isn't there. It holds of each source that has `leave` in
-/// its definitions alone.
+/// The image of an accepted source does what the source means, and only that, from where it begins on: it ends,
+/// throws, waits for an answer and goes on where the source does, in the same state.
 #[tactic(auto, using(crate::proofs::Whole::sources_behave))]
 pub fn sources_behave()
     ensures { SourcesBehave }
