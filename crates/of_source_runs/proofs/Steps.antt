@@ -225,9 +225,9 @@ waits image answers k t q few e runs asks none =
 
 pub tokenized_means : SourcesBehave → TokenizedMeans
 tokenized_means law = record {
-  behaves = λ text image source answers accepted encodable made bytes taken never. (
+  behaves = λ text image source answers accepted encodable made bytes taken. (
     law.behaves text image source (first_moment image answers) accepted encodable made
-        (law.begins image slot answers (first_state no_definitions) law.first bytes taken) never,
+        (law.begins image slot answers (first_state no_definitions) law.first bytes taken),
     law.at_first source image slot answers (first_state no_definitions) made taken,
   );
   comes = comes;

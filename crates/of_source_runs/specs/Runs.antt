@@ -16,7 +16,6 @@ use Rattle.of_steps.specs.Steps.{asked_by}
 use Rattle.of_eval_laws.specs.Structured.{no_definitions, structured_calls}
 use Rattle.of_means.specs.Accepted.{begun_at}
 use Rattle.of_means.specs.Correct.{Behaves}
-use Rattle.of_means.specs.Laws.{NeverLeft}
 use Rattle.of_means.specs.Means.{at}
 use Rattle.of_means.specs.Moments.{Moment, fitting, steps}
 use Rattle.of_means.specs.Nested.{nest_calls}
@@ -44,12 +43,11 @@ pub record TokenizedMeans : Type 0 where
   pub behaves :
       (text image : List ℕ) (source : Source) (answers : List Answer) → parsed text ≡ Ok source →
       AreEncodable source.items → tokenized source ≡ Ok image → AreBytes image →
-      -- where the machine takes the image, and no `leave` goes past a loop that isn't there
+      -- where the machine takes the image
       load_fault image slot (first_state no_definitions) ≡ None →
-      let x = nest_of source.items in
       let m = first_moment image answers in
-      NeverLeft structured_calls nest_calls x source.size m →
-      Behaves structured_calls nest_calls x source.size m × (at (first_place source.size) m ≡ m)
+      Behaves structured_calls nest_calls (nest_of source.items) source.size m
+      × (at (first_place source.size) m ≡ m)
   -- The run of any image comes to a moment after so many steps, as far as they can be counted, where so many steps
   -- lead there.
   pub comes :

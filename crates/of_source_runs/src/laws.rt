@@ -6,8 +6,7 @@ use of_means::sources_behave;
 
 /// The run of a tokenized source does what the source means, and only that: the image, loaded for `/slot` on a new
 /// machine, ends, throws and waits for an answer where the source does, in the same state; and the machine of the run
-/// after so many steps has the state that so many steps lead to. This is a premise: no `leave` of the source goes past
-/// a loop that isn't there.
+/// after so many steps has the state that so many steps lead to.
 pub fn tokenized_means()
     ensures { TokenizedMeans }
 {
