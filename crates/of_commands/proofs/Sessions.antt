@@ -66,7 +66,8 @@ ends_at limit bytes rest old mid new last x y at none shown ended =
     let whole : at.done ++ (prompt ++ 10 ∷ []) ≡ session_text limit (length bytes) bytes x =
     ap (λ t. at.done ++ t) (sym left) ∙ sym at.same in
     subst (Appends old last) whole
-    (Appends-trans old mid last at.done (prompt ++ 10 ∷ []) at.gone (Appends-trans mid new last prompt (10 ∷ []) shown ended))
+    (Appends-trans old mid last at.done (prompt ++ 10 ∷ []) at.gone
+    (Appends-trans mid new last prompt (10 ∷ []) shown ended))
 
 -- at the end of the input
 pub ends : (limit : ℕ) (known left old mid new last : _) (line : List ℕ) (x y : Attended Coding)

@@ -6,7 +6,8 @@ ghost use Rattle.std.specs.Io.KnownBytes.{Appends};
 ghost use Rattle.of_devices.specs.Parts.{board_meant};
 ghost use Rattle.of_state.specs.State.{flat_calls};
 ghost use Rattle.of_monitor.specs.Sessions.{entry};
-ghost use Rattle.of_commands.specs.Consoles.{behind_image, console_text, image_of, line_in, printed_since, prompt, session_text};
+ghost use Rattle.of_commands.specs.Consoles.{behind_image, console_text, image_of, line_in, printed_since, prompt};
+ghost use Rattle.of_commands.specs.Consoles.{session_text};
 ghost use Rattle.of_commands.specs.Files.{image_in};
 ghost use Rattle.of_commands.specs.Listings.{newline_behind};
 
@@ -278,8 +279,8 @@ fn converse<L: BufRead, W: Write, E: Write>(
     }
 }
 
-/// Runs an image, if there is one, and then lines, each as soon as it is read, up to the end of the input, and gives the
-/// status. What a line prints is printed, on lines of its own, and `ok` where the next one is awaited.
+/// Runs an image, if there is one, and then lines, each as soon as it is read, up to the end of the input, and gives
+/// the status. What a line prints is printed, on lines of its own, and `ok` where the next one is awaited.
 ///
 /// What is wrong is said on the error output: with the image behind its path; why a line was refused, which changes
 /// nothing; and that a line has made as many steps as are allowed, where an empty line lets it go on.

@@ -482,8 +482,8 @@ fn path_of(request: Request<'_>) -> &str {
     }
 }
 
-/// Does what was asked for with the file at its path, and gives the status. Of `client` and `console` this is the run of
-/// the image alone. The questions of a run are answered by `outside`.
+/// Does what was asked for with the file at its path, and gives the status. Of `client` and `console` this is the run
+/// of the image alone. The questions of a run are answered by `outside`.
 ///
 /// What is wrong is said on the error output, behind the path of the file; and how a run ended, where that is to be
 /// explained. Else nothing is said.

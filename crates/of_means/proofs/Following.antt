@@ -13,7 +13,7 @@ use Rattle.of_tok.specs.Places.{behind}
 use Rattle.of_tok.specs.Tokens.{first, others}
 use Rattle.of_state.specs.State.{Calls, State}
 use Rattle.of_eval_laws.specs.Returning.{is_back}
-use Rattle.of_means.specs.Moments.{IsWaiting, Moment, made, next_due, step_by, steps}
+use Rattle.of_means.specs.Moments.{IsWaiting, Moment, exchanged, made, next_due, step_by, steps}
 use Rattle.of_means.specs.Courses.{Course, On, Off, Out, Left, Thrown, Waits, Cut, Beyond, arrives, joins, on_if}
 use Rattle.of_means.specs.Courses.{past_if}
 use Rattle.of_means.specs.Courses.{past_loop, swaps, through}
@@ -49,7 +49,7 @@ module _ {S : Type 0} (c : Calls S) (own : Nest → Calls S) (image loops : List
     Reached n s0 k d aims cases out (Waits t) = IsWaiting c t × Comes c s0 t
     Reached n s0 k d aims cases out (Cut t) =
         (j : ℕ) × (u : Moment S) × (n ≤ j) × (steps c j s0 ≡ Some u) × (u.state.board ≡ t.state.board)
-        × (u.answers ≡ t.answers)
+        × (exchanged u ≡ exchanged t)
     Reached n s0 k d aims cases out Beyond = Unit {0}
 
     -- what follows a stretch

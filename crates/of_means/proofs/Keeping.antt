@@ -47,13 +47,14 @@ module _ {S : Type 0} (c : Calls S) where
       → IsStep c does m.state t.state
   step_leaves does m t e = asked (does m.state).asks e
     where
-      answered : (o : Option Answer) → answered_step c does o m ≡ Some t → IsStep c does m.state t.state
-      answered None f = absurd (none_some t f)
-      answered (Some a) f = inr (a, sym (ap (λ (x : Moment S). x.state) (some_is _ t f)))
+      answered : (q : Query) (o : Option Answer) → answered_step c does q o m ≡ Some t
+          → IsStep c does m.state t.state
+      answered q None f = absurd (none_some t f)
+      answered q (Some a) f = inr (a, sym (ap (λ (x : Moment S). x.state) (some_is _ t f)))
 
       asked : (o : Option Query) → asked_step c does o m ≡ Some t → IsStep c does m.state t.state
       asked None f = inl (sym (ap (λ (x : Moment S). x.state) (some_is _ t f)))
-      asked (Some q) f = answered (fitting q m.answers) f
+      asked (Some q) f = answered q (fitting q m.answers) f
 
   runs_on : (s : State S) → s.flow.is_running ≡ true → settled_of c (next_due c s) ≡ stepped c s
   unfolding stepped

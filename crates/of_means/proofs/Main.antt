@@ -15,7 +15,8 @@ use Rattle.of_tok.specs.Tokens.{end_of, straight, tokens_of}
 use Rattle.of_state.specs.State.{Calls, State}
 use Rattle.of_eval_laws.specs.Throws.{ThrowsSettle}
 use Rattle.of_eval_laws.specs.Tokens.{TokensAreTyped}
-use Rattle.of_means.specs.Moments.{IsWaiting, Moment, answered_step, asked_step, made, next_due, step_by, steps}
+use Rattle.of_means.specs.Moments.{IsWaiting, Moment, answered_step, asked_step, exchanged, made, next_due, step_by}
+use Rattle.of_means.specs.Moments.{steps}
 use Rattle.of_means.specs.Courses.{Course, On, Off, Out, Left, Thrown, Waits, Cut, Beyond}
 use Rattle.of_means.specs.Means.{at, token_at}
 use Rattle.of_means.specs.Correct.{Behaves, source_ended, source_means}
@@ -45,7 +46,7 @@ module _ {S : Type 0} (c : Calls S) (own : Nest → Calls S) (image : List ℕ) 
         off true e =
             ap (λ (b : Bool). if b then step_by c (next_due c) t else None) e
             ∙ ap (λ (o : Option Query). asked_step c (next_due c) o t) w.1
-            ∙ ap (λ (o : Option Answer). answered_step c (next_due c) o t) w.2
+            ∙ ap (λ (o : Option Answer). answered_step c (next_due c) w.0 o t) w.2
 
     -- what a course says of the run
     abbrev Follows : ℕ → Course S → Type 0
@@ -57,7 +58,7 @@ module _ {S : Type 0} (c : Calls S) (own : Nest → Calls S) (image : List ℕ) 
     Follows n (Waits t) = IsWaiting c t × ((k : ℕ) × (steps c k begin ≡ Some t))
     Follows n (Cut t) =
         (k : ℕ) × (u : Moment S) × (n ≤ k) × (steps c k begin ≡ Some u) × (u.state.board ≡ t.state.board)
-        × (u.answers ≡ t.answers)
+        × (exchanged u ≡ exchanged t)
     Follows n Beyond = Unit {0}
 
     none_less : (b : ℕ) → b < 0 → ⊥

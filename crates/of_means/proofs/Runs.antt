@@ -60,15 +60,15 @@ at_any image loops Keeps b p s h = record {
 }
 
 module _ {S : Type 0} (c : Calls S) where
-  answered_at : (p : Place) (m : Moment S) (o : Option Answer)
-      → answered_step c (next_due c) o (at p m) ≡ answered_step c (λ s. next_due c (at_place p s)) o m
-  answered_at p m None = refl
-  answered_at p m (Some a) = refl
+  answered_at : (p : Place) (m : Moment S) (q : Query) (o : Option Answer)
+      → answered_step c (next_due c) q o (at p m) ≡ answered_step c (λ s. next_due c (at_place p s)) q o m
+  answered_at p m q None = refl
+  answered_at p m q (Some a) = refl
 
   asked_at : (p : Place) (m : Moment S) (o : Option Query)
       → asked_step c (next_due c) o (at p m) ≡ asked_step c (λ s. next_due c (at_place p s)) o m
   asked_at p m None = refl
-  asked_at p m (Some q) = answered_at p m (fitting q m.answers)
+  asked_at p m (Some q) = answered_at p m q (fitting q m.answers)
 
   -- what is due at a place
   pub due_at : (image loops : List ℕ) (Keeps : State S → Type 0) (b : Bool) (p q : Place) (t : Token) (s : State S)

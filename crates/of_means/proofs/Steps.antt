@@ -87,17 +87,17 @@ module _ {S : Type 0} (c : Calls S) where
 
   -- ---- one step
 
-  answered_same : (f g : State S → Outcome S) (m : Moment S) (o : Option Answer)
+  answered_same : (f g : State S → Outcome S) (m : Moment S) (q : Query) (o : Option Answer)
       → ((a : Answer) → f (replied a m.state) ≡ g (replied a m.state))
-      → answered_step c f o m ≡ answered_step c g o m
-  answered_same f g m None h = refl
-  answered_same f g m (Some a) h =
-      ap (λ (x : Outcome S). answered_step c (λ s. x) (Some a) m) (h a)
+      → answered_step c f q o m ≡ answered_step c g q o m
+  answered_same f g m q None h = refl
+  answered_same f g m q (Some a) h =
+      ap (λ (x : Outcome S). answered_step c (λ s. x) q (Some a) m) (h a)
 
   asked_same : (f g : State S → Outcome S) (m : Moment S) (o : Option Query) → f m.state ≡ g m.state
       → ((a : Answer) → f (replied a m.state) ≡ g (replied a m.state)) → asked_step c f o m ≡ asked_step c g o m
   asked_same f g m None e h = ap (λ (x : Outcome S). Some (with_state (settled_of c x) m)) e
-  asked_same f g m (Some q) e h = answered_same f g m (fitting q m.answers) h
+  asked_same f g m (Some q) e h = answered_same f g m q (fitting q m.answers) h
 
   -- what does the same is the same step
   pub same_step : (f g : State S → Outcome S) (m : Moment S) → f m.state ≡ g m.state
@@ -122,7 +122,7 @@ module _ {S : Type 0} (c : Calls S) where
       none q g None h = (q, g, h)
       none q g (Some a) h =
           absurd (some_not_none _ _
-          (ap (λ (x : Option Query). asked_step c f x m) g ∙ ap (λ (x : Option Answer). answered_step c f x m) h) e)
+          (ap (λ (x : Option Query). asked_step c f x m) g ∙ ap (λ (x : Option Answer). answered_step c f q x m) h) e)
 
       asked : (o : Option Query) → (f m.state).asks ≡ o
           → (q : Query) × ((f m.state).asks ≡ Some q) × (fitting q m.answers ≡ None)

@@ -35,7 +35,7 @@ pub record IsIdle (s : State Definitions) : Type 0 where
 
 -- an image that begins to run there, with these answers
 abbrev pub begun_at : List ℕ → Phandle → List Answer → State Definitions → Moment Definitions
-begun_at image node answers s = record { state = begun image node s; answers = answers }
+begun_at image node answers s = record { state = begun image node s; answers = answers; asked = [] }
 
 -- The words and the definitions of any source do what is asked of them, over structured definitions.
 pub record WordsAreFollowed : Type 0 where

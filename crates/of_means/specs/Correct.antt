@@ -7,7 +7,7 @@ use Rattle.of_tok.specs.Places.{first_place, past}
 use Rattle.of_tok.specs.Tokens.{end_of}
 use Rattle.of_state.specs.State.{Calls}
 use Rattle.of_steps.specs.Steps.{settled_of}
-use Rattle.of_means.specs.Moments.{IsWaiting, Moment, made, steps, with_state}
+use Rattle.of_means.specs.Moments.{IsWaiting, Moment, exchanged, made, steps, with_state}
 use Rattle.of_means.specs.Courses.{Course, On, Thrown, Waits, Cut, Beyond}
 use Rattle.of_means.specs.Means.{at, means, token_at}
 
@@ -46,10 +46,12 @@ module _ {S : Type 0} (c : Calls S) (own : Nest → Calls S) where
         (k : ℕ) × Comes z m k t × (t.state.flow.is_running ≡ false)
     -- one that waits: its image waits in the same state, with the same question
     pub waits : (n : ℕ) (t : Moment S) → source_means x z n m ≡ Waits t → (k : ℕ) × Comes z m k t × IsWaiting c t
-    -- one that goes on: its image runs on as long, and what words work on, its console and tree too, is the same then
+    -- one that goes on: its image runs on as long, and what words work on, its console and tree too, and what was asked
+    -- is the same then
     pub goes_on :
         (n : ℕ) (t : Moment S) → source_means x z n m ≡ Cut t →
-        (k : ℕ) × (u : Moment S) × (n ≤ k) × Comes z m k u × (u.state.board ≡ t.state.board) × (u.answers ≡ t.answers)
+        (k : ℕ) × (u : Moment S) × (n ≤ k) × Comes z m k u × (u.state.board ≡ t.state.board)
+        × (exchanged u ≡ exchanged t)
     -- and where the run of the image comes to rest, the source ends, throws or waits so
     pub only :
         (k : ℕ) (last : Moment S) → Comes z m k last → made c last ≡ None → (n : ℕ) × Rests x z m last n

@@ -1,6 +1,6 @@
 -- A run whose questions are answered: a step that asks is made with the next answer, once there is one that fits
 -- (IEEE 1275-1994, 5.3.7.3).
-use Rattle.std.specs.Prelude.{◌≡◌, ℕ, zero, suc, List, [], ◌∷◌, Option, Some, None, drop, option_and_then}
+use Rattle.std.specs.Prelude.{◌≡◌, ℕ, zero, suc, List, [], ◌∷◌, ◌++◌, Option, Some, None, drop, option_and_then}
 use Rattle.std.specs.Prelude.{if◌then◌else◌}
 use Rattle.of_asking.specs.declared.query.Answer.{Answer}
 use Rattle.of_asking.specs.declared.query.Query.{Query}
@@ -8,12 +8,18 @@ use Rattle.of_asking.specs.Questions.{fits}
 use Rattle.of_state.specs.State.{Calls, Outcome, State}
 use Rattle.of_steps.specs.Steps.{asked_by, due, replied, settled_of}
 
--- a state, and the answers that are left from there on
+-- a state, the answers that are left from there on, and the questions up to there
 pub record Moment (S : Type 0) : Type 0 where
   pub state : State S
   pub answers : List Answer
+  -- what was asked and answered, the first first
+  pub asked : List Query
 
--- another state, with the same answers left
+-- what passed between it and the outside: the answers that are left, and the questions
+abbrev pub exchanged : {S : Type 0} → Moment S → List Answer × List Query
+exchanged m = (m.answers, m.asked)
+
+-- another state, with the same of these
 abbrev pub with_state : {S : Type 0} → State S → Moment S → Moment S
 with_state s m = record m { state = s }
 
@@ -23,18 +29,19 @@ fitting q [] = None
 fitting q (answer ∷ answers) = if fits q answer then Some answer else None
 
 -- a step that asked, made with its answer; none is made without
-abbrev pub answered_step : {S : Type 0} → Calls S → (State S → Outcome S) → Option Answer → Moment S
+abbrev pub answered_step : {S : Type 0} → Calls S → (State S → Outcome S) → Query → Option Answer → Moment S
     → Option (Moment S)
-answered_step c does None m = None
-answered_step c does (Some answer) m = Some (record {
+answered_step c does q None m = None
+answered_step c does q (Some answer) m = Some (record {
   state = record (settled_of c (does (replied answer m.state))) { reply = m.state.reply };
   answers = drop 1 m.answers;
+  asked = m.asked ++ q ∷ [];
 })
 
 -- a step by what it asks, if anything
 abbrev pub asked_step : {S : Type 0} → Calls S → (State S → Outcome S) → Option Query → Moment S → Option (Moment S)
 asked_step c does None m = Some (with_state (settled_of c (does m.state)) m)
-asked_step c does (Some q) m = answered_step c does (fitting q m.answers) m
+asked_step c does (Some q) m = answered_step c does q (fitting q m.answers) m
 
 -- the step that does this, if it asks nothing or there is its answer
 abbrev pub step_by : {S : Type 0} → Calls S → (State S → Outcome S) → Moment S → Option (Moment S)

@@ -1,6 +1,6 @@
 -- The run of a source's image: loaded for `/slot` on a new machine, it does what the source means (IEEE 1275-1994,
 -- 5.2.2, 5.3.3).
-use Rattle.std.specs.Prelude.{◌≡◌, ◌<◌, ◌+◌, ◌^◌, ℕ, true, List, [], Some, None, Ok}
+use Rattle.std.specs.Prelude.{◌≡◌, ◌<◌, ◌+◌, ◌^◌, ℕ, true, List, [], ◌∷◌, ◌++◌, Some, None, Ok}
 use Rattle.of_asking.specs.declared.query.Answer.{Answer}
 use Rattle.of_asking.specs.declared.query.Query.{Query}
 use Rattle.of_compile.specs.Structured.{Definitions}
@@ -26,16 +26,18 @@ use Rattle.of_machine.specs.States.{MachineState, slot}
 abbrev pub first_moment : List ℕ → List Answer → Moment Definitions
 first_moment image answers = begun_at image slot answers (first_state no_definitions)
 
--- a machine that made so many steps and came to this moment, where no question is open
+-- a machine that made so many steps and came to this moment, with the same questions, of which none is open
 pub record HasCome (m : MachineState Definitions) (k : ℕ) (t : Moment Definitions) : Type 0 where
   pub state : m.eval ≡ t.state
   pub made : m.steps ≡ k
+  pub asked : m.asked ≡ t.asked
   pub calm : m.waiting ≡ None
 
 -- one whose next step asks this, for which there is no answer
 pub record HasAsked (m : MachineState Definitions) (k : ℕ) (t : Moment Definitions) (q : Query) : Type 0 where
   pub state : m.eval ≡ t.state
   pub made : m.steps ≡ k
+  pub asked : m.asked ≡ t.asked ++ q ∷ []
   pub asks : m.waiting ≡ Some q
 
 pub record TokenizedMeans : Type 0 where
