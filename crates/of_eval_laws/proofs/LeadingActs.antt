@@ -264,7 +264,11 @@ module _ (image ends : List ℕ) (outer : Reading) where
     p.0.1,
   )
   move_leads code cells (act.Pushes (User x)) act.Behind c s h p = (
-    (p.0.0.0, none_due image ends outer s.flow.reading (is_code s.flow.next) (Some s.flow.next) s.flow.items h.2 p.0.0.1),
+    (
+      p.0.0.0,
+      none_due image ends outer s.flow.reading (is_code s.flow.next)
+          (Some s.flow.next) s.flow.items h.2 p.0.0.1,
+    ),
     p.0.1,
   )
   move_leads code cells (act.Pushes (Loop l)) act.Behind c s h p = (

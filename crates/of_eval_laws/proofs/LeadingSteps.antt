@@ -169,7 +169,8 @@ module _ (image ends : List ℕ) (outer : Reading) where
       subst (λ x. IsRead x) (sym g.1) h.0.0,
       subst (λ x. Back image ends outer x (is_code u.flow.next) (Some u.flow.next) u.flow.items) (sym g.1)
           (subst (λ x. Back image ends outer s.flow.reading (is_code x) (Some x) u.flow.items) (sym g.2)
-          (subst (λ x. Back image ends outer s.flow.reading (is_code s.flow.next) (Some s.flow.next) x) (sym g.0) h.0.1)),
+          (subst (λ x. Back image ends outer s.flow.reading (is_code s.flow.next) (Some s.flow.next) x)
+          (sym g.0) h.0.1)),
     ),
     (λ o. absurd (no (sym o ∙ ap is_outer g.0 ∙ inner))),
   )
@@ -186,7 +187,8 @@ module _ (image ends : List ℕ) (outer : Reading) where
   refused_leads (Ok x) t s h = h
   refused_leads (Err first) t s h = h
 
-  kept_leads : {S : Type 0} (a : Answered S) (r : Result (ℕ × DataSpace) MemFault) (s : State S) → Leads image ends outer s
+  kept_leads : {S : Type 0} (a : Answered S) (r : Result (ℕ × DataSpace) MemFault) (s : State S)
+      → Leads image ends outer s
       → Leads image ends outer (string_kept a r s).state
   kept_leads a (Ok x) s h = put_leads a.ended a.code x.1 s h
   kept_leads a (Err fault) s h = refused_leads a.ended _ s h
@@ -232,7 +234,8 @@ module _ (image ends : List ℕ) (outer : Reading) where
   }
 
   acted_leads : {S : Type 0} (code : Bool) (c : Calls S) (a : Act) (s : State S)
-      → IsAct (leading image ends outer S code) (leading_turns image ends outer S code) s a → Runs image ends outer code s
+      → IsAct (leading image ends outer S code) (leading_turns image ends outer S code) s a
+      → Runs image ends outer code s
       → Rests image ends outer code s → IsInner image ends outer code s → Leads image ends outer (acted c a s).state
   unfolding acted
   acted_leads code c (act.Does a) s h p r i = worked_leads image ends outer code c a s h p
@@ -265,7 +268,10 @@ module _ (image ends : List ℕ) (outer : Reading) where
   code_runs s e h =
       let l = h.0.1 in (
         (
-          ((h.0.0, due_too image ends outer s.flow.reading (is_code s.flow.next) (Some s.flow.next) s.flow.items l), h.1),
+          (
+            (h.0.0, due_too image ends outer s.flow.reading (is_code s.flow.next) (Some s.flow.next) s.flow.items l),
+            h.1,
+          ),
           e,
         ),
         subst (λ b. Back image ends outer s.flow.reading b None s.flow.items) e l,

@@ -175,7 +175,8 @@ pub record StackLeadsBack (S : Type 0) : Type 0 where
       LeadsOn image ends outer s → Leads image ends outer (item_done c i s).state
   -- What is due is worked off, and what is thrown is caught, so that the rest leads back, or nothing runs.
   pub settled :
-      (image ends : List ℕ) (outer : Reading) (c : Calls S) (thrown : Option Throw) (s : State S) → Leads image ends outer s →
+      (image ends : List ℕ) (outer : Reading) (c : Calls S) (thrown : Option Throw) (s : State S)
+      → Leads image ends outer s →
       (settled c s.flow.items thrown s).flow.is_running ≡ true →
       LeadsOn image ends outer (settled c s.flow.items thrown s)
   -- Each step keeps it while something runs, until control is back.
