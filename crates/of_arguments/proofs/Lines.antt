@@ -22,7 +22,8 @@ use Rattle.of_arguments.specs.CommandLine.{LinesAsk, is_plain, AsksToRun, AsksTo
 use Rattle.of_arguments.specs.Asked.{a_run, no_appendix, standard}
 use Rattle.of_arguments.specs.CommandLine.{ofw_app, run_app, AsksToExplain, AsksWith, plain_tokens, AsksToKeep}
 use Rattle.of_arguments.specs.CommandLine.{AsksForCalls, AsksForTree, AsksToTokenize, AsksWithAnswers, AsksWithBoard}
-use Rattle.of_arguments.specs.CommandLine.{AsksForConsole, AsksForConsoleOn, AsksForWords, AsksToSee, AsksWithLines, client_app}
+use Rattle.of_arguments.specs.CommandLine.{AsksForConsole, AsksForConsoleOn, AsksForWords, AsksToSee, AsksWithLines}
+use Rattle.of_arguments.specs.CommandLine.{client_app}
 use Rattle.of_arguments.specs.CommandLine.{console_app, detok_app, tok_app}
 use Rattle.of_arguments.specs.declared.request.Listing.TheVariants as listing
 

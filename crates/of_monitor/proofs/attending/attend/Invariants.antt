@@ -6,7 +6,9 @@ use Rattle.of_monitor.proofs.attending.attend.Given as goal
 -- what is left leads where all lead, and no question is open
 abbrev pub invariant-loop-left : goal.invariant-loop-left
 invariant-loop-left g l = record {
-  same : turns flat_calls l.left (l.machine, map (λ b. (goal.Device-dyn g (b.vtable, b.value)).meant b.value) l.rack.items)
+  same :
+      turns flat_calls l.left
+      (l.machine, map (λ b. (goal.Device-dyn g (b.vtable, b.value)).meant b.value) l.rack.items)
       ≡ turns flat_calls l.fn.limit
       (l.fn.machine, map (λ b. (goal.Device-dyn g (b.vtable, b.value)).meant b.value) l.fn.rack.items);
   calm : l.machine.waiting ≡ None;
