@@ -1,6 +1,7 @@
 //! Sessions on the console.
-use crate::doubles::blank_screen;
-use of_commands::{ConsoleRun, Messages, console};
+use crate::doubles::{blank_screen, reader_of};
+use of_arguments::Status;
+use of_commands::{ConsoleRun, Messages, console, rom};
 use of_devices::{Board, standard_board};
 use std::alloc::Global;
 use std::test::Fail;
@@ -80,5 +81,24 @@ fn images(rt: HostRuntime) -> Result<(), Fail> {
     assert_eq!(rt; code, 1);
     assert_eq!(rt; out.as_slice(), b"".as_slice());
     assert_eq!(rt; said.as_slice(), b"ofw: bad start byte 39\n".as_slice());
+    Ok(())
+}
+
+/// The image of a file in digits; and a file that can't be read.
+#[test]
+fn files(rt: HostRuntime) -> Result<(), Fail> {
+    let mut errors = blank_screen(rt.alloc(), 9999);
+    let mut said = Messages::new(&mut errors);
+    let mut file = reader_of(b"f108 0000\n0000000900", 9999);
+    let Ok(image) = rom(rt.alloc(), "a.hex", &mut file, &mut said) else {
+        return Err(Fail::new("no image"));
+    };
+    assert_eq!(rt;
+        image.as_slice(),
+        [0xf1, 0x08, 0, 0, 0, 0, 0, 9, 0].as_slice()
+    );
+    let mut broken = reader_of(b"f1080000", 0);
+    let status = rom(rt.alloc(), "b.hex", &mut broken, &mut said).err();
+    assert_eq!(rt; status, Some(Status::Fault));
     Ok(())
 }
