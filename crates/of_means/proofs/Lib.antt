@@ -7,7 +7,8 @@
 -- started comes back.
 -- Alone, Listing, Inner: the tokens of a definition as a list. Compiling, Standing, Elements, Compiled: each is
 -- compiled. Opening, Defined: from `b(:)` to `b(;)`.
--- Straight: the words of an accepted source. Whole: the laws `words_are_followed` and `sources_behave`.
+-- Straight: the words of an accepted source. Whole: the laws `words_are_followed` and `sources_behave`. Outputs: the
+-- law `sources_print_alike`.
 pub mod Steps
 pub mod Runs
 pub mod Level
@@ -36,3 +37,4 @@ pub mod Opening
 pub mod Defined
 pub mod Straight
 pub mod Whole
+pub mod Outputs

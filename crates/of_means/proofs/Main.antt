@@ -15,14 +15,13 @@ use Rattle.of_tok.specs.Tokens.{end_of, straight, tokens_of}
 use Rattle.of_state.specs.State.{Calls, State}
 use Rattle.of_eval_laws.specs.Throws.{ThrowsSettle}
 use Rattle.of_eval_laws.specs.Tokens.{TokensAreTyped}
-use Rattle.of_means.specs.Moments.{IsWaiting, Moment, answered_step, asked_step, exchanged, made, next_due, step_by}
-use Rattle.of_means.specs.Moments.{steps}
+use Rattle.of_means.specs.Moments.{IsWaiting, Moment, exchanged, made, steps}
 use Rattle.of_means.specs.Courses.{Course, On, Off, Out, Left, Thrown, Waits, Cut, Beyond}
 use Rattle.of_means.specs.Means.{at, token_at}
-use Rattle.of_means.specs.Correct.{Behaves, source_ended, source_means}
+use Rattle.of_means.specs.Correct.{Behaves, IsClosed, source_ended, source_means}
 use Rattle.of_means.specs.Sources.{HasWords, WidensOutside}
 use Rattle.of_means.specs.Laws.{DefinitionsAreRead, IsAt, SourceIsFollowed, StaysKept, WordsComeBack}
-use Rattle.of_means.proofs.Steps.{no_longer, none_off, one_rest, plain_step, stays, steps_on}
+use Rattle.of_means.proofs.Steps.{no_longer, none_off, one_rest, plain_step, stays, steps_on, waiting_rests}
 use Rattle.of_means.proofs.Runs.{token_found}
 use Rattle.of_means.proofs.Stops.{end_does, end_stops}
 use Rattle.of_means.proofs.Following.{Reached}
@@ -36,17 +35,6 @@ module _ {S : Type 0} (c : Calls S) (own : Nest → Calls S) (image : List ℕ) 
   where
     abbrev begin : Moment S
     begin = at (first_place z) m
-
-    -- where a question is open no step is made
-    waiting_rests : (t : Moment S) → IsWaiting c t → made c t ≡ None
-    waiting_rests t w = off t.state.flow.is_running refl
-      where
-        off : (b : Bool) → t.state.flow.is_running ≡ b → made c t ≡ None
-        off false e = none_off c t e
-        off true e =
-            ap (λ (b : Bool). if b then step_by c (next_due c) t else None) e
-            ∙ ap (λ (o : Option Query). asked_step c (next_due c) o t) w.1
-            ∙ ap (λ (o : Option Answer). answered_step c (next_due c) w.0 o t) w.2
 
     -- what a course says of the run
     abbrev Follows : ℕ → Course S → Type 0
@@ -133,10 +121,20 @@ module _ {S : Type 0} (c : Calls S) (own : Nest → Calls S) (image : List ℕ) 
     rests_too k last (Thrown t) e d r =
         inr (inl (ap Thrown (sym (one_rest c k r.1.0 begin last t e d r.1.1 (none_off c t r.0)))))
     rests_too k last (Waits t) e d r =
-        inr (inr (inl (ap Waits (sym (one_rest c k r.1.0 begin last t e d r.1.1 (waiting_rests t r.0))))))
+        inr (inr (inl (ap Waits (sym (one_rest c k r.1.0 begin last t e d r.1.1 (waiting_rests c t r.0))))))
     rests_too k last (Cut t) e d r =
         let le = no_longer c k r.0 begin last r.1 e d r.3 in absurd (omega (arith, le, r.2))
     rests_too k last Beyond e d r = inr (inr (inr refl))
+
+    closed_by : (n : ℕ) (f : Course S) → Follows n f → IsClosed f
+    closed_by n (On t) r = tt
+    closed_by n (Off b t) r = absurd r
+    closed_by n (Out t) r = absurd r
+    closed_by n (Left e t) r = absurd r
+    closed_by n (Thrown t) r = tt
+    closed_by n (Waits t) r = tt
+    closed_by n (Cut t) r = tt
+    closed_by n Beyond r = tt
 
     pub behaves : IsWhole x → HasWords x → WidensOutside x 0 → HasTokens image (first_place z) (tokens_of z x)
         → IsAt c image [] Keeps m
@@ -150,6 +148,7 @@ module _ {S : Type 0} (c : Calls S) (own : Nest → Calls S) (image : List ℕ) 
           throws = λ n t e. let r : Follows n (Thrown t) = subst (Follows n) e (f n) in (r.1.0, r.1.1, r.0);
           waits = λ n t e. let r : Follows n (Waits t) = subst (Follows n) e (f n) in (r.1.0, r.1.1, r.0);
           goes_on = λ n t e. subst (Follows n) e (f n);
+          closed = λ n. closed_by n (source_means c own x z n m) (f n);
           only = λ k last e d. (suc k, rests_too k last (source_means c own x z (suc k) m) e d (f (suc k)));
         }
 

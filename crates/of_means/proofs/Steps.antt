@@ -8,7 +8,7 @@ use Rattle.of_asking.specs.declared.query.Answer.{Answer}
 use Rattle.of_asking.specs.declared.query.Query.{Query}
 use Rattle.of_steps.specs.Steps.{replied, settled_of}
 use Rattle.of_means.specs.Moments.{Moment, answered_step, asked_step, fitting, made, next_due, step_by, steps}
-use Rattle.of_means.specs.Moments.{with_state}
+use Rattle.of_means.specs.Moments.{IsWaiting, with_state}
 
 some_not_none : {A : Type 0} (x : A) (o : Option A) → o ≡ Some x → o ≡ None → ⊥
 some_not_none x o e f = no (sym e ∙ f)
@@ -135,3 +135,14 @@ module _ {S : Type 0} (c : Calls S) where
 
   pub none_off : (m : Moment S) → m.state.flow.is_running ≡ false → made c m ≡ None
   none_off m e = ap (λ (x : Bool). if x then step_by c (next_due c) m else None) e
+
+  -- where a question is open no step is made
+  pub waiting_rests : (t : Moment S) → IsWaiting c t → made c t ≡ None
+  waiting_rests t w = off t.state.flow.is_running refl
+    where
+      off : (b : Bool) → t.state.flow.is_running ≡ b → made c t ≡ None
+      off false e = none_off t e
+      off true e =
+          made_by t e
+          ∙ ap (λ (o : Option Query). asked_step c (next_due c) o t) w.1
+          ∙ ap (λ (o : Option Answer). answered_step c (next_due c) w.0 o t) w.2

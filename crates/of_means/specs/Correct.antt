@@ -8,8 +8,19 @@ use Rattle.of_tok.specs.Tokens.{end_of}
 use Rattle.of_state.specs.State.{Calls}
 use Rattle.of_steps.specs.Steps.{settled_of}
 use Rattle.of_means.specs.Moments.{IsWaiting, Moment, exchanged, made, steps, with_state}
-use Rattle.of_means.specs.Courses.{Course, On, Thrown, Waits, Cut, Beyond}
+use Rattle.of_means.specs.Courses.{Course, On, Off, Out, Left, Thrown, Waits, Cut, Beyond}
 use Rattle.of_means.specs.Means.{at, means, token_at}
+
+-- no branch, case or loop is left open
+abbrev pub IsClosed : {S : Type 0} → Course S → Type 0
+IsClosed (On t) = Unit {0}
+IsClosed (Off b t) = ⊥
+IsClosed (Out t) = ⊥
+IsClosed (Left e t) = ⊥
+IsClosed (Thrown t) = Unit {0}
+IsClosed (Waits t) = Unit {0}
+IsClosed (Cut t) = Unit {0}
+IsClosed Beyond = Unit {0}
 
 module _ {S : Type 0} (c : Calls S) (own : Nest → Calls S) where
   -- what a source means from a moment on, with so many turns of each loop, and steps of each word
@@ -52,6 +63,8 @@ module _ {S : Type 0} (c : Calls S) (own : Nest → Calls S) where
         (n : ℕ) (t : Moment S) → source_means x z n m ≡ Cut t →
         (k : ℕ) × (u : Moment S) × (n ≤ k) × Comes z m k u × (u.state.board ≡ t.state.board)
         × (exchanged u ≡ exchanged t)
+    -- nothing else comes of it
+    pub closed : (n : ℕ) → IsClosed (source_means x z n m)
     -- and where the run of the image comes to rest, the source ends, throws or waits so
     pub only :
         (k : ℕ) (last : Moment S) → Comes z m k last → made c last ≡ None → (n : ℕ) × Rests x z m last n

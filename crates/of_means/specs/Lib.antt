@@ -7,3 +7,4 @@ pub mod Nested
 pub mod Kept
 pub mod Laws
 pub mod Accepted
+pub mod Outputs

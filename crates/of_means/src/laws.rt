@@ -3,12 +3,14 @@ ghost use Rattle.of_compile.specs.Structured.{Definitions};
 ghost use Rattle.of_means.specs.Accepted.{SourcesBehave, WordsAreFollowed};
 ghost use Rattle.of_means.specs.Kept.{IsKept};
 ghost use Rattle.of_means.specs.Laws.{SourceIsFollowed};
+ghost use Rattle.of_means.specs.Outputs.{SourcesPrintAlike};
 
 use of_eval_laws::{
     images_are_readings, images_run, space_stays_sound, stack_leads_back, states_stay_placed,
     throws_settle, tokens_are_typed,
 };
 use of_meaning::body_of_nest;
+use of_print_laws::printed_stays;
 use of_source::{accepted_is_plain, items_give_nest, parsed_is_nested};
 use of_tok::{header_is_the_sum, image_has_tokens, nests_end_at_their_places};
 
@@ -62,4 +64,15 @@ pub fn sources_behave()
     accepted_is_plain();
     items_give_nest();
     words_are_followed();
+}
+
+/// While the image of an accepted source and the source go on, what either has printed begins what the other prints: at
+/// each bound the source has printed what the image has printed after some steps, and what the image has printed after
+/// some steps begins what the source has printed at a bound as large.
+#[tactic(auto, using(crate::proofs::Outputs::sources_print_alike))]
+pub fn sources_print_alike()
+    ensures { SourcesPrintAlike }
+{
+    sources_behave();
+    printed_stays();
 }

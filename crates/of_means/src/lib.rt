@@ -3,4 +3,4 @@
 
 mod laws;
 
-pub use laws::{source_is_followed, sources_behave, words_are_followed};
+pub use laws::{source_is_followed, sources_behave, sources_print_alike, words_are_followed};

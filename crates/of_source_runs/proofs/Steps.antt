@@ -11,6 +11,7 @@ use Rattle.of_state.specs.State.{State}
 use Rattle.of_steps.specs.Steps.{asked_by, due, replied, settled_of, stepped}
 use Rattle.of_eval_laws.specs.Structured.{no_definitions, structured_calls}
 use Rattle.of_means.specs.Accepted.{SourcesBehave}
+use Rattle.of_means.specs.Outputs.{SourcesPrintAlike}
 use Rattle.of_means.specs.Moments.{Moment, answered_step, asked_step, made, next_due, step_by, steps, with_state}
 use Rattle.of_means.specs.Moments as moment
 use Rattle.of_machine.specs.Runs.{Feed, States, after, asking, beginning, clients_heard, fed_by, next, settled, told}
@@ -213,13 +214,16 @@ waits image answers k t q few e runs asks none =
 
 -- ---- the law
 
-pub tokenized_means : SourcesBehave → TokenizedMeans
-tokenized_means law = record {
+pub tokenized_means : SourcesBehave → SourcesPrintAlike → TokenizedMeans
+tokenized_means law prints = record {
   behaves = λ text image source answers accepted encodable made bytes taken. (
     law.behaves text image source (first_moment image answers) accepted encodable made
         (law.begins image slot answers (first_state no_definitions) law.first bytes taken),
     law.at_first source image slot answers (first_state no_definitions) made taken,
   );
+  prints = λ text image source answers accepted encodable made bytes taken.
+      prints.alike text image source (first_moment image answers) accepted encodable made
+      (law.begins image slot answers (first_state no_definitions) law.first bytes taken);
   comes = comes;
   waits = waits;
 }

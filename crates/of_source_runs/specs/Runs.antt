@@ -19,6 +19,7 @@ use Rattle.of_means.specs.Correct.{Behaves}
 use Rattle.of_means.specs.Means.{at}
 use Rattle.of_means.specs.Moments.{Moment, fitting, steps}
 use Rattle.of_means.specs.Nested.{nest_calls}
+use Rattle.of_means.specs.Outputs.{PrintsAlike}
 use Rattle.of_machine.specs.Runs.{States}
 use Rattle.of_machine.specs.States.{MachineState, slot}
 
@@ -50,6 +51,12 @@ pub record TokenizedMeans : Type 0 where
       let m = first_moment image answers in
       Behaves structured_calls nest_calls (nest_of source.items) source.size m
       × (at (first_place source.size) m ≡ m)
+  -- There it prints what the source prints: what either has printed begins what the other has at a large enough bound.
+  pub prints :
+      (text image : List ℕ) (source : Source) (answers : List Answer) → parsed text ≡ Ok source →
+      AreEncodable source.items → tokenized source ≡ Ok image → AreBytes image →
+      load_fault image slot (first_state no_definitions) ≡ None →
+      PrintsAlike structured_calls nest_calls (nest_of source.items) source.size (first_moment image answers)
   -- The run of any image comes to a moment after so many steps, as far as they can be counted, where so many steps
   -- lead there.
   pub comes :
