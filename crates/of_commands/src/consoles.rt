@@ -18,9 +18,8 @@ use crate::listings::ends_line;
 use crate::messages::Messages;
 use crate::output::{report, write_whole};
 use of_arguments::Status;
-use of_code::ListCode;
 use of_devices::{Board, Rack};
-use of_machine::{Machine, Refusal, ScriptMachine};
+use of_machine::{Refusal, ScriptMachine, script_machine};
 use of_monitor::{attend, enter};
 use std::alloc::Global;
 use std::io::{BufRead, ErrorKind, Read, Write};
@@ -242,7 +241,7 @@ fn talk<L: BufRead, W: Write, E: Write>(
         Appends (W.contents out.old) (W.contents out.new)
         (console_text (map (λ d. meant d) rack.old.items) console.entry.limit (image_of console.entry) bytes))) }
 {
-    let Ok(mut machine) = Machine::new(alloc, ListCode::new(alloc)) else {
+    let Ok(mut machine) = script_machine(alloc) else {
         return Err(Fault::NoMemory);
     };
     run_first(&mut machine, rack, first_image(console), console.limit)?;

@@ -5,10 +5,9 @@ use crate::engine::Run;
 use crate::fault::Fault;
 use crate::outside::{Answerer, Outside};
 use of_asking::{Answer, Query};
-use of_code::ListCode;
 use of_devices::{Board, Device};
 use of_fcodes::{FCode, name_of};
-use of_machine::{End, Machine, Progress, ScriptMachine};
+use of_machine::{End, Progress, ScriptMachine, script_machine};
 use std::alloc::Global;
 use std::io::{self, Write};
 
@@ -152,7 +151,7 @@ fn follow(alloc: Global, image: &[u8], outside: Outside<'_>, steps: u64) -> Resu
     ensures { IfErr result (λ f. f ≡ Fault.NoMemory) }
 {
     let again = made_again(alloc, outside)?;
-    match Machine::new(alloc, ListCode::new(alloc)) {
+    match script_machine(alloc) {
         Ok(mut machine) => walk(&mut machine, image, outside.lines, again, steps),
         Err(_) => Err(Fault::NoMemory),
     }

@@ -7,6 +7,7 @@ use Rattle.std.proofs.Common.{ap, sym, subst, ◌∙◌, add-one, nat_lt, nat_le
 use Rattle.std.specs.Prelude.{if◌then◌else◌, option_and_then, ◌<◌, ◌≤◌, ◌^◌, ◌-◌, ◌&&◌, drop, is_none, is_some}
 use Rattle.std.proofs.lemmas.Bool.Decides.{nat_tests}
 use Rattle.of_memory.specs.DataSpace.{DataSpace}
+use Rattle.of_nodes.specs.declared.phandles.Phandle.{Phandle}
 use Rattle.of_memory.specs.Growth.{image_fits}
 use Rattle.of_stream.specs.Image.{header_fault}
 use Rattle.of_compile.specs.Structured.{Definitions, flat_of}
@@ -20,16 +21,18 @@ use Rattle.of_state.specs.Loading.{first_board, first_state}
 use Rattle.of_eval_laws.specs.Structured.{StepsAgree, flat_state, structured_calls, no_definitions}
 use Rattle.of_eval_laws.specs.Placed.{AllPlaced, StatesStayPlaced}
 use Rattle.of_machine.specs.declared.answers.Refusal.{Refusal}
-use Rattle.of_machine.specs.declared.answers.Refusal.TheVariants.{ImageTooLong}
+use Rattle.of_machine.specs.declared.answers.Refusal.TheVariants.{ImageTooLong, NoNode}
+use Rattle.of_machine.specs.declared.answers.Refusal.TheVariants as refusal
 use Rattle.of_machine.specs.declared.answers.End.{End}
 use Rattle.of_machine.specs.declared.answers.End.TheVariants.{AnswersOut, Done, LimitReached}
 use Rattle.of_machine.specs.declared.answers.Progress.TheVariants.{Asks, Ended}
 use Rattle.of_machine.specs.declared.answers.Progress.TheVariants as progress
-use Rattle.of_machine.specs.States.{HasMoved, MachineState, Steps, answer_refusal, answered, can_step, fit_of}
+use Rattle.of_machine.specs.States.{HasMoved, MachineState, RefusesBefore, Steps, answer_refusal, answered, can_step}
+use Rattle.of_machine.specs.States.{fit_of, fit_refusal, instance_refusal, or_next, room_refusal}
 use Rattle.of_machine.specs.States.{flat_machine, goes_on, idle, image_refusal, is_running, loaded, made_or_opened}
 use Rattle.of_machine.specs.States.{moved, opened, question, served, slot, start_refusal, tried}
 use Rattle.of_machine.proofs.EventLemmas.{begun_flat, has_moved, made_is, made_quiet, made_runs}
-use Rattle.of_machine.proofs.FirstLemmas.{first_images}
+use Rattle.of_machine.proofs.FirstLemmas.{first_images, first_opens}
 use Rattle.of_machine.specs.Runs.{AreLater, AreUpto, Due, Feed, HasGone, IsCalm, IsOut, IsOver, IsTold, RunsAgree}
 use Rattle.of_machine.specs.declared.feeder.Advance.TheVariants as advance
 use Rattle.of_machine.specs.Runs.{Advances, HasAdvanced, RunsTo, States, after, asking, beginning, caught_up, end_of}
@@ -59,6 +62,30 @@ pub fits_first : (image : List ℕ) → image_refusal image ≡ None
 fits_first image accepted =
     fits_empty first_board.memory (length image) first_images
     (short_by image (nat_lt 0x40000 (length image)) refl accepted)
+
+-- so it is refused for memory alone on a new machine, whose instance finds room, too
+pub first_refused : (image : List ℕ) (node : Phandle) (m : MachineState Coding) (e : Refusal)
+    → m ≡ flat_machine (idle no_definitions) → image_refusal image ≡ None
+    → RefusesBefore (fit_refusal m image) (or_next (fit_refusal m image) (instance_refusal m (Some node))) e
+    → e ≡ refusal.NoMemory
+first_refused image node m e is accepted why = by_reason (none image node m is accepted) why
+  where
+    none : (image : List ℕ) (node : Phandle) (m : MachineState Coding) → m ≡ flat_machine (idle no_definitions)
+        → image_refusal image ≡ None
+        → or_next (fit_refusal m image) (instance_refusal m (Some node)) ≡ None
+    none image node m is accepted =
+        let first = flat_machine (idle no_definitions) in
+        ap (λ (x : MachineState Coding). or_next (fit_refusal x image) (instance_refusal x (Some node))) is
+        ∙ ap (λ (b : Bool). or_next (room_refusal b) (instance_refusal first (Some node))) (fits_first image accepted)
+        ∙ ap (λ (b : Bool). if b then None else Some NoNode) (first_opens node)
+
+    by_reason : {first reason : Option Refusal} {e : Refusal} → reason ≡ None → RefusesBefore first reason e
+        → e ≡ refusal.NoMemory
+    by_reason n (inl f) = absurd (no (sym n ∙ f))
+      where
+        no : {e : Refusal} → None ≡ Some e → ⊥
+        no g = cc
+    by_reason n (inr x) = x.1
 
 -- ---- clients
 

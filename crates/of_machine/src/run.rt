@@ -1,7 +1,7 @@
 ghost use Rattle.std.specs.Prelude.{◌≡◌, IfOk, IfErr, OnOk, None, Some, map};
 ghost use Rattle.of_compile.specs.Structured.{flat_of};
 ghost use Rattle.of_eval_laws.specs.Structured.{no_definitions};
-ghost use Rattle.of_machine.specs.States.{Refuses, image_refusal, is_running};
+ghost use Rattle.of_machine.specs.States.{Refuses, flat_machine, idle, image_refusal, is_running, loaded, slot};
 ghost use Rattle.of_machine.specs.Runs.{IsCalm, RunsTo, beginning, due_of, end_of, has_long, script_refusal};
 
 use crate::answers::{End, Refusal};
@@ -9,13 +9,23 @@ use crate::feeder::Feeder;
 use crate::laws::runs_agree;
 use crate::machine::{LONGEST_IMAGE, LONGEST_LINE, Machine, check_image};
 use of_asking::Answer;
+use of_cell_code::CellCode;
 use of_client::ClientCall;
-use of_code::ListCode;
 use of_nodes::Phandle;
 use std::alloc::{AllocError, Global};
 
-/// The machine on which scripts run.
-pub type ScriptMachine = Machine<ListCode>;
+/// The machine on which scripts run: its definitions stand in bytes.
+pub type ScriptMachine = Machine<CellCode>;
+
+/// An idle machine for a script, with empty stacks and console, a fresh data space and no own words.
+///
+/// An error is for memory alone.
+pub fn script_machine(alloc: Global) -> Result<ScriptMachine, AllocError>
+    ensures { IfOk result (λ m. m ≡ flat_machine (idle no_definitions)) }
+{
+    let code = CellCode::new(alloc)?;
+    Machine::new(alloc, code)
+}
 
 /// The number of the node `/slot`, the third that is made.
 const SLOT: usize = 2;
@@ -49,12 +59,26 @@ fn check_script(image: &[u8], lines: &[Vec<u8>]) -> Result<(), Refusal>
     Ok(())
 }
 
+/// A new machine on which an image is loaded for `/slot`.
+///
+/// NoMemory is the only refusal.
+fn loaded_machine(alloc: Global, image: &[u8]) -> Result<ScriptMachine, Refusal>
+    requires accepted { image_refusal image.now ≡ None }
+    ensures ok { IfOk result (λ m. m ≡ loaded (flat_machine (idle no_definitions)) image.now slot) }
+    ensures err { IfErr result (λ e. e ≡ Refusal.NoMemory) }
+{
+    let Ok(mut machine) = script_machine(alloc) else {
+        return Err(Refusal::NoMemory);
+    };
+    machine.begin(image, Phandle::of(SLOT))?;
+    Ok(machine)
+}
+
 /// Begins a run: an image is loaded for `/slot` on a new machine, the clients due at 0 are answered, and the first line
 /// is handed in if nothing runs then.
 ///
 /// ImageTooLong over 256 KiB, then LineTooLong over 255 bytes, then BadStart where the header can't be read, and
 /// NoMemory.
-#[tactic(auto, using(crate::proofs::RunLemmas::fits_first, crate::proofs::FirstLemmas::first_opens))]
 pub(crate) fn begin_run<'a>(
     alloc: Global,
     image: &[u8],
@@ -70,10 +94,7 @@ pub(crate) fn begin_run<'a>(
     ensures err { IfErr result (λ e. Refuses (script_refusal image.now (map (λ l. l.items) lines.now)) e) }
 {
     check_script(image, lines)?;
-    let Ok(mut machine) = Machine::new(alloc, ListCode::new(alloc)) else {
-        return Err(Refusal::NoMemory);
-    };
-    machine.begin(image, Phandle::of(SLOT))?;
+    let machine = loaded_machine(alloc, image)?;
     let mut feeder = Feeder {
         machine,
         lines,

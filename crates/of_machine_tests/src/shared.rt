@@ -3,8 +3,7 @@
 use hex::decode;
 use of_asking::Answer;
 use of_client::ClientCall;
-use of_code::ListCode;
-use of_machine::{End, Machine, ScriptMachine, run_script};
+use of_machine::{End, ScriptMachine, run_script, script_machine};
 use std::alloc::Global;
 use std::test::Fail;
 
@@ -24,7 +23,7 @@ pub(crate) fn image_of(alloc: Global, tokens: &str) -> Result<Vec<u8>, Fail> {
 
 /// A machine on which nothing ran yet.
 pub(crate) fn new_machine(alloc: Global) -> Result<ScriptMachine, Fail> {
-    Ok(Machine::new(alloc, ListCode::new(alloc))?)
+    Ok(script_machine(alloc)?)
 }
 
 /// What is done with a machine on which nothing ran yet.
@@ -45,7 +44,7 @@ pub(crate) fn on_machine_if_room<T, F: FnOnce(&mut ScriptMachine) -> T>(
 ) -> Option<T>
     requires { F.IsAlwaysCallable act }
 {
-    match Machine::new(alloc, ListCode::new(alloc)) {
+    match script_machine(alloc) {
         Ok(mut machine) => Some(act(&mut machine)),
         Err(_) => None,
     }

@@ -1,8 +1,7 @@
 //! Images that build the device tree, and the tree that they leave.
 use crate::rows::{MachineRows, check_on_machines, halves};
 use crate::shared::{after_run, image_of, load_tokens, printed, push_bytes, run_on};
-use of_code::ListCode;
-use of_machine::{Machine, ScriptMachine};
+use of_machine::{ScriptMachine, script_machine};
 use of_nodes::{Phandle, Property, Span};
 use std::alloc::Global;
 use std::process::Abort;
@@ -246,7 +245,7 @@ fn check_in_turn_on<R: Abort>(
 
 /// The same on a new machine, if there is memory for one.
 fn check_one_in_turn<R: Abort>(rt: &R, alloc: Global, line: &str) -> Result<(), Fail> {
-    match Machine::new(alloc, ListCode::new(alloc)) {
+    match script_machine(alloc) {
         Ok(mut machine) => check_in_turn_on(rt, alloc, &mut machine, line),
         Err(_) => Ok(()),
     }

@@ -1,8 +1,7 @@
 //! Nests of control words: the definition that a console line makes of one is done item by item as that which an image
 //! makes that is tokenized of the same words, with the same stack before each item; what `see` prints of it makes a
 //! definition of which `see` prints the same; and, of nests of up to five words, one that is done item by item alike.
-use of_code::ListCode;
-use of_machine::{Machine, Refusal, ScriptMachine};
+use of_machine::{Refusal, ScriptMachine, script_machine};
 use of_see_runs::{printed_words_are_remade, see_reads_back};
 use of_source::parse;
 use of_tok::tokenize;
@@ -158,7 +157,7 @@ fn load(machine: &mut ScriptMachine, image: &[u8]) -> Result<(), Fail> {
 
 /// A machine on which nothing ran yet.
 fn new_machine(alloc: Global) -> Result<ScriptMachine, Fail> {
-    Ok(Machine::new(alloc, ListCode::new(alloc))?)
+    Ok(script_machine(alloc)?)
 }
 
 /// What a line does that defines a nest and runs it on these numbers.

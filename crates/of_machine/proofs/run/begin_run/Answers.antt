@@ -8,7 +8,7 @@ use Rattle.of_machine.proofs.run.begin_run.Goals as goal
 
 pub returns-clause-calm : goal.returns-clause-calm
 returns-clause-calm c =
-    let m = c.begin.new.self in
+    let m = c.in_ok-machine.machine in
     let calls = map due_of c.args.calls.now in
     let lines = map (λ l. l.items) c.args.lines.now in
     let g : Feed Coding = record { machine = m; lines = lines; answers = c.args.answers.now; calls = calls } in
@@ -17,11 +17,11 @@ returns-clause-calm c =
     let served : f ≡ settled g = search rules in
     let quiet : f.machine.waiting ≡ None =
     same_waiting g f served ∙ ap (λ (x : MachineState Coding). x.waiting) begun in
-    (c.in-Ok-serve.ensures.later, quiet, settled_is g f served)
+    (c.in-Ok.ensures.later, quiet, settled_is g f served)
 
 pub returns-clause-none : goal.returns-clause-none
 returns-clause-none c =
-    let m = c.begin.new.self in
+    let m = c.in_ok-machine.machine in
     let calls = map due_of c.args.calls.now in
     let lines = map (λ l. l.items) c.args.lines.now in
     let g : Feed Coding = record { machine = m; lines = lines; answers = c.args.answers.now; calls = calls } in
