@@ -22,7 +22,8 @@ use Rattle.of_arguments.specs.CommandLine.{LinesAsk, is_plain, AsksToRun, AsksTo
 use Rattle.of_arguments.specs.Asked.{a_run, no_appendix, standard}
 use Rattle.of_arguments.specs.CommandLine.{ofw_app, run_app, AsksToExplain, AsksWith, plain_tokens, AsksToKeep}
 use Rattle.of_arguments.specs.CommandLine.{AsksForCalls, AsksForTree, AsksToTokenize, AsksWithAnswers, AsksWithBoard}
-use Rattle.of_arguments.specs.CommandLine.{AsksForConsole, AsksForConsoleOn, AsksForWords, AsksToSee, AsksWithLines}
+use Rattle.of_arguments.specs.CommandLine.{AsksForConsole, AsksForConsoleOn, AsksForState, AsksForWords, AsksToSee}
+use Rattle.of_arguments.specs.CommandLine.{AsksWithLines}
 use Rattle.of_arguments.specs.CommandLine.{client_app}
 use Rattle.of_arguments.specs.CommandLine.{console_app, detok_app, tok_app}
 use Rattle.of_arguments.specs.declared.request.Listing.TheVariants as listing
@@ -244,6 +245,13 @@ worded program b rest e = (
   rw (image_met run_shape b rest e) (image_alone _ (image_passes run_shape b rest e)),
 )
 
+stated : (program : Text) (b : ℕ) (rest : Text) → (b == 45) ≡ false → AsksForState program (b ∷ rest)
+unfolding clap_on_literals run_shape
+stated program b rest e = (
+  rw (image_met run_shape b rest e) refl,
+  rw (image_met run_shape b rest e) (image_alone _ (image_passes run_shape b rest e)),
+)
+
 consoled : (program : Text) → AsksForConsole program
 unfolding clap_on_literals console_shape
 consoled program = (refl, refl)
@@ -386,6 +394,7 @@ lines_ask program (b ∷ rest) e = (
   explained program b rest (hyphenless b e),
   treed program b rest (hyphenless b e),
   worded program b rest (hyphenless b e),
+  stated program b rest (hyphenless b e),
   consoled program,
   consoled_on program b rest (hyphenless b e),
   (

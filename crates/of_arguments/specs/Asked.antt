@@ -16,15 +16,16 @@ pub data Outsiders : Type 0 where
   answers_of : List ℕ → Outsiders
   board_of : List ℕ → Outsiders
 
--- what is printed behind what a run prints: the device tree, the words, and the word of this name
+-- what is printed behind what a run prints: the device tree, the words, the word of this name, and the state
 pub record Appendix : Type 0 where
   pub tree : Bool
   pub words : Bool
   pub see : Option (List ℕ)
+  pub state : Bool
 
 -- nothing of these
 abbrev pub no_appendix : Appendix
-no_appendix = record { tree = false; words = false; see = None }
+no_appendix = record { tree = false; words = false; see = None; state = false }
 
 -- the run of the image at a path, and of the console lines of a file, if there is one, with what answers its questions,
 -- for so many steps at most, what is printed then, and whether its end is explained; the same with nothing printed
@@ -50,7 +51,7 @@ path_of path = option_map (λ text. text.now) path
 
 -- what is printed behind
 abbrev pub appendix_of : Listings → Appendix
-appendix_of l = record { tree = l.tree; words = l.words; see = path_of l.see }
+appendix_of l = record { tree = l.tree; words = l.words; see = path_of l.see; state = l.state }
 
 -- what a request asks for
 abbrev pub asked : Request → Asked

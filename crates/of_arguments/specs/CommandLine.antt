@@ -70,11 +70,11 @@ running_app =
     with_rule (with_rule (with_rule (with_rule (with_rule (new_app (codes "run")) image_rule) lines_rule) answers_rule)
     board_rule) limit_rule
 
--- `run IMAGE [--lines FILE] [--answers FILE | --board FILE] [--limit N] [--tree] [--words] [--see NAME] [--explain]`
+-- the same, with `[--tree] [--words] [--see NAME] [--state] [--explain]`
 abbrev pub run_app : App
 run_app =
-    with_rule (with_rule (with_rule (with_rule running_app (flag_rule (codes "tree"))) (flag_rule (codes "words")))
-    see_rule) (flag_rule (codes "explain"))
+    with_rule (with_rule (with_rule (with_rule (with_rule running_app (flag_rule (codes "tree")))
+    (flag_rule (codes "words"))) see_rule) (flag_rule (codes "state"))) (flag_rule (codes "explain"))
 
 -- `--calls FILE`
 abbrev pub calls_rule : Rule
@@ -166,6 +166,7 @@ appendix_in rows = record {
   tree = has_flag (codes "tree") rows;
   words = has_flag (codes "words") rows;
   see = first_of (codes "see") rows;
+  state = has_flag (codes "state") rows;
 }
 
 -- what is to answer the questions of a run, by the files of answers and of devices that are given: not both
@@ -285,6 +286,12 @@ AsksForWords program image =
     Asks (program ∷ codes "run" ∷ image ∷ codes "--words" ∷ [])
     (a_run image None standard 1000000 (record no_appendix { words = true }) false)
 
+-- a run behind which the state is printed
+abbrev pub AsksForState : Text → Text → Type 0
+AsksForState program image =
+    Asks (program ∷ codes "run" ∷ image ∷ codes "--state" ∷ [])
+    (a_run image None standard 1000000 (record no_appendix { state = true }) false)
+
 -- a run behind which the word of a name is printed
 abbrev pub AsksToSee : Text → Text → Text → Type 0
 AsksToSee program image name =
@@ -335,7 +342,8 @@ AsksToKeep program source output =
 abbrev pub LinesAsk : Type 0
 LinesAsk = (program image : Text) → is_plain image ≡ true → AsksToRun program image × AsksToList program image
     × AsksToTokenize program image × AsksToExplain program image × AsksForTree program image
-    × AsksForWords program image × AsksForConsole program × AsksForConsoleOn program image × AsksForMore program image
+    × AsksForWords program image × AsksForState program image
+    × AsksForConsole program × AsksForConsoleOn program image × AsksForMore program image
     × ((output : Text) → is_plain output ≡ true → AsksToKeep program image output)
     × ((calls : Text) → is_plain calls ≡ true → AsksForCalls program image calls)
     × ((answers : Text) → is_plain answers ≡ true → AsksWithAnswers program image answers)

@@ -35,7 +35,9 @@ hexadecimal digits. With --answers the k-th line of a file is for the k-th quest
 digits, `done` or `fault`. With --tree each node's path is printed then, and its properties behind it, as text or in
 hexadecimal digits; with --words what the console's `words` would print then; and with --see what its `see` would print
 of the word of that name. The words of an image are methods of /slot, so names find them behind a console line
-`dev /slot`. A name that begins with a hyphen stands behind --see and an equals sign.
+`dev /slot`. A name that begins with a hyphen stands behind --see and an equals sign. With --state the data stack is
+printed, the bottom first, how many items the return stack has, where `here` is, and how many own words were made, each
+number in 8 hexadecimal digits.
 
 Status: 0 done, 1 fault of input or output, 2 usage, 3 limit reached, 4 answers out, 5 no memory";
 
@@ -209,7 +211,7 @@ fn running_command<'a>(alloc: Global) -> Result<Command<'a>, AllocError>
         .arg(limit_argument(alloc))
 }
 
-/// The same, with `[--tree] [--words] [--see NAME] [--explain]`
+/// The same, with `[--tree] [--words] [--see NAME] [--state] [--explain]`
 fn run_command<'a>(alloc: Global) -> Result<Command<'a>, AllocError>
     ensures { IfOk result (IsBuilt run_app) }
 {
@@ -225,6 +227,11 @@ fn run_command<'a>(alloc: Global) -> Result<Command<'a>, AllocError>
             "prints the words behind what the run prints",
         ))?
         .arg(see_argument(alloc))?
+        .arg(flag(
+            alloc,
+            "state",
+            "prints the stacks, here and the words' number behind what the run prints",
+        ))?
         .arg(flag(
             alloc,
             "explain",
@@ -377,6 +384,7 @@ fn listings<'a>(matches: &ArgMatches<'a>) -> Listings<'a>
         tree: has_flag(matches, "tree"),
         words: has_flag(matches, "words"),
         see: value(matches, "see"),
+        state: has_flag(matches, "state"),
     }
 }
 

@@ -5,8 +5,8 @@ ghost use Rattle.of_arguments.specs.CommandLine.{LinesAsk};
 /// What the lines of the usage text ask for, where no word of the user's begins with a hyphen: `run` and a path for a
 /// run of at most 1,000,000 steps, with `--limit` and a number up to 1,000,000,000 for so many, with `--explain` for
 /// one whose end is explained, with `--tree` for one behind which the device tree is printed, with `--words` for one
-/// behind which the words are, with `--see` and a name for one behind which the word of that name is, with `--lines`
-/// and a path for one behind which the console lines of that file are read, with `--answers` and a path for one with
+/// behind which the words are, with `--see` and a name for one behind which the word of that name is, with `--state`
+/// for one behind which the state is, with `--lines` and a path for one behind which the console lines of that file are read, with `--answers` and a path for one with
 /// the answers of that file, with `--board` and a path for one with the devices of that file; `client`, a path,
 /// `--calls` and a path for such a run and the calls of that file; `console`, alone or with a path, for a console
 /// behind nothing or behind that image, with at most 1,000,000 steps a line; `tok` and a path for an image, with

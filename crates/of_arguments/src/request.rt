@@ -20,6 +20,8 @@ pub struct Listings<'a> {
     pub words: bool,
     /// The name of a word that is, as `see` prints it, if one is.
     pub see: Option<&'a str>,
+    /// Whether the state is: the data stack, how deep the return stack is, `here`, and how many own words there are.
+    pub state: bool,
 }
 
 /// What is listed of an image.

@@ -1,4 +1,5 @@
 pub mod Clients
+pub mod States
 pub mod Definitions
 pub mod Files
 pub mod Listings

@@ -9,6 +9,7 @@ use Rattle.of_state.specs.State.{flat_calls}
 use Rattle.of_machine.specs.States.{MachineState}
 use Rattle.of_machine.specs.Views.{word_named, words_listed}
 use Rattle.of_arguments.specs.Asked.{Appendix}
+use Rattle.of_commands.specs.States.{state_text}
 
 -- whether no line is open at the end of a text
 abbrev pub ends_line : List ℕ → Bool
@@ -41,9 +42,13 @@ abbrev pub see_named : Option (List ℕ) → MachineState Coding → List ℕ
 see_named None m = []
 see_named (Some name) m = see_word (word_named m.eval name) m
 
+-- the state, where that is asked for
+abbrev pub state_if : Bool → MachineState Coding → List ℕ
+state_if state m = if state then state_text m else []
+
 -- what is listed of a machine
 abbrev pub listings_text : Appendix → MachineState Coding → List ℕ
-listings_text a m = tree_if a.tree m ++ words_if a.words m ++ see_named a.see m
+listings_text a m = tree_if a.tree m ++ words_if a.words m ++ see_named a.see m ++ state_if a.state m
 
 -- the console bytes of a run, and behind them what is listed
 abbrev pub run_text : Appendix → MachineState Coding → List ℕ

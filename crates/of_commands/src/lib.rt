@@ -16,6 +16,7 @@ mod output;
 mod outside;
 mod part;
 mod place;
+mod state;
 
 pub use clients::{ClientRun, client};
 pub use console_lines::lines;

@@ -1,14 +1,16 @@
-//! What is listed behind what a run printed: the device tree, the words, and the word of a name.
+//! What is listed behind what a run printed: the device tree, the words, the word of a name, and the state.
 ghost use Rattle.std.specs.Prelude.{◌≡◌, ◌⊎◌, IfOk, IfErr, OnOk, OnErr, option_map};
 ghost use Rattle.std.specs.Io.KnownBytes.{Appends};
 ghost use Rattle.of_arguments.specs.Asked.{appendix_of, no_appendix, path_of};
 ghost use Rattle.of_commands.specs.Listings.{ends_line, lacks_word, lines_behind, listings_text, run_text, see_named};
-ghost use Rattle.of_commands.specs.Listings.{see_word, tree_if, words_if};
+ghost use Rattle.of_commands.specs.Listings.{see_word, state_if, tree_if, words_if};
+ghost use Rattle.std.specs.String.{string_bytes};
 ghost use Rattle.of_commands.specs.Messages.{AppendsPart};
 ghost use Rattle.of_commands.specs.Runs.{IsUnwritten, run_end};
 
 use crate::fault::Fault;
 use crate::output::write_whole;
+use crate::state::state_text;
 use of_arguments::{Listings, Status};
 use of_cells::Cell;
 use of_console::tree_text;
@@ -24,6 +26,7 @@ pub(crate) fn no_listings<'a>() -> Listings<'a>
         tree: false,
         words: false,
         see: None,
+        state: false,
     }
 }
 
@@ -90,6 +93,18 @@ fn see_named(alloc: Global, name: Option<&str>, machine: &ScriptMachine) -> Resu
     }
 }
 
+/// The state of a machine, where that is asked for.
+fn state_if(alloc: Global, state: bool, machine: &ScriptMachine) -> Result<String, Fault>
+    ensures ok { IfOk result (λ text. string_bytes text ≡ state_if state machine.now) }
+    ensures err { IfErr result (λ f. f ≡ Fault.NoMemory) }
+{
+    if state {
+        state_text(alloc, machine)
+    } else {
+        Ok(String::new(alloc))
+    }
+}
+
 /// What is listed of a machine.
 fn listings_text(
     alloc: Global,
@@ -102,7 +117,11 @@ fn listings_text(
     let mut text = tree_if(alloc, listings.tree, machine)?;
     let words = words_if(alloc, listings.words, machine)?;
     let seen = see_named(alloc, listings.see, machine)?;
-    if text.extend_from_slice(&words).is_err() || text.extend_from_slice(&seen).is_err() {
+    let state = state_if(alloc, listings.state, machine)?;
+    if text.extend_from_slice(&words).is_err()
+        || text.extend_from_slice(&seen).is_err()
+        || text.extend_from_slice(state.as_bytes()).is_err()
+    {
         return Err(Fault::NoMemory);
     }
     Ok(text)

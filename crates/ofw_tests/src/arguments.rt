@@ -20,6 +20,7 @@ ofw run a.hex --explain --limit 5 --tree:a.hex 5 explained tree
 ofw run a.hex --tree --tree:
 ofw client a.hex --calls a.calls --tree:
 ofw run a.hex --words:a.hex 1000000 words
+ofw run - --tree:- 1000000 tree
 ofw run a.hex --see dup:a.hex 1000000 see dup
 ofw run --see dup a.hex --words --tree --limit 5 --explain:a.hex 5 explained tree words see dup
 ofw run a.hex --see=-rot:a.hex 1000000 see -rot
@@ -27,6 +28,10 @@ ofw run a.hex --see -rot:
 ofw run a.hex --see:
 ofw run a.hex --see dup --see drop:
 ofw run a.hex --words --words:
+ofw run a.hex --state:a.hex 1000000 state
+ofw run --state --see dup --tree a.hex:a.hex 1000000 tree see dup state
+ofw run a.hex --state --state:
+ofw client a.hex --calls a.calls --state:
 ofw client a.hex --calls a.calls --words:
 ofw client a.hex --calls a.calls --see dup:
 ofw tok a.fs --see dup:
@@ -77,6 +82,7 @@ ofw tok a.fs:a.fs
 ofw tok:
 ofw tok a.fs --limit 5:
 ofw tok a.fs --output a.rom:a.fs a.rom
+ofw tok - --output -:- -
 ofw tok --output a.rom:
 ofw detok a.hex --limit 5:
 ofw walk a.hex:
@@ -161,9 +167,10 @@ fn shown_lines(alloc: Global, lines: Option<&str>) -> Result<String, Fail> {
 /// What is to be printed behind a run.
 fn shown_listings(alloc: Global, listings: Listings) -> Result<String, Fail> {
     let (tree, words) = (flag(listings.tree, " tree"), flag(listings.words, " words"));
+    let state = flag(listings.state, " state");
     Ok(match listings.see {
-        Some(name) => format!(in alloc; "{tree}{words} see {name}")?,
-        None => format!(in alloc; "{tree}{words}")?,
+        Some(name) => format!(in alloc; "{tree}{words} see {name}{state}")?,
+        None => format!(in alloc; "{tree}{words}{state}")?,
     })
 }
 

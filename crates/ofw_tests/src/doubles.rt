@@ -39,6 +39,7 @@ pub(crate) fn no_listings<'a>() -> Listings<'a> {
         tree: false,
         words: false,
         see: None,
+        state: false,
     }
 }
 

@@ -10,7 +10,7 @@ use std::test::Fail;
 
 /// The words of a command line, an image in hexadecimal digits, how many bytes can be written, the number of the
 /// status, what is said, and what is printed, with `$` for a newline: an empty program; one that prints `5 `; one that
-/// gives /slot the method `five` and prints what it leaves.
+/// gives /slot the method `five` and prints what it leaves; one that leaves -1 and 2, defines a variable and prints 3.
 const RUNS: &str = "\
 run a.hex --words|f10800000000000000|9999|0||$
 run a.hex --see DUP|f10800000000000000|9999|0||primitive dup$
@@ -26,7 +26,13 @@ run a.hex --tree --words --see dup|f10800000000000000|9999|0||\
 run a.hex --see nonsense --tree --explain|f10800000000000000|9999|1|\
 ofw: a.hex: done after 1 steps$ofw: a.hex: stack:$ofw: a.hex: no word has the name that --see asks for$|\
 /$name \"board\"$/packages$name \"packages\"$/slot$name \"slot\"$
-run a.hex --see dup|f108000000000000a7a81e9d00|6|1|ofw: the output can't be written: other error$|5 $pri";
+run a.hex --see dup|f108000000000000a7a81e9d00|6|1|ofw: the output can't be written: other error$|5 $pri
+run a.hex --state|f10800000000000000|9999|0||stack$return stack 00000000$here 00100000$words 00000000$
+run a.hex --limit 2 --state|f108000000000000a7a81e9d00|9999|3||\
+stack 00000002 00000003$return stack 00000002$here 00100000$words 00000000$
+run a.hex --state --words --see x|f108000000000000a4b601780800b9a7a89d00|9999|1|\
+ofw: a.hex: no word has the name that --see asks for$|\
+3 $$stack ffffffff 00000002$return stack 00000000$here 00100004$words 00000001$";
 
 /// The words of a command line, console lines with `,` for a newline, the number of the status, and what is printed, of
 /// the program that gives /slot the method `five`. The words of an image are found where /slot is active.

@@ -37,6 +37,7 @@ fn run(alloc: Global, image: &str, room: u32) -> Result<(u8, Vec<u8>), Fail> {
             tree: true,
             words: false,
             see: None,
+            state: false,
         },
         explain: false,
     };
