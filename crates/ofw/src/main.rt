@@ -7,7 +7,7 @@ use of_asking::Answer;
 use of_commands::{Answerer, ClientRun, ConsoleRun, Fault, Messages, Outside, Run};
 use of_devices::{Board, standard_board};
 use std::fs::File;
-use std::io::{BufReader, Stderr};
+use std::io::{BufReader, Read, Stderr};
 use std::process::ExitCode;
 use std::{env, io};
 
@@ -21,12 +21,18 @@ fn report(rt: &HostRuntime, path: &str, fault: Fault) -> Status {
     of_commands::report(path, fault, &mut messages(rt))
 }
 
-/// Writes the image of a source to the file at a path, which is made anew.
-fn keep(rt: &HostRuntime, source: &str, file: &mut File, output: &str) -> Status {
+/// The path that stands for the standard input, and for the standard output.
+const STANDARD: &str = "-";
+
+/// Writes the image of a source to the file at a path, which is made anew, or to the standard output.
+fn keep<R: Read>(rt: &HostRuntime, source: &str, file: &mut R, output: &str) -> Status {
     let image = match of_commands::image(rt.alloc(), source, file, &mut messages(rt)) {
         Ok(image) => image,
         Err(status) => return status,
     };
+    if output == STANDARD {
+        return of_commands::keep(&image, &mut rt.stdout(), &mut messages(rt));
+    }
     match File::create(rt, output) {
         Ok(mut out) => of_commands::keep(&image, &mut out, &mut messages(rt)),
         Err(error) => unopened(rt, output, &error),
@@ -163,6 +169,7 @@ fn call<'a>(
             tree: false,
             words: false,
             see: None,
+            state: false,
         },
         explain,
     };
@@ -218,28 +225,33 @@ fn console(rt: &HostRuntime, path: Option<&str>, board: Option<&str>, limit: u64
     }
 }
 
-/// Opens the file at a path, and does with it what was asked for.
-fn perform(rt: &HostRuntime, path: &str, request: Request, outside: Outside) -> Status {
-    let mut file = match File::open(rt, path) {
-        Ok(file) => file,
-        Err(error) => return unopened(rt, path, &error),
-    };
+/// Does with a file what was asked for.
+fn perform_on<R: Read>(
+    rt: &HostRuntime,
+    request: Request,
+    outside: Outside,
+    file: &mut R,
+) -> Status {
     if let Request::Tok {
         source,
         output: Some(output),
     } = request
     {
-        return keep(rt, source, &mut file, output);
+        return keep(rt, source, file, output);
     }
     let (mut out, mut errors) = (rt.stdout(), messages(rt));
-    of_commands::answer(
-        rt.alloc(),
-        request,
-        outside,
-        &mut file,
-        &mut out,
-        &mut errors,
-    )
+    of_commands::answer(rt.alloc(), request, outside, file, &mut out, &mut errors)
+}
+
+/// Opens the file at a path, or takes the standard input, and does with it what was asked for.
+fn perform(rt: &HostRuntime, path: &str, request: Request, outside: Outside) -> Status {
+    if path == STANDARD {
+        return perform_on(rt, request, outside, &mut rt.stdin());
+    }
+    match File::open(rt, path) {
+        Ok(mut file) => perform_on(rt, request, outside, &mut file),
+        Err(error) => unopened(rt, path, &error),
+    }
 }
 
 /// The same, where nothing is run.
