@@ -1,6 +1,7 @@
 -- What is printed of a run and of the replies to calls.
 use Rattle.std.proofs.Common.{◌≡◌, ◌⊎◌, ◌∙◌, ℕ, zero, suc, ◌+◌, List, [], ◌∷◌, ◌++◌, Option, Some, None, IfSome, IfOk}
 use Rattle.std.proofs.Common.{arith, OnOk, OnErr, IfErr, Ok, Err, Result, inl, inr, refl, sym, ap, subst, length, take}
+use Rattle.std.proofs.Common.{true, true≢false, is_some}
 use Rattle.std.specs.Io.KnownBytes.{Appends, Keeps}
 use Rattle.std.proofs.KnownBytes.{Appends-trans}
 use Rattle.of_client.specs.Services.{Service}
@@ -15,7 +16,7 @@ use Rattle.of_commands.specs.declared.outside.Outside.{Outside}
 use Rattle.of_commands.specs.declared.fault.Fault.{Fault}
 use Rattle.of_commands.specs.declared.fault.Fault.TheVariants as fault
 use Rattle.of_commands.specs.Clients.{AnswersCalls, AnswersClient, FaultsCalls, PrintsCalls, client_text, no_calls}
-use Rattle.of_commands.specs.Messages.{AppendsPart}
+use Rattle.of_commands.specs.Messages.{AppendsPart, bad_start_of}
 use Rattle.of_commands.proofs.Faults.{all_are_part}
 use Rattle.of_commands.specs.Runs.{FaultsRun, IsUnwritten, RunsFile, end_status, status_of}
 
@@ -145,3 +146,10 @@ text_refused (Some bytes) (Some file) o limit old new Said f s kept why status s
 
 -- the answers of `client`
 pub ruleset answers = (text_answered, text_refused)
+
+-- what is wrong for memory has no start byte to be named
+pub none_named : (P : Type 0) (r : Result Status Fault) → IfErr r (λ f. f ≡ fault.NoMemory)
+    → IfErr r (λ f. is_some (bad_start_of f) ≡ true → P)
+none_named P (Ok s) h = tt
+none_named P (Err f) h =
+    λ e. absurd (true≢false (sym e ∙ ap (λ (g : Fault). is_some (bad_start_of g)) h))

@@ -1,5 +1,5 @@
 //! `run --state`: the stacks of a machine, `here`, and how many words were made.
-ghost use Rattle.std.specs.Prelude.{◌≡◌, ◌++◌, ◌%◌, IfOk, IfErr, codes, reverse};
+ghost use Rattle.std.specs.Prelude.{◌≡◌, ◌%◌, ◌^◌, IfOk, IfErr, reverse};
 ghost use Rattle.std.specs.String.{string_bytes};
 ghost use Rattle.of_commands.specs.States.{cells_shown, number_line, number_shown, stack_line, state_text};
 
@@ -66,15 +66,22 @@ fn number_line(alloc: Global, what: &str, number: u32) -> Result<String, Fault>
     Ok(line)
 }
 
+/// A number modulo 2^32, which none of a machine's reaches.
+fn counted(number: usize) -> u32
+    ensures { result ≡ number % 2 ^ 32 }
+{
+    (number % 0x1_0000_0000) as u32
+}
+
 /// The state of a machine, a line for each of its parts.
 pub(crate) fn state_text(alloc: Global, machine: &ScriptMachine) -> Result<String, Fault>
     ensures ok { IfOk result (λ text. string_bytes text ≡ state_text machine.now) }
     ensures err { IfErr result (λ f. f ≡ Fault.NoMemory) }
 {
     let mut text = stack_line(alloc, machine)?;
-    let items = number_line(alloc, "return stack ", machine.depth() as u32)?;
+    let items = number_line(alloc, "return stack ", counted(machine.depth()))?;
     let here = number_line(alloc, "here ", machine.memory().here().0)?;
-    let words = number_line(alloc, "words ", machine.made() as u32)?;
+    let words = number_line(alloc, "words ", counted(machine.made()))?;
     if text.push_str(&items).is_err()
         || text.push_str(&here).is_err()
         || text.push_str(&words).is_err()

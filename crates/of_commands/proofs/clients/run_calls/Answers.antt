@@ -1,6 +1,6 @@
 use Rattle.std.proofs.Common.{map, rules}
 use Rattle.of_client.specs.Services.{service_of}
-use Rattle.of_commands.proofs.Called.{called_all, called_unrun}
+use Rattle.of_commands.proofs.Called.{called_all, called_unrun, none_named}
 use Rattle.of_commands.proofs.clients.run_calls.Goals as goal
 
 pub returns-in-Ok-print_called-clause-printed : goal.returns-in-Ok-print_called-clause-printed
@@ -11,3 +11,6 @@ returns-in-Ok-print_called-clause-printed g c =
 
 pub returns-clause-printed : goal.returns-clause-printed
 returns-clause-printed g c = search (rules, called_unrun)
+
+pub returns-in-Ok-print_called-clause-unsaid : goal.returns-in-Ok-print_called-clause-unsaid
+returns-in-Ok-print_called-clause-unsaid g c = none_named _ c.explain_end.result c.explain_end.ensures.err

@@ -1,5 +1,5 @@
-use Rattle.std.proofs.Common.{◌≡◌, ◌∙◌, ◌==◌, false, length, sym}
-use Rattle.std.proofs.lemmas.Result.{IfOk-weaker}
+use Rattle.std.proofs.Common.{◌≡◌, ◌∙◌, ◌==◌, false, inr, length, sym}
+use Rattle.std.proofs.lemmas.Result.{IfErr-weaker, IfOk-weaker}
 use Rattle.of_commands.proofs.Seen.{seen_run}
 use Rattle.of_commands.proofs.definitions.see_definitions.Goals as goal
 
@@ -10,3 +10,7 @@ returns-in-Ok-run_answers-clause-ok c =
     seen_run c.args.image.now c.in-Ok.line.items text.items _ _ some c.in-Ok.ensures.items
     c.in-Ok-run_answers.ensures.ok same)
     c.all_definitions.ensures.ok
+
+pub returns-in-Ok-run_answers-clause-err : goal.returns-in-Ok-run_answers-clause-err
+returns-in-Ok-run_answers-clause-err c =
+    IfErr-weaker c.all_definitions.result _ _ (λ f refused. inr refused) c.all_definitions.ensures.err
