@@ -160,19 +160,39 @@ fn new_machine(alloc: Global) -> Result<ScriptMachine, Fail> {
     Ok(script_machine(alloc)?)
 }
 
-/// What a line does that defines a nest and runs it on these numbers.
-fn by_line(alloc: Global, nest: &str, numbers: &str) -> Result<String, Fail> {
-    let mut machine = new_machine(alloc)?;
-    let line = format!(in alloc; "{numbers} : t {nest}; t")?;
-    read(&mut machine, line.as_str())?;
-    trace(alloc, &mut machine)
+/// What is done with a value, which is let go then. It is any value here: where a function has a machine as its own,
+/// its proof goes through all that a machine holds wherever the function may end.
+fn lend<V: Drop, T, F: FnOnce(&mut V) -> Result<T, Fail>>(mut value: V, act: F) -> Result<T, Fail>
+    requires { F.IsAlwaysCallable act }
+{
+    act(&mut value)
 }
 
-/// What `see` prints of the definition that a line makes of a nest.
-fn printed(alloc: Global, nest: &str) -> Result<String, Fail> {
-    let mut machine = new_machine(alloc)?;
-    let line = format!(in alloc; ": t {nest}; see t")?;
-    read(&mut machine, line.as_str())?;
+/// Puts a value in the place of another one, which is let go.
+fn replace<V: Drop>(place: &mut V, value: V) {
+    *place = value;
+}
+
+/// What a line does on a machine.
+fn traced(alloc: Global, machine: &mut ScriptMachine, line: &str) -> Result<String, Fail> {
+    read(machine, line)?;
+    trace(alloc, machine)
+}
+
+/// The same on a new machine.
+fn trace_line(alloc: Global, line: &str) -> Result<String, Fail> {
+    lend(new_machine(alloc)?, |machine| traced(alloc, machine, line))
+}
+
+/// What a line does that defines a nest and runs it on these numbers.
+fn by_line(alloc: Global, nest: &str, numbers: &str) -> Result<String, Fail> {
+    let line = format!(in alloc; "{numbers} : t {nest}; t")?;
+    trace_line(alloc, line.as_str())
+}
+
+/// What a line prints on a machine.
+fn printed_behind(alloc: Global, machine: &mut ScriptMachine, line: &str) -> Result<String, Fail> {
+    read(machine, line)?;
     machine.run(60)?;
     let mut text = String::new(alloc);
     let shown = std::str::from_utf8(machine.console()).unwrap_or("");
@@ -180,13 +200,20 @@ fn printed(alloc: Global, nest: &str) -> Result<String, Fail> {
     Ok(text)
 }
 
+/// What `see` prints of the definition that a line makes of a nest.
+fn printed(alloc: Global, nest: &str) -> Result<String, Fail> {
+    let line = format!(in alloc; ": t {nest}; see t")?;
+    lend(
+        new_machine(alloc)?,
+        |machine| printed_behind(alloc, machine, line.as_str()),
+    )
+}
+
 /// What a line does that defines a nest anew, by what `see` prints of it, and runs it on these numbers.
 fn by_see(alloc: Global, nest: &str, numbers: &str) -> Result<String, Fail> {
-    let mut machine = new_machine(alloc)?;
     let text = printed(alloc, nest)?;
     let line = format!(in alloc; "{numbers} {text} t")?;
-    read(&mut machine, line.as_str())?;
-    trace(alloc, &mut machine)
+    trace_line(alloc, line.as_str())
 }
 
 /// What `see` prints of the word `t`.
@@ -210,12 +237,20 @@ fn image_of(alloc: Global, text: &str) -> Result<Vec<u8>, Fail> {
     Ok(tokenize(alloc, &source)?)
 }
 
+/// What an image does on a machine.
+fn trace_image(alloc: Global, machine: &mut ScriptMachine, image: &[u8]) -> Result<String, Fail> {
+    load(machine, image)?;
+    trace(alloc, machine)
+}
+
 /// What an image does that defines a nest and runs it on these numbers.
 fn by_image(alloc: Global, nest: &str, numbers: &str) -> Result<String, Fail> {
-    let mut machine = new_machine(alloc)?;
     let text = format!(in alloc; "fcode-version2 headerless {numbers} : t {nest}; t fcode-end")?;
-    load(&mut machine, &image_of(alloc, text.as_str())?)?;
-    trace(alloc, &mut machine)
+    let image = image_of(alloc, text.as_str())?;
+    lend(
+        new_machine(alloc)?,
+        |machine| trace_image(alloc, machine, &image),
+    )
 }
 
 /// Sees that a nest is done alike on each stack.
@@ -285,27 +320,47 @@ fn printed_nests_are_done_alike(rt: HostRuntime) -> Result<(), Fail> {
     Ok(())
 }
 
-/// All of them; a machine takes 2,000, since its code has room for so many.
+/// Sees the same of all nests; a machine takes 2,000, since its code has room for so many.
+fn check_all_again<R: Abort>(
+    rt: &R,
+    alloc: Global,
+    machine: &mut ScriptMachine,
+) -> Result<(), Fail> {
+    for nest in all_nests(alloc)? {
+        if machine.made() >= 4_000 {
+            replace(machine, new_machine(alloc)?);
+        }
+        check_again(rt, alloc, machine, nest.text.as_str())?;
+    }
+    Ok(())
+}
+
+/// All of them.
 #[test]
 fn printed_nests_print_alike(rt: HostRuntime) -> Result<(), Fail> {
-    let mut machine = new_machine(rt.alloc())?;
-    for nest in all_nests(rt.alloc())? {
-        if machine.made() >= 4_000 {
-            machine = new_machine(rt.alloc())?;
-        }
-        check_again(&rt, rt.alloc(), &mut machine, nest.text.as_str())?;
-    }
+    let alloc = rt.alloc();
+    lend(
+        new_machine(alloc)?,
+        |machine| check_all_again(&rt, alloc, machine),
+    )
+}
+
+/// Sees that the name of two nests is listed once.
+fn check_listed<R: Abort>(rt: &R, alloc: Global, machine: &mut ScriptMachine) -> Result<(), Fail> {
+    check_again(rt, alloc, machine, "if then ")?;
+    check_again(rt, alloc, machine, "do loop ")?;
+    assert_eq!(rt; machine.words(alloc)?.as_slice(), b"t \n".as_slice());
     Ok(())
 }
 
 /// The name of all of them is listed once.
 #[test]
 fn the_name_is_listed_once(rt: HostRuntime) -> Result<(), Fail> {
-    let mut machine = new_machine(rt.alloc())?;
-    check_again(&rt, rt.alloc(), &mut machine, "if then ")?;
-    check_again(&rt, rt.alloc(), &mut machine, "do loop ")?;
-    assert_eq!(rt; machine.words(rt.alloc())?.as_slice(), b"t \n".as_slice());
-    Ok(())
+    let alloc = rt.alloc();
+    lend(
+        new_machine(alloc)?,
+        |machine| check_listed(&rt, alloc, machine),
+    )
 }
 
 /// The laws hold.
