@@ -1,7 +1,7 @@
 //! Questions between the calls of a machine: what is seen while one is open, and where limits and clients come.
 use crate::questions::{answer_of, answers_of, mark, push_query, push_stack};
 use crate::rows::{MachineRows, Rows, check, check_on_one, halves};
-use crate::shared::{image_of, on_machine_if_room, push_bytes, run_on, run_with};
+use crate::shared::{image_of, lend, on_machine_if_room, push_bytes, run_on, run_with};
 use crate::tree::load_in_turn;
 use of_asking::Answer;
 use of_client::ClientCall;
@@ -84,8 +84,10 @@ fn counts_of(
     calls: &[(u64, ClientCall)],
     limit: u64,
 ) -> Result<String, Fail> {
-    let (machine, end) = run_with(alloc, image, answers, calls, limit)?;
-    counts_text(alloc, &machine, end)
+    lend(
+        run_with(alloc, image, answers, calls, limit)?,
+        |run| counts_text(alloc, &run.0, run.1),
+    )
 }
 
 /// What a run of that image leaves, in so many steps at most.

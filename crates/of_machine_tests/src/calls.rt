@@ -277,8 +277,8 @@ fn images_stand_in_the_data_space(rt: HostRuntime) -> Result<(), Fail> {
 #[test]
 fn images_are_given_back(rt: HostRuntime) -> Result<(), Fail> {
     let image = decode(rt.alloc(), FIVE)?;
-    let cleared = after_run(rt.alloc(), &image, 5, |machine, _| {
-        Ok(stands_in_the_region(machine, &[0; 14]))
+    let cleared = after_run(rt.alloc(), &image, 5, |run| {
+        Ok(stands_in_the_region(&run.0, &[0; 14]))
     })?;
     assert!(rt; cleared);
     Ok(())
@@ -329,9 +329,12 @@ fn differing_names(alloc: Global, machine: &ScriptMachine, table: &str) -> Resul
 /// The same on a machine on which an image has run for so many steps at most.
 fn differing_after(alloc: Global, digits: &str, limit: u64, table: &str) -> Result<String, Fail> {
     let image = decode(alloc, digits)?;
-    after_run(alloc, &image, limit, |machine, _| {
-        differing_names(alloc, machine, table)
-    })
+    after_run(
+        alloc,
+        &image,
+        limit,
+        |run| differing_names(alloc, &run.0, table),
+    )
 }
 
 /// Whether no line's name finds something else then.
@@ -362,7 +365,7 @@ probes none
 /// How a run of so many steps at most ends.
 fn end_of(alloc: Global, digits: &str, limit: u64) -> Result<End, Fail> {
     let image = decode(alloc, digits)?;
-    after_run(alloc, &image, limit, |_, end| Ok(end))
+    after_run(alloc, &image, limit, |run| Ok(run.1))
 }
 
 #[test]

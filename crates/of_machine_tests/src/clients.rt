@@ -2,7 +2,7 @@
 use crate::lines::lines_of;
 use crate::rows::{MachineRows, check_on_machines};
 use crate::shared::{
-    bytes_of, load, load_tokens, new_machine, on_machine_if_room, run_on, run_with,
+    bytes_of, lend, load, load_tokens, on_machine, on_machine_if_room, run_on, run_with,
 };
 use of_cells::Cell;
 use of_client::{ClientCall, ClientReply};
@@ -174,8 +174,7 @@ fn between_steps(alloc: Global, machine: &mut ScriptMachine, image: &[u8]) -> Re
 
 /// The same on a new machine.
 fn between_steps_of(alloc: Global, image: &[u8]) -> Result<String, Fail> {
-    let mut machine = new_machine(alloc)?;
-    between_steps(alloc, &mut machine, image)
+    on_machine(alloc, |machine| between_steps(alloc, machine, image))
 }
 
 #[test]
@@ -198,8 +197,10 @@ fn calls_at(alloc: Global, dues: &[u64]) -> Result<Vec<(u64, ClientCall)>, Fail>
 /// once so many steps are made.
 fn by_script(alloc: Global, image: &[u8], dues: &[u64], limit: u64) -> Result<String, Fail> {
     let calls = calls_at(alloc, dues)?;
-    let (machine, _) = run_with(alloc, image, &[], &calls, limit)?;
-    replies(alloc, &machine)
+    lend(
+        run_with(alloc, image, &[], &calls, limit)?,
+        |run| replies(alloc, &run.0),
+    )
 }
 
 #[test]
@@ -218,8 +219,10 @@ fn by_lines(alloc: Global, text: &str, dues: &[u64]) -> Result<String, Fail> {
     let image = bytes_of(alloc, "f10800000000000900")?;
     let lines = lines_of(alloc, text)?;
     let calls = calls_at(alloc, dues)?;
-    let (machine, _) = run_script(alloc, &image, &lines, &[], &calls, 99)?;
-    replies(alloc, &machine)
+    lend(
+        run_script(alloc, &image, &lines, &[], &calls, 99)?,
+        |run| replies(alloc, &run.0),
+    )
 }
 
 /// The image ends with the first step, `dev` and the name behind it are the second, and the third makes a node.

@@ -1,7 +1,7 @@
 //! Console lines: what a run leaves to which lines are handed in, one behind the other, and which lines are refused.
 use crate::questions::{answers_of, mark, push_query, push_stack};
 use crate::rows::{Rows, check, halves};
-use crate::shared::{bytes_of, new_machine, push_bytes, run_on};
+use crate::shared::{Run, bytes_of, lend, on_machine, push_bytes, run_on};
 use of_asking::Answer;
 use of_machine::{End, LONGEST_LINE, Refusal, ScriptMachine, run_script};
 use std::alloc::Global;
@@ -147,7 +147,7 @@ fn run_lines(
     lines: &[Vec<u8>],
     answers: &[Answer],
     limit: u64,
-) -> Result<(ScriptMachine, End), Fail> {
+) -> Result<Run, Fail> {
     Ok(run_script(alloc, image, lines, answers, &[], limit)?)
 }
 
@@ -163,15 +163,22 @@ fn push_left(text: &mut String, machine: &ScriptMachine, end: End) -> Result<(),
     push_stack(text, machine)
 }
 
+/// What a run leaves.
+fn left_text(alloc: Global, machine: &ScriptMachine, end: End) -> Result<String, Fail> {
+    let mut text = String::new(alloc);
+    push_left(&mut text, machine, end)?;
+    Ok(text)
+}
+
 /// What the run of an image and lines leaves whose questions get these answers.
 fn left(alloc: Global, image: &str, text: &str, answers: &str) -> Result<String, Fail> {
     let image = bytes_of(alloc, image)?;
     let lines = lines_of(alloc, text)?;
     let answers = answers_of(alloc, answers)?;
-    let (machine, end) = run_lines(alloc, &image, &lines, &answers, 1_000_000)?;
-    let mut text = String::new(alloc);
-    push_left(&mut text, &machine, end)?;
-    Ok(text)
+    lend(
+        run_lines(alloc, &image, &lines, &answers, 1_000_000)?,
+        |run| left_text(alloc, &run.0, run.1),
+    )
 }
 
 /// Lines behind an image that does nothing.
@@ -217,11 +224,8 @@ const LIMITS: &str = "\
 7|6 done 3
 ";
 
-/// What a run of those lines makes.
-fn made(alloc: Global, limit: u64) -> Result<String, Fail> {
-    let image = bytes_of(alloc, EMPTY)?;
-    let lines = lines_of(alloc, "1 2~3")?;
-    let (machine, end) = run_lines(alloc, &image, &lines, &[], limit)?;
+/// What a run makes.
+fn made_text(alloc: Global, machine: &ScriptMachine, end: End) -> Result<String, Fail> {
     let mut text = String::new(alloc);
     write!(
         text,
@@ -231,6 +235,16 @@ fn made(alloc: Global, limit: u64) -> Result<String, Fail> {
         machine.stack().len()
     )?;
     Ok(text)
+}
+
+/// What a run of those lines makes.
+fn made(alloc: Global, limit: u64) -> Result<String, Fail> {
+    let image = bytes_of(alloc, EMPTY)?;
+    let lines = lines_of(alloc, "1 2~3")?;
+    lend(
+        run_lines(alloc, &image, &lines, &[], limit)?,
+        |run| made_text(alloc, &run.0, run.1),
+    )
 }
 
 /// Limits.
@@ -308,16 +322,23 @@ fn answer(machine: &mut ScriptMachine, text: &[u8]) -> Result<(), Refusal> {
 }
 
 /// What a machine answers to a long line, a line, and one while that is read; and how deep its data stack is then.
+fn answers_on(
+    machine: &mut ScriptMachine,
+    long: &[u8],
+) -> Result<(Option<Refusal>, Option<Refusal>, usize), Fail> {
+    let first = answer(machine, long).err();
+    answer(machine, b"1 2")?;
+    let second = answer(machine, long).err();
+    run_on(machine, 9)?;
+    answer(machine, b"3")?;
+    run_on(machine, 9)?;
+    Ok((first, second, machine.stack().len()))
+}
+
+/// The same of a new machine.
 fn answers(alloc: Global) -> Result<(Option<Refusal>, Option<Refusal>, usize), Fail> {
     let long = vec![in alloc; b' '; LONGEST_LINE + 1]?;
-    let mut machine = new_machine(alloc)?;
-    let first = answer(&mut machine, &long).err();
-    answer(&mut machine, b"1 2")?;
-    let second = answer(&mut machine, &long).err();
-    run_on(&mut machine, 9)?;
-    answer(&mut machine, b"3")?;
-    run_on(&mut machine, 9)?;
-    Ok((first, second, machine.stack().len()))
+    on_machine(alloc, |machine| answers_on(machine, &long))
 }
 
 #[test]

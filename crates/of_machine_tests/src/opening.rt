@@ -345,7 +345,7 @@ fn openings_are_counted(rt: HostRuntime) -> Result<(), Fail> {
          a5 a5 0203 020b 11 0205 0217 9d 9b 9d 9d 0203 9b 0202 46 9b a5 a5 10d0000004 0205 9d 011f 00",
     )?;
     let alloc = rt.alloc();
-    let said = after_run(alloc, &image, 999_999, |machine, _| printed(alloc, machine))?;
+    let said = after_run(alloc, &image, 999_999, |run| printed(alloc, &run.0))?;
     let wanted = "-8 d0000008 0 0 e0000000 300000 0 fault -8: dictionary overflow$";
     assert!(rt; said.as_str() == wanted);
     Ok(())

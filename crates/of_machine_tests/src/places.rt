@@ -1,6 +1,6 @@
 //! Items that come next, and how many items words have: numbers counted by hand from what the tokens compile.
 use crate::rows::{MachineRows, check_on_machines};
-use crate::shared::{load_tokens, new_machine, run_on};
+use crate::shared::{load_tokens, on_machine, run_on};
 use of_cells::Cell;
 use of_machine::ScriptMachine;
 use std::alloc::Global;
@@ -98,8 +98,7 @@ fn is_counted(alloc: Global, machine: &mut ScriptMachine, line: &str) -> Result<
 
 /// The same on a new machine.
 fn is_counted_on_new(alloc: Global, line: &str) -> Result<bool, Fail> {
-    let mut machine = new_machine(alloc)?;
-    is_counted(alloc, &mut machine, line)
+    on_machine(alloc, |machine| is_counted(alloc, machine, line))
 }
 
 #[test]

@@ -382,13 +382,7 @@ pub(crate) fn left(alloc: Global, machine: &ScriptMachine, end: End) -> Result<S
 
 /// What the run of an image leaves whose questions get these answers.
 fn left_by(alloc: Global, image: &[u8], answers: &[Answer]) -> Result<String, Fail> {
-    after_answers(
-        alloc,
-        image,
-        answers,
-        999,
-        |machine, end| left(alloc, machine, end),
-    )
+    after_answers(alloc, image, answers, 999, |run| left(alloc, &run.0, run.1))
 }
 
 /// Whole images, the answers to their questions, and what their runs leave.

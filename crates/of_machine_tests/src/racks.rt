@@ -2,12 +2,12 @@
 use crate::lines::lines_of;
 use crate::questions::left;
 use crate::rows::{Rows, check, halves};
-use crate::shared::{bytes_of, image_of};
+use crate::shared::{Run, bytes_of, image_of, lend};
 use of_asking::{Answer, Query};
 use of_cells::Cell;
 use of_client::ClientCall;
 use of_devices::{AddressRange, Clock, DeviceMemory, Keyboard, Part, Rack, ask};
-use of_machine::{End, Refusal, ScriptMachine, run_rack};
+use of_machine::{Refusal, run_rack};
 use of_nodes::Phandle;
 use std::alloc::Global;
 use std::test::Fail;
@@ -66,12 +66,25 @@ fn rack_of(alloc: Global, devices: &str) -> Result<Rack, Fail> {
     Ok(rack)
 }
 
+/// What the run of an image and lines on these devices leaves.
+fn left_with(
+    alloc: Global,
+    image: &[u8],
+    lines: &[Vec<u8>],
+    rack: &mut Rack,
+    limit: u64,
+) -> Result<String, Fail> {
+    lend(
+        run_rack(alloc, image, lines, rack, &[], limit)?,
+        |run| left(alloc, &run.0, run.1),
+    )
+}
+
 /// What a run on the devices of a line leaves.
 fn left_on(alloc: Global, devices: &str, tokens: &str, limit: u64) -> Result<String, Fail> {
     let image = image_of(alloc, tokens)?;
     let mut rack = rack_of(alloc, devices)?;
-    let (machine, end) = run_rack(alloc, &image, &[], &mut rack, &[], limit)?;
-    left(alloc, &machine, end)
+    left_with(alloc, &image, &[], &mut rack, limit)
 }
 
 /// What lines leave on these devices behind an image that does nothing.
@@ -79,8 +92,7 @@ fn left_by_lines(alloc: Global, devices: &str, text: &str) -> Result<String, Fai
     let image = image_of(alloc, "00")?;
     let lines = lines_of(alloc, text)?;
     let mut rack = rack_of(alloc, devices)?;
-    let (machine, end) = run_rack(alloc, &image, &lines, &mut rack, &[], 999)?;
-    left(alloc, &machine, end)
+    left_with(alloc, &image, &lines, &mut rack, 999)
 }
 
 /// Runs on devices.
@@ -138,7 +150,7 @@ f108|99|bad start 0
 ";
 
 /// Appends what a run leaves.
-fn push_run(text: &mut String, run: &Result<(ScriptMachine, End), Refusal>) -> Result<(), Fail> {
+fn push_run(text: &mut String, run: &Result<Run, Refusal>) -> Result<(), Fail> {
     let machine = match run {
         Ok((machine, _)) => machine,
         Err(Refusal::BadStart(_)) => {
@@ -155,6 +167,13 @@ fn push_run(text: &mut String, run: &Result<(ScriptMachine, End), Refusal>) -> R
         write!(text, " {:08x}", reply.number.0)?;
     }
     Ok(())
+}
+
+/// What a run leaves.
+fn run_text(alloc: Global, run: &Result<Run, Refusal>) -> Result<String, Fail> {
+    let mut text = String::new(alloc);
+    push_run(&mut text, run)?;
+    Ok(text)
 }
 
 /// The clients of these runs.
@@ -181,8 +200,7 @@ fn next_time(alloc: Global, digits: &str, limit: u64) -> Result<String, Fail> {
     let mut rack: Rack = Vec::new(alloc);
     rack.push(Box::new(alloc, Part::Clock(Clock::new()))?)?;
     let run = run_rack(alloc, &image, &[], &mut rack, &calls, limit);
-    let mut text = String::new(alloc);
-    push_run(&mut text, &run)?;
+    let mut text = lend(run, |run| run_text(alloc, run))?;
     push_time(&mut text, ask(&mut rack, Query::Milliseconds))?;
     Ok(text)
 }

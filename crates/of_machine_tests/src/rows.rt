@@ -1,6 +1,6 @@
 //! How the tests go through the lines of their tables. The functions here have no contracts, so the proof of a test
 //! carries nothing of what they do.
-use crate::shared::new_machine;
+use crate::shared::{lend, new_machine};
 use of_machine::ScriptMachine;
 use std::alloc::Global;
 use std::process::Abort;
@@ -51,8 +51,10 @@ fn check_line_on<T: MachineRows, R: Abort>(
 }
 
 fn check_on_new<T: MachineRows, R: Abort>(rt: &R, alloc: Global, line: &str) -> Result<(), Fail> {
-    let mut machine = new_machine(alloc)?;
-    check_line_on::<T, R>(rt, alloc, &mut machine, line)
+    lend(
+        new_machine(alloc)?,
+        |machine| check_line_on::<T, R>(rt, alloc, machine, line),
+    )
 }
 
 /// The same of each line of a table, on a machine for each.
@@ -85,6 +87,8 @@ pub(crate) fn check_on_one<T: MachineRows, R: Abort>(
     alloc: Global,
     table: &str,
 ) -> Result<(), Fail> {
-    let mut machine = new_machine(alloc)?;
-    check_lines_on::<T, R>(rt, alloc, &mut machine, table)
+    lend(
+        new_machine(alloc)?,
+        |machine| check_lines_on::<T, R>(rt, alloc, machine, table),
+    )
 }

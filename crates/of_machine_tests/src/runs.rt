@@ -1,5 +1,5 @@
 use crate::rows::{Rows, check, halves};
-use crate::shared::{after_run, bytes_of, image_of, push_bytes};
+use crate::shared::{Run, after_run, bytes_of, image_of, lend, push_bytes};
 use hex::decode;
 use of_machine::{End, ScriptMachine, calls_agree, run_script, runs_agree};
 use std::alloc::Global;
@@ -30,12 +30,7 @@ fn text_of(alloc: Global, machine: &ScriptMachine, end: End) -> Result<String, F
 
 /// What an image prints in a run of so many steps at most, with the steps made and the end.
 fn shown(alloc: Global, image: &[u8], limit: u64) -> Result<String, Fail> {
-    after_run(
-        alloc,
-        image,
-        limit,
-        |machine, end| text_of(alloc, machine, end),
-    )
+    after_run(alloc, image, limit, |run| text_of(alloc, &run.0, run.1))
 }
 
 /// Whole images, and what their runs of 999 steps at most make: the steps, and the console.
@@ -157,14 +152,14 @@ fn has_ended(machine: &ScriptMachine) -> bool {
 }
 
 /// The run of an image, if it begins.
-fn begun(alloc: Global, image: &[u8]) -> Option<(ScriptMachine, End)> {
+fn begun(alloc: Global, image: &[u8]) -> Option<Run> {
     run_script(alloc, image, &[], &[], &[], 99).ok()
 }
 
 /// Whether an image that is cut off throws -257, or has no whole header.
 fn is_cut(alloc: Global, image: &[u8]) -> bool {
     match begun(alloc, image) {
-        Some((machine, _)) => has_ended(&machine),
+        Some(run) => lend(run, |run| has_ended(&run.0)),
         None => image.len() < 8,
     }
 }

@@ -26,6 +26,14 @@ pub(crate) fn new_machine(alloc: Global) -> Result<ScriptMachine, Fail> {
     Ok(script_machine(alloc)?)
 }
 
+/// What is done with a value, which is let go then. It is any value here: where a function has a machine as its own,
+/// its proof goes through all that a machine holds wherever the function may end.
+pub(crate) fn lend<V: Drop, T, F: FnOnce(&mut V) -> T>(mut value: V, act: F) -> T
+    requires { F.IsAlwaysCallable act }
+{
+    act(&mut value)
+}
+
 /// What is done with a machine on which nothing ran yet.
 pub(crate) fn on_machine<T, F: FnOnce(&mut ScriptMachine) -> Result<T, Fail>>(
     alloc: Global,
@@ -33,8 +41,7 @@ pub(crate) fn on_machine<T, F: FnOnce(&mut ScriptMachine) -> Result<T, Fail>>(
 ) -> Result<T, Fail>
     requires { F.IsAlwaysCallable act }
 {
-    let mut machine = new_machine(alloc)?;
-    act(&mut machine)
+    lend(new_machine(alloc)?, act)
 }
 
 /// The same, if memory is found for a machine.
@@ -45,7 +52,7 @@ pub(crate) fn on_machine_if_room<T, F: FnOnce(&mut ScriptMachine) -> T>(
     requires { F.IsAlwaysCallable act }
 {
     match script_machine(alloc) {
-        Ok(mut machine) => Some(act(&mut machine)),
+        Ok(machine) => Some(lend(machine, act)),
         Err(_) => None,
     }
 }
@@ -73,6 +80,9 @@ pub(crate) fn run_on(machine: &mut ScriptMachine, limit: u64) -> Result<(), Fail
     Ok(())
 }
 
+/// A machine on which something ran, and how that ended.
+pub(crate) type Run = (ScriptMachine, End);
+
 /// The run of an image for `/slot`, whose questions get these answers, with these clients.
 pub(crate) fn run_with(
     alloc: Global,
@@ -80,12 +90,12 @@ pub(crate) fn run_with(
     answers: &[Answer],
     calls: &[(u64, ClientCall)],
     limit: u64,
-) -> Result<(ScriptMachine, End), Fail> {
+) -> Result<Run, Fail> {
     Ok(run_script(alloc, image, &[], answers, calls, limit)?)
 }
 
 /// What is seen of a machine on which an image has run for `/slot`, for so many steps at most, and of the end.
-pub(crate) fn after_run<T, F: FnOnce(&ScriptMachine, End) -> Result<T, Fail>>(
+pub(crate) fn after_run<T, F: FnOnce(&mut Run) -> Result<T, Fail>>(
     alloc: Global,
     image: &[u8],
     limit: u64,
@@ -97,7 +107,7 @@ pub(crate) fn after_run<T, F: FnOnce(&ScriptMachine, End) -> Result<T, Fail>>(
 }
 
 /// The same where questions are answered.
-pub(crate) fn after_answers<T, F: FnOnce(&ScriptMachine, End) -> Result<T, Fail>>(
+pub(crate) fn after_answers<T, F: FnOnce(&mut Run) -> Result<T, Fail>>(
     alloc: Global,
     image: &[u8],
     answers: &[Answer],
@@ -106,8 +116,7 @@ pub(crate) fn after_answers<T, F: FnOnce(&ScriptMachine, End) -> Result<T, Fail>
 ) -> Result<T, Fail>
     requires { F.IsAlwaysCallable see }
 {
-    let (machine, end) = run_with(alloc, image, answers, &[], limit)?;
-    see(&machine, end)
+    lend(run_with(alloc, image, answers, &[], limit)?, see)
 }
 
 /// A byte as a character, an end of line as `$`.

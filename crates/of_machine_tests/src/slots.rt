@@ -309,7 +309,7 @@ fn words_are_counted(rt: HostRuntime) -> Result<(), Fail> {
          c0 120df108000000000000b50801b900 46 a6 11 023e 0217 9d 011f 0202 46 9b 0801 00",
     )?;
     let alloc = rt.alloc();
-    let said = after_run(alloc, &image, 99_999, |machine, _| printed(alloc, machine))?;
+    let said = after_run(alloc, &image, 99_999, |run| printed(alloc, &run.0))?;
     let wanted = "300008 -8 300010 fault -256: fcode not assigned$";
     assert!(rt; said.as_str() == wanted);
     Ok(())

@@ -1,6 +1,6 @@
 //! Images that build the device tree, and the tree that they leave.
 use crate::rows::{MachineRows, check_on_machines, halves};
-use crate::shared::{after_run, image_of, load_tokens, printed, push_bytes, run_on};
+use crate::shared::{after_run, image_of, lend, load_tokens, printed, push_bytes, run_on};
 use of_machine::{ScriptMachine, script_machine};
 use of_nodes::{Phandle, Property, Span};
 use std::alloc::Global;
@@ -168,7 +168,7 @@ fn loads_begin_on_what_is_there(rt: HostRuntime) -> Result<(), Fail> {
 /// What `run_script` makes of an image's tokens: what is printed, and the tree.
 fn made_by_script(alloc: Global, tokens: &str) -> Result<String, Fail> {
     let image = image_of(alloc, tokens)?;
-    after_run(alloc, &image, 999, |machine, _| shown(alloc, machine))
+    after_run(alloc, &image, 999, |run| shown(alloc, &run.0))
 }
 
 /// A script's image runs for `/slot`.
@@ -246,7 +246,10 @@ fn check_in_turn_on<R: Abort>(
 /// The same on a new machine, if there is memory for one.
 fn check_one_in_turn<R: Abort>(rt: &R, alloc: Global, line: &str) -> Result<(), Fail> {
     match script_machine(alloc) {
-        Ok(mut machine) => check_in_turn_on(rt, alloc, &mut machine, line),
+        Ok(machine) => lend(
+            machine,
+            |machine| check_in_turn_on(rt, alloc, machine, line),
+        ),
         Err(_) => Ok(()),
     }
 }
