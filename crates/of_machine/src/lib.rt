@@ -12,4 +12,4 @@ pub use answers::{End, Progress, Refusal};
 pub use laws::{calls_agree, runs_agree};
 pub use machine::{LONGEST_IMAGE, LONGEST_LINE, Machine};
 pub use racks::run_rack;
-pub use run::{ScriptMachine, run_script, script_machine};
+pub use run::{ScriptMachine, loaded_machine, run_script, script_machine};

@@ -62,7 +62,7 @@ fn check_script(image: &[u8], lines: &[Vec<u8>]) -> Result<(), Refusal>
 /// A new machine on which an image is loaded for `/slot`.
 ///
 /// NoMemory is the only refusal.
-fn loaded_machine(alloc: Global, image: &[u8]) -> Result<ScriptMachine, Refusal>
+fn begun_machine(alloc: Global, image: &[u8]) -> Result<ScriptMachine, Refusal>
     requires accepted { image_refusal image.now ≡ None }
     ensures ok { IfOk result (λ m. m ≡ loaded (flat_machine (idle no_definitions)) image.now slot) }
     ensures err { IfErr result (λ e. e ≡ Refusal.NoMemory) }
@@ -72,6 +72,24 @@ fn loaded_machine(alloc: Global, image: &[u8]) -> Result<ScriptMachine, Refusal>
     };
     machine.begin(image, Phandle::of(SLOT))?;
     Ok(machine)
+}
+
+/// A new machine on which an image is loaded for `/slot`, as a run of it and of these lines begins: no client is
+/// answered yet, and no line is handed in.
+///
+/// ImageTooLong over 256 KiB, then LineTooLong where a line has more than 255 bytes, then BadStart where the header
+/// can't be read, and NoMemory.
+pub fn loaded_machine(
+    alloc: Global,
+    image: &[u8],
+    lines: &[Vec<u8>],
+) -> Result<ScriptMachine, Refusal>
+    ensures accepted { OnOk result (script_refusal image.now (map (λ l. l.items) lines.now) ≡ None) }
+    ensures ok { IfOk result (λ m. m ≡ loaded (flat_machine (idle no_definitions)) image.now slot) }
+    ensures err { IfErr result (λ e. Refuses (script_refusal image.now (map (λ l. l.items) lines.now)) e) }
+{
+    check_script(image, lines)?;
+    begun_machine(alloc, image)
 }
 
 /// Begins a run: an image is loaded for `/slot` on a new machine, the clients due at 0 are answered, and the first line
@@ -93,8 +111,7 @@ pub(crate) fn begin_run<'a>(
     ensures none { IfOk result (λ f. f.machine.steps ≡ 0) }
     ensures err { IfErr result (λ e. Refuses (script_refusal image.now (map (λ l. l.items) lines.now)) e) }
 {
-    check_script(image, lines)?;
-    let machine = loaded_machine(alloc, image)?;
+    let machine = loaded_machine(alloc, image, lines)?;
     let mut feeder = Feeder {
         machine,
         lines,
