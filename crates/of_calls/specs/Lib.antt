@@ -4,3 +4,4 @@ pub mod Calls
 pub mod Answers
 pub mod Boards
 pub mod ConsoleLines
+pub mod Scripts

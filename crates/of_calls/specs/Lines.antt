@@ -68,3 +68,7 @@ place_at number n line =
 -- what a word says as a number: hexadecimal digits in either case, at most 2^32 - 1
 abbrev pub number_of : List ℕ → Option Cell
 number_of word = cell_read (digits_read 16 (2 ^ 32 - 1) word)
+
+-- what a word says as a number in decimal digits, at most 2^32 - 1
+abbrev pub decimal_of : List ℕ → Option Cell
+decimal_of word = cell_read (digits_read 10 (2 ^ 32 - 1) word)

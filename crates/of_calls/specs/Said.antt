@@ -4,7 +4,7 @@ use Rattle.std.specs.Prelude.{if◌then◌else◌}
 use Rattle.std.specs.List.{list_any}
 use Rattle.of_cells.specs.declared.cells.Cell.{Cell}
 use Rattle.of_source.specs.declared.place.Place.{Place}
-use Rattle.of_calls.specs.Lines.{number_of, place_at, word_at}
+use Rattle.of_calls.specs.Lines.{decimal_of, number_of, place_at, word_at}
 use Rattle.of_calls.specs.declared.fault.TextFault.{TextFault}
 use Rattle.of_calls.specs.declared.fault.TextFault.TheVariants as fault
 
@@ -23,6 +23,10 @@ number_or p None = Err (fault.BadNumber p)
 -- the number that the word behind so many says
 abbrev pub number_at : ℕ → ℕ → List ℕ → Result Cell TextFault
 number_at number n line = number_or (place_at number n line) (number_of (word_at n line))
+
+-- the number that the word behind so many says in decimal digits
+abbrev pub decimal_at : ℕ → ℕ → List ℕ → Result Cell TextFault
+decimal_at number n line = number_or (place_at number n line) (decimal_of (word_at n line))
 
 -- the word behind so many, as a name or a path: a byte 0x0D stands in none
 abbrev pub text_at : ℕ → ℕ → List ℕ → Result (List ℕ) TextFault

@@ -2,10 +2,11 @@ use of_source::Place;
 use std::alloc::AllocError;
 use thiserror::Error;
 
-/// Why a text has no calls, no answers or no devices: the first word that fits nowhere; or no console lines.
+/// Why a text has no calls, no answers, no devices or no commands of a debugger: the first word that fits nowhere; or
+/// no console lines.
 #[derive(Clone, Copy, Debug, PartialEq, Eq, Error)]
 pub enum TextFault {
-    /// Here stands the first word of a line, or none, and it names no service, no answer or no device.
+    /// Here stands the first word of a line, or none, and it names no service, no answer, no device or no command.
     #[error("unknown word")]
     Unknown(Place),
 

@@ -1,4 +1,5 @@
-//! Calls of a client, answers of the outside, devices that answer, and console lines, written as text: a line for each.
+//! Calls of a client, answers of the outside, devices that answer, console lines and commands of a debugger, written
+//! as text: a line for each.
 #![tactic(auto)]
 
 mod answer;
@@ -7,8 +8,10 @@ mod console_line;
 mod fault;
 mod line;
 mod part;
+mod script;
 mod service;
 mod text;
 
 pub use fault::TextFault;
+pub use script::{ScriptCommand, ScriptWord, parse_script};
 pub use text::{parse, parse_answers, parse_board, parse_lines};

@@ -1,7 +1,7 @@
 ghost use Rattle.std.specs.Prelude.{◌≡◌, ◌≤◌, Ok, Err, IfErr, IfOk, false, length, nat_eq, true};
 ghost use Rattle.std.specs.List.{list_any};
 ghost use Rattle.std.specs.Str.{bytes_eq};
-ghost use Rattle.of_calls.specs.Lines.{behind_word, blanks, from_word, is_blank, number_of, rest_behind};
+ghost use Rattle.of_calls.specs.Lines.{behind_word, blanks, decimal_of, from_word, is_blank, number_of, rest_behind};
 ghost use Rattle.of_calls.specs.Lines.{word_in, word_length};
 
 use crate::fault::TextFault;
@@ -79,7 +79,7 @@ fn rest_behind(text: &[u8], count: usize) -> &[u8]
 
 /// The number of a word, in hexadecimal digits.
 #[tactic(auto, using(crate::proofs::Numbers::minus_unread), unfolding(of_format::specs::Reading::number_read))]
-fn number_of(word: &[u8]) -> Option<Cell>
+pub(crate) fn number_of(word: &[u8]) -> Option<Cell>
     ensures { result ≡ number_of word.now }
 {
     if let [b'-', digits @ ..] = word {
@@ -87,6 +87,18 @@ fn number_of(word: &[u8]) -> Option<Cell>
         return None;
     }
     read_number(word, 16)
+}
+
+/// The number of a word, in decimal digits.
+#[tactic(auto, using(crate::proofs::Numbers::minus_unread_decimal), unfolding(of_format::specs::Reading::number_read))]
+fn decimal_of(word: &[u8]) -> Option<Cell>
+    ensures { result ≡ decimal_of word.now }
+{
+    if let [b'-', digits @ ..] = word {
+        let _ = digits;
+        return None;
+    }
+    read_number(word, 10)
 }
 
 /// Whether a word is spelt as a text.
@@ -105,7 +117,7 @@ fn has_return(word: &[u8]) -> bool
 
 impl<'a> Line<'a> {
     ghost use Rattle.of_calls.specs.Lines.{place_at, word_at};
-    ghost use Rattle.of_calls.specs.Said.{number_at, text_at};
+    ghost use Rattle.of_calls.specs.Said.{decimal_at, number_at, text_at};
 
     /// The word behind so many; empty where there is none.
     pub(crate) fn word(self, count: usize) -> &'a [u8]
@@ -132,11 +144,21 @@ impl<'a> Line<'a> {
         }
     }
 
-    /// The number that the word behind so many says.
+    /// The number that the word behind so many says in hexadecimal digits.
     pub(crate) fn number(self, count: usize) -> Result<Cell, TextFault>
         ensures { result ≡ number_at self.entry.number count self.entry.text.now }
     {
         match number_of(self.word(count)) {
+            Some(number) => Ok(number),
+            None => Err(TextFault::BadNumber(self.place(count))),
+        }
+    }
+
+    /// The number that the word behind so many says in decimal digits.
+    pub(crate) fn decimal(self, count: usize) -> Result<Cell, TextFault>
+        ensures { result ≡ decimal_at self.entry.number count self.entry.text.now }
+    {
+        match decimal_of(self.word(count)) {
             Some(number) => Ok(number),
             None => Err(TextFault::BadNumber(self.place(count))),
         }

@@ -26,14 +26,14 @@ fn line_length(text: &[u8]) -> usize
 }
 
 /// A text up to its first newline.
-fn first_line(text: &[u8]) -> &[u8]
+pub(crate) fn first_line(text: &[u8]) -> &[u8]
     ensures { result.now ≡ first_line text.now }
 {
     &text[..line_length(text)]
 }
 
 /// What stands behind the first newline of a text; empty where there is no newline.
-fn left_behind(text: &[u8]) -> &[u8]
+pub(crate) fn left_behind(text: &[u8]) -> &[u8]
     ensures left { result.now ≡ left_behind text.now }
     ensures few { 0 < length text.now → length result.now < length text.now }
 {
