@@ -1,0 +1,6 @@
+pub mod FeedLemmas
+pub mod TurnLemmas
+pub mod TellLemmas
+pub mod StepLemmas
+pub mod FaithfulLemmas
+pub mod AgreeLemmas

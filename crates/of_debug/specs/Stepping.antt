@@ -1,0 +1,82 @@
+-- Where a stepping call stops.
+use Rattle.std.specs.Prelude.{ℕ, zero, suc, ◌≡◌, ◌<◌, ◌+◌, ◌⊎◌, Bool, true, false, List, length, Result, Ok, Err}
+use Rattle.std.specs.Prelude.{nat_eq, nat_le, nat_lt, ◌||◌, None, if◌then◌else◌, ⊤}
+use Rattle.of_compile.specs.Coding.{Coding}
+use Rattle.of_machine.specs.Runs.{Feed, next_answer, settled, told}
+use Rattle.of_machine.specs.States.{MachineState}
+use Rattle.of_state.specs.State.{flat_calls}
+use Rattle.of_state.specs.Views.{next_item}
+use Rattle.of_debug.specs.declared.fault.DebugFault.{DebugFault}
+use Rattle.of_debug.specs.declared.fault.DebugFault.TheVariants as fault
+use Rattle.of_debug.specs.declared.goal.Goal.{Goal}
+use Rattle.of_debug.specs.declared.goal.Goal.TheVariants as goal
+use Rattle.of_debug.specs.declared.marks.Mark.{Mark}
+use Rattle.of_debug.specs.Marks.{is_marked}
+use Rattle.of_debug.specs.Turns.{IsAt, Shows, turn}
+
+-- how many items the return stack has
+abbrev pub depth : MachineState Coding → ℕ
+depth m = length m.eval.flow.items
+
+-- whether a stepping call stops at a machine
+abbrev pub is_there : List Mark → Goal → MachineState Coding → Bool
+is_there marks goal.Step m = true
+is_there marks (goal.NoDeeper n) m = nat_le (depth m) n
+is_there marks (goal.Shallower n) m = nat_lt (depth m) n
+is_there marks goal.Marked m = is_marked marks (next_item m.eval)
+
+-- whether no step was made from one feed to another
+abbrev pub has_stayed : Feed Coding → Feed Coding → Bool
+has_stayed f g = nat_eq g.machine.steps f.machine.steps
+
+-- what a turn led to is where the call stops, if no step was made or the goal is reached; else it goes on
+abbrev pub onwards : List Mark → Goal → (Feed Coding → Feed Coding) → Feed Coding → Feed Coding → Feed Coding
+onwards marks goal more f g = if has_stayed f g || is_there marks goal g.machine then g else more g
+
+-- at most n steps, up to the first behind which the goal is reached, or up to where none can be made
+unfoldable pub until : List Mark → Goal → ℕ → Feed Coding → Feed Coding
+until marks goal zero f = f
+until marks goal (suc n) f = onwards marks goal (until marks goal n) f (turn flat_calls f)
+
+-- What a stepping call comes to from a feed: Ok where a step was made, Idle where none was. Where memory was refused
+-- the steps so far are whole.
+abbrev pub Advances : List Mark → Goal → ℕ → Feed Coding → Feed Coding → Result ⊤ DebugFault → Type 0
+Advances marks goal n old new (Ok _) = (new ≡ until marks goal n old) × (old.machine.steps < new.machine.steps)
+Advances marks goal n old new (Err fault.Idle) =
+    (new ≡ until marks goal n old) × (new.machine.steps ≡ old.machine.steps)
+Advances marks goal n old new (Err fault.NoMemory) = Shows old (settled new)
+Advances marks goal n old new (Err fault.NoWord) = ⊥
+Advances marks goal n old new (Err fault.NoItem) = ⊥
+Advances marks goal n old new (Err fault.TooMany) = ⊥
+
+-- what a stepping call answers that stops behind so many steps
+abbrev pub Comes : ℕ → Result ⊤ DebugFault → Type 0
+Comes made (Ok _) = zero < made
+Comes made (Err e) = (e ≡ fault.Idle) × (made ≡ 0)
+
+-- ---- a turn, as it is made
+
+-- whether a step was made
+abbrev pub Turns : Bool → Feed Coding → Feed Coding → Type 0
+Turns true old new = (new ≡ turn flat_calls old) × (new.machine.steps ≡ old.machine.steps + 1)
+Turns false old new = (new ≡ turn flat_calls old) × (new.machine.steps ≡ old.machine.steps)
+
+-- Memory was refused: no step was made, but its question may be open; or a whole one, behind which not all is handed
+-- in.
+abbrev pub Breaks : Feed Coding → Feed Coding → Type 0
+Breaks old new =
+    IsAt old new ⊎ ((settled new ≡ turn flat_calls old) × (new.machine.steps ≡ old.machine.steps + 1))
+
+-- the step whose question is open was made with the next answer, or there is none that fits
+abbrev pub IsTold : Bool → Feed Coding → Feed Coding → Type 0
+IsTold true old new =
+    (new ≡ told flat_calls (next_answer old.machine.waiting old.answers) old)
+    × (new.machine.steps ≡ old.machine.steps + 1)
+IsTold false old new = (new ≡ old) × (next_answer old.machine.waiting old.answers ≡ None)
+
+-- Memory was refused: the question is open still, or the step was made, and not all behind it is handed in.
+abbrev pub Untold : Feed Coding → Feed Coding → Type 0
+Untold old new =
+    (new ≡ old)
+    ⊎ ((settled new ≡ told flat_calls (next_answer old.machine.waiting old.answers) old)
+    × (new.machine.steps ≡ old.machine.steps + 1))

@@ -1,0 +1,10 @@
+//! Scripts of a debugger: an image runs under the commands of a script, and each state that is shown is a line.
+#![tactic(auto)]
+
+mod commands;
+mod fault;
+mod playing;
+mod shown;
+
+pub use fault::ScriptFault;
+pub use playing::{Played, debug_image, play};
