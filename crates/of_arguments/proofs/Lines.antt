@@ -23,6 +23,7 @@ use Rattle.of_arguments.specs.Asked.{a_run, no_appendix, standard}
 use Rattle.of_arguments.specs.CommandLine.{ofw_app, run_app, AsksToExplain, AsksWith, plain_tokens, AsksToKeep}
 use Rattle.of_arguments.specs.CommandLine.{AsksForCalls, AsksForTree, AsksToTokenize, AsksWithAnswers, AsksWithBoard}
 use Rattle.of_arguments.specs.CommandLine.{AsksForConsole, AsksForConsoleOn, AsksForState, AsksForWords, AsksToSee}
+use Rattle.of_arguments.specs.CommandLine.{AsksToDebug, debug_app}
 use Rattle.of_arguments.specs.CommandLine.{AsksWithLines}
 use Rattle.of_arguments.specs.CommandLine.{client_app}
 use Rattle.of_arguments.specs.CommandLine.{console_app, detok_app, tok_app}
@@ -73,6 +74,9 @@ client_shape = built_leaf (inherited ofw_app.top client_app.top)
 console_shape : Shape
 console_shape = built_leaf (inherited ofw_app.top console_app.top)
 
+debug_shape : Shape
+debug_shape = built_leaf (inherited ofw_app.top debug_app.top)
+
 detok_shape : Shape
 detok_shape = built_leaf (inherited ofw_app.top detok_app.top)
 
@@ -117,6 +121,10 @@ with_name image = with_path (codes "image") (codes "see") image
 with_client : Text → Held
 with_client image = with_path (codes "image") (codes "calls") image
 
+-- of a debugger behind its image and `--script`
+with_script : Text → Held
+with_script image = with_path (codes "image") (codes "script") image
+
 -- of a source behind its path and `--output`
 with_source : Text → Held
 with_source source = with_path (codes "source") (codes "output") source
@@ -142,6 +150,15 @@ calls_met image b rest e = word_is_plain client_shape.rules (option (codes "call
 calls_pass : (image : Text) (b : ℕ) (rest : Text) → (b == 45) ≡ false
     → word_fault client_shape [] false (option (codes "calls")) (b ∷ rest) (with_client image) ≡ []
 calls_pass image b rest e = word_has_no_fault client_shape b rest (with_client image) e
+
+script_met : (image : Text) (b : ℕ) (rest : Text) → (b == 45) ≡ false
+    → word_met debug_shape.rules [] false (option (codes "script")) 2 (b ∷ rest) (with_script image)
+    ≡ plain_word debug_shape.rules (option (codes "script")) (b ∷ rest) (with_script image)
+script_met image b rest e = word_is_plain debug_shape.rules (option (codes "script")) 2 b rest (with_script image) e
+
+script_passes : (image : Text) (b : ℕ) (rest : Text) → (b == 45) ≡ false
+    → word_fault debug_shape [] false (option (codes "script")) (b ∷ rest) (with_script image) ≡ []
+script_passes image b rest e = word_has_no_fault debug_shape b rest (with_script image) e
 
 output_met : (source : Text) (b : ℕ) (rest : Text) → (b == 45) ≡ false
     → word_met tok_shape.rules [] false (option (codes "output")) 2 (b ∷ rest) (with_source source)
@@ -322,6 +339,15 @@ calls_asked program b rest d name e f = (
       (rw (image_passes client_shape b rest e) (rw (calls_pass (b ∷ rest) d name f) refl)),
 )
 
+debugged : (program : Text) (b : ℕ) (rest : Text) (d : ℕ) (name : Text) → (b == 45) ≡ false → (d == 45) ≡ false
+    → AsksToDebug program (b ∷ rest) (d ∷ name)
+unfolding clap_on_literals debug_shape with_script with_path
+debugged program b rest d name e f = (
+  rw (image_met debug_shape b rest e, script_met (b ∷ rest) d name f) refl,
+  rw (image_met debug_shape b rest e, script_met (b ∷ rest) d name f)
+      (rw (image_passes debug_shape b rest e) (rw (script_passes (b ∷ rest) d name f) refl)),
+)
+
 answered : (program : Text) (b : ℕ) (rest : Text) (d : ℕ) (name : Text) → (b == 45) ≡ false → (d == 45) ≡ false
     → AsksWithAnswers program (b ∷ rest) (d ∷ name)
 unfolding clap_on_literals run_shape with_run with_path
@@ -405,6 +431,7 @@ lines_ask program (b ∷ rest) e = (
   ),
   kept,
   called,
+  with_steps,
   with_answers,
   with_board,
   with_lines,
@@ -419,6 +446,10 @@ lines_ask program (b ∷ rest) e = (
     called : (calls : Text) → is_plain calls ≡ true → AsksForCalls program (b ∷ rest) calls
     called [] f = absurd (true≢false (sym f))
     called (d ∷ name) f = calls_asked program b rest d name (hyphenless b e) (hyphenless d f)
+
+    with_steps : (script : Text) → is_plain script ≡ true → AsksToDebug program (b ∷ rest) script
+    with_steps [] f = absurd (true≢false (sym f))
+    with_steps (d ∷ name) f = debugged program b rest d name (hyphenless b e) (hyphenless d f)
 
     with_answers : (answers : Text) → is_plain answers ≡ true → AsksWithAnswers program (b ∷ rest) answers
     with_answers [] f = absurd (true≢false (sym f))

@@ -30,12 +30,15 @@ no_appendix = record { tree = false; words = false; see = None; state = false }
 -- the run of the image at a path, and of the console lines of a file, if there is one, with what answers its questions,
 -- for so many steps at most, what is printed then, and whether its end is explained; the same with nothing printed
 -- then, but the calls of a client that a further file has; a console behind the image at a path, if there is one, with
--- the devices of a file, if there is one, for so many steps a line; the image of the source at a path, to be printed or
--- to be written to a file; or the listing of the image at a path, what is listed, and whether it is up to what is wrong
+-- the devices of a file, if there is one, for so many steps a line; the run of the image at a path under the script of
+-- a file, and of the console lines of a file, if there is one, with the answers of a file, if there is one, for so many
+-- steps at most; the image of the source at a path, to be printed or to be written to a file; or the listing of the
+-- image at a path, what is listed, and whether it is up to what is wrong
 pub data Asked : Type 0 where
   a_run : List ℕ → Option (List ℕ) → Outsiders → ℕ → Appendix → Bool → Asked
   client_calls : List ℕ → List ℕ → Option (List ℕ) → Outsiders → ℕ → Bool → Asked
   a_console : Option (List ℕ) → Option (List ℕ) → ℕ → Asked
+  a_debugging : List ℕ → List ℕ → Option (List ℕ) → Option (List ℕ) → ℕ → Asked
   an_image : List ℕ → Option (List ℕ) → Asked
   a_listing : List ℕ → Listing → Bool → Asked
 
@@ -60,5 +63,7 @@ asked (request.Run image lines o limit listings explain) =
 asked (request.Client image calls lines o limit explain) =
     client_calls image.now calls.now (path_of lines) (shown o) limit explain
 asked (request.Console image board limit) = a_console (path_of image) (path_of board) limit
+asked (request.Debug image script lines answers limit) =
+    a_debugging image.now script.now (path_of lines) (path_of answers) limit
 asked (request.Tok source output) = an_image source.now (path_of output)
 asked (request.Detok image listing partial) = a_listing image.now listing partial

@@ -15,7 +15,7 @@ use Rattle.of_detok.specs.declared.notes.Extras.{Extras}
 use Rattle.of_arguments.specs.declared.request.Listing.{Listing}
 use Rattle.of_arguments.specs.declared.request.Listing.TheVariants as listing
 use Rattle.of_arguments.specs.Asked.{Appendix, Asked, Outsiders, a_run, an_image, a_listing, answers_of, board_of}
-use Rattle.of_arguments.specs.Asked.{a_console, client_calls, no_appendix, standard}
+use Rattle.of_arguments.specs.Asked.{a_console, a_debugging, client_calls, no_appendix, standard}
 
 -- ---- the command line
 
@@ -95,6 +95,16 @@ abbrev pub console_app : App
 console_app =
     with_rule (with_rule (with_rule (new_app (codes "console")) first_image_rule) board_rule) limit_rule
 
+-- `--script FILE`
+abbrev pub script_rule : Rule
+script_rule = record (path_rule (codes "script")) { long = Some (codes "script") }
+
+-- `debug IMAGE --script FILE [--lines FILE] [--answers FILE] [--limit N]`
+abbrev pub debug_app : App
+debug_app =
+    with_rule (with_rule (with_rule (with_rule (with_rule (new_app (codes "debug")) image_rule) script_rule) lines_rule)
+    answers_rule) limit_rule
+
 -- `--output FILE`
 abbrev pub output_rule : Rule
 output_rule = option_rule (codes "output")
@@ -117,12 +127,12 @@ needing_subcommand a = record a { top = record a.top { subcommand_required = tru
 abbrev pub versioned : App → App
 versioned a = record a { top = record a.top { has_version = true } }
 
--- `ofw`, with one of the five
+-- `ofw`, with one of the six
 abbrev pub ofw_app : App
 ofw_app =
-    with_subcommand (with_subcommand (with_subcommand (with_subcommand (with_subcommand
-    (needing_subcommand (versioned (new_app (codes "ofw")))) run_app.top) client_app.top) console_app.top) tok_app.top)
-    detok_app.top
+    with_subcommand (with_subcommand (with_subcommand (with_subcommand (with_subcommand (with_subcommand
+    (needing_subcommand (versioned (new_app (codes "ofw")))) run_app.top) client_app.top) console_app.top)
+    debug_app.top) tok_app.top) detok_app.top
 
 -- the command has this shape, and no argument that all its subcommands share
 abbrev pub IsBuilt : App → Command → Type 0
@@ -202,6 +212,14 @@ abbrev pub console_asked : List Row → Asked
 console_asked rows =
     a_console (first_of (codes "image") rows) (first_of (codes "board") rows) (limit_in rows)
 
+-- what `debug` asks for with an image: a run of it under the script of the file that is given
+abbrev pub debug_asked : List Row → Text → Option Asked
+debug_asked rows image =
+    option_map
+    (λ script.
+    a_debugging image script (first_of (codes "lines") rows) (first_of (codes "answers") rows) (limit_in rows))
+    (first_of (codes "script") rows)
+
 -- what `detok` asks for with an image
 abbrev pub detok_asked : List Row → Text → Option Asked
 detok_asked rows image = option_map (λ l. a_listing image l (has_flag (codes "partial") rows)) (listing_in rows)
@@ -211,7 +229,8 @@ abbrev pub asked_as : Text → List Row → Text → Option Asked
 asked_as name rows image =
     if bytes_eq name (codes "run") then run_asked rows image
     else (if bytes_eq name (codes "client") then client_asked rows image
-    else (if bytes_eq name (codes "detok") then detok_asked rows image else None))
+    else (if bytes_eq name (codes "debug") then debug_asked rows image
+    else (if bytes_eq name (codes "detok") then detok_asked rows image else None)))
 
 -- what a subcommand asks for, by its name and the rows that were found for it
 abbrev pub asked_by : Text × List Row → Option Asked
@@ -312,6 +331,12 @@ abbrev pub AsksForConsoleOn : Text → Text → Type 0
 AsksForConsoleOn program image =
     Asks (program ∷ codes "console" ∷ image ∷ []) (a_console (Some image) None 1000000)
 
+-- a run under the script of a file
+abbrev pub AsksToDebug : Text → Text → Text → Type 0
+AsksToDebug program image script =
+    Asks (program ∷ codes "debug" ∷ image ∷ codes "--script" ∷ script ∷ [])
+    (a_debugging image script None None 1000000)
+
 -- a listing of an image
 abbrev pub AsksToList : Text → Text → Type 0
 AsksToList program image = Asks (program ∷ codes "detok" ∷ image ∷ []) (a_listing image plain_tokens false)
@@ -346,6 +371,7 @@ LinesAsk = (program image : Text) → is_plain image ≡ true → AsksToRun prog
     × AsksForConsole program × AsksForConsoleOn program image × AsksForMore program image
     × ((output : Text) → is_plain output ≡ true → AsksToKeep program image output)
     × ((calls : Text) → is_plain calls ≡ true → AsksForCalls program image calls)
+    × ((script : Text) → is_plain script ≡ true → AsksToDebug program image script)
     × ((answers : Text) → is_plain answers ≡ true → AsksWithAnswers program image answers)
     × ((board : Text) → is_plain board ≡ true → AsksWithBoard program image board)
     × ((lines : Text) → is_plain lines ≡ true → AsksWithLines program image lines)

@@ -6,6 +6,7 @@ ghost use Rattle.of_arguments.specs.Asked.{appendix_of, asked, shown};
 ghost use Rattle.of_arguments.specs.Statuses.{unasked};
 ghost use Rattle.of_arguments.specs.CommandLine.{IsBuilt, answers_rule, asked_by, asks, board_rule, calls_rule};
 ghost use Rattle.of_arguments.specs.CommandLine.{appendix_in, client_app, client_asked, console_app, console_asked};
+ghost use Rattle.of_arguments.specs.CommandLine.{debug_app, debug_asked, script_rule};
 ghost use Rattle.of_arguments.specs.CommandLine.{detok_app, detok_asked, first_image_rule};
 ghost use Rattle.of_arguments.specs.CommandLine.{extras_in, flag_rule, has_flag, image_rule, is_true, limit_in};
 ghost use Rattle.of_arguments.specs.CommandLine.{limit_rule, lines_rule, listing_in, listing_of, ofw_app, outside_in};
@@ -61,6 +62,19 @@ as --limit allows is stopped there, and an empty line lets it go on. A line has 
 outside is answered by the board, or with --board by the devices of a file, as for run.
 
 Status: 0 done, 1 fault of input or output, 2 usage, 5 no memory";
+
+/// What the help of `debug` ends with.
+const DEBUG_HELP: &str = "\
+Example: ofw debug card.rom --script card.script
+
+The image, the lines and the answers are read as for run, but without --answers no question is answered. A line of the
+script is one of these: `in` makes one step, `over` makes steps until the return stack is no deeper, `out` until it is
+shallower, `break W K` marks item K of the colon definition W, from 0, `clear W K` takes the mark away, and `go N` makes
+at most N steps up to a marked item. W is a name, or # and an FCode number in hexadecimal digits; K and N are decimal.
+Each of `in`, `over`, `out` and `go` prints the number of steps made and the data stack, the bottom first. The console
+bytes follow at the end.
+
+Status: 0 the script was carried out, 1 fault of input or output, 2 usage, 5 no memory";
 
 /// What the help of `tok` ends with.
 const TOK_HELP: &str = "\
@@ -118,6 +132,19 @@ fn calls_argument<'a>(alloc: Global) -> Arg<'a>
     ensures { (rule_of result ≡ calls_rule) × (result.global ≡ false) }
 {
     path_argument(alloc, "calls", "FILE", "the calls of a client, one a line").long("calls")
+}
+
+/// `--script FILE`
+fn script_argument<'a>(alloc: Global) -> Arg<'a>
+    ensures { (rule_of result ≡ script_rule) × (result.global ≡ false) }
+{
+    path_argument(
+        alloc,
+        "script",
+        "FILE",
+        "the script of a debugger, one command a line",
+    )
+    .long("script")
 }
 
 /// `--lines FILE`
@@ -271,6 +298,20 @@ fn console_command<'a>(alloc: Global) -> Result<Command<'a>, AllocError>
         .arg(limit_argument(alloc))
 }
 
+/// `ofw debug IMAGE --script FILE [--lines FILE] [--answers FILE] [--limit N]`
+fn debug_command<'a>(alloc: Global) -> Result<Command<'a>, AllocError>
+    ensures { IfOk result (IsBuilt debug_app) }
+{
+    Command::new(alloc, "debug")
+        .about("Runs an image under a debugger's script")
+        .after_help(DEBUG_HELP)
+        .arg(image_argument(alloc))?
+        .arg(script_argument(alloc))?
+        .arg(lines_argument(alloc))?
+        .arg(answers_argument(alloc))?
+        .arg(limit_argument(alloc))
+}
+
 /// `ofw tok SOURCE [--output FILE]`
 fn tok_command<'a>(alloc: Global) -> Result<Command<'a>, AllocError>
     ensures { IfOk result (IsBuilt tok_app) }
@@ -329,6 +370,7 @@ fn command<'a>(alloc: Global) -> Result<Command<'a>, AllocError>
     let command = with_subcommand(command, run_command(alloc))?;
     let command = with_subcommand(command, client_command(alloc))?;
     let command = with_subcommand(command, console_command(alloc))?;
+    let command = with_subcommand(command, debug_command(alloc))?;
     let command = with_subcommand(command, tok_command(alloc))?;
     with_subcommand(command, detok_command(alloc))
 }
@@ -427,6 +469,19 @@ fn console_request<'a>(matches: &ArgMatches<'a>) -> Request<'a>
     }
 }
 
+/// What `debug` asks for with an image.
+fn debug_request<'a>(image: &'a str, matches: &ArgMatches<'a>) -> Option<Request<'a>>
+    ensures { option_map asked result ≡ debug_asked (rows_of (found_of matches.now)) image.now }
+{
+    Some(Request::Debug {
+        image,
+        script: value(matches, "script")?,
+        lines: value(matches, "lines"),
+        answers: value(matches, "answers"),
+        limit: step_limit(matches),
+    })
+}
+
 /// What is to be said of tokens beyond names and operands.
 fn extras(matches: &ArgMatches) -> Extras
     ensures { result ≡ extras_in (rows_of (found_of matches.now)) }
@@ -476,6 +531,7 @@ fn request_of<'a>(name: &str, matches: &ArgMatches<'a>) -> Option<Request<'a>>
     match name {
         "run" => run_request(image, matches),
         "client" => client_request(image, matches),
+        "debug" => debug_request(image, matches),
         "detok" => detok_request(image, matches),
         _ => None,
     }
@@ -484,9 +540,9 @@ fn request_of<'a>(name: &str, matches: &ArgMatches<'a>) -> Option<Request<'a>>
 /// What the words of a command line ask for, the program's name first.
 ///
 /// An error is a call for help or a fault of the words: another subcommand or option, a word too
-/// many, no image, no file of calls, a limit given twice or one that is no number from 0 to 1,000,000,000. `None`
-/// stands for a run with a file of answers and one of devices, of which one alone can answer, and for a listing of
-/// definitions with what is said of tokens.
+/// many, no image, no file of calls for `client`, no script for `debug`, a limit given twice or one that is no number
+/// from 0 to 1,000,000,000. `None` stands for a run with a file of answers and one of devices, of which one alone can
+/// answer, and for a listing of definitions with what is said of tokens.
 #[tactic(auto, using(crate::proofs::Requests::ofw_is_simple, crate::proofs::Requests::ofw_is_free))]
 pub fn parse<'a>(alloc: Global, words: &'a [String]) -> Result<Option<Request<'a>>, Error>
     ensures ok { IfOk result (λ request. option_map asked request ≡ asks (map string_bytes words.now)) }

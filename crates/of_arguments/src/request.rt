@@ -75,6 +75,19 @@ pub enum Request<'a> {
         /// How many steps are made at most for the image, and for each line.
         limit: u64,
     },
+    /// Run an image under a debugger's script.
+    Debug {
+        /// The path of the image.
+        image: &'a str,
+        /// The path of the script.
+        script: &'a str,
+        /// The path of the file of console lines that are read behind the image, if there is one.
+        lines: Option<&'a str>,
+        /// The path of the file of answers, if there is one.
+        answers: Option<&'a str>,
+        /// How many steps are made at most.
+        limit: u64,
+    },
     /// Make the image of a source.
     Tok {
         /// The path of the source.

@@ -2,8 +2,9 @@ use of_arguments::{Listing, Listings, Outside, Request, lines_ask, parse, status
 use std::alloc::Global;
 use std::test::Fail;
 
-/// Words of a command line, and behind `:` what they ask for, if anything: the image, for a client the calls, and for a
-/// run the file of answers, if there is one, and the limit; then the file of console lines.
+/// Words of a command line, and behind `:` what they ask for, if anything: the image, for a client the calls, for a
+/// debugger the script, and for a run the file of answers, if there is one, and the limit; then the file of console
+/// lines.
 const LINES: &str = "\
 ofw run a.hex:a.hex 1000000
 ofw run a.hex --limit 0:a.hex 0
@@ -78,6 +79,11 @@ ofw console --board a.board:console no image board a.board 1000000
 ofw console a.hex b.hex:
 ofw console --lines a.lines:
 ofw console --limit 1000000001:
+ofw debug a.hex --script a.script:debug a.hex a.script 1000000
+ofw debug --lines a.lines a.hex --script a.s --answers a.a --limit 5:debug a.hex a.s answers a.a 5 lines a.lines
+ofw debug a.hex:
+ofw debug a.hex --script a.script --script b.script:
+ofw debug a.hex --script a.script --board a.board:
 ofw tok a.fs:a.fs
 ofw tok:
 ofw tok a.fs --limit 5:
@@ -105,6 +111,9 @@ ofw walk:Some(Usage)
 ofw tok:Some(Usage)
 ofw client --help:Some(Done)
 ofw client a.hex:Some(Usage)
+ofw debug --help:Some(Done)
+ofw debug a.hex:Some(Usage)
+ofw debug a.hex --script a.script --board a.board:Some(Usage)
 ofw run a.hex --steps 5:Some(Usage)
 ofw run a.hex:None
 ";
@@ -124,12 +133,7 @@ fn shown(alloc: Global, request: Request) -> Result<String, Fail> {
             limit,
             listings,
             explain,
-        } => {
-            let run = shown_run(alloc, image, outside, limit, flag(explain, " explained"))?;
-            let listings = shown_listings(alloc, listings)?;
-            let lines = shown_lines(alloc, lines)?;
-            Ok(format!(in alloc; "{run}{listings}{lines}")?)
-        }
+        } => shown_listed(alloc, image, lines, outside, limit, listings, explain),
         Request::Client {
             image,
             calls,
@@ -137,16 +141,19 @@ fn shown(alloc: Global, request: Request) -> Result<String, Fail> {
             outside,
             limit,
             explain,
-        } => {
-            let run = shown_run(alloc, calls, outside, limit, flag(explain, " explained"))?;
-            let lines = shown_lines(alloc, lines)?;
-            Ok(format!(in alloc; "{image} {run}{lines}")?)
-        }
+        } => shown_client(alloc, image, calls, lines, outside, limit, explain),
         Request::Console {
             image,
             board,
             limit,
         } => shown_console(alloc, image, board, limit),
+        Request::Debug {
+            image,
+            script,
+            lines,
+            answers,
+            limit,
+        } => shown_debug(alloc, image, script, lines, answers, limit),
         Request::Tok { source, output } => shown_tok(alloc, source, output),
         Request::Detok {
             image,
@@ -172,6 +179,37 @@ fn shown_listings(alloc: Global, listings: Listings) -> Result<String, Fail> {
         Some(name) => format!(in alloc; "{tree}{words} see {name}{state}")?,
         None => format!(in alloc; "{tree}{words}{state}")?,
     })
+}
+
+/// What a run asks for, with what is to be printed behind it.
+fn shown_listed(
+    alloc: Global,
+    image: &str,
+    lines: Option<&str>,
+    outside: Outside,
+    limit: u64,
+    listings: Listings,
+    explain: bool,
+) -> Result<String, Fail> {
+    let run = shown_run(alloc, image, outside, limit, flag(explain, " explained"))?;
+    let listings = shown_listings(alloc, listings)?;
+    let lines = shown_lines(alloc, lines)?;
+    Ok(format!(in alloc; "{run}{listings}{lines}")?)
+}
+
+/// What a client asks for.
+fn shown_client(
+    alloc: Global,
+    image: &str,
+    calls: &str,
+    lines: Option<&str>,
+    outside: Outside,
+    limit: u64,
+    explain: bool,
+) -> Result<String, Fail> {
+    let run = shown_run(alloc, calls, outside, limit, flag(explain, " explained"))?;
+    let lines = shown_lines(alloc, lines)?;
+    Ok(format!(in alloc; "{image} {run}{lines}")?)
 }
 
 /// What a run asks for.
@@ -200,6 +238,22 @@ fn shown_console(
     Ok(match board {
         Some(path) => format!(in alloc; "console {image} board {path} {limit}")?,
         None => format!(in alloc; "console {image} {limit}")?,
+    })
+}
+
+/// What a run under a script asks for.
+fn shown_debug(
+    alloc: Global,
+    image: &str,
+    script: &str,
+    lines: Option<&str>,
+    answers: Option<&str>,
+    limit: u64,
+) -> Result<String, Fail> {
+    let lines = shown_lines(alloc, lines)?;
+    Ok(match answers {
+        Some(path) => format!(in alloc; "debug {image} {script} answers {path} {limit}{lines}")?,
+        None => format!(in alloc; "debug {image} {script} {limit}{lines}")?,
     })
 }
 

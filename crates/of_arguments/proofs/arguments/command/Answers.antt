@@ -1,6 +1,6 @@
 use Rattle.std.proofs.Common.{rules, codes}
 use Rattle.clap.specs.Words.{new_app}
-use Rattle.of_arguments.specs.CommandLine.{client_app, console_app, detok_app, needing_subcommand, run_app}
+use Rattle.of_arguments.specs.CommandLine.{client_app, console_app, debug_app, detok_app, needing_subcommand, run_app}
 use Rattle.of_arguments.specs.CommandLine.{IsBuilt, tok_app, versioned}
 use Rattle.of_arguments.proofs.arguments.command.Goals as goal
 
@@ -11,5 +11,6 @@ returns c =
     let with_run = c.in_ok-command.ensures _ run_app base c.run_command.ensures in
     let with_client = c.in_ok-command-2.ensures _ client_app with_run c.client_command.ensures in
     let with_console = c.in_ok-command-3.ensures _ console_app with_client c.console_command.ensures in
-    let with_tok = c.in_ok-command-4.ensures _ tok_app with_console c.tok_command.ensures in
-    c.with_subcommand-5.ensures _ detok_app with_tok c.detok_command.ensures
+    let with_debug = c.in_ok-command-4.ensures _ debug_app with_console c.debug_command.ensures in
+    let with_tok = c.in_ok-command-5.ensures _ tok_app with_debug c.tok_command.ensures in
+    c.with_subcommand-6.ensures _ detok_app with_tok c.detok_command.ensures
