@@ -57,9 +57,9 @@ const CONSOLE_HELP: &str = "\
 Example: ofw console card.rom
 
 The image, if one is given, is run first, as for run. Then lines are read up to the end of the input, and each is run
-as soon as it is read; what it prints is printed, and `ok` where the next one is awaited. A line that makes so many steps
-as --limit allows is stopped there, and an empty line lets it go on. A line has at most 255 bytes. What is asked of the
-outside is answered by the board, or with --board by the devices of a file, as for run.
+as soon as it is read; what it prints is printed, and `ok` where the next one is awaited. A line that makes as many
+steps as --limit allows is stopped there, and an empty line lets it go on. A line has at most 255 bytes. What is asked
+of the outside is answered by the board, or with --board by the devices of a file, as for run.
 
 Status: 0 done, 1 fault of input or output, 2 usage, 5 no memory";
 

@@ -1,5 +1,6 @@
 pub mod Answered
 pub mod Called
+pub mod Debugged
 pub mod Faults
 pub mod Reading
 pub mod Replies

@@ -1,4 +1,4 @@
--- A file of answers, of devices or of console lines that was read.
+-- A file of answers, of devices, of console lines or of commands that was read.
 use Rattle.std.proofs.Common.{◌≡◌, ◌⊎◌, ◌∙◌, ℕ, List, Option, Some, None, IfSome, Ok, Err, inl, inr, refl, sym, ap}
 use Rattle.of_asking.specs.declared.query.Answer.{Answer}
 use Rattle.of_calls.specs.Answers.{parsed_answers}
@@ -7,6 +7,8 @@ use Rattle.of_calls.specs.declared.fault.TextFault.TheVariants as word
 use Rattle.of_calls.specs.Boards.{parsed_board}
 use Rattle.of_devices.specs.declared.part.Part.{Part}
 use Rattle.of_calls.specs.ConsoleLines.{parsed_lines}
+use Rattle.of_calls.specs.Scripts.{Scripted, parsed_script}
+use Rattle.of_commands.specs.Debugs.{FaultsScript, no_script}
 use Rattle.of_commands.specs.Runs.{FaultsAnswers, FaultsBoard, FaultsLines, no_answers, no_board, no_lines}
 
 pub answers_read : (known : Option (List ℕ)) (text read : List ℕ) (answers : List Answer) → read ≡ text
@@ -50,3 +52,17 @@ lines_refused None text read f same all why = tt
 lines_refused (Some bytes) text read f same all (inl none) = inr (inr (inl (ap no_lines none)))
 lines_refused (Some bytes) text read f same all (inr wrong) =
     inr (inr (inr (f, ap parsed_lines (sym all ∙ sym same) ∙ wrong, refl)))
+
+pub script_read : (known : Option (List ℕ)) (text read : List ℕ) (commands : List Scripted) → read ≡ text
+    → IfSome known (λ bytes. text ≡ bytes) → parsed_script read ≡ Ok commands
+    → IfSome known (λ bytes. parsed_script bytes ≡ Ok commands)
+script_read None text read commands same all said = tt
+script_read (Some bytes) text read commands same all said = ap parsed_script (sym all ∙ sym same) ∙ said
+
+pub script_refused : (known : Option (List ℕ)) (text read : List ℕ) (f : TextFault) → read ≡ text
+    → IfSome known (λ bytes. text ≡ bytes) → (f ≡ word.NoMemory) ⊎ (parsed_script read ≡ Err f)
+    → IfSome known (λ bytes. FaultsScript bytes (no_script f))
+script_refused None text read f same all why = tt
+script_refused (Some bytes) text read f same all (inl none) = inr (inr (inl (ap no_script none)))
+script_refused (Some bytes) text read f same all (inr wrong) =
+    inr (inr (inr (f, ap parsed_script (sym all ∙ sym same) ∙ wrong, refl)))

@@ -6,3 +6,4 @@ pub mod Listings
 pub mod Consoles
 pub mod Messages
 pub mod Runs
+pub mod Debugs

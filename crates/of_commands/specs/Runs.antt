@@ -31,7 +31,8 @@ use Rattle.of_tok.specs.declared.fault.TokFault.{TokFault}
 use Rattle.of_tok.specs.declared.fault.TokFault.TheVariants as tok
 use Rattle.of_tok.specs.Image.{tokenized}
 use Rattle.of_tok.specs.Image.{IsRefused as HasNoImage}
-use Rattle.of_arguments.specs.Asked.{Appendix, Asked, a_console, a_run, an_image, a_listing, client_calls, no_appendix}
+use Rattle.of_arguments.specs.Asked.{Appendix, Asked, a_console, a_debugging, a_listing, a_run, an_image}
+use Rattle.of_arguments.specs.Asked.{client_calls, no_appendix}
 use Rattle.of_arguments.specs.declared.request.Listing.{Listing}
 use Rattle.of_arguments.specs.declared.request.Listing.TheVariants as listing
 use Rattle.of_commands.specs.Files.{image_in, FaultsReading, IsUnread}
@@ -75,12 +76,14 @@ status_of (fault.NoCalls f) = status.Fault
 status_of (fault.NoAnswers f) = status.Fault
 status_of (fault.NoBoard f) = status.Fault
 status_of (fault.NoLines f) = status.Fault
+status_of (fault.NoScript f) = status.Fault
+status_of (fault.GivenUp f) = status.Fault
 status_of fault.NoWord = status.Fault
 status_of fault.TwoOutsides = status.Usage
 status_of fault.TwoListings = status.Usage
 status_of (fault.Unwritten code) = status.Fault
 
--- the place in a text of calls, of answers, of devices or of lines that has a fault
+-- the place in a text of calls, of answers, of devices, of lines or of commands that has a fault
 abbrev pub text_place_of : TextFault → Option Place
 text_place_of (word.Unknown place) = Some place
 text_place_of (word.BadName place) = Some place
@@ -97,6 +100,7 @@ source_place_of (fault.NoCalls f) = text_place_of f
 source_place_of (fault.NoAnswers f) = text_place_of f
 source_place_of (fault.NoBoard f) = text_place_of f
 source_place_of (fault.NoLines f) = text_place_of f
+source_place_of (fault.NoScript f) = text_place_of f
 source_place_of _ = None
 
 -- the place of a position in a text
@@ -358,12 +362,14 @@ Writes bytes old new _ = ⊥
 
 -- ---- requests
 
--- what was printed of the file, where this was asked for, or why it wasn't: of `client` and `console` the run alone
+-- what was printed of the file, where this was asked for, or why it wasn't: of `client`, `console` and `debug` the run
+-- alone
 abbrev pub Does :
     Asked → Outside → List ℕ → Option (List ℕ) → Option (List ℕ) → Result Status Fault → Type 0
 Does (a_run image lines path limit a explain) o file old new r = Prints a file o limit old new r
 Does (client_calls image calls lines path limit explain) o file old new r = Prints no_appendix file o limit old new r
 Does (a_console image board limit) o file old new r = Prints no_appendix file o limit old new r
+Does (a_debugging image script lines answers limit) o file old new r = Prints no_appendix file o limit old new r
 Does (an_image source output) o file old new r = Tokenizes file old new r
 Does (a_listing image l partial) o file old new r = Lists l partial file old new r
 
@@ -381,6 +387,7 @@ abbrev pub is_explained : Asked → Bool
 is_explained (a_run image lines o limit a explain) = explain
 is_explained (client_calls image calls lines o limit explain) = explain
 is_explained (a_console image board limit) = false
+is_explained (a_debugging image script lines answers limit) = false
 is_explained (an_image source output) = false
 is_explained (a_listing image l partial) = false
 

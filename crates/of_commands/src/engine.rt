@@ -452,7 +452,7 @@ fn perform<R: Read, W: Write, E: Write>(
             };
             print_run(alloc, run, file, out, errors)
         }
-        Request::Console { limit, .. } => {
+        Request::Console { limit, .. } | Request::Debug { limit, .. } => {
             let run = Run {
                 image: path_of(request),
                 outside,
@@ -477,13 +477,14 @@ fn path_of(request: Request<'_>) -> &str {
         Request::Run { image, .. } => image,
         Request::Client { image, .. } => image,
         Request::Console { image, .. } => image.unwrap_or(""),
+        Request::Debug { image, .. } => image,
         Request::Tok { source, .. } => source,
         Request::Detok { image, .. } => image,
     }
 }
 
-/// Does what was asked for with the file at its path, and gives the status. Of `client` and `console` this is the run
-/// of the image alone. The questions of a run are answered by `outside`.
+/// Does what was asked for with the file at its path, and gives the status. Of `client`, `console` and `debug` this is
+/// the run of the image alone. The questions of a run are answered by `outside`.
 ///
 /// What is wrong is said on the error output, behind the path of the file; and how a run ended, where that is to be
 /// explained. Else nothing is said.

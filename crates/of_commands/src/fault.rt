@@ -1,11 +1,13 @@
 ghost use Rattle.std.specs.Prelude.{◌≡◌, option_map};
 ghost use Rattle.of_commands.specs.Messages.{start_byte_of};
 ghost use Rattle.of_commands.specs.Clients.{no_calls};
+ghost use Rattle.of_commands.specs.Debugs.{given_up, no_script};
 ghost use Rattle.of_commands.specs.Runs.{no_answers, no_board, no_image, no_lines, no_source, place_at, text_place_of};
 
 use of_arguments::Status;
 use of_calls::TextFault;
 use of_machine::Refusal;
+use of_script::ScriptFault;
 use of_source::{Place, SourceFault, place_in};
 use of_stream::StreamFault;
 use of_tok::TokFault;
@@ -72,6 +74,12 @@ pub enum Fault {
     /// A text has no console lines.
     #[error(transparent)]
     NoLines(TextFault),
+    /// A text is no script of a debugger.
+    #[error(transparent)]
+    NoScript(TextFault),
+    /// A script was given up.
+    #[error(transparent)]
+    GivenUp(ScriptFault),
     /// A word is asked for by a name that none has.
     #[error("no word has the name that --see asks for")]
     NoWord,
@@ -201,11 +209,45 @@ pub(crate) fn no_lines(fault: TextFault) -> Fault
     }
 }
 
-/// The place in a text of calls, of answers, of devices or of lines that has this fault, and what is wrong there: what
-/// is said of a first word that is unknown, and of a word too many, depends on the text.
+/// The fault of a text that is no script.
+pub(crate) fn no_script(fault: TextFault) -> Fault
+    ensures { result ≡ no_script fault }
+{
+    match fault {
+        TextFault::Unknown(_) => Fault::NoScript(fault),
+        TextFault::BadName(_) => Fault::NoScript(fault),
+        TextFault::BadNumber(_) => Fault::NoScript(fault),
+        TextFault::TooMany(_) => Fault::NoScript(fault),
+        TextFault::TooLong(_) => Fault::NoScript(fault),
+        TextFault::NoMemory => Fault::NoMemory,
+    }
+}
+
+/// The fault of a script that was given up.
+pub(crate) fn given_up(fault: ScriptFault) -> Fault
+    ensures { result ≡ given_up fault }
+{
+    match fault {
+        ScriptFault::Unknown(_) => Fault::GivenUp(fault),
+        ScriptFault::NoWord(_) => Fault::GivenUp(fault),
+        ScriptFault::NoItem(_) => Fault::GivenUp(fault),
+        ScriptFault::TooMany(_) => Fault::GivenUp(fault),
+        ScriptFault::NoMemory => Fault::NoMemory,
+    }
+}
+
+/// What is said of a number that can't be read, where numbers have hexadecimal digits.
+const HEXADECIMAL: &str = "bad number: hexadecimal digits up to ffffffff";
+
+/// The same, where they have decimal digits.
+const DECIMAL: &str = "bad number: decimal digits up to 4294967295";
+
+/// The place in a text of calls, of answers, of devices, of lines or of commands that has this fault, and what is wrong
+/// there: what is said of a first word that is unknown, of a number and of a word too many depends on the text.
 fn text_place(
     fault: TextFault,
     unknown: &'static str,
+    number: &'static str,
     too_many: &'static str,
 ) -> Option<(Place, &'static str)>
     ensures { option_map (λ found. found.0) result ≡ text_place_of fault }
@@ -213,9 +255,7 @@ fn text_place(
     match fault {
         TextFault::Unknown(place) => Some((place, unknown)),
         TextFault::BadName(place) => Some((place, "bad name: a carriage return stands in it")),
-        TextFault::BadNumber(place) => {
-            Some((place, "bad number: hexadecimal digits up to ffffffff"))
-        }
+        TextFault::BadNumber(place) => Some((place, number)),
         TextFault::TooMany(place) => Some((place, too_many)),
         TextFault::TooLong(place) => Some((place, "line too long: a line has at most 255 bytes")),
         TextFault::NoMemory => None,
@@ -248,15 +288,40 @@ impl Fault {
                 "offset too long: 16 bits hold -32768 to 32767, 8 bits -128 to 127",
             )),
             Fault::NoCalls(fault) => {
-                text_place(fault, "unknown service", "more than the service takes")
+                text_place(
+                    fault,
+                    "unknown service",
+                    HEXADECIMAL,
+                    "more than the service takes",
+                )
             }
             Fault::NoAnswers(fault) => {
-                text_place(fault, "unknown answer", "more than the answer takes")
+                text_place(
+                    fault,
+                    "unknown answer",
+                    HEXADECIMAL,
+                    "more than the answer takes",
+                )
             }
             Fault::NoBoard(fault) => {
-                text_place(fault, "unknown device", "more than the device takes")
+                text_place(
+                    fault,
+                    "unknown device",
+                    HEXADECIMAL,
+                    "more than the device takes",
+                )
             }
-            Fault::NoLines(fault) => text_place(fault, "unknown word", "a word too many"),
+            Fault::NoLines(fault) => {
+                text_place(fault, "unknown word", HEXADECIMAL, "a word too many")
+            }
+            Fault::NoScript(fault) => {
+                text_place(
+                    fault,
+                    "unknown command",
+                    DECIMAL,
+                    "more than the command takes",
+                )
+            }
             _ => None,
         }
     }
@@ -291,6 +356,8 @@ impl Fault {
             Fault::NoAnswers(_) => Status::Fault,
             Fault::NoBoard(_) => Status::Fault,
             Fault::NoLines(_) => Status::Fault,
+            Fault::NoScript(_) => Status::Fault,
+            Fault::GivenUp(_) => Status::Fault,
             Fault::NoWord => Status::Fault,
             Fault::TwoOutsides => Status::Usage,
             Fault::TwoListings => Status::Usage,

@@ -4,6 +4,7 @@
 mod clients;
 mod console_lines;
 mod consoles;
+mod debugs;
 mod definitions;
 mod devices;
 mod engine;
@@ -21,6 +22,7 @@ mod state;
 pub use clients::{ClientRun, client};
 pub use console_lines::lines;
 pub use consoles::{ConsoleRun, console, rom};
+pub use debugs::{DebugRun, debug, script};
 pub use devices::{answers, board};
 pub use engine::{Run, answer, image, keep};
 pub use fault::Fault;

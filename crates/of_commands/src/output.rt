@@ -7,6 +7,7 @@ use crate::fault::Fault;
 use crate::messages::Messages;
 use hex::encode_to_slice;
 use of_arguments::Status;
+use of_script::ScriptFault;
 use of_source::Place;
 use std::io::{self, Error, ErrorKind, Write};
 
@@ -77,6 +78,14 @@ fn say_stray<E: Write>(path: &str, place: Place, byte: u8, errors: &mut E) -> io
     )
 }
 
+/// Says why a script was given up, with its line.
+fn say_given_up<E: Write>(path: &str, fault: ScriptFault, errors: &mut E) -> io::Result<()> {
+    match fault.line() {
+        Some(line) => writeln!(errors, "ofw: {path}:{line}: {fault}"),
+        None => writeln!(errors, "ofw: {path}: {fault}"),
+    }
+}
+
 /// Says what is wrong where that is no start byte: of a file behind its path, of a text with the place.
 fn say_other<E: Write>(path: &str, fault: Fault, errors: &mut E) -> io::Result<()> {
     if let Some((Place { line, column }, wrong)) = fault.source_place() {
@@ -89,6 +98,7 @@ fn say_other<E: Write>(path: &str, fault: Fault, errors: &mut E) -> io::Result<(
             let reason = reason(code);
             writeln!(errors, "ofw: {path}: {reason}")
         }
+        Fault::GivenUp(fault) => say_given_up(path, fault, errors),
         Fault::ArgumentNotText | Fault::NoMemory | Fault::TwoOutsides | Fault::TwoListings => {
             writeln!(errors, "ofw: {fault}")
         }

@@ -4,7 +4,8 @@
 use clap::Error;
 use of_arguments::{Listings, Outside as Asked, Request, Status, parse, status_of};
 use of_asking::Answer;
-use of_commands::{Answerer, ClientRun, ConsoleRun, Fault, Messages, Outside, Run};
+use of_calls::ScriptCommand;
+use of_commands::{Answerer, ClientRun, ConsoleRun, DebugRun, Fault, Messages, Outside, Run};
 use of_devices::{Board, standard_board};
 use std::fs::File;
 use std::io::{BufReader, Read, Stderr};
@@ -58,12 +59,9 @@ enum Source {
 }
 
 /// The answers of the file at a path.
-fn read_answers(rt: &HostRuntime, path: &str) -> Result<Source, Status> {
+fn read_answers(rt: &HostRuntime, path: &str) -> Result<Vec<Answer>, Status> {
     match File::open(rt, path) {
-        Ok(mut file) => {
-            let answers = of_commands::answers(rt.alloc(), path, &mut file, &mut messages(rt))?;
-            Ok(Source::Answers(answers))
-        }
+        Ok(mut file) => of_commands::answers(rt.alloc(), path, &mut file, &mut messages(rt)),
         Err(error) => Err(unopened(rt, path, &error)),
     }
 }
@@ -86,7 +84,7 @@ fn read_outside(rt: &HostRuntime, asked: Asked) -> Result<Source, Status> {
             Ok(parts) => Ok(Source::Board(Board { parts })),
             Err(_) => Err(report(rt, "", Fault::NoMemory)),
         },
-        Asked::Answers(path) => read_answers(rt, path),
+        Asked::Answers(path) => Ok(Source::Answers(read_answers(rt, path)?)),
         Asked::Board(path) => read_board(rt, path),
     }
 }
@@ -225,6 +223,65 @@ fn console(rt: &HostRuntime, path: Option<&str>, board: Option<&str>, limit: u64
     }
 }
 
+/// The commands of the script at a path.
+fn read_script(rt: &HostRuntime, path: &str) -> Result<Vec<ScriptCommand>, Status> {
+    match File::open(rt, path) {
+        Ok(mut file) => of_commands::script(rt.alloc(), path, &mut file, &mut messages(rt)),
+        Err(error) => Err(unopened(rt, path, &error)),
+    }
+}
+
+/// What an image runs with under a script, read whole.
+#[derive(Drop)]
+struct Debugged {
+    /// The image.
+    image: Vec<u8>,
+    /// Its console lines.
+    lines: Vec<Vec<u8>>,
+    /// What is answered, in order.
+    answers: Vec<Answer>,
+    /// The commands of the script.
+    commands: Vec<ScriptCommand>,
+}
+
+/// Reads the files with which an image runs under a script.
+fn read_debugged(
+    rt: &HostRuntime,
+    image: &str,
+    lines: Option<&str>,
+    answers: Option<&str>,
+    script: &str,
+) -> Result<Debugged, Status> {
+    let image = read_rom(rt, image)?;
+    let lines = read_lines(rt, lines)?;
+    let answers = match answers {
+        Some(path) => read_answers(rt, path)?,
+        None => Vec::new(rt.alloc()),
+    };
+    let commands = read_script(rt, script)?;
+    Ok(Debugged {
+        image,
+        lines,
+        answers,
+        commands,
+    })
+}
+
+/// Runs an image under a script.
+fn debug(rt: &HostRuntime, path: &str, script: &str, limit: u64, debugged: &Debugged) -> Status {
+    let run = DebugRun {
+        path,
+        image: &debugged.image,
+        lines: &debugged.lines,
+        answers: &debugged.answers,
+        limit,
+        script,
+        commands: &debugged.commands,
+    };
+    let (mut out, mut errors) = (rt.stdout(), messages(rt));
+    of_commands::debug(rt.alloc(), run, &mut out, &mut errors)
+}
+
 /// Does with a file what was asked for.
 fn perform_on<R: Read>(
     rt: &HostRuntime,
@@ -291,6 +348,16 @@ fn answer(rt: &HostRuntime, request: Request) -> Status {
             board,
             limit,
         } => console(rt, image, board, limit),
+        Request::Debug {
+            image,
+            script,
+            lines,
+            answers,
+            limit,
+        } => match read_debugged(rt, image, lines, answers, script) {
+            Ok(debugged) => debug(rt, image, script, limit, &debugged),
+            Err(status) => status,
+        },
         Request::Tok { source, .. } => translate(rt, source, request),
         Request::Detok { image, .. } => translate(rt, image, request),
     }

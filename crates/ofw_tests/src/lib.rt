@@ -12,6 +12,8 @@ mod commands;
 #[cfg(test)]
 mod consoles;
 #[cfg(test)]
+mod debugs;
+#[cfg(test)]
 mod devices;
 #[cfg(test)]
 mod doubles;

@@ -1,0 +1,9 @@
+//! Tests of the debugger, by its public calls.
+#![tactic(auto)]
+
+#[cfg(test)]
+mod clients;
+#[cfg(test)]
+mod marks;
+#[cfg(test)]
+mod runs;
