@@ -6,4 +6,6 @@ mod clients;
 #[cfg(test)]
 mod marks;
 #[cfg(test)]
+mod questions;
+#[cfg(test)]
 mod runs;

@@ -15,7 +15,7 @@ const LOOPS: [u8; 40] = [
 ];
 
 /// Goes up to a mark, and past it once it is cleared.
-fn go_on<C: CodeStore + Drop>(rt: &impl Abort, machine: Machine<C>) -> Result<Machine<C>, Fail> {
+fn go_on<C: CodeStore + Drop>(rt: &impl Abort, machine: Machine<C>) -> Result<(), Fail> {
     let mut debugger = Debugger::new(machine, &[], &[], &[], 99);
     debugger.go(17)?;
     let t = debugger.shown().1.token(FCode(0x800)).unwrap_or(Cell(0));
@@ -26,14 +26,13 @@ fn go_on<C: CodeStore + Drop>(rt: &impl Abort, machine: Machine<C>) -> Result<Ma
     debugger.clear(t, 7)?;
     debugger.step_over()?;
     debugger.step_out()?;
-    Ok(debugger.into_machine())
+    let machine = debugger.into_machine();
+    assert_eq!(rt; machine.steps(), 44);
+    assert_eq!(rt; machine.stack(), [Cell(2)].as_slice());
+    Ok(())
 }
 
 #[test]
 fn marks(rt: HostRuntime) -> Result<(), Fail> {
-    let machine = loaded_machine(rt.alloc(), &LOOPS, &[])?;
-    let machine = go_on(&rt, machine)?;
-    assert_eq!(rt; machine.steps(), 44);
-    assert_eq!(rt; machine.stack(), [Cell(2)].as_slice());
-    Ok(())
+    go_on(&rt, loaded_machine(rt.alloc(), &LOOPS, &[])?)
 }

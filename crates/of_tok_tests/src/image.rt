@@ -28,6 +28,7 @@ fcode-version2 begin again fcode-end|f10802c20000000db113ffff00
 fcode-version2 1 0 do leave loop fcode-end|f108039500000012a6a51700061b15fffe00
 fcode-version2 external : a ; fcode-end|f10802ad00000010ca01610800b7c200
 fcode-version1 offset16 if then fcode-end|fd0801950000000ecc140003b200
+fcode-version2 new-device finish-device fcode-end|f10800480000000d011f012700
 ";
 
 /// Sources in which `$` ends a line, `@` is a string of 200 bytes and `a_b~3` stands for `a b a b a b`, and

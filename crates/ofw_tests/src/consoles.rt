@@ -15,6 +15,7 @@ const SESSIONS: &str = "\
 3 4 + .|0|ok 7 /ok /|
 : sq dup *,; 5 sq,.,|0|ok ok ok 19 /ok /|
 5 .~,6 .~,|0|ok 5 /ok 6 /ok /|
+: t 2 0 do 3 0 do i . leave loop 9 . loop ; t,|0|ok 0 9 0 9 /ok /|
 1 nonsense 2,.,|0|ok fault -13: undefined word/ok fault -4: stack underflow/ok /|
 .\" a\" cr .\" b\" cr,|0|ok a/b/ok /|
 80000000 rl@ .,7 80000000 rl! 80000000 rl@ .,|0|ok 0 /ok 7 /ok /|

@@ -20,6 +20,7 @@ five|||99|go a|1||ofw: a.script:1:4: bad number: decimal digits up to 4294967295
 five|||99|go|1||ofw: a.script:1:3: bad number: decimal digits up to 4294967295/
 five|||99|in 1|1||ofw: a.script:1:4: more than the command takes/
 five|||99|in,break t 0,in|1|@1 [ 2 ]/|ofw: a.script:2: no such word/
+five|||99|go 9,break t 0|1|@5 [ ]/|ofw: a.script:2: no such word/
 five|||99|in,clear #800 0,in|1|@1 [ 2 ]/|ofw: a.script:2: no such word/
 five|||99|break #1000 0|1||ofw: a.script:1: no such word/
 five|||99|break dup 0|1||ofw: a.script:1: no colon definition/
@@ -51,7 +52,7 @@ fn image_of(name: &str) -> &str {
     match name {
         "five" => "f108020a0000000da7a81e9d00",
         "bus" => "f108016300000011108000000002349d00",
-        "bad" => "39080000",
+        "bad" => "3908000000000000",
         "loops" =>
             "f108097e00000028b50800b7b14714000fa61f47a73d14000613fff3b2b2c2100000000508009d00",
         _ => "f10800000000000900",
