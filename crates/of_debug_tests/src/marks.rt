@@ -3,7 +3,7 @@ use of_cells::Cell;
 use of_code::CodeStore;
 use of_debug::{DebugFault, Debugger};
 use of_fcodes::FCode;
-use of_machine::{Machine, loaded_machine};
+use of_machine::{Machine, loaded_machine, script_machine};
 use std::process::Abort;
 use std::test::Fail;
 
@@ -35,4 +35,26 @@ fn go_on<C: CodeStore + Drop>(rt: &impl Abort, machine: Machine<C>) -> Result<()
 #[test]
 fn marks(rt: HostRuntime) -> Result<(), Fail> {
     go_on(&rt, loaded_machine(rt.alloc(), &LOOPS, &[])?)
+}
+
+/// Steps over on a machine on which nothing ran yet: the line is handed in first, so that it is done word by word.
+fn step_over_line<C: CodeStore + Drop>(
+    rt: &impl Abort,
+    machine: Machine<C>,
+    lines: &[Vec<u8>],
+) -> Result<(), Fail> {
+    let mut debugger = Debugger::new(machine, lines, &[], &[], 99);
+    debugger.step_over()?;
+    let (made, machine) = debugger.shown();
+    assert_eq!(rt; made, 1);
+    assert_eq!(rt; machine.stack(), [Cell(1)].as_slice());
+    Ok(())
+}
+
+#[test]
+fn idle_machines(rt: HostRuntime) -> Result<(), Fail> {
+    let alloc = rt.alloc();
+    let mut lines = Vec::new(alloc);
+    lines.push(b"1 2".to_vec(alloc)?)?;
+    step_over_line(&rt, script_machine(alloc)?, &lines)
 }
