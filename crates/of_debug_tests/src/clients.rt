@@ -1,9 +1,10 @@
 //! Clients that are answered while a debugger makes steps.
+use crate::shared::{lend, stepped};
 use of_cells::Cell;
-use of_client::ClientCall;
+use of_client::{ClientCall, ClientReply};
 use of_code::CodeStore;
 use of_debug::Debugger;
-use of_machine::{Machine, loaded_machine};
+use of_machine::loaded_machine;
 use of_nodes::Phandle;
 use std::alloc::Global;
 use std::test::Fail;
@@ -31,40 +32,52 @@ fn child() -> ClientCall {
     ClientCall::Child(Phandle(Cell(0xD000_0008)))
 }
 
-/// Steps a machine, then a debugger that gets it, and gives what is shown and answered.
-fn shown<C: CodeStore + Drop>(
-    alloc: Global,
-    mut machine: Machine<C>,
-    before: u64,
-    steps: u64,
-) -> Result<String, Fail> {
-    for _ in 0..before {
-        machine.step()?;
-    }
-    let calls = [(0, child()), (1, child()), (3, child())];
-    let mut debugger = Debugger::new(machine, &[], &[], &calls, 99);
-    for _ in 0..steps {
-        let _ = debugger.step_in();
-    }
-    let made = debugger.shown().0;
-    let mut text = format!(in alloc; "{before} {steps} {made}")?;
-    for reply in debugger.into_machine().replies() {
+/// The numbers of replies, each behind a space.
+fn numbers(alloc: Global, replies: &[ClientReply]) -> Result<String, Fail> {
+    let mut text = String::new(alloc);
+    for reply in replies {
         let number = reply.number.0;
-        let shown = format!(in alloc; " {number:x}")?;
-        text.push_str(&shown)?;
+        text.push_str(&format!(in alloc; " {number:x}")?)?;
     }
     Ok(text)
 }
 
+/// Makes so many steps, and gives how many are shown, and the replies.
+fn shown<C: CodeStore>(
+    alloc: Global,
+    debugger: &mut Debugger<'_, C>,
+    steps: u64,
+) -> Result<String, Fail> {
+    for _ in 0..steps {
+        let _ = debugger.step_in();
+    }
+    let (made, machine) = debugger.shown();
+    let replies = numbers(alloc, machine.replies())?;
+    Ok(format!(in alloc; "{made}{replies}")?)
+}
+
+/// What is shown behind so many steps of the machine itself and so many of a debugger.
+fn run(
+    alloc: Global,
+    before: u64,
+    steps: u64,
+    calls: &[(u64, ClientCall)],
+) -> Result<String, Fail> {
+    let machine = loaded_machine(alloc, &NAMED_CHILD, &[])?;
+    let debugger = Debugger::new(stepped(machine, before), &[], &[], calls, 99);
+    lend(debugger, |debugger| shown(alloc, debugger, steps))
+}
+
 #[test]
 fn clients(rt: HostRuntime) -> Result<(), Fail> {
-    let alloc = rt.alloc();
+    let calls = [(0, child()), (1, child()), (3, child())];
     for case in CASES.lines() {
-        let mut fields = case.split(' ');
+        let mut fields = case.splitn(3, ' ');
         let before: u64 = fields.next().unwrap_or("").parse()?;
         let steps: u64 = fields.next().unwrap_or("").parse()?;
-        let machine = loaded_machine(alloc, &NAMED_CHILD, &[])?;
-        assert_eq!(rt; shown(alloc, machine, before, steps)?.as_str(), case);
+        let wanted = fields.next().unwrap_or("");
+        let found = run(rt.alloc(), before, steps, &calls)?;
+        assert_eq!(rt; found.as_str(), wanted, "{case}");
     }
     Ok(())
 }

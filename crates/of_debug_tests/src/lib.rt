@@ -9,3 +9,5 @@ mod marks;
 mod questions;
 #[cfg(test)]
 mod runs;
+#[cfg(test)]
+mod shared;

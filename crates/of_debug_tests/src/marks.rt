@@ -1,9 +1,10 @@
-//! Marks at which a debugger stops.
+//! Marks at which a debugger stops, and machines that it hands back.
+use crate::shared::lend;
 use of_cells::Cell;
 use of_code::CodeStore;
 use of_debug::{DebugFault, Debugger};
 use of_fcodes::FCode;
-use of_machine::{Machine, loaded_machine, script_machine};
+use of_machine::{loaded_machine, script_machine};
 use std::process::Abort;
 use std::test::Fail;
 
@@ -15,8 +16,7 @@ const LOOPS: [u8; 40] = [
 ];
 
 /// Goes up to a mark, and past it once it is cleared.
-fn go_on<C: CodeStore + Drop>(rt: &impl Abort, machine: Machine<C>) -> Result<(), Fail> {
-    let mut debugger = Debugger::new(machine, &[], &[], &[], 99);
+fn go_on<C: CodeStore>(rt: &impl Abort, debugger: &mut Debugger<'_, C>) -> Result<(), Fail> {
     debugger.go(17)?;
     let t = debugger.shown().1.token(FCode(0x800)).unwrap_or(Cell(0));
     debugger.break_at(t, 7)?;
@@ -24,37 +24,48 @@ fn go_on<C: CodeStore + Drop>(rt: &impl Abort, machine: Machine<C>) -> Result<()
     assert_eq!(rt; debugger.shown().0, 24);
     assert_eq!(rt; debugger.clear(t, 10), Err(DebugFault::NoItem));
     debugger.clear(t, 7)?;
+    step_out(rt, debugger)
+}
+
+/// Steps out of the definition.
+fn step_out<C: CodeStore>(rt: &impl Abort, debugger: &mut Debugger<'_, C>) -> Result<(), Fail> {
     debugger.step_over()?;
     debugger.step_out()?;
-    let machine = debugger.into_machine();
-    assert_eq!(rt; machine.steps(), 44);
+    let (made, machine) = debugger.shown();
+    assert_eq!(rt; made, 44);
     assert_eq!(rt; machine.stack(), [Cell(2)].as_slice());
     Ok(())
 }
 
 #[test]
 fn marks(rt: HostRuntime) -> Result<(), Fail> {
-    go_on(&rt, loaded_machine(rt.alloc(), &LOOPS, &[])?)
+    let machine = loaded_machine(rt.alloc(), &LOOPS, &[])?;
+    let debugger = Debugger::new(machine, &[], &[], &[], 99);
+    lend(debugger, |debugger| go_on(&rt, debugger))
 }
 
-/// Steps over on a machine on which nothing ran yet: the line is handed in first, so that it is done word by word.
-fn step_over_line<C: CodeStore + Drop>(
-    rt: &impl Abort,
-    machine: Machine<C>,
-    lines: &[Vec<u8>],
-) -> Result<(), Fail> {
-    let mut debugger = Debugger::new(machine, lines, &[], &[], 99);
-    debugger.step_over()?;
-    let (made, machine) = debugger.shown();
-    assert_eq!(rt; made, 1);
-    assert_eq!(rt; machine.stack(), [Cell(1)].as_slice());
-    Ok(())
-}
-
+/// On a machine on which nothing ran yet the line is handed in before the depth is taken: it is done word by word.
 #[test]
 fn idle_machines(rt: HostRuntime) -> Result<(), Fail> {
     let alloc = rt.alloc();
     let mut lines = Vec::new(alloc);
     lines.push(b"1 2".to_vec(alloc)?)?;
-    step_over_line(&rt, script_machine(alloc)?, &lines)
+    let debugger = Debugger::new(script_machine(alloc)?, &lines, &[], &[], 99);
+    let made = lend(debugger, |debugger| {
+        let _ = debugger.step_over();
+        debugger.shown().0
+    });
+    assert_eq!(rt; made, 1);
+    Ok(())
+}
+
+/// The machine that is handed back is the one that made the steps.
+#[test]
+fn machines_come_back(rt: HostRuntime) -> Result<(), Fail> {
+    let machine = loaded_machine(rt.alloc(), &LOOPS, &[])?;
+    let mut debugger = Debugger::new(machine, &[], &[], &[], 99);
+    let _ = debugger.go(17);
+    let steps = lend(debugger.into_machine(), |machine| machine.steps());
+    assert_eq!(rt; steps, 17);
+    Ok(())
 }

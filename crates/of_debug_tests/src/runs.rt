@@ -1,4 +1,5 @@
 //! What a debugger shows beside runs without one.
+use crate::shared::lend;
 use of_asking::Answer;
 use of_cells::Cell;
 use of_code::CodeStore;
@@ -21,12 +22,8 @@ f10800000000000900|: sq dup * ;,: t 3 0 do i sq . loop ;,t,5 throw,: u ['] sq ca
 /// What a script does, a character for each command: one step, steps over, out, and nine at most.
 const COMMANDS: &str = "ioigoioooigigooiuioggoogig";
 
-/// What is done with a value, which is let go then.
-fn lend<V: Drop, T, F: FnOnce(&mut V) -> T>(mut value: V, act: F) -> T
-    requires { F.IsAlwaysCallable act }
-{
-    act(&mut value)
-}
+/// How many steps are made at most.
+const MOST: u64 = 99;
 
 /// What is seen of a machine.
 fn seen<C: CodeStore>(alloc: Global, machine: &Machine<C>) -> Result<String, Fail> {
@@ -45,14 +42,14 @@ fn seen<C: CodeStore>(alloc: Global, machine: &Machine<C>) -> Result<String, Fai
 
 /// What a run is given.
 #[derive(Drop)]
-struct Given {
+struct Case {
     image: Vec<u8>,
     lines: Vec<Vec<u8>>,
     answers: Vec<Answer>,
 }
 
 /// What the run of a case is given: every case has one answer.
-fn given_in(alloc: Global, case: &str) -> Result<Given, Fail> {
+fn case_of(alloc: Global, case: &str) -> Result<Case, Fail> {
     let mut fields = case.split('|');
     let image = hex::decode(alloc, fields.next().unwrap_or(""))?;
     let mut lines = Vec::new(alloc);
@@ -61,7 +58,7 @@ fn given_in(alloc: Global, case: &str) -> Result<Given, Fail> {
     }
     let mut answers = Vec::new(alloc);
     answers.push(Answer::Value(0x2a))?;
-    Ok(Given {
+    Ok(Case {
         image,
         lines,
         answers,
@@ -69,7 +66,7 @@ fn given_in(alloc: Global, case: &str) -> Result<Given, Fail> {
 }
 
 /// What is seen of a run after so many steps at most.
-fn run(alloc: Global, given: &Given, limit: u64) -> Result<String, Fail> {
+fn run(alloc: Global, given: &Case, limit: u64) -> Result<String, Fail> {
     let (image, lines, answers) = (&given.image, &given.lines, &given.answers);
     let (machine, _) = run_script(alloc, image, lines, answers, &[], limit)?;
     lend(machine, |machine| seen(alloc, machine))
@@ -79,49 +76,45 @@ fn run(alloc: Global, given: &Given, limit: u64) -> Result<String, Fail> {
 fn agrees<C: CodeStore>(
     rt: &impl Abort,
     alloc: Global,
-    given: &Given,
+    given: &Case,
     debugger: &Debugger<'_, C>,
 ) -> Result<(), Fail> {
     let (made, machine) = debugger.shown();
     let limit = match machine.question() {
-        Some(_) => made + 1,
+        Some(_) => made.saturating_add(1),
         None => made,
     };
-    assert_eq!(rt;
-        seen(alloc, machine)?.as_str(),
-        run(alloc, given, limit)?.as_str()
-    );
+    let wanted = run(alloc, given, limit)?;
+    assert_eq!(rt; seen(alloc, machine)?.as_str(), wanted.as_str());
     Ok(())
 }
 
 /// Makes steps one by one, as long as one can be made, and compares each state, the last with that of a run that goes
 /// on as long.
-fn step_all<C: CodeStore + Drop>(
+fn step_all<C: CodeStore>(
     rt: &impl Abort,
     alloc: Global,
-    given: &Given,
-    machine: Machine<C>,
+    given: &Case,
+    debugger: &mut Debugger<'_, C>,
 ) -> Result<(), Fail> {
-    let mut debugger = Debugger::new(machine, &given.lines, &given.answers, &[], 99);
-    for _ in 0..100 {
+    for _ in 0..MOST {
         if debugger.step_in().is_err() {
             break;
         }
-        agrees(rt, alloc, given, &debugger)?;
+        agrees(rt, alloc, given, debugger)?;
     }
     let last = seen(alloc, debugger.shown().1)?;
-    assert_eq!(rt; last.as_str(), run(alloc, given, 99)?.as_str());
+    assert_eq!(rt; last.as_str(), run(alloc, given, MOST)?.as_str());
     Ok(())
 }
 
 /// Makes steps by other commands, too, and compares each state.
-fn command_all<C: CodeStore + Drop>(
+fn command_all<C: CodeStore>(
     rt: &impl Abort,
     alloc: Global,
-    given: &Given,
-    machine: Machine<C>,
+    given: &Case,
+    debugger: &mut Debugger<'_, C>,
 ) -> Result<(), Fail> {
-    let mut debugger = Debugger::new(machine, &given.lines, &given.answers, &[], 99);
     for command in COMMANDS.chars() {
         let _ = match command {
             'i' => debugger.step_in(),
@@ -129,7 +122,7 @@ fn command_all<C: CodeStore + Drop>(
             'u' => debugger.step_out(),
             _ => debugger.go(9),
         };
-        agrees(rt, alloc, given, &debugger)?;
+        agrees(rt, alloc, given, debugger)?;
     }
     Ok(())
 }
@@ -137,10 +130,11 @@ fn command_all<C: CodeStore + Drop>(
 #[test]
 fn single_steps(rt: HostRuntime) -> Result<(), Fail> {
     let alloc = rt.alloc();
-    for case in CASES.lines() {
-        let given = given_in(alloc, case)?;
-        let machine = loaded_machine(alloc, &given.image, &given.lines)?;
-        step_all(&rt, alloc, &given, machine)?;
+    for line in CASES.lines() {
+        let case = case_of(alloc, line)?;
+        let machine = loaded_machine(alloc, &case.image, &case.lines)?;
+        let debugger = Debugger::new(machine, &case.lines, &case.answers, &[], MOST);
+        lend(debugger, |debugger| step_all(&rt, alloc, &case, debugger))?;
     }
     Ok(())
 }
@@ -148,37 +142,35 @@ fn single_steps(rt: HostRuntime) -> Result<(), Fail> {
 #[test]
 fn commands(rt: HostRuntime) -> Result<(), Fail> {
     let alloc = rt.alloc();
-    for case in CASES.lines() {
-        let given = given_in(alloc, case)?;
-        let machine = loaded_machine(alloc, &given.image, &given.lines)?;
-        command_all(&rt, alloc, &given, machine)?;
+    for line in CASES.lines() {
+        let case = case_of(alloc, line)?;
+        let machine = loaded_machine(alloc, &case.image, &case.lines)?;
+        let debugger = Debugger::new(machine, &case.lines, &case.answers, &[], MOST);
+        lend(
+            debugger,
+            |debugger| command_all(&rt, alloc, &case, debugger),
+        )?;
     }
     Ok(())
 }
 
-/// The image of a loop, within each limit up to two steps more than it makes: what `go` shows is the run that reaches
-/// that limit, and no step more can be made.
+/// What a debugger shows that goes as far as it can.
+fn last<C: CodeStore>(alloc: Global, debugger: &mut Debugger<'_, C>) -> Result<String, Fail> {
+    let _ = debugger.go(MOST);
+    let _ = debugger.step_over();
+    seen(alloc, debugger.shown().1)
+}
+
+/// A loop within each limit up to two steps more than it makes: what is shown then is the run that reaches that limit.
 #[test]
 fn limits(rt: HostRuntime) -> Result<(), Fail> {
     let alloc = rt.alloc();
-    let given = given_in(alloc, CASES.lines().nth(1).unwrap_or(""))?;
+    let case = case_of(alloc, CASES.lines().nth(1).unwrap_or(""))?;
     for limit in 0..49 {
-        let machine = loaded_machine(alloc, &given.image, &given.lines)?;
-        let shown = go(alloc, machine, &given.lines, limit)?;
-        assert_eq!(rt; shown.as_str(), run(alloc, &given, limit)?.as_str());
+        let machine = loaded_machine(alloc, &case.image, &case.lines)?;
+        let debugger = Debugger::new(machine, &case.lines, &case.answers, &[], limit);
+        let shown = lend(debugger, |debugger| last(alloc, debugger))?;
+        assert_eq!(rt; shown.as_str(), run(alloc, &case, limit)?.as_str());
     }
     Ok(())
-}
-
-/// What a debugger with a limit shows that goes as far as it can.
-fn go<C: CodeStore + Drop>(
-    alloc: Global,
-    machine: Machine<C>,
-    lines: &[Vec<u8>],
-    limit: u64,
-) -> Result<String, Fail> {
-    let mut debugger = Debugger::new(machine, lines, &[], &[], limit);
-    let _ = debugger.go(99);
-    let _ = debugger.step_over();
-    seen(alloc, debugger.shown().1)
 }
