@@ -7,7 +7,7 @@ use of_client::ClientCall;
 use of_code::{CodeStore, ListCode};
 use of_machine::{Machine, Progress, Refusal};
 use of_nodes::Phandle;
-use std::alloc::Global;
+use std::alloc::{AllocError, Global};
 use std::test::Fail;
 
 /// Machines over both stores of code, to which the same happens.
@@ -18,20 +18,28 @@ pub(crate) struct Pair {
 }
 
 /// A machine over a list of items, on which nothing ran yet.
-fn over_list(alloc: Global) -> Result<Machine<ListCode>, Fail> {
-    Ok(Machine::new(alloc, ListCode::new(alloc))?)
+fn over_list(alloc: Global) -> Result<Machine<ListCode>, AllocError> {
+    Machine::new(alloc, ListCode::new(alloc))
 }
 
 /// A machine over cells of bytes, on which nothing ran yet.
-fn over_cells(alloc: Global) -> Result<Machine<CellCode>, Fail> {
+fn over_cells(alloc: Global) -> Result<Machine<CellCode>, AllocError> {
     let code = CellCode::new(alloc)?;
-    Ok(Machine::new(alloc, code)?)
+    Machine::new(alloc, code)
+}
+
+/// Two values, if both were made. They are any values here: where a function has a machine as its own, its proof goes
+/// through all that a machine holds wherever the function may end.
+fn both<A: Drop, B: Drop>(
+    first: Result<A, AllocError>,
+    second: Result<B, AllocError>,
+) -> Result<(A, B), AllocError> {
+    Ok((first?, second?))
 }
 
 /// Such machines on which nothing ran yet.
 pub(crate) fn new_pair(alloc: Global) -> Result<Pair, Fail> {
-    let list = over_list(alloc)?;
-    let cells = over_cells(alloc)?;
+    let (list, cells) = both(over_list(alloc), over_cells(alloc))?;
     Ok(Pair { list, cells })
 }
 

@@ -87,9 +87,11 @@ struct Known {
 
 /// Such machines on which nothing ran yet.
 fn new_known(alloc: Global) -> Result<Known, Fail> {
+    let image = bytes_of(alloc, IMAGE)?;
+    let pair = new_pair(alloc)?;
     Ok(Known {
-        pair: new_pair(alloc)?,
-        image: bytes_of(alloc, IMAGE)?,
+        pair,
+        image,
         phase: Phase::Idle,
     })
 }
