@@ -1,0 +1,5 @@
+pub mod Images
+pub mod Laws
+pub mod Roms
+pub mod Rows
+pub mod Texts
