@@ -1,0 +1,5 @@
+pub mod Tokens
+pub mod Structures
+pub mod Findings
+pub mod Table
+pub mod Law
