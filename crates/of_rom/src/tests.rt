@@ -77,6 +77,10 @@ program: image at 000000: length 0
 image at 000000: cut off by the end of the ROM
 program: image at 000000: cut off by the end of the ROM
 
+55aa 50434952 3412 7856 0000 1800 00 000002 0100 0000 00 80 0200
+image at 000000: cut off by the end of the ROM
+program: image at 000000: cut off by the end of the ROM
+
 55aa0002 +18 1c00 +1c 50434952 3412 7856 0000 1800 00 000002 0100 0000 01 80 0000 +200
 image at 000000: FCode program outside of the image
 program: image at 000000: FCode program outside of the image
