@@ -7,7 +7,7 @@ use Rattle.of_stream.specs.declared.stream.OffsetSize.{OffsetSize}
 use Rattle.of_stream.specs.Image.{first_size}
 use Rattle.of_stream.specs.Decoding.{Token, decoded, token_from, TokenStandsAlone}
 use Rattle.of_stream.specs.Sizes.{is_end, size_behind}
-use Rattle.of_check.specs.Tokens.{Standing, Tokens, BoundCutsNothing, no_more, token_before, tokens_by, tokens_from}
+use Rattle.of_check.specs.Tokens.{Standing, BoundCutsNothing, no_more, token_before, tokens_by, tokens_from}
 
 -- where a token ends
 abbrev pub Rises : List ℕ → ℕ → ℕ → Type 0

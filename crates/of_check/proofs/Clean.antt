@@ -1,6 +1,6 @@
 -- What it means that nothing is found.
-use Rattle.std.proofs.Common.{◌≡◌, ◌↔◌, ℕ, zero, suc, ℤ, List, [], ◌∷◌, ◌++◌, length, Option, Some, None, Result, Ok}
-use Rattle.std.proofs.Common.{Bool, true, false, cond, not, ◌&&◌, nat_eq, nat_lt, is_some, refl, sym, ap, ◌∙◌, arith}
+use Rattle.std.proofs.Common.{◌≡◌, ◌↔◌, ℕ, zero, suc, ℤ, List, [], ◌∷◌, ◌++◌, length, Option, Some, None, Ok}
+use Rattle.std.proofs.Common.{Bool, true, false, cond, not, ◌&&◌, nat_eq, nat_lt, is_some, refl, ap, arith}
 use Rattle.std.proofs.Common.{subst}
 use Rattle.std.proofs.lemmas.Bool.Decides.{nat_tests}
 use Rattle.std.specs.List.{flat_map}
@@ -282,7 +282,8 @@ listing_by image e (Some f) h k = absurd cc
 listing_by image e None h k =
     let r = lines_if e image None in (
       flat_map line_text r.lines,
-      whole_by (flat_map line_text r.lines) r.fault (no_fault image (length image) (first_notes e) 8 (first_size image) k),
+      whole_by (flat_map line_text r.lines) r.fault
+          (no_fault image (length image) (first_notes e) 8 (first_size image) k),
     )
 
 listing_there : (image : List ℕ) (e : Extras) → IsClean image → (text : List ℕ) × (listing_of e image ≡ Ok text)

@@ -1,5 +1,5 @@
 -- The calls of the words of control decide whether a definition is a nest.
-use Rattle.std.proofs.Common.{◌≡◌, ℕ, zero, suc, ◌+◌, ◌-◌, ◌<◌, ◌≤◌, List, [], ◌∷◌, length, Option, Some, None, Bool}
+use Rattle.std.proofs.Common.{◌≡◌, ℕ, zero, suc, ◌+◌, ◌-◌, ◌<◌, ◌≤◌, List, [], ◌∷◌, Option, Some, None, Bool}
 use Rattle.std.proofs.Common.{true, false, cond, not, ◌||◌, nat_eq, is_some, refl, sym, ap, ◌∙◌, arith}
 use Rattle.of_stream.specs.declared.stream.OffsetSize.{OffsetSize}
 use Rattle.of_stream.specs.Decoding.{Token, token_from}

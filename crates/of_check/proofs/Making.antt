@@ -1,12 +1,11 @@
 -- The table has exactly the FCodes that the tokens so far make.
-use Rattle.std.proofs.Common.{◌≡◌, ◌≢◌, ℕ, zero, suc, ◌-◌, ◌<◌, take, List, [], ◌∷◌, ◌++◌, length, Option, Some, None, Bool, true, false, cond}
-use Rattle.std.proofs.Common.{not, ◌||◌, ◌&&◌, nat_eq, nat_le, nat_lt, get_or, set, replicate, refl, sym, ap, ◌∙◌, arith}
+use Rattle.std.proofs.Common.{◌≡◌, ◌≢◌, ℕ, zero, suc, ◌-◌, ◌<◌, take, List, [], ◌∷◌, ◌++◌, length, Some, None, Bool}
+use Rattle.std.proofs.Common.{true, false, cond}
+use Rattle.std.proofs.Common.{not, ◌||◌, ◌&&◌, nat_eq, get_or, set, replicate, refl, ap, ◌∙◌, arith}
 use Rattle.std.proofs.lemmas.List.{get_or-set_same, get_or-set_other, get_or-replicate, length-set, length-replicate}
 use Rattle.std.proofs.lemmas.Option.{unwrap_or-slice_get}
 use Rattle.std.proofs.lemmas.Bool.Decides.{nat_tests}
-use Rattle.std.specs.List.{list_any}
-use Rattle.of_fcodes.specs.declared.codes.FCode.{FCode}
-use Rattle.of_stream.specs.Decoding.{Argument, Nothing, Literal, String, Code, Named, Offset, Token}
+use Rattle.of_stream.specs.Decoding.{Argument, Nothing, Literal, String, Code, Named, Offset}
 use Rattle.of_check.specs.declared.finding.Finding.{Finding}
 use Rattle.of_check.specs.declared.finding.Finding.TheVariants as found
 use Rattle.of_check.specs.Tokens.{Standing}

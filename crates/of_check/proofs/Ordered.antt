@@ -1,6 +1,7 @@
 -- Findings stand in the order of the bytes.
-use Rattle.std.proofs.Common.{◌≡◌, ℕ, zero, suc, ◌≤◌, List, [], ◌∷◌, ◌++◌, length, Option, Some, None, Bool, true, false}
-use Rattle.std.proofs.Common.{cond, ◌&&◌, not, nat_eq, nat_lt, is_some, refl, sym, ap, arith, append_assoc, subst}
+use Rattle.std.proofs.Common.{◌≡◌, ℕ, zero, suc, ◌≤◌, List, [], ◌∷◌, ◌++◌, length, Option, Some, None, Bool, true}
+use Rattle.std.proofs.Common.{false}
+use Rattle.std.proofs.Common.{cond, ◌&&◌, not, nat_eq, nat_lt, is_some, refl, sym, arith, append_assoc, subst}
 use Rattle.of_stream.specs.declared.fault.StreamFault.{StreamFault}
 use Rattle.of_stream.specs.declared.stream.OffsetSize.{OffsetSize}
 use Rattle.of_stream.specs.Decoding.{Argument, Nothing, Literal, String, Code, Named, Offset, Token, TokenStandsAlone}
@@ -13,7 +14,8 @@ use Rattle.of_check.specs.declared.finding.Finding.{Finding}
 use Rattle.of_check.specs.declared.finding.Finding.TheVariants as found
 use Rattle.of_check.specs.Tokens.{Standing, Tokens, no_more, tokens_by, tokens_from, tokens_of}
 use Rattle.of_check.specs.Structures.{is_unnested}
-use Rattle.of_check.specs.Findings.{actual_sum, branch_finding, definition_finding, end_finding, findings_at, findings_if}
+use Rattle.of_check.specs.Findings.{actual_sum, branch_finding, definition_finding, end_finding, findings_at}
+use Rattle.of_check.specs.Findings.{findings_if}
 use Rattle.of_check.specs.Findings.{findings_of, is_made, is_own, length_finding, listed, position_of, stream_findings}
 use Rattle.of_check.specs.Findings.{sum_finding, token_findings, use_finding}
 use Rattle.of_check.specs.Law.{AreOrdered, FindingsAreOrdered}

@@ -1,6 +1,6 @@
 -- A step of the loop over the tokens of an image.
-use Rattle.std.proofs.Common.{◌≡◌, ℕ, zero, suc, ◌+◌, ◌-◌, ◌<◌, ◌≤◌, List, [], ◌∷◌, ◌++◌, length, Option, Some, None}
-use Rattle.std.proofs.Common.{Bool, true, false, cond, ◌||◌, ◌&&◌, nat_eq, refl, sym, ap, ◌∙◌, arith, append_assoc}
+use Rattle.std.proofs.Common.{◌≡◌, ℕ, zero, suc, ◌+◌, ◌-◌, ◌<◌, ◌≤◌, List, [], ◌++◌, length, Some, None}
+use Rattle.std.proofs.Common.{Bool, true, false, nat_eq, refl, sym, ap, ◌∙◌, arith, append_assoc}
 use Rattle.std.proofs.lemmas.List.{append-nil}
 use Rattle.std.proofs.lemmas.Bool.Decides.{nat_tests}
 use Rattle.of_stream.specs.declared.stream.OffsetSize.{OffsetSize}
@@ -8,9 +8,7 @@ use Rattle.of_stream.specs.Decoding.{Token, TokenStandsAlone, token_from}
 use Rattle.of_stream.specs.Image.{first_size}
 use Rattle.of_stream.specs.Sizes.{is_end, size_behind}
 use Rattle.of_check.specs.declared.finding.Finding.{Finding}
-use Rattle.of_check.specs.declared.finding.Finding.TheVariants as found
-use Rattle.of_check.specs.Tokens.{Standing, Tokens, no_more, tokens_from, tokens_of}
-use Rattle.of_check.specs.Structures.{is_unnested}
+use Rattle.of_check.specs.Tokens.{Standing, Tokens, tokens_from, tokens_of}
 use Rattle.of_check.specs.Findings.{branch_finding, definition_finding, end_finding, listed, stream_findings}
 use Rattle.of_check.specs.Table.{findings_in, none_made, noted, use_in}
 use Rattle.of_check.proofs.Bound.{bounds_agree, rises}

@@ -3,7 +3,7 @@ use Rattle.std.specs.Prelude.{ℕ, ◌-◌, ◌%◌, Bool, ◌&&◌, not, false,
 use Rattle.std.specs.Prelude.{List, [], ◌∷◌, ◌++◌, length, take, drop, Option, Some, None, is_some}
 use Rattle.std.specs.List.{list_any, sum}
 use Rattle.of_stream.specs.declared.fault.StreamFault.{StreamFault}
-use Rattle.of_stream.specs.Decoding.{Argument, Nothing, Literal, String, Code, Named, Offset, Token}
+use Rattle.of_stream.specs.Decoding.{Argument, Nothing, Literal, String, Code, Named, Offset}
 use Rattle.of_stream.specs.Image.{header_fault, header_length}
 use Rattle.of_stream.specs.Targets.{landing}
 use Rattle.of_detok.specs.Labels.{said_length, said_sum}

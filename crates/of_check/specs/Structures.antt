@@ -1,12 +1,11 @@
 -- Whether a definition is a nest of control structures (IEEE 1275-1994, 5.3.3.2).
-use Rattle.std.specs.Prelude.{◌≡◌, ℕ, Bool, true, false, not, ◌↔◌, IsTrue, is_some, nat_eq, if◌then◌else◌}
+use Rattle.std.specs.Prelude.{◌≡◌, ℕ, Bool, true, false, not, is_some, nat_eq, if◌then◌else◌}
 use Rattle.std.specs.Prelude.{List, [], ◌∷◌, Option, Some, None}
 use Rattle.of_fcodes.specs.declared.words.Word.{Word}
 use Rattle.of_fcodes.specs.declared.words.Word.TheVariants as word
 use Rattle.of_fcodes.specs.Lookup.{word_numbered}
-use Rattle.of_stream.specs.Decoding.{Argument, Nothing, Offset, Token}
-use Rattle.of_control.specs.Element.{Element, Plain, Branch, Resolve, Mark, Back, Roll, Do, Loop, Leave, Case, Of}
-use Rattle.of_control.specs.Element.{EndOf, EndCase, Misfit}
+use Rattle.of_stream.specs.Decoding.{Argument, Nothing, Offset}
+use Rattle.of_control.specs.Element.{Element, Plain}
 use Rattle.of_control.specs.Reading.{body_in}
 use Rattle.of_compile.specs.declared.element.PlainItem.{PlainItem}
 use Rattle.of_compile.specs.declared.tokens.CompiledOperand.TheVariants as operand
@@ -32,8 +31,8 @@ abbrev pub left_behind : Option (Element PlainItem) → List (Element PlainItem)
 left_behind None es = es
 left_behind (Some e) es = e ∷ es
 
--- The elements that these tokens leave behind others up to `b(;)`. There is none where another `b(:)` comes first, or no
--- more token.
+-- The elements that these tokens leave behind others up to `b(;)`. There are none where another `b(:)` comes first, or
+-- no more token.
 abbrev pub elements_behind : List (Element PlainItem) → List Standing → Option (List (Element PlainItem))
 elements_behind es [] = None
 elements_behind es (s ∷ ss) =

@@ -1,5 +1,6 @@
 -- Which FCodes the tokens so far make, as a table of all FCodes (IEEE 1275-1994, 5.2.2.2 and 5.3.3.1).
-use Rattle.std.specs.Prelude.{ℕ, Bool, true, false, ◌&&◌, not, nat_eq, if◌then◌else◌, List, ◌++◌, Option, Some, None, unwrap_or}
+use Rattle.std.specs.Prelude.{ℕ, Bool, true, false, ◌&&◌, not, nat_eq, if◌then◌else◌, List, ◌++◌, Option, Some, None}
+use Rattle.std.specs.Prelude.{unwrap_or}
 use Rattle.std.specs.Prelude.{replicate, set, slice_get}
 use Rattle.of_stream.specs.declared.token.Token.{Token as Held}
 use Rattle.of_stream.specs.Decoding.{token_shown, Argument, Nothing, Literal, String, Code, Named, Offset}

@@ -1,4 +1,4 @@
-use Rattle.std.proofs.Common.{length, sym, ◌∙◌, ◌≡◌, ◌++◌, refl, arith}
+use Rattle.std.proofs.Common.{length, sym, ◌∙◌, ◌≡◌, refl, arith}
 use Rattle.of_stream.specs.Sizes.{size_behind}
 use Rattle.of_stream.specs.Decoding.{token_shown}
 use Rattle.of_check.specs.Tokens.{tokens_from}

@@ -1,6 +1,5 @@
 use Rattle.std.proofs.Common.{length, not, sym, ap, ◌∙◌}
 use Rattle.of_stream.specs.Decoding.{token_shown}
-use Rattle.of_control.specs.Openers.{is_all_closed}
 use Rattle.of_check.specs.Tokens.{tokens_from}
 use Rattle.of_check.proofs.Judging.{judged_broken, judged_cut, judged_end, judged_more, judged_none, judged_whole}
 use Rattle.of_check.proofs.definition.is_unnested.Goals as goal
