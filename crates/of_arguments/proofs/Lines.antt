@@ -19,13 +19,13 @@ use Rattle.clap.specs.Words.{Text}
 use Rattle.clap.specs.declared.builder.value_parser.ValueParser.TheVariants as parser
 use Rattle.clap.proofs.ValueTestLemmas.{Accepts-accepts, accepts-Accepts}
 use Rattle.of_arguments.specs.CommandLine.{LinesAsk, is_plain, AsksToRun, AsksToList, AsksForLimit, number_in}
-use Rattle.of_arguments.specs.Asked.{a_run, no_appendix, standard}
-use Rattle.of_arguments.specs.CommandLine.{ofw_app, run_app, AsksToExplain, AsksWith, plain_tokens, AsksToKeep}
+use Rattle.of_arguments.specs.Asked.{a_listing, a_look, a_rom, a_run, no_appendix, standard}
+use Rattle.of_arguments.specs.CommandLine.{Asks, ofw_app, run_app, AsksToExplain, AsksWith, plain_tokens, AsksToKeep}
 use Rattle.of_arguments.specs.CommandLine.{AsksForCalls, AsksForTree, AsksToTokenize, AsksWithAnswers, AsksWithBoard}
 use Rattle.of_arguments.specs.CommandLine.{AsksForConsole, AsksForConsoleOn, AsksForState, AsksForWords, AsksToSee}
 use Rattle.of_arguments.specs.CommandLine.{AsksToDebug, debug_app}
 use Rattle.of_arguments.specs.CommandLine.{AsksWithLines}
-use Rattle.of_arguments.specs.CommandLine.{client_app}
+use Rattle.of_arguments.specs.CommandLine.{AsksForPci, AsksToCheck, check_app, client_app, pci_app}
 use Rattle.of_arguments.specs.CommandLine.{console_app, detok_app, tok_app}
 use Rattle.of_arguments.specs.declared.request.Listing.TheVariants as listing
 
@@ -82,6 +82,12 @@ detok_shape = built_leaf (inherited ofw_app.top detok_app.top)
 
 tok_shape : Shape
 tok_shape = built_leaf (inherited ofw_app.top tok_app.top)
+
+check_shape : Shape
+check_shape = built_leaf (inherited ofw_app.top check_app.top)
+
+pci_shape : Shape
+pci_shape = built_leaf (inherited ofw_app.top pci_app.top)
 
 -- what is held behind a path and the name of an option
 with_path : Text → Text → Text → Held
@@ -285,7 +291,7 @@ with_names : (program : Text) (b : ℕ) (rest : Text) → (b == 45) ≡ false
 unfolding clap_on_literals detok_shape
 with_names program b rest e = (
   rw (image_met detok_shape b rest e) refl,
-  rw (image_met detok_shape b rest e, image_passes detok_shape b rest e) refl,
+  rw (image_met detok_shape b rest e) (image_alone _ (image_passes detok_shape b rest e)),
 )
 
 with_indents : (program : Text) (b : ℕ) (rest : Text) → (b == 45) ≡ false
@@ -293,7 +299,7 @@ with_indents : (program : Text) (b : ℕ) (rest : Text) → (b == 45) ≡ false
 unfolding clap_on_literals detok_shape
 with_indents program b rest e = (
   rw (image_met detok_shape b rest e) refl,
-  rw (image_met detok_shape b rest e, image_passes detok_shape b rest e) refl,
+  rw (image_met detok_shape b rest e) (image_alone _ (image_passes detok_shape b rest e)),
 )
 
 with_part : (program : Text) (b : ℕ) (rest : Text) → (b == 45) ≡ false
@@ -309,7 +315,7 @@ with_definitions : (program : Text) (b : ℕ) (rest : Text) → (b == 45) ≡ fa
 unfolding clap_on_literals detok_shape
 with_definitions program b rest e = (
   rw (image_met detok_shape b rest e) refl,
-  rw (image_met detok_shape b rest e, image_passes detok_shape b rest e) refl,
+  rw (image_met detok_shape b rest e) (image_alone _ (image_passes detok_shape b rest e)),
 )
 
 tokenizes : (program : Text) (b : ℕ) (rest : Text) → (b == 45) ≡ false → AsksToTokenize program (b ∷ rest)
@@ -321,14 +327,69 @@ keeps : (program : Text) (b : ℕ) (rest : Text) (d : ℕ) (name : Text) → (b 
     → AsksToKeep program (b ∷ rest) (d ∷ name)
 unfolding clap_on_literals tok_shape with_source with_path
 keeps program b rest d name e f = (
-  rw (image_met tok_shape b rest e, output_met (b ∷ rest) d name f) refl,
-  rw (
-    image_met tok_shape b rest e,
-    output_met (b ∷ rest) d name f,
-    image_passes tok_shape b rest e,
-    output_passes (b ∷ rest) d name f,
-  ) refl,
+  (
+    rw (image_met tok_shape b rest e, output_met (b ∷ rest) d name f) refl,
+    rw (
+      image_met tok_shape b rest e,
+      output_met (b ∷ rest) d name f,
+      image_passes tok_shape b rest e,
+      output_passes (b ∷ rest) d name f,
+    ) refl,
+  ),
+  (
+    rw (image_met tok_shape b rest e, output_met (b ∷ rest) d name f) refl,
+    rw (
+      image_met tok_shape b rest e,
+      output_met (b ∷ rest) d name f,
+      image_passes tok_shape b rest e,
+      output_passes (b ∷ rest) d name f,
+    ) refl,
+  ),
 )
+
+checks : (program : Text) (b : ℕ) (rest : Text) → (b == 45) ≡ false → AsksToCheck program (b ∷ rest)
+unfolding clap_on_literals check_shape
+checks program b rest e = (
+  rw (image_met check_shape b rest e) refl,
+  rw (image_met check_shape b rest e, image_passes check_shape b rest e) refl,
+)
+
+runs_pci : (program : Text) (b : ℕ) (rest : Text) → (b == 45) ≡ false
+    → Asks (program ∷ codes "run" ∷ (b ∷ rest) ∷ codes "--pci" ∷ [])
+    (a_run (b ∷ rest) None standard 1000000 no_appendix false true)
+unfolding clap_on_literals run_shape
+runs_pci program b rest e = (
+  rw (image_met run_shape b rest e) refl,
+  rw (image_met run_shape b rest e) (image_alone _ (image_passes run_shape b rest e)),
+)
+
+lists_pci : (program : Text) (b : ℕ) (rest : Text) → (b == 45) ≡ false
+    → Asks (program ∷ codes "detok" ∷ (b ∷ rest) ∷ codes "--pci" ∷ []) (a_listing (b ∷ rest) plain_tokens false true)
+unfolding clap_on_literals detok_shape
+lists_pci program b rest e = (
+  rw (image_met detok_shape b rest e) refl,
+  rw (image_met detok_shape b rest e) (image_alone _ (image_passes detok_shape b rest e)),
+)
+
+checks_pci : (program : Text) (b : ℕ) (rest : Text) → (b == 45) ≡ false
+    → Asks (program ∷ codes "check" ∷ (b ∷ rest) ∷ codes "--pci" ∷ []) (a_look (b ∷ rest) true)
+unfolding clap_on_literals check_shape
+checks_pci program b rest e = (
+  rw (image_met check_shape b rest e) refl,
+  rw (image_met check_shape b rest e, image_passes check_shape b rest e) refl,
+)
+
+lists_roms : (program : Text) (b : ℕ) (rest : Text) → (b == 45) ≡ false
+    → Asks (program ∷ codes "pci" ∷ (b ∷ rest) ∷ []) (a_rom (b ∷ rest))
+unfolding clap_on_literals pci_shape
+lists_roms program b rest e = (
+  rw (image_met pci_shape b rest e) refl,
+  rw (image_met pci_shape b rest e, image_passes pci_shape b rest e) refl,
+)
+
+asked_for_pci : (program : Text) (b : ℕ) (rest : Text) → (b == 45) ≡ false → AsksForPci program (b ∷ rest)
+asked_for_pci program b rest e =
+    (runs_pci program b rest e, lists_pci program b rest e, checks_pci program b rest e, lists_roms program b rest e)
 
 calls_asked : (program : Text) (b : ℕ) (rest : Text) (d : ℕ) (name : Text) → (b == 45) ≡ false → (d == 45) ≡ false
     → AsksForCalls program (b ∷ rest) (d ∷ name)
@@ -398,7 +459,7 @@ limits : (program : Text) (b : ℕ) (rest : Text) (d : ℕ) (digits : Text) → 
 unfolding clap_on_literals run_shape with_image with_path
 limits program b rest d digits e f number = (
   rw (image_met run_shape b rest e, limit_met (b ∷ rest) d digits f)
-      (ap (λ (n : Option ℕ). Some (a_run (b ∷ rest) None standard (unwrap_or n 1000000) no_appendix false))
+      (ap (λ (n : Option ℕ). Some (a_run (b ∷ rest) None standard (unwrap_or n 1000000) no_appendix false false))
       (limit_read (d ∷ digits) number)),
   rw (image_met run_shape b rest e, limit_met (b ∷ rest) d digits f)
       (image_and_number _ _ _ _ (image_passes run_shape b rest e) (limit_passes (b ∷ rest) d digits f) number),
@@ -429,6 +490,8 @@ lines_ask program (b ∷ rest) e = (
     with_part program b rest (hyphenless b e),
     with_definitions program b rest (hyphenless b e),
   ),
+  checks program b rest (hyphenless b e),
+  asked_for_pci program b rest (hyphenless b e),
   kept,
   called,
   with_steps,

@@ -32,15 +32,19 @@ no_appendix = record { tree = false; words = false; see = None; state = false }
 -- then, but the calls of a client that a further file has; a console behind the image at a path, if there is one, with
 -- the devices of a file, if there is one, for so many steps a line; the run of the image at a path under the script of
 -- a file, and of the console lines of a file, if there is one, with the answers of a file, if there is one, for so many
--- steps at most; the image of the source at a path, to be printed or to be written to a file; or the listing of the
--- image at a path, what is listed, and whether it is up to what is wrong
+-- steps at most; the image of the source at a path, to be printed or to be written to a file; the listing of the image
+-- at a path, what is listed, and whether it is up to what is wrong; what is wrong with the image at a path; or the list
+-- of the images in the ROM of a PCI card. Of a run, a listing and a look, whether the file is such a ROM, of which the
+-- FCode program is meant
 pub data Asked : Type 0 where
-  a_run : List ℕ → Option (List ℕ) → Outsiders → ℕ → Appendix → Bool → Asked
+  a_run : List ℕ → Option (List ℕ) → Outsiders → ℕ → Appendix → Bool → Bool → Asked
   client_calls : List ℕ → List ℕ → Option (List ℕ) → Outsiders → ℕ → Bool → Asked
   a_console : Option (List ℕ) → Option (List ℕ) → ℕ → Asked
   a_debugging : List ℕ → List ℕ → Option (List ℕ) → Option (List ℕ) → ℕ → Asked
   an_image : List ℕ → Option (List ℕ) → Asked
-  a_listing : List ℕ → Listing → Bool → Asked
+  a_listing : List ℕ → Listing → Bool → Bool → Asked
+  a_look : List ℕ → Bool → Asked
+  a_rom : List ℕ → Asked
 
 -- what answers
 abbrev pub shown : Outside → Outsiders
@@ -58,12 +62,14 @@ appendix_of l = record { tree = l.tree; words = l.words; see = path_of l.see; st
 
 -- what a request asks for
 abbrev pub asked : Request → Asked
-asked (request.Run image lines o limit listings explain) =
-    a_run image.now (path_of lines) (shown o) limit (appendix_of listings) explain
+asked (request.Run image lines o limit listings explain pci) =
+    a_run image.now (path_of lines) (shown o) limit (appendix_of listings) explain pci
 asked (request.Client image calls lines o limit explain) =
     client_calls image.now calls.now (path_of lines) (shown o) limit explain
 asked (request.Console image board limit) = a_console (path_of image) (path_of board) limit
 asked (request.Debug image script lines answers limit) =
     a_debugging image.now script.now (path_of lines) (path_of answers) limit
 asked (request.Tok source output) = an_image source.now (path_of output)
-asked (request.Detok image listing partial) = a_listing image.now listing partial
+asked (request.Detok image listing partial pci) = a_listing image.now listing partial pci
+asked (request.Check image pci) = a_look image.now pci
+asked (request.Pci rom) = a_rom rom.now

@@ -15,7 +15,7 @@ use Rattle.of_detok.specs.declared.notes.Extras.{Extras}
 use Rattle.of_arguments.specs.declared.request.Listing.{Listing}
 use Rattle.of_arguments.specs.declared.request.Listing.TheVariants as listing
 use Rattle.of_arguments.specs.Asked.{Appendix, Asked, Outsiders, a_run, an_image, a_listing, answers_of, board_of}
-use Rattle.of_arguments.specs.Asked.{a_console, a_debugging, client_calls, no_appendix, standard}
+use Rattle.of_arguments.specs.Asked.{a_console, a_debugging, a_look, a_rom, client_calls, no_appendix, standard}
 
 -- ---- the command line
 
@@ -70,11 +70,15 @@ running_app =
     with_rule (with_rule (with_rule (with_rule (with_rule (new_app (codes "run")) image_rule) lines_rule) answers_rule)
     board_rule) limit_rule
 
--- the same, with `[--tree] [--words] [--see NAME] [--state] [--explain]`
+-- `--pci`
+abbrev pub pci_rule : Rule
+pci_rule = flag_rule (codes "pci")
+
+-- the same, with `[--tree] [--words] [--see NAME] [--state] [--explain] [--pci]`
 abbrev pub run_app : App
 run_app =
-    with_rule (with_rule (with_rule (with_rule (with_rule running_app (flag_rule (codes "tree")))
-    (flag_rule (codes "words"))) see_rule) (flag_rule (codes "state"))) (flag_rule (codes "explain"))
+    with_rule (with_rule (with_rule (with_rule (with_rule (with_rule running_app (flag_rule (codes "tree")))
+    (flag_rule (codes "words"))) see_rule) (flag_rule (codes "state"))) (flag_rule (codes "explain"))) pci_rule
 
 -- `--calls FILE`
 abbrev pub calls_rule : Rule
@@ -105,19 +109,32 @@ debug_app =
     with_rule (with_rule (with_rule (with_rule (with_rule (new_app (codes "debug")) image_rule) script_rule) lines_rule)
     answers_rule) limit_rule
 
--- `--output FILE`
+-- `--output FILE`, or `-o FILE`
 abbrev pub output_rule : Rule
-output_rule = option_rule (codes "output")
+output_rule = record (option_rule (codes "output")) { short = Some 111 }
 
 -- `tok SOURCE [--output FILE]`
 abbrev pub tok_app : App
 tok_app = with_rule (with_rule (new_app (codes "tok")) source_rule) output_rule
 
--- `detok IMAGE [[--names] [--indent] | --see] [--partial]`
+-- `detok IMAGE [[--names] [--indent] | --see] [--partial] [--pci]`
 abbrev pub detok_app : App
 detok_app =
-    with_rule (with_rule (with_rule (with_rule (with_rule (new_app (codes "detok")) image_rule)
-    (flag_rule (codes "names"))) (flag_rule (codes "indent"))) (flag_rule (codes "see"))) (flag_rule (codes "partial"))
+    with_rule (with_rule (with_rule (with_rule (with_rule (with_rule (new_app (codes "detok")) image_rule)
+    (flag_rule (codes "names"))) (flag_rule (codes "indent"))) (flag_rule (codes "see"))) (flag_rule (codes "partial")))
+    pci_rule
+
+-- `check IMAGE [--pci]`
+abbrev pub check_app : App
+check_app = with_rule (with_rule (new_app (codes "check")) image_rule) pci_rule
+
+-- `ROM`
+abbrev pub rom_rule : Rule
+rom_rule = path_rule (codes "rom")
+
+-- `pci ROM`
+abbrev pub pci_app : App
+pci_app = with_rule (new_app (codes "pci")) rom_rule
 
 -- the application refuses a line with no subcommand
 abbrev pub needing_subcommand : App → App
@@ -127,12 +144,12 @@ needing_subcommand a = record a { top = record a.top { subcommand_required = tru
 abbrev pub versioned : App → App
 versioned a = record a { top = record a.top { has_version = true } }
 
--- `ofw`, with one of the six
+-- `ofw`, with one of the eight
 abbrev pub ofw_app : App
 ofw_app =
     with_subcommand (with_subcommand (with_subcommand (with_subcommand (with_subcommand (with_subcommand
-    (needing_subcommand (versioned (new_app (codes "ofw")))) run_app.top) client_app.top) console_app.top)
-    debug_app.top) tok_app.top) detok_app.top
+    (with_subcommand (with_subcommand (needing_subcommand (versioned (new_app (codes "ofw")))) run_app.top)
+    client_app.top) console_app.top) debug_app.top) tok_app.top) detok_app.top) check_app.top) pci_app.top
 
 -- the command has this shape, and no argument that all its subcommands share
 abbrev pub IsBuilt : App → Command → Type 0
@@ -194,7 +211,8 @@ abbrev pub run_asked : List Row → Text → Option Asked
 run_asked rows image =
     option_map
     (λ o.
-    a_run image (first_of (codes "lines") rows) o (limit_in rows) (appendix_in rows) (has_flag (codes "explain") rows))
+    a_run image (first_of (codes "lines") rows) o (limit_in rows) (appendix_in rows) (has_flag (codes "explain") rows)
+    (has_flag (codes "pci") rows))
     (outside_in rows)
 
 -- what `client` asks for with an image: the calls of the file that is given, behind such a run
@@ -222,7 +240,13 @@ debug_asked rows image =
 
 -- what `detok` asks for with an image
 abbrev pub detok_asked : List Row → Text → Option Asked
-detok_asked rows image = option_map (λ l. a_listing image l (has_flag (codes "partial") rows)) (listing_in rows)
+detok_asked rows image =
+    option_map (λ l. a_listing image l (has_flag (codes "partial") rows) (has_flag (codes "pci") rows))
+    (listing_in rows)
+
+-- what `check` asks for with an image
+abbrev pub check_asked : List Row → Text → Asked
+check_asked rows image = a_look image (has_flag (codes "pci") rows)
 
 -- what a subcommand of this name asks for with an image
 abbrev pub asked_as : Text → List Row → Text → Option Asked
@@ -230,7 +254,8 @@ asked_as name rows image =
     if bytes_eq name (codes "run") then run_asked rows image
     else (if bytes_eq name (codes "client") then client_asked rows image
     else (if bytes_eq name (codes "debug") then debug_asked rows image
-    else (if bytes_eq name (codes "detok") then detok_asked rows image else None)))
+    else (if bytes_eq name (codes "detok") then detok_asked rows image
+    else (if bytes_eq name (codes "check") then Some (check_asked rows image) else None))))
 
 -- what a subcommand asks for, by its name and the rows that were found for it
 abbrev pub asked_by : Text × List Row → Option Asked
@@ -238,7 +263,8 @@ asked_by p =
     if bytes_eq p.0 (codes "tok")
     then option_map (λ source. an_image source (first_of (codes "output") p.1)) (first_of (codes "source") p.1)
     else (if bytes_eq p.0 (codes "console") then Some (console_asked p.1)
-    else option_and_then (asked_as p.0 p.1) (first_of (codes "image") p.1))
+    else (if bytes_eq p.0 (codes "pci") then option_map a_rom (first_of (codes "rom") p.1)
+    else option_and_then (asked_as p.0 p.1) (first_of (codes "image") p.1)))
 
 -- what a command line asks for, the program's name first
 abbrev pub asks : List Text → Option Asked
@@ -262,60 +288,61 @@ Asks words what = (asks words ≡ Some what) × (fault_of ofw_app words ≡ [])
 -- a run of an image with no limit given
 abbrev pub AsksToRun : Text → Text → Type 0
 AsksToRun program image =
-    Asks (program ∷ codes "run" ∷ image ∷ []) (a_run image None standard 1000000 no_appendix false)
+    Asks (program ∷ codes "run" ∷ image ∷ []) (a_run image None standard 1000000 no_appendix false false)
 
 -- a run with a limit given
 abbrev pub AsksForLimit : Text → Text → Text → Type 0
 AsksForLimit program image limit =
     Asks (program ∷ codes "run" ∷ image ∷ codes "--limit" ∷ limit ∷ [])
-    (a_run image None standard (digits_value 10 (without_leading_plus limit)) no_appendix false)
+    (a_run image None standard (digits_value 10 (without_leading_plus limit)) no_appendix false false)
 
 -- a run with the answers of a file
 abbrev pub AsksWithAnswers : Text → Text → Text → Type 0
 AsksWithAnswers program image answers =
     Asks (program ∷ codes "run" ∷ image ∷ codes "--answers" ∷ answers ∷ [])
-    (a_run image None (answers_of answers) 1000000 no_appendix false)
+    (a_run image None (answers_of answers) 1000000 no_appendix false false)
 
 -- a run on the board of a file
 abbrev pub AsksWithBoard : Text → Text → Text → Type 0
 AsksWithBoard program image board =
     Asks (program ∷ codes "run" ∷ image ∷ codes "--board" ∷ board ∷ [])
-    (a_run image None (board_of board) 1000000 no_appendix false)
+    (a_run image None (board_of board) 1000000 no_appendix false false)
 
 -- a run with the console lines of a file
 abbrev pub AsksWithLines : Text → Text → Text → Type 0
 AsksWithLines program image lines =
     Asks (program ∷ codes "run" ∷ image ∷ codes "--lines" ∷ lines ∷ [])
-    (a_run image (Some lines) standard 1000000 no_appendix false)
+    (a_run image (Some lines) standard 1000000 no_appendix false false)
 
 -- a run whose end is explained
 abbrev pub AsksToExplain : Text → Text → Type 0
 AsksToExplain program image =
-    Asks (program ∷ codes "run" ∷ image ∷ codes "--explain" ∷ []) (a_run image None standard 1000000 no_appendix true)
+    Asks (program ∷ codes "run" ∷ image ∷ codes "--explain" ∷ [])
+    (a_run image None standard 1000000 no_appendix true false)
 
 -- a run behind which the device tree is printed
 abbrev pub AsksForTree : Text → Text → Type 0
 AsksForTree program image =
     Asks (program ∷ codes "run" ∷ image ∷ codes "--tree" ∷ [])
-    (a_run image None standard 1000000 (record no_appendix { tree = true }) false)
+    (a_run image None standard 1000000 (record no_appendix { tree = true }) false false)
 
 -- a run behind which the words are printed
 abbrev pub AsksForWords : Text → Text → Type 0
 AsksForWords program image =
     Asks (program ∷ codes "run" ∷ image ∷ codes "--words" ∷ [])
-    (a_run image None standard 1000000 (record no_appendix { words = true }) false)
+    (a_run image None standard 1000000 (record no_appendix { words = true }) false false)
 
 -- a run behind which the state is printed
 abbrev pub AsksForState : Text → Text → Type 0
 AsksForState program image =
     Asks (program ∷ codes "run" ∷ image ∷ codes "--state" ∷ [])
-    (a_run image None standard 1000000 (record no_appendix { state = true }) false)
+    (a_run image None standard 1000000 (record no_appendix { state = true }) false false)
 
 -- a run behind which the word of a name is printed
 abbrev pub AsksToSee : Text → Text → Text → Type 0
 AsksToSee program image name =
     Asks (program ∷ codes "run" ∷ image ∷ codes "--see" ∷ name ∷ [])
-    (a_run image None standard 1000000 (record no_appendix { see = Some name }) false)
+    (a_run image None standard 1000000 (record no_appendix { see = Some name }) false false)
 
 -- a run, and then the calls of a file
 abbrev pub AsksForCalls : Text → Text → Text → Type 0
@@ -339,12 +366,12 @@ AsksToDebug program image script =
 
 -- a listing of an image
 abbrev pub AsksToList : Text → Text → Type 0
-AsksToList program image = Asks (program ∷ codes "detok" ∷ image ∷ []) (a_listing image plain_tokens false)
+AsksToList program image = Asks (program ∷ codes "detok" ∷ image ∷ []) (a_listing image plain_tokens false false)
 
 -- a listing with a flag
 abbrev pub AsksWith : Text → Text → Text → Listing → Bool → Type 0
 AsksWith program image flag what partial =
-    Asks (program ∷ codes "detok" ∷ image ∷ flag ∷ []) (a_listing image what partial)
+    Asks (program ∷ codes "detok" ∷ image ∷ flag ∷ []) (a_listing image what partial false)
 
 -- with names, with indents, up to what is wrong, or of the definitions
 abbrev pub AsksForMore : Text → Text → Type 0
@@ -354,6 +381,19 @@ AsksForMore program image =
     × AsksWith program image (codes "--partial") plain_tokens true
     × AsksWith program image (codes "--see") listing.Definitions false
 
+-- of a ROM of a PCI card: a run, a listing or a look at its FCode program, and the list of its images
+abbrev pub AsksForPci : Text → Text → Type 0
+AsksForPci program image =
+    Asks (program ∷ codes "run" ∷ image ∷ codes "--pci" ∷ [])
+    (a_run image None standard 1000000 no_appendix false true)
+    × Asks (program ∷ codes "detok" ∷ image ∷ codes "--pci" ∷ []) (a_listing image plain_tokens false true)
+    × Asks (program ∷ codes "check" ∷ image ∷ codes "--pci" ∷ []) (a_look image true)
+    × Asks (program ∷ codes "pci" ∷ image ∷ []) (a_rom image)
+
+-- a look at an image
+abbrev pub AsksToCheck : Text → Text → Type 0
+AsksToCheck program image = Asks (program ∷ codes "check" ∷ image ∷ []) (a_look image false)
+
 -- the image of a source
 abbrev pub AsksToTokenize : Text → Text → Type 0
 AsksToTokenize program source = Asks (program ∷ codes "tok" ∷ source ∷ []) (an_image source None)
@@ -362,6 +402,7 @@ AsksToTokenize program source = Asks (program ∷ codes "tok" ∷ source ∷ [])
 abbrev pub AsksToKeep : Text → Text → Text → Type 0
 AsksToKeep program source output =
     Asks (program ∷ codes "tok" ∷ source ∷ codes "--output" ∷ output ∷ []) (an_image source (Some output))
+    × Asks (program ∷ codes "tok" ∷ source ∷ codes "-o" ∷ output ∷ []) (an_image source (Some output))
 
 -- what the lines of the usage text ask for
 abbrev pub LinesAsk : Type 0
@@ -369,6 +410,7 @@ LinesAsk = (program image : Text) → is_plain image ≡ true → AsksToRun prog
     × AsksToTokenize program image × AsksToExplain program image × AsksForTree program image
     × AsksForWords program image × AsksForState program image
     × AsksForConsole program × AsksForConsoleOn program image × AsksForMore program image
+    × AsksToCheck program image × AsksForPci program image
     × ((output : Text) → is_plain output ≡ true → AsksToKeep program image output)
     × ((calls : Text) → is_plain calls ≡ true → AsksForCalls program image calls)
     × ((script : Text) → is_plain script ≡ true → AsksToDebug program image script)

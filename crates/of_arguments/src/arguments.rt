@@ -11,7 +11,8 @@ ghost use Rattle.of_arguments.specs.CommandLine.{detok_app, detok_asked, first_i
 ghost use Rattle.of_arguments.specs.CommandLine.{extras_in, flag_rule, has_flag, image_rule, is_true, limit_in};
 ghost use Rattle.of_arguments.specs.CommandLine.{limit_rule, lines_rule, listing_in, listing_of, ofw_app, outside_in};
 ghost use Rattle.of_arguments.specs.CommandLine.{output_rule, path_rule, run_app, run_asked, running_app, see_rule};
-ghost use Rattle.of_arguments.specs.CommandLine.{source_rule, tok_app};
+ghost use Rattle.of_arguments.specs.CommandLine.{check_app, check_asked, pci_app, pci_rule, rom_rule, source_rule};
+ghost use Rattle.of_arguments.specs.CommandLine.{tok_app};
 
 use crate::request::{Listing, Listings, Outside, Request};
 use crate::status::Status;
@@ -38,7 +39,8 @@ hexadecimal digits; with --words what the console's `words` would print then; an
 of the word of that name. The words of an image are methods of /slot, so names find them behind a console line
 `dev /slot`. A name that begins with a hyphen stands behind --see and an equals sign. With --state the data stack is
 printed, the bottom first, how many items the return stack has, where `here` is, and how many own words were made, each
-number in 8 hexadecimal digits.
+number in 8 hexadecimal digits. With --pci the file is the ROM of a PCI card as it stands, and the FCode program of its
+first image for Open Firmware is run.
 
 Status: 0 done, 1 fault of input or output, 2 usage, 3 limit reached, 4 answers out, 5 no memory";
 
@@ -88,6 +90,29 @@ Example: ofw detok card.rom --names --indent
 
 The file is a ROM as it stands where it begins with f0 to f3 or fd, else hexadecimal digits. With --see the listing has
 no tokens, but the definitions that they make, each as the console's `see` prints it; nothing else of the image is run.
+With --pci the file is the ROM of a PCI card as it stands, and the FCode program of its first image for Open Firmware is
+listed.
+
+Status: 0 done, 1 fault of input or output, 2 usage, 5 no memory";
+
+/// What the help of `check` ends with.
+const CHECK_HELP: &str = "\
+Example: ofw check card.rom
+
+The image is read as for run, or with --pci from the ROM of a PCI card, and not run. A line is printed for each thing
+that is wrong with it, with the position in the image: a checksum or a length that isn't that of the image, a token that
+can't be read, a branch out of the image, a definition whose control structures don't close, an FCode of the image's own
+that is used before it is made.
+
+Status: 0 nothing is wrong, 1 something is, or fault of input or output, 2 usage, 5 no memory";
+
+/// What the help of `pci` ends with.
+const PCI_HELP: &str = "\
+Example: ofw pci card.rom
+
+A line is printed for each image in the ROM, up to the last: where it begins, its length, the vendor and the device that
+it is for, the class, what runs it, and of one for Open Firmware where its FCode program begins. Numbers are
+hexadecimal.
 
 Status: 0 done, 1 fault of input or output, 2 usage, 5 no memory";
 
@@ -125,6 +150,13 @@ fn source_argument<'a>(alloc: Global) -> Arg<'a>
     ensures { (rule_of result ≡ source_rule) × (result.global ≡ false) }
 {
     path_argument(alloc, "source", "SOURCE", "the source, in words")
+}
+
+/// `ROM`
+fn rom_argument<'a>(alloc: Global) -> Arg<'a>
+    ensures { (rule_of result ≡ rom_rule) × (result.global ≡ false) }
+{
+    path_argument(alloc, "rom", "ROM", "the ROM of a PCI card, as it stands")
 }
 
 /// `--calls FILE`
@@ -191,12 +223,13 @@ fn board_argument<'a>(alloc: Global) -> Arg<'a>
         .action(ArgAction::Set)
 }
 
-/// `--output FILE`
+/// `--output FILE`, or `-o FILE`
 fn output_argument<'a>(alloc: Global) -> Arg<'a>
     ensures { (rule_of result ≡ output_rule) × (result.global ≡ false) }
 {
     Arg::new(alloc, "output")
         .long("output")
+        .short('o')
         .value_name("FILE")
         .help("writes the image to this file, as bytes, and prints nothing")
         .action(ArgAction::Set)
@@ -224,6 +257,17 @@ fn flag<'a>(alloc: Global, name: &'a str, help: &'a str) -> Arg<'a>
         .action(ArgAction::SetTrue)
 }
 
+/// `--pci`
+fn pci_flag<'a>(alloc: Global) -> Arg<'a>
+    ensures { (rule_of result ≡ pci_rule) × (result.global ≡ false) }
+{
+    flag(
+        alloc,
+        "pci",
+        "takes the FCode program out of the ROM of a PCI card",
+    )
+}
+
 /// `ofw run IMAGE [--lines FILE] [--answers FILE | --board FILE] [--limit N]`
 fn running_command<'a>(alloc: Global) -> Result<Command<'a>, AllocError>
     ensures { IfOk result (IsBuilt running_app) }
@@ -238,7 +282,7 @@ fn running_command<'a>(alloc: Global) -> Result<Command<'a>, AllocError>
         .arg(limit_argument(alloc))
 }
 
-/// The same, with `[--tree] [--words] [--see NAME] [--state] [--explain]`
+/// The same, with `[--tree] [--words] [--see NAME] [--state] [--explain] [--pci]`
 fn run_command<'a>(alloc: Global) -> Result<Command<'a>, AllocError>
     ensures { IfOk result (IsBuilt run_app) }
 {
@@ -263,7 +307,8 @@ fn run_command<'a>(alloc: Global) -> Result<Command<'a>, AllocError>
             alloc,
             "explain",
             "says on the error output how the run ended",
-        ))
+        ))?
+        .arg(pci_flag(alloc))
 }
 
 /// `ofw client IMAGE --calls FILE [--lines FILE] [--answers FILE | --board FILE] [--limit N] [--explain]`
@@ -323,7 +368,7 @@ fn tok_command<'a>(alloc: Global) -> Result<Command<'a>, AllocError>
         .arg(output_argument(alloc))
 }
 
-/// `ofw detok IMAGE [[--names] [--indent] | --see] [--partial]`
+/// `ofw detok IMAGE [[--names] [--indent] | --see] [--partial] [--pci]`
 fn detok_command<'a>(alloc: Global) -> Result<Command<'a>, AllocError>
     ensures { IfOk result (IsBuilt detok_app) }
 {
@@ -342,7 +387,29 @@ fn detok_command<'a>(alloc: Global) -> Result<Command<'a>, AllocError>
             "indents definitions and control structures",
         ))?
         .arg(flag(alloc, "see", "lists the definitions in place of the tokens"))?
-        .arg(flag(alloc, "partial", "lists a damaged image up to its fault"))
+        .arg(flag(alloc, "partial", "lists a damaged image up to its fault"))?
+        .arg(pci_flag(alloc))
+}
+
+/// `ofw check IMAGE [--pci]`
+fn check_command<'a>(alloc: Global) -> Result<Command<'a>, AllocError>
+    ensures { IfOk result (IsBuilt check_app) }
+{
+    Command::new(alloc, "check")
+        .about("Says what is wrong with an image, without running it")
+        .after_help(CHECK_HELP)
+        .arg(image_argument(alloc))?
+        .arg(pci_flag(alloc))
+}
+
+/// `ofw pci ROM`
+fn pci_command<'a>(alloc: Global) -> Result<Command<'a>, AllocError>
+    ensures { IfOk result (IsBuilt pci_app) }
+{
+    Command::new(alloc, "pci")
+        .about("Lists the images in the ROM of a PCI card")
+        .after_help(PCI_HELP)
+        .arg(rom_argument(alloc))
 }
 
 /// A command with one more subcommand, if there was memory for it.
@@ -372,7 +439,9 @@ fn command<'a>(alloc: Global) -> Result<Command<'a>, AllocError>
     let command = with_subcommand(command, console_command(alloc))?;
     let command = with_subcommand(command, debug_command(alloc))?;
     let command = with_subcommand(command, tok_command(alloc))?;
-    with_subcommand(command, detok_command(alloc))
+    let command = with_subcommand(command, detok_command(alloc))?;
+    let command = with_subcommand(command, check_command(alloc))?;
+    with_subcommand(command, pci_command(alloc))
 }
 
 /// The value that a subcommand was given for an argument, as text.
@@ -441,6 +510,7 @@ fn run_request<'a>(image: &'a str, matches: &ArgMatches<'a>) -> Option<Request<'
         limit: step_limit(matches),
         listings: listings(matches),
         explain: has_flag(matches, "explain"),
+        pci: has_flag(matches, "pci"),
     })
 }
 
@@ -511,7 +581,18 @@ fn detok_request<'a>(image: &'a str, matches: &ArgMatches<'a>) -> Option<Request
         image,
         listing: listing_of(has_flag(matches, "see"), extras(matches))?,
         partial: has_flag(matches, "partial"),
+        pci: has_flag(matches, "pci"),
     })
+}
+
+/// What `check` asks for with an image.
+fn check_request<'a>(image: &'a str, matches: &ArgMatches<'a>) -> Request<'a>
+    ensures { asked result ≡ check_asked (rows_of (found_of matches.now)) image.now }
+{
+    Request::Check {
+        image,
+        pci: has_flag(matches, "pci"),
+    }
 }
 
 /// What a subcommand asks for.
@@ -527,12 +608,18 @@ fn request_of<'a>(name: &str, matches: &ArgMatches<'a>) -> Option<Request<'a>>
     if name == "console" {
         return Some(console_request(matches));
     }
+    if name == "pci" {
+        return Some(Request::Pci {
+            rom: value(matches, "rom")?,
+        });
+    }
     let image = value(matches, "image")?;
     match name {
         "run" => run_request(image, matches),
         "client" => client_request(image, matches),
         "debug" => debug_request(image, matches),
         "detok" => detok_request(image, matches),
+        "check" => Some(check_request(image, matches)),
         _ => None,
     }
 }

@@ -11,9 +11,10 @@ ghost use Rattle.of_arguments.specs.CommandLine.{LinesAsk};
 /// the devices of that file; `client`, a path, `--calls` and a path for such a run and the calls of that file;
 /// `console`, alone or with a path, for a console behind nothing or behind that image, with at most 1,000,000 steps a
 /// line; `debug`, a path, `--script` and a path for a run of at most 1,000,000 steps under the script of that file;
-/// `tok` and a path for an image, with `--output` and a path for one that is written there; `detok` and a path for a
-/// plain listing, with `--names`, `--indent` or `--partial` for one with that, with `--see` for one of the definitions
-/// in place of the tokens. None has a fault.
+/// `tok` and a path for an image, with `--output` or `-o` and a path for one that is written there; `detok` and a path
+/// for a plain listing, with `--names`, `--indent` or `--partial` for one with that, with `--see` for one of the
+/// definitions in place of the tokens; `check` and a path for a look at an image; `pci` and a path for the images of a
+/// ROM; and `run`, `detok` and `check` with `--pci` for the FCode program of one. None has a fault.
 pub fn lines_ask()
     ensures { LinesAsk }
 {}

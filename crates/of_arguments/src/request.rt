@@ -50,6 +50,8 @@ pub enum Request<'a> {
         listings: Listings<'a>,
         /// Whether its end is explained on the error output.
         explain: bool,
+        /// Whether the file is the ROM of a PCI card, of which the FCode program is run.
+        pci: bool,
     },
     /// Run an image, and then answer a client's calls.
     Client {
@@ -103,5 +105,19 @@ pub enum Request<'a> {
         listing: Listing,
         /// Whether what stands before a token that can't be read is listed.
         partial: bool,
+        /// Whether the file is the ROM of a PCI card, of which the FCode program is listed.
+        pci: bool,
+    },
+    /// Look an image over, and say what is wrong with it.
+    Check {
+        /// The path of the image.
+        image: &'a str,
+        /// Whether the file is the ROM of a PCI card, of which the FCode program is looked over.
+        pci: bool,
+    },
+    /// List the images in the ROM of a PCI card.
+    Pci {
+        /// The path of the ROM.
+        rom: &'a str,
     },
 }

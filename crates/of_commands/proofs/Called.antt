@@ -6,19 +6,19 @@ use Rattle.std.specs.Io.KnownBytes.{Appends, Keeps}
 use Rattle.std.proofs.KnownBytes.{Appends-trans}
 use Rattle.of_client.specs.Services.{Service}
 use Rattle.of_calls.specs.Calls.{parsed}
-use Rattle.of_calls.specs.declared.fault.TextFault.{TextFault}
-use Rattle.of_calls.specs.declared.fault.TextFault.TheVariants as word
 use Rattle.of_compile.specs.Coding.{Coding}
 use Rattle.of_machine.specs.States.{MachineState}
 use Rattle.of_machine.specs.declared.answers.End.{End}
 use Rattle.of_arguments.specs.declared.status.Status.{Status}
 use Rattle.of_commands.specs.declared.outside.Outside.{Outside}
-use Rattle.of_commands.specs.declared.fault.Fault.{Fault}
-use Rattle.of_commands.specs.declared.fault.Fault.TheVariants as fault
-use Rattle.of_commands.specs.Clients.{AnswersCalls, AnswersClient, FaultsCalls, PrintsCalls, client_text, no_calls}
-use Rattle.of_commands.specs.Messages.{AppendsPart, bad_start_of}
+use Rattle.of_files.specs.declared.fault.Fault.{Fault}
+use Rattle.of_files.specs.declared.fault.Fault.TheVariants as fault
+use Rattle.of_commands.specs.Clients.{AnswersCalls, AnswersClient, PrintsCalls, client_text}
+use Rattle.of_files.specs.Handed.{FaultsCalls}
+use Rattle.of_files.specs.Messages.{AppendsPart, bad_start_of}
 use Rattle.of_commands.proofs.Faults.{all_are_part}
-use Rattle.of_commands.specs.Runs.{FaultsRun, IsUnwritten, RunsFile, end_status, status_of}
+use Rattle.of_commands.specs.Runs.{FaultsRun, RunsFile, end_status}
+use Rattle.of_files.specs.Faults.{IsUnwritten, status_of}
 
 -- ---- parts of two texts
 
@@ -60,20 +60,6 @@ second_part (Err f) old mid new written a b same all part = (
 )
 
 -- ---- the file of calls
-
-pub calls_read : (known : Option (List ℕ)) (text read : List ℕ) (services : List Service) → read ≡ text
-    → IfSome known (λ bytes. text ≡ bytes) → parsed read ≡ Ok services
-    → IfSome known (λ bytes. parsed bytes ≡ Ok services)
-calls_read None text read services same all said = tt
-calls_read (Some bytes) text read services same all said = ap parsed (sym all ∙ sym same) ∙ said
-
-pub calls_refused : (known : Option (List ℕ)) (text read : List ℕ) (c : TextFault) → read ≡ text
-    → IfSome known (λ bytes. text ≡ bytes) → (c ≡ word.NoMemory) ⊎ (parsed read ≡ Err c)
-    → IfSome known (λ bytes. FaultsCalls bytes (no_calls c))
-calls_refused None text read c same all why = tt
-calls_refused (Some bytes) text read c same all (inl none) = inr (inr (inl (ap no_calls none)))
-calls_refused (Some bytes) text read c same all (inr wrong) =
-    inr (inr (inr (c, ap parsed (sym all ∙ sym same) ∙ wrong, refl)))
 
 -- ---- the run and its replies
 

@@ -2,9 +2,9 @@
 use Rattle.std.proofs.Common.{inr, ℕ, List, Option, Err}
 use Rattle.of_script.specs.declared.fault.ScriptFault.{ScriptFault}
 use Rattle.of_commands.specs.Debugs.{Debugging, PrintsStates, Shows}
-use Rattle.of_commands.specs.Messages.{AppendsPart}
-use Rattle.of_commands.specs.Runs.{IsUnwritten}
-use Rattle.of_commands.specs.declared.fault.Fault.{Fault}
+use Rattle.of_files.specs.Messages.{AppendsPart}
+use Rattle.of_files.specs.Faults.{IsUnwritten}
+use Rattle.of_files.specs.declared.fault.Fault.{Fault}
 
 -- a part of it, where a write failed
 pub states_part : (d : Debugging) (text : List ℕ) (wrong : Option ScriptFault) (old new : Option (List ℕ)) (f : Fault)

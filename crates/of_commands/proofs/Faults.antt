@@ -4,9 +4,9 @@ use Rattle.std.proofs.Common.{◌⊎◌, Bool, true, false, true≢false, ap, co
 use Rattle.std.specs.Prelude.{is_some}
 use Rattle.std.specs.Io.KnownBytes.{Appends, Keeps}
 use Rattle.of_commands.specs.declared.outside.Outside.{Outside}
-use Rattle.of_commands.specs.declared.fault.Fault.{Fault}
-use Rattle.of_commands.specs.Files.{image_in, FaultsReading}
-use Rattle.of_commands.specs.declared.fault.Fault.TheVariants as fault
+use Rattle.of_files.specs.declared.fault.Fault.{Fault}
+use Rattle.of_files.specs.Files.{image_in, FaultsReading}
+use Rattle.of_files.specs.declared.fault.Fault.TheVariants as fault
 use Rattle.of_stream.specs.declared.fault.StreamFault.{StreamFault}
 use Rattle.of_arguments.specs.Asked.{Appendix}
 use Rattle.of_arguments.specs.declared.request.Listing.{Listing}
@@ -16,14 +16,15 @@ use Rattle.of_machine.specs.States.{MachineState}
 use Rattle.std.proofs.Math.Seq.{take-length}
 use Rattle.of_arguments.specs.declared.status.Status.{Status}
 use Rattle.of_arguments.specs.declared.status.Status.TheVariants as status
-use Rattle.of_machine.specs.declared.answers.Refusal.TheVariants as refusal
-use Rattle.of_tok.specs.declared.fault.TokFault.TheVariants as tok
-use Rattle.of_commands.specs.Messages.{AppendsPart, bad_start_of}
-use Rattle.of_commands.specs.Runs.{EndsPart, FaultsImage, FaultsListing, IsUnwritten, Lists, ListsFile, ListsPart}
+use Rattle.of_files.specs.Messages.{AppendsPart, bad_start_of}
+use Rattle.of_commands.specs.Runs.{EndsPart, FaultsImage, FaultsListing, Lists, ListsFile, ListsPart}
+use Rattle.of_files.specs.Faults.{IsUnwritten}
 use Rattle.of_commands.specs.Runs.{Prints, RunsFile, end_status, run_end}
 use Rattle.of_commands.specs.Listings.{lacks_word, run_text}
-use Rattle.of_commands.specs.Runs.{FaultsSource, FaultsSourceFile, FaultsRun, IsRefusedFor, Tokenizes}
-use Rattle.of_commands.specs.Runs.{is_done, lines_of, status_of}
+use Rattle.of_commands.specs.Runs.{FaultsRun, IsRefusedFor}
+use Rattle.of_commands.specs.Runs.{lines_of}
+use Rattle.of_files.specs.Faults.{is_done}
+use Rattle.of_files.specs.Faults.{status_of}
 
 -- a file that has no image has a fault of a run
 pub run_unread : (known : Option (List ℕ)) (o : Outside) (f : Fault) → IfSome known (λ file. FaultsReading file f)
@@ -139,10 +140,14 @@ unwritten_begins (fault.NoBoard g) unwritten = refl
 unwritten_begins (fault.NoLines g) unwritten = refl
 unwritten_begins (fault.NoScript g) unwritten = refl
 unwritten_begins (fault.GivenUp g) unwritten = refl
+unwritten_begins (fault.NoRom g) unwritten = refl
+unwritten_begins fault.NoProgram unwritten = refl
 unwritten_begins fault.NoWord unwritten = refl
+unwritten_begins fault.OutputIsSource unwritten = refl
 unwritten_begins fault.TwoOutsides unwritten = refl
 unwritten_begins fault.TwoListings unwritten = refl
 unwritten_begins (fault.Unwritten code) unwritten = refl
+unwritten_begins (fault.Unkept code) unwritten = refl
 unwritten_begins fault.NoMemory unwritten = refl
 
 -- nor is memory
@@ -182,51 +187,3 @@ pub ends_begin : (a : Appendix) (m : MachineState Coding) (e : End) (old new : O
 ends_begin a m e old new (Ok s) Kept why = tt
 ends_begin a m e old new (Err f) Kept why =
     λ begun. absurd (true≢false (sym begun ∙ ap is_some (part_begins a m e old new f why)))
-
--- a fault ends no command as done
-pub fault_not_done : (f : Fault) → is_done (status_of f) ≡ false
-fault_not_done fault.ArgumentNotText = refl
-fault_not_done fault.NoMemory = refl
-fault_not_done (fault.Refused refusal.NoMemory) = refl
-fault_not_done (fault.NoImage tok.NoMemory) = refl
-fault_not_done (fault.Unopened code) = refl
-fault_not_done (fault.Unread code) = refl
-fault_not_done fault.Endless = refl
-fault_not_done (fault.BadDigit place byte) = refl
-fault_not_done fault.OddDigits = refl
-fault_not_done (fault.TooLong length) = refl
-fault_not_done (fault.Refused refusal.Busy) = refl
-fault_not_done (fault.Refused refusal.NotAsked) = refl
-fault_not_done (fault.Refused refusal.WrongAnswer) = refl
-fault_not_done (fault.Refused refusal.ImageTooLong) = refl
-fault_not_done (fault.Refused refusal.LineTooLong) = refl
-fault_not_done (fault.Refused (refusal.BadStart f)) = refl
-fault_not_done (fault.Refused refusal.NoNode) = refl
-fault_not_done (fault.Unlisted f) = refl
-fault_not_done (fault.NoSource place f) = refl
-fault_not_done (fault.OffsetTooLong place) = refl
-fault_not_done (fault.NoImage (tok.OffsetTooLong at)) = refl
-fault_not_done (fault.NoImage tok.TooManyWords) = refl
-fault_not_done (fault.NoImage tok.ImageTooLong) = refl
-fault_not_done (fault.NoCalls f) = refl
-fault_not_done (fault.NoAnswers f) = refl
-fault_not_done (fault.NoBoard f) = refl
-fault_not_done (fault.NoLines f) = refl
-fault_not_done (fault.NoScript f) = refl
-fault_not_done (fault.GivenUp f) = refl
-fault_not_done fault.NoWord = refl
-fault_not_done fault.TwoOutsides = refl
-fault_not_done fault.TwoListings = refl
-fault_not_done (fault.Unwritten code) = refl
-
--- a fault of the source that was read is one of the file
-of_source : (file text : List ℕ) (f : Fault) → text ≡ file → FaultsSource text f → FaultsSourceFile file f
-of_source file text f same fault = inr (inr (inr (subst (λ t. FaultsSource t f) same fault)))
-
--- and so has the image of a source
-pub tokenizing_given_up : (known : Option (List ℕ)) (text read : List ℕ) (old new : Option (List ℕ)) (f : Fault)
-    → Keeps old new → read ≡ text → IfSome known (λ bytes. text ≡ bytes) → FaultsSource read f
-    → IfSome known (λ file. Tokenizes file old new (Err f))
-tokenizing_given_up (Some file) text read old new f kept all same fault =
-    (inl kept, of_source file read f (all ∙ same) fault)
-tokenizing_given_up None text read old new f kept all same fault = same

@@ -1,9 +1,6 @@
-pub mod Answered
 pub mod Called
 pub mod Debugged
+pub mod Ends
 pub mod Faults
-pub mod Reading
-pub mod Replies
 pub mod Seen
 pub mod Sessions
-pub mod Written

@@ -1,22 +1,20 @@
 -- What `client` prints: what a run prints, and then what a client's calls are answered, and how it ends.
-use Rattle.std.specs.Prelude.{◌≡◌, ◌≤◌, ◌⊎◌, ℕ, List, [], ◌∷◌, ◌++◌, length, Option, Result, Ok, Err, IfErr}
+use Rattle.std.specs.Prelude.{◌≡◌, ◌⊎◌, ℕ, List, [], ◌∷◌, ◌++◌, Option, Result, Ok, Err, IfErr}
 use Rattle.std.specs.Int.{to_be_bytes, w32}
 use Rattle.std.specs.Io.KnownBytes.{Keeps, Appends}
 use Rattle.hex.specs.Hex.{encode_lower}
 use Rattle.of_client.specs.Services.{Reply, Service}
 use Rattle.of_calls.specs.Calls.{parsed}
-use Rattle.of_calls.specs.declared.fault.TextFault.{TextFault}
-use Rattle.of_calls.specs.declared.fault.TextFault.TheVariants as word
 use Rattle.of_compile.specs.Coding.{Coding}
 use Rattle.of_machine.specs.States.{MachineState, served}
 use Rattle.of_machine.specs.declared.answers.End.{End}
 use Rattle.of_arguments.specs.declared.status.Status.{Status}
 use Rattle.of_commands.specs.declared.outside.Outside.{Outside}
-use Rattle.of_commands.specs.Files.{IsUnread}
-use Rattle.of_commands.specs.Messages.{AppendsPart}
-use Rattle.of_commands.specs.Runs.{FaultsRun, RunsFile, end_status, ended_with, status_of}
-use Rattle.of_commands.specs.declared.fault.Fault.{Fault}
-use Rattle.of_commands.specs.declared.fault.Fault.TheVariants as fault
+use Rattle.of_files.specs.Handed.{FaultsCalls}
+use Rattle.of_files.specs.Messages.{AppendsPart}
+use Rattle.of_commands.specs.Runs.{FaultsRun, RunsFile, end_status}
+use Rattle.of_files.specs.Faults.{ended_with, status_of}
+use Rattle.of_files.specs.declared.fault.Fault.{Fault}
 
 -- ---- what is printed
 
@@ -56,23 +54,6 @@ PrintsCalls services file o limit old new (Err f) =
     × FaultsRun file o f
 
 -- ---- how it ends
-
--- the fault of a text that has no calls
-abbrev pub no_calls : TextFault → Fault
-no_calls (word.Unknown place) = fault.NoCalls (word.Unknown place)
-no_calls (word.BadName place) = fault.NoCalls (word.BadName place)
-no_calls (word.BadNumber place) = fault.NoCalls (word.BadNumber place)
-no_calls (word.TooMany place) = fault.NoCalls (word.TooMany place)
-no_calls (word.TooLong place) = fault.NoCalls (word.TooLong place)
-no_calls word.NoMemory = fault.NoMemory
-
--- the faults of a file of calls: of a read, of its end, for memory, or the first of its text
-abbrev pub FaultsCalls : List ℕ → Fault → Type 0
-FaultsCalls text f =
-    IsUnread f
-    ⊎ ((f ≡ fault.Endless) × (16777216 ≤ length text))
-    ⊎ (f ≡ fault.NoMemory)
-    ⊎ ((c : TextFault) × (parsed text ≡ Err c) × (f ≡ no_calls c))
 
 -- the program ends with the status of what was printed, or of its fault, which was said
 abbrev pub AnswersCalls :

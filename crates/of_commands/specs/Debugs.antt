@@ -1,53 +1,19 @@
 -- What `debug` prints: the states that a script shows of an image, and how it ends.
-use Rattle.std.specs.Prelude.{◌≡◌, ◌≤◌, ◌⊎◌, ℕ, List, length, map, Option, Some, None, Result, Ok, Err}
+use Rattle.std.specs.Prelude.{◌≡◌, ◌⊎◌, ℕ, List, map, Option, Some, None, Result, Ok, Err}
 use Rattle.std.specs.Prelude.{IfErr}
 use Rattle.std.specs.Io.KnownBytes.{Keeps, Appends}
 use Rattle.of_asking.specs.declared.query.Answer.{Answer}
-use Rattle.of_calls.specs.Scripts.{Scripted, command_of, parsed_script}
-use Rattle.of_calls.specs.declared.fault.TextFault.{TextFault}
-use Rattle.of_calls.specs.declared.fault.TextFault.TheVariants as word
+use Rattle.of_calls.specs.Scripts.{Scripted, command_of}
 use Rattle.of_script.specs.Scripts.{Debugs}
 use Rattle.of_script.specs.declared.fault.ScriptFault.{ScriptFault}
-use Rattle.of_script.specs.declared.fault.ScriptFault.TheVariants as script
 use Rattle.of_arguments.specs.declared.status.Status.{Status}
 use Rattle.of_arguments.specs.declared.status.Status.TheVariants as status
-use Rattle.of_commands.specs.Files.{IsUnread}
-use Rattle.of_commands.specs.Messages.{AppendsPart}
-use Rattle.of_commands.specs.Runs.{IsRefusedFor, IsUnwritten, ended_with, status_of}
+use Rattle.of_files.specs.Faults.{given_up}
+use Rattle.of_files.specs.Messages.{AppendsPart}
+use Rattle.of_commands.specs.Runs.{IsRefusedFor}
+use Rattle.of_files.specs.Faults.{IsUnwritten, ended_with}
 use Rattle.of_commands.specs.declared.debugs.DebugRun.{DebugRun}
-use Rattle.of_commands.specs.declared.fault.Fault.{Fault}
-use Rattle.of_commands.specs.declared.fault.Fault.TheVariants as fault
-
--- ---- scripts
-
--- the fault of a text that is no script
-abbrev pub no_script : TextFault → Fault
-no_script (word.Unknown place) = fault.NoScript (word.Unknown place)
-no_script (word.BadName place) = fault.NoScript (word.BadName place)
-no_script (word.BadNumber place) = fault.NoScript (word.BadNumber place)
-no_script (word.TooMany place) = fault.NoScript (word.TooMany place)
-no_script (word.TooLong place) = fault.NoScript (word.TooLong place)
-no_script word.NoMemory = fault.NoMemory
-
--- the faults of a file of commands: of a read, of its end, for memory, or the first of its text
-abbrev pub FaultsScript : List ℕ → Fault → Type 0
-FaultsScript file f =
-    IsUnread f
-    ⊎ ((f ≡ fault.Endless) × (16777216 ≤ length file))
-    ⊎ (f ≡ fault.NoMemory)
-    ⊎ ((t : TextFault) × (parsed_script file ≡ Err t) × (f ≡ no_script t))
-
--- the status of a fault of a file of commands
-abbrev pub FaultsScriptWith : List ℕ → Status → Type 0
-FaultsScriptWith file s = (f : Fault) × (status_of f ≡ s) × FaultsScript file f
-
--- the fault of a script that was given up
-abbrev pub given_up : ScriptFault → Fault
-given_up (script.Unknown line) = fault.GivenUp (script.Unknown line)
-given_up (script.NoWord line) = fault.GivenUp (script.NoWord line)
-given_up (script.NoItem line) = fault.GivenUp (script.NoItem line)
-given_up (script.TooMany line) = fault.GivenUp (script.TooMany line)
-given_up script.NoMemory = fault.NoMemory
+use Rattle.of_files.specs.declared.fault.Fault.{Fault}
 
 -- ---- what is printed
 

@@ -1,9 +1,7 @@
 pub mod Clients
-pub mod States
-pub mod Definitions
-pub mod Files
-pub mod Listings
 pub mod Consoles
-pub mod Messages
-pub mod Runs
 pub mod Debugs
+pub mod Definitions
+pub mod Listings
+pub mod Runs
+pub mod States

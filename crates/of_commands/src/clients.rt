@@ -2,23 +2,20 @@
 ghost use Rattle.std.specs.Prelude.{◌≡◌, ◌⊎◌, false, true, is_some, map, Ok, IfOk, IfErr, IfSome, OnOk, OnErr};
 ghost use Rattle.std.specs.Io.KnownBytes.{Appends};
 ghost use Rattle.std.specs.String.{string_bytes};
-ghost use Rattle.of_calls.specs.Calls.{parsed};
 ghost use Rattle.of_client.specs.Services.{service_of};
 ghost use Rattle.of_machine.specs.States.{reply_shown};
-ghost use Rattle.of_commands.specs.Clients.{AnswersCalls, AnswersClient, FaultsCalls, PrintsCalls, bytes_shown};
+ghost use Rattle.of_commands.specs.Clients.{AnswersCalls, AnswersClient, PrintsCalls, bytes_shown};
 ghost use Rattle.of_commands.specs.Clients.{client_text, reply_line, reply_lines, served_all};
-ghost use Rattle.of_commands.specs.Messages.{AppendsPart, SaysFault, bad_start_of};
-ghost use Rattle.of_commands.specs.Runs.{IsUnwritten, is_done};
+ghost use Rattle.of_files.specs.Messages.{AppendsPart, bad_start_of};
+ghost use Rattle.of_files.specs.Saying.{Said};
+ghost use Rattle.of_files.specs.Faults.{IsUnwritten};
+ghost use Rattle.of_files.specs.Faults.{is_done};
 
 use crate::engine::{Run, explain_end, run_file};
-use crate::fault::{Fault, no_calls};
-use crate::input::read_whole;
-use crate::messages::Messages;
-use crate::output::{report, write_whole};
 use hex::encode;
 use of_arguments::Status;
-use of_calls::parse;
 use of_client::{ClientCall, ClientReply};
+use of_files::{Fault, Messages, read_calls, report, write_whole};
 use of_machine::ScriptMachine;
 use std::alloc::Global;
 use std::io::{Read, Write};
@@ -30,20 +27,6 @@ pub struct ClientRun<'a> {
     pub run: Run<'a>,
     /// The path of the file of calls.
     pub calls: &'a str,
-}
-
-/// The calls of a file.
-#[tactic(auto, using(crate::proofs::Called::calls_read, crate::proofs::Called::calls_refused))]
-fn read_calls<C: Read>(alloc: Global, file: &mut C) -> Result<Vec<ClientCall>, Fault>
-    ensures ok { IfOk result (λ calls. IfSome (C.remaining file.old) (λ text.
-        parsed text ≡ Ok (map service_of calls.items))) }
-    ensures err { IfErr result (λ f. IfSome (C.remaining file.old) (λ text. FaultsCalls text f)) }
-{
-    let text = read_whole(alloc, file)?;
-    match parse(alloc, &text) {
-        Ok(calls) => Ok(calls),
-        Err(fault) => Err(no_calls(fault)),
-    }
 }
 
 /// Answers calls one after the other.
@@ -175,7 +158,7 @@ fn run_calls<R: Read, W: Write, E: Write>(
 }
 
 /// The same, with the status, and with the fault said on the error output.
-#[tactic(auto, using(crate::proofs::Called::called_done, crate::proofs::Faults::fault_not_done))]
+#[tactic(auto, using(crate::proofs::Called::called_done, crate::proofs::Ends::not_done))]
 fn answer_calls<R: Read, W: Write, E: Write>(
     alloc: Global,
     run: Run<'_>,
@@ -187,7 +170,7 @@ fn answer_calls<R: Read, W: Write, E: Write>(
     ensures answered { IfSome (R.remaining file.old) (λ bytes.
         AnswersCalls (map service_of calls.now) bytes run.entry.outside run.entry.limit
         (W.contents out.old) (W.contents out.new)
-        (λ f. SaysFault f (E.contents errors.old.out) (E.contents errors.new.out) errors.new.failed) result) }
+        (Said E.contents errors.old errors.new) result) }
     ensures silent { is_done result ≡ true → run.entry.explain ≡ false → errors.new ≡ errors.old }
 {
     match run_calls(alloc, run, file, calls, out, errors) {
@@ -203,7 +186,7 @@ fn answer_calls<R: Read, W: Write, E: Write>(
 /// The questions of the run are answered by what it is given for that. The calls are read before the run begins. With
 /// a fault of their file or of the image nothing is printed. What is wrong is said on the error output, behind the path
 /// of the file that it is in; and how the run ended, where that is to be explained. Else nothing is said.
-#[tactic(auto, using(crate::proofs::Called::answers, crate::proofs::Faults::fault_not_done))]
+#[tactic(auto, using(crate::proofs::Called::answers, crate::proofs::Ends::not_done))]
 pub fn client<C: Read, R: Read, W: Write, E: Write>(
     alloc: Global,
     asked: &ClientRun<'_>,
@@ -215,7 +198,7 @@ pub fn client<C: Read, R: Read, W: Write, E: Write>(
     ensures answered { IfSome (C.remaining calls.old) (λ text. IfSome (R.remaining image.old) (λ bytes.
         AnswersClient text bytes asked.now.run.outside asked.now.run.limit
         (W.contents out.old) (W.contents out.new)
-        (λ f. SaysFault f (E.contents errors.old.out) (E.contents errors.new.out) errors.new.failed) result)) }
+        (Said E.contents errors.old errors.new) result)) }
     ensures silent { is_done result ≡ true → asked.now.run.explain ≡ false → errors.new ≡ errors.old }
 {
     match read_calls(alloc, calls) {

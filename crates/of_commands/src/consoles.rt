@@ -1,5 +1,5 @@
 //! `console`: lines are read, and each is run as soon as it is read.
-ghost use Rattle.std.specs.Prelude.{◌≡◌, ◌==◌, [], ◌∷◌, ◌++◌, IfErr, IfOk, IfSome, None, OnOk, Ok, Some, drop};
+ghost use Rattle.std.specs.Prelude.{◌≡◌, ◌==◌, [], ◌∷◌, ◌++◌, IfOk, IfSome, None, OnOk, Ok, Some, drop};
 ghost use Rattle.std.specs.Prelude.{length, map, not, option_map};
 ghost use Rattle.std.specs.Io.BufRead.{DropsThrough, strip_last, take_through};
 ghost use Rattle.std.specs.Io.KnownBytes.{Appends};
@@ -8,21 +8,16 @@ ghost use Rattle.of_state.specs.State.{flat_calls};
 ghost use Rattle.of_monitor.specs.Sessions.{entry};
 ghost use Rattle.of_commands.specs.Consoles.{behind_image, console_text, image_of, line_in, printed_since, prompt};
 ghost use Rattle.of_commands.specs.Consoles.{session_text};
-ghost use Rattle.of_commands.specs.Files.{image_in};
 ghost use Rattle.of_commands.specs.Listings.{newline_behind};
 
-use crate::engine::refused;
-use crate::fault::Fault;
-use crate::input::read_image;
 use crate::listings::ends_line;
-use crate::messages::Messages;
-use crate::output::{report, write_whole};
 use of_arguments::Status;
 use of_devices::{Board, Rack};
+use of_files::{Fault, Messages, refused, report, write_whole};
 use of_machine::{Refusal, ScriptMachine, script_machine};
 use of_monitor::{attend, enter};
 use std::alloc::Global;
-use std::io::{BufRead, ErrorKind, Read, Write};
+use std::io::{BufRead, ErrorKind, Write};
 
 /// How many lines a console reads at most.
 const MOST_LINES: u64 = u64::MAX;
@@ -36,24 +31,6 @@ pub struct ConsoleRun<'a> {
     pub board: &'a Board,
     /// How many steps are made at most for the image, and for each line.
     pub limit: u64,
-}
-
-/// The image of the file at a path, for a console, or the status of the fault that the file has.
-///
-/// The file is read as for `run`, and the fault is said on the error output.
-pub fn rom<R: Read, E: Write>(
-    alloc: Global,
-    path: &str,
-    file: &mut R,
-    errors: &mut Messages<E>,
-) -> Result<Vec<u8>, Status>
-    ensures ok { IfOk result (λ image. IfSome (R.remaining file.old) (λ bytes. image_in bytes ≡ Ok image.items)) }
-    ensures silent { OnOk result (errors.new ≡ errors.old) }
-{
-    match read_image(alloc, file) {
-        Ok(image) => Ok(image),
-        Err(fault) => Err(report(path, fault, errors)),
-    }
 }
 
 /// Prints what a machine has printed behind so many bytes, and ends its last line.
@@ -283,7 +260,7 @@ fn converse<L: BufRead, W: Write, E: Write>(
 ///
 /// What is wrong is said on the error output: with the image behind its path; why a line was refused, which changes
 /// nothing; and that a line has made as many steps as are allowed, where an empty line lets it go on.
-#[tactic(auto, using(crate::proofs::Faults::fault_not_done))]
+#[tactic(auto, using(crate::proofs::Ends::not_done))]
 pub fn console<L: BufRead, W: Write, E: Write>(
     alloc: Global,
     console: ConsoleRun<'_>,

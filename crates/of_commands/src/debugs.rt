@@ -1,23 +1,20 @@
 //! `debug`: an image runs under the commands of a script.
-ghost use Rattle.std.specs.Prelude.{◌≡◌, Ok, IfOk, IfErr, IfSome, OnOk, map};
+ghost use Rattle.std.specs.Prelude.{◌≡◌, Ok, IfOk, IfErr};
 ghost use Rattle.std.specs.Io.KnownBytes.{Appends};
-ghost use Rattle.of_calls.specs.Scripts.{command_of, parsed_script};
-ghost use Rattle.of_commands.specs.Debugs.{AnswersDebugging, FaultsScript, FaultsScriptWith, PrintsStates, given_up};
+ghost use Rattle.of_commands.specs.Debugs.{AnswersDebugging, PrintsStates};
+ghost use Rattle.of_files.specs.Faults.{given_up};
 ghost use Rattle.of_commands.specs.Debugs.{debugging_of};
-ghost use Rattle.of_commands.specs.Messages.{AppendsPart, SaysFault};
-ghost use Rattle.of_commands.specs.Runs.{IsUnwritten};
+ghost use Rattle.of_files.specs.Messages.{AppendsPart};
+ghost use Rattle.of_files.specs.Saying.{Said};
+ghost use Rattle.of_files.specs.Faults.{IsUnwritten};
 
-use crate::engine::refused;
-use crate::fault::{Fault, given_up, no_script};
-use crate::input::read_whole;
-use crate::messages::Messages;
-use crate::output::{report, write_whole};
 use of_arguments::Status;
 use of_asking::Answer;
-use of_calls::{ScriptCommand, parse_script};
+use of_calls::ScriptCommand;
+use of_files::{Fault, Messages, given_up, refused, report, write_whole};
 use of_script::{Played, ScriptFault, debug_image};
 use std::alloc::Global;
-use std::io::{Read, Write};
+use std::io::Write;
 
 /// What `debug` was asked for.
 #[derive(Clone, Copy)]
@@ -36,40 +33,6 @@ pub struct DebugRun<'a> {
     pub script: &'a str,
     /// The commands of the script.
     pub commands: &'a [ScriptCommand],
-}
-
-/// The commands of a file.
-#[tactic(auto, using(crate::proofs::Replies::script_read, crate::proofs::Replies::script_refused))]
-fn read_script<R: Read>(alloc: Global, file: &mut R) -> Result<Vec<ScriptCommand>, Fault>
-    ensures ok { IfOk result (λ commands. IfSome (R.remaining file.old) (λ text.
-        parsed_script text ≡ Ok (map command_of commands.items))) }
-    ensures err { IfErr result (λ f. IfSome (R.remaining file.old) (λ text. FaultsScript text f)) }
-{
-    let text = read_whole(alloc, file)?;
-    match parse_script(alloc, &text) {
-        Ok(commands) => Ok(commands),
-        Err(fault) => Err(no_script(fault)),
-    }
-}
-
-/// The commands of the file at a path, for a debugger, or the status of the fault that the file has.
-///
-/// The fault is said on the error output, behind the path: of a text that is no script with line and column.
-pub fn script<R: Read, E: Write>(
-    alloc: Global,
-    path: &str,
-    file: &mut R,
-    errors: &mut Messages<E>,
-) -> Result<Vec<ScriptCommand>, Status>
-    ensures ok { IfOk result (λ commands. IfSome (R.remaining file.old) (λ text.
-        parsed_script text ≡ Ok (map command_of commands.items))) }
-    ensures silent { OnOk result (errors.new ≡ errors.old) }
-    ensures err { IfErr result (λ s. IfSome (R.remaining file.old) (λ text. FaultsScriptWith text s)) }
-{
-    match read_script(alloc, file) {
-        Ok(commands) => Ok(commands),
-        Err(fault) => Err(report(path, fault, errors)),
-    }
 }
 
 /// Prints what was printed under a script, and answers why the script was given up, if it was.
@@ -118,7 +81,7 @@ pub fn debug<W: Write, E: Write>(
     errors: &mut Messages<E>,
 ) -> Status
     ensures answered { AnswersDebugging (debugging_of asked.entry) (W.contents out.old) (W.contents out.new)
-        (λ f. SaysFault f (E.contents errors.old.out) (E.contents errors.new.out) errors.new.failed) result }
+        (Said E.contents errors.old errors.new) result }
     ensures silent { result ≡ Status.Done → errors.new ≡ errors.old }
 {
     match print_states(alloc, asked, out) {

@@ -6,10 +6,10 @@ ghost use Rattle.of_commands.specs.Definitions.{shown_lines};
 ghost use Rattle.of_commands.specs.Runs.{IsRefusedFor};
 
 use crate::engine::run_answers;
-use crate::fault::Fault;
 use of_cells::Cell;
 use of_detok::definitions;
 use of_dict::{CAPACITY, OwnWord};
+use of_files::Fault;
 use of_machine::ScriptMachine;
 use of_stream::StreamFault;
 use std::alloc::Global;

@@ -1,39 +1,34 @@
-ghost use Rattle.std.specs.Prelude.{◌≡◌, ◌⊎◌, [], ◌∷◌, Ok, None, IfOk, IfErr, IfSome, OnOk, OnErr};
+ghost use Rattle.std.specs.Prelude.{◌≡◌, ◌⊎◌, [], ◌∷◌, Ok, None, IfOk, IfErr, IfSome};
 ghost use Rattle.std.specs.Prelude.{is_some, map, true, false};
 ghost use Rattle.std.specs.Io.KnownBytes.{Appends};
-ghost use Rattle.std.specs.String.{string_bytes};
-ghost use Rattle.of_arguments.specs.Asked.{appendix_of, asked};
+ghost use Rattle.of_arguments.specs.Asked.{appendix_of, asked, no_appendix};
 ghost use Rattle.of_detok.specs.Listing.{listed_so_far};
 ghost use Rattle.of_devices.specs.Parts.{board_meant};
 ghost use Rattle.of_machine.specs.Racks.{answers_of};
 ghost use Rattle.of_machine.specs.Runs.{RunsTo};
-ghost use Rattle.of_commands.specs.Files.{FaultsReading};
-ghost use Rattle.of_commands.specs.Messages.{AppendsPart, SaysFault, bad_start_of};
+ghost use Rattle.of_files.specs.Messages.{bad_start_of};
+ghost use Rattle.of_files.specs.Faults.{EndsWith};
+ghost use Rattle.of_files.specs.Saying.{Said};
 ghost use Rattle.of_commands.specs.Definitions.{shown_lines};
 ghost use Rattle.of_commands.specs.Listings.{run_text};
-ghost use Rattle.of_commands.specs.Runs.{EndsPart, FaultsImage, FaultsListing, FaultsRun, IsRefusedFor, IsUnwritten};
+ghost use Rattle.of_commands.specs.Runs.{EndsPart, FaultsImage, FaultsListing, FaultsRun, IsRefusedFor};
 ghost use Rattle.of_commands.specs.Runs.{Lists, ListsFile, ListsImage, ListsPart, Prints, RunsFile, RunsOn};
-ghost use Rattle.of_commands.specs.Runs.{end_status, lines_of, refused_as, run_end};
-ghost use Rattle.of_commands.specs.Runs.{FaultsSource, FaultsSourceFile, FaultsWith, HasImage, Tokenizes};
-ghost use Rattle.of_commands.specs.Runs.{TokenizesFile, Writes, Does, Answers, is_done, is_explained};
+ghost use Rattle.of_commands.specs.Runs.{end_status, lines_of, run_end};
+ghost use Rattle.of_commands.specs.Runs.{Does, is_explained};
+ghost use Rattle.of_files.specs.Faults.{is_done};
 
 use crate::definitions::list_definitions;
 use crate::explain::say_end;
-use crate::fault::{Fault, no_image, no_source};
-use crate::input::{read_image, read_whole};
 use crate::listings::{no_listings, print_text, run_end};
-use crate::messages::Messages;
-use crate::output::{report, write_whole};
 use crate::outside::{Answerer, Outside};
-use hex::encode;
 use of_arguments::{Listing, Listings, Request, Status};
 use of_asking::Answer;
 use of_detok::{Extras, partial_listing};
 use of_devices::{Board, Rack};
-use of_machine::{End, Refusal, ScriptMachine, run_rack, run_script};
-use of_source::parse;
+use of_files::{Fault, Messages, read_image, refused, report, tok, write_whole};
+use of_inspect::{check, pci};
+use of_machine::{End, ScriptMachine, run_rack, run_script};
 use of_stream::StreamFault;
-use of_tok::tokenize;
 use std::alloc::Global;
 use std::io::{Read, Write};
 
@@ -50,16 +45,6 @@ pub struct Run<'a> {
     pub listings: Listings<'a>,
     /// Whether its end is explained on the error output.
     pub explain: bool,
-}
-
-/// The fault that a refusal of an image of so many bytes is.
-pub(crate) fn refused(length: usize, refusal: Refusal) -> Fault
-    ensures { result ≡ refused_as length refusal }
-{
-    match refusal {
-        Refusal::ImageTooLong => Fault::TooLong(length),
-        _ => Fault::Refused(refusal),
-    }
 }
 
 /// Runs an image and console lines with answers in order.
@@ -315,110 +300,83 @@ fn detok<R: Read, W: Write>(
     }
 }
 
-/// The image of a source.
-fn image_of(alloc: Global, text: &[u8]) -> Result<Vec<u8>, Fault>
-    ensures ok { IfOk result (λ image. HasImage text.now image.items) }
-    ensures err { IfErr result (λ f. FaultsSource text.now f) }
-{
-    let source = match parse(alloc, text) {
-        Ok(source) => source,
-        Err(fault) => return Err(no_source(text, fault)),
-    };
-    match tokenize(alloc, &source) {
-        Ok(image) => Ok(image),
-        Err(fault) => Err(no_image(text, fault)),
-    }
-}
-
-/// The image of a source, in hexadecimal digits and a newline.
-fn tokenize_text(alloc: Global, text: &[u8]) -> Result<String, Fault>
-    ensures ok { IfOk result (λ digits. TokenizesFile text.now (string_bytes digits)) }
-    ensures err { IfErr result (λ f. FaultsSource text.now f) }
-{
-    let image = image_of(alloc, text)?;
-    let Ok(mut digits) = encode(alloc, image.as_slice()) else {
-        return Err(Fault::NoMemory);
-    };
-    match digits.push('\n') {
-        Ok(()) => Ok(digits),
-        Err(_) => Err(Fault::NoMemory),
-    }
-}
-
-/// The image of the source of a file.
-fn read_source<R: Read>(alloc: Global, file: &mut R) -> Result<Vec<u8>, Fault>
-    ensures ok { IfOk result (λ image. IfSome (R.remaining file.old) (λ bytes. HasImage bytes image.items)) }
-    ensures err { IfErr result (λ f. IfSome (R.remaining file.old) (λ bytes. FaultsSourceFile bytes f)) }
-{
-    let text = read_whole(alloc, file)?;
-    image_of(alloc, &text)
-}
-
-/// The image of the source of a file, to be written elsewhere, or the status of the fault that it has.
-///
-/// The fault is said on the error output, as by `tok`.
-pub fn image<R: Read, E: Write>(
+/// Prints the listing of the image of a file, and gives the status; a fault is said on the error output.
+#[tactic(auto, using(crate::proofs::Ends::ended, crate::proofs::Ends::not_ended))]
+fn answer_listing<R: Read, W: Write, E: Write>(
     alloc: Global,
     path: &str,
     file: &mut R,
+    listing: Listing,
+    partial: bool,
+    out: &mut W,
     errors: &mut Messages<E>,
-) -> Result<Vec<u8>, Status>
-    ensures ok { IfOk result (λ image. IfSome (R.remaining file.old) (λ bytes. HasImage bytes image.items)) }
-    ensures silent { OnOk result (errors.new ≡ errors.old) }
-    ensures err { IfErr result (λ s. IfSome (R.remaining file.old) (λ bytes. FaultsWith bytes s)) }
+) -> Status
+    ensures answered { IfSome (R.remaining file.old) (λ bytes. EndsWith
+        (Lists listing partial bytes (W.contents out.old) (W.contents out.new))
+        (Said E.contents errors.old errors.new) result) }
+    ensures silent { is_done result ≡ true → errors.new ≡ errors.old }
 {
-    match read_source(alloc, file) {
-        Ok(image) => Ok(image),
-        Err(fault) => Err(report(path, fault, errors)),
+    match detok(alloc, file, listing, partial, out) {
+        Ok(status) => status,
+        Err(fault) => report(path, fault, errors),
     }
 }
 
-/// Writes an image, and gives the status; a fault is said on the error output.
-pub fn keep<W: Write, E: Write>(image: &[u8], out: &mut W, errors: &mut Messages<E>) -> Status
-    ensures written { Writes image.now (W.contents out.old) (W.contents out.new) result }
-    ensures silent { result ≡ Status.Done → errors.new ≡ errors.old }
+/// Runs the image of a file, prints what it prints, and gives the status; a fault is said on the error output.
+#[tactic(auto, using(crate::proofs::Ends::ended, crate::proofs::Ends::not_ended, crate::proofs::Ends::not_done))]
+fn answer_run<R: Read, W: Write, E: Write>(
+    alloc: Global,
+    run: Run<'_>,
+    file: &mut R,
+    out: &mut W,
+    errors: &mut Messages<E>,
+) -> Status
+    ensures answered { IfSome (R.remaining file.old) (λ bytes. EndsWith
+        (Prints (appendix_of run.entry.listings) bytes run.entry.outside run.entry.limit
+        (W.contents out.old) (W.contents out.new))
+        (Said E.contents errors.old errors.new) result) }
+    ensures silent { is_done result ≡ true → run.entry.explain ≡ false → errors.new ≡ errors.old }
 {
-    match write_whole(out, image) {
-        Ok(()) => Status::Done,
-        Err(fault) => report("", fault, errors),
+    match print_run(alloc, run, file, out, errors) {
+        Ok(status) => status,
+        Err(fault) => report(run.image, fault, errors),
     }
 }
 
-/// Prints the image of a source.
-fn print_digits<W: Write>(digits: &str, out: &mut W) -> Result<Status, Fault>
-    ensures ok { IfOk result (λ s. (s ≡ Status.Done) × Appends (W.contents out.old) (W.contents out.new) digits.now) }
-    ensures err { IfErr result (λ f. AppendsPart (W.contents out.old) (W.contents out.new) digits.now
-        × IsUnwritten f) }
+/// A run of the image at a path, of which nothing is listed behind what it prints.
+fn bare_run<'a>(image: &'a str, outside: Outside<'a>, limit: u64, explain: bool) -> Run<'a>
+    ensures outside { result.outside ≡ outside.entry }
+    ensures limit { result.limit ≡ limit }
+    ensures listings { appendix_of result.listings ≡ no_appendix }
+    ensures explain { result.explain ≡ explain }
 {
-    write_whole(out, digits.as_bytes())?;
-    Ok(Status::Done)
-}
-
-/// Prints the image of the source of a file, in hexadecimal digits and a newline.
-fn tok<R: Read, W: Write>(alloc: Global, source: &mut R, out: &mut W) -> Result<Status, Fault>
-    ensures { IfSome (R.remaining source.old) (λ file.
-        Tokenizes file (W.contents out.old) (W.contents out.new) result) }
-{
-    let text = read_whole(alloc, source)?;
-    match tokenize_text(alloc, &text) {
-        Ok(digits) => print_digits(&digits, out),
-        Err(fault) => Err(fault),
+    Run {
+        image,
+        outside,
+        limit,
+        listings: no_listings(),
+        explain,
     }
 }
 
-/// Does what was asked for with a file, and leaves it to the caller to say what is wrong with it.
-fn perform<R: Read, W: Write, E: Write>(
+/// Does what was asked for with the file at its path, and gives the status. Of `client`, `console` and `debug` this is
+/// the run of the image alone, and where the FCode program of a ROM is asked for, the file is that program. The
+/// questions of a run are answered by `outside`.
+///
+/// What is wrong is said on the error output, behind the path of the file; and how a run ended, where that is to be
+/// explained. Else nothing is said.
+pub fn answer<R: Read, W: Write, E: Write>(
     alloc: Global,
     request: Request<'_>,
     outside: Outside<'_>,
     file: &mut R,
     out: &mut W,
     errors: &mut Messages<E>,
-) -> Result<Status, Fault>
-    ensures done { IfSome (R.remaining file.old) (λ bytes. Does (asked request.entry) outside.entry bytes
-        (W.contents out.old) (W.contents out.new) result) }
-    ensures silent { is_explained (asked request.entry) ≡ false → errors.new ≡ errors.old }
-    ensures unsaid { IfErr result (λ f. is_some (bad_start_of f) ≡ true → errors.new ≡ errors.old) }
+) -> Status
+    ensures answered { IfSome (R.remaining file.old) (λ bytes. EndsWith
+        (Does (asked request.entry) outside.entry bytes (W.contents out.old) (W.contents out.new))
+        (Said E.contents errors.old errors.new) result) }
+    ensures silent { is_done result ≡ true → is_explained (asked request.entry) ≡ false → errors.new ≡ errors.old }
 {
     match request {
         Request::Run {
@@ -435,7 +393,7 @@ fn perform<R: Read, W: Write, E: Write>(
                 listings,
                 explain,
             };
-            print_run(alloc, run, file, out, errors)
+            answer_run(alloc, run, file, out, errors)
         }
         Request::Client {
             image,
@@ -443,67 +401,25 @@ fn perform<R: Read, W: Write, E: Write>(
             explain,
             ..
         } => {
-            let run = Run {
-                image,
-                outside,
-                limit,
-                listings: no_listings(),
-                explain,
-            };
-            print_run(alloc, run, file, out, errors)
+            let run = bare_run(image, outside, limit, explain);
+            answer_run(alloc, run, file, out, errors)
         }
-        Request::Console { limit, .. } | Request::Debug { limit, .. } => {
-            let run = Run {
-                image: path_of(request),
-                outside,
-                limit,
-                listings: no_listings(),
-                explain: false,
-            };
-            print_run(alloc, run, file, out, errors)
+        Request::Console { image, limit, .. } => {
+            let run = bare_run(image.unwrap_or(""), outside, limit, false);
+            answer_run(alloc, run, file, out, errors)
         }
-        Request::Tok { .. } => tok(alloc, file, out),
+        Request::Debug { image, limit, .. } => {
+            let run = bare_run(image, outside, limit, false);
+            answer_run(alloc, run, file, out, errors)
+        }
+        Request::Tok { source, .. } => tok(alloc, source, file, out, errors),
         Request::Detok {
+            image,
             listing,
             partial,
             ..
-        } => detok(alloc, file, listing, partial, out),
-    }
-}
-
-/// The path of the file with which something was asked for.
-fn path_of(request: Request<'_>) -> &str {
-    match request {
-        Request::Run { image, .. } => image,
-        Request::Client { image, .. } => image,
-        Request::Console { image, .. } => image.unwrap_or(""),
-        Request::Debug { image, .. } => image,
-        Request::Tok { source, .. } => source,
-        Request::Detok { image, .. } => image,
-    }
-}
-
-/// Does what was asked for with the file at its path, and gives the status. Of `client`, `console` and `debug` this is
-/// the run of the image alone. The questions of a run are answered by `outside`.
-///
-/// What is wrong is said on the error output, behind the path of the file; and how a run ended, where that is to be
-/// explained. Else nothing is said.
-#[tactic(auto, using(crate::proofs::Answered::answered_done, crate::proofs::Faults::fault_not_done))]
-pub fn answer<R: Read, W: Write, E: Write>(
-    alloc: Global,
-    request: Request<'_>,
-    outside: Outside<'_>,
-    file: &mut R,
-    out: &mut W,
-    errors: &mut Messages<E>,
-) -> Status
-    ensures answered { IfSome (R.remaining file.old) (λ bytes. Answers (asked request.entry) outside.entry bytes
-        (W.contents out.old) (W.contents out.new)
-        (λ f. SaysFault f (E.contents errors.old.out) (E.contents errors.new.out) errors.new.failed) result) }
-    ensures silent { is_done result ≡ true → is_explained (asked request.entry) ≡ false → errors.new ≡ errors.old }
-{
-    match perform(alloc, request, outside, file, out, errors) {
-        Ok(status) => status,
-        Err(fault) => report(path_of(request), fault, errors),
+        } => answer_listing(alloc, image, file, listing, partial, out, errors),
+        Request::Check { image, .. } => check(alloc, image, file, out, errors),
+        Request::Pci { rom } => pci(alloc, rom, file, out, errors),
     }
 }

@@ -2,11 +2,11 @@
 ghost use Rattle.std.specs.Prelude.{◌≡◌, IfErr};
 
 use crate::engine::Run;
-use crate::fault::Fault;
 use crate::outside::{Answerer, Outside};
 use of_asking::{Answer, Query};
 use of_devices::{Board, Device};
 use of_fcodes::{FCode, name_of};
+use of_files::Fault;
 use of_machine::{End, Progress, ScriptMachine, script_machine};
 use std::alloc::Global;
 use std::io::{self, Write};

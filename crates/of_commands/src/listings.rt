@@ -1,19 +1,19 @@
 //! What is listed behind what a run printed: the device tree, the words, the word of a name, and the state.
-ghost use Rattle.std.specs.Prelude.{◌≡◌, ◌⊎◌, IfOk, IfErr, OnOk, OnErr, option_map};
+ghost use Rattle.std.specs.Prelude.{◌≡◌, ◌⊎◌, IfOk, IfErr, OnOk, OnErr};
 ghost use Rattle.std.specs.Io.KnownBytes.{Appends};
 ghost use Rattle.of_arguments.specs.Asked.{appendix_of, no_appendix, path_of};
 ghost use Rattle.of_commands.specs.Listings.{ends_line, lacks_word, lines_behind, listings_text, run_text, see_named};
 ghost use Rattle.of_commands.specs.Listings.{see_word, state_if, tree_if, words_if};
 ghost use Rattle.std.specs.String.{string_bytes};
-ghost use Rattle.of_commands.specs.Messages.{AppendsPart};
-ghost use Rattle.of_commands.specs.Runs.{IsUnwritten, run_end};
+ghost use Rattle.of_files.specs.Messages.{AppendsPart};
+ghost use Rattle.of_files.specs.Faults.{IsUnwritten};
+ghost use Rattle.of_commands.specs.Runs.{run_end};
 
-use crate::fault::Fault;
-use crate::output::write_whole;
 use crate::state::state_text;
 use of_arguments::{Listings, Status};
 use of_cells::Cell;
 use of_console::tree_text;
+use of_files::{Fault, write_whole};
 use of_machine::ScriptMachine;
 use std::alloc::Global;
 use std::io::Write;

@@ -3,9 +3,9 @@ ghost use Rattle.std.specs.Prelude.{◌≡◌, ◌%◌, ◌^◌, IfOk, IfErr, re
 ghost use Rattle.std.specs.String.{string_bytes};
 ghost use Rattle.of_commands.specs.States.{cells_shown, number_line, number_shown, stack_line, state_text};
 
-use crate::fault::Fault;
 use hex::encode;
 use of_cells::Cell;
+use of_files::Fault;
 use of_machine::ScriptMachine;
 use std::alloc::Global;
 

@@ -5,9 +5,10 @@ use clap::Error;
 use of_arguments::{Listings, Outside as Asked, Request, Status, parse, status_of};
 use of_asking::Answer;
 use of_calls::ScriptCommand;
-use of_commands::{Answerer, ClientRun, ConsoleRun, DebugRun, Fault, Messages, Outside, Run};
+use of_commands::{Answerer, ClientRun, ConsoleRun, DebugRun, Outside, Run};
 use of_devices::{Board, standard_board};
-use std::fs::File;
+use of_files::{Fault, Messages};
+use std::fs::{self, File};
 use std::io::{BufReader, Read, Stderr};
 use std::process::ExitCode;
 use std::{env, io};
@@ -19,25 +20,63 @@ fn messages(rt: &HostRuntime) -> Messages<Stderr> {
 
 /// Says what is wrong with the file at a path, and gives the status.
 fn report(rt: &HostRuntime, path: &str, fault: Fault) -> Status {
-    of_commands::report(path, fault, &mut messages(rt))
+    of_files::report(path, fault, &mut messages(rt))
 }
 
 /// The path that stands for the standard input, and for the standard output.
 const STANDARD: &str = "-";
 
+/// Whether at a path stands something else than a file with bytes, as a device, a pipe or a link.
+fn is_special(rt: &HostRuntime, path: &str) -> bool {
+    match fs::symlink_metadata(rt, path) {
+        Ok(found) => !found.is_file(),
+        Err(_) => false,
+    }
+}
+
+/// Writes an image to the file at a path.
+fn write(rt: &HostRuntime, path: &str, image: &[u8], shown: &str) -> Status {
+    match File::create(rt, path) {
+        Ok(mut out) => of_files::keep(shown, image, &mut out, &mut messages(rt)),
+        Err(error) => unopened(rt, shown, &error),
+    }
+}
+
+/// Writes an image to a file beside that at a path, and then puts it in its place: so the file is whole, or as it was.
+fn replace(rt: &HostRuntime, path: &str, image: &[u8]) -> Status {
+    let Ok(mut beside) = String::from_str(rt.alloc(), path) else {
+        return report(rt, "", Fault::NoMemory);
+    };
+    if beside.push_str(".new").is_err() {
+        return report(rt, "", Fault::NoMemory);
+    }
+    let status = write(rt, &beside, image, path);
+    if status != Status::Done {
+        let _ = fs::remove_file(rt, beside.as_str());
+        return status;
+    }
+    match fs::rename(rt, beside.as_str(), path) {
+        Ok(()) => Status::Done,
+        Err(error) => unopened(rt, path, &error),
+    }
+}
+
 /// Writes the image of a source to the file at a path, which is made anew, or to the standard output.
 fn keep<R: Read>(rt: &HostRuntime, source: &str, file: &mut R, output: &str) -> Status {
-    let image = match of_commands::image(rt.alloc(), source, file, &mut messages(rt)) {
+    if output == source && output != STANDARD {
+        return report(rt, output, Fault::OutputIsSource);
+    }
+    let image = match of_files::image(rt.alloc(), source, file, &mut messages(rt)) {
         Ok(image) => image,
         Err(status) => return status,
     };
     if output == STANDARD {
-        return of_commands::keep(&image, &mut rt.stdout(), &mut messages(rt));
+        return of_files::keep("", &image, &mut rt.stdout(), &mut messages(rt));
     }
-    match File::create(rt, output) {
-        Ok(mut out) => of_commands::keep(&image, &mut out, &mut messages(rt)),
-        Err(error) => unopened(rt, output, &error),
+    if is_special(rt, output) {
+        return write(rt, output, &image, output);
     }
+    replace(rt, output, &image)
 }
 
 /// Says why the file at a path can't be opened.
@@ -61,7 +100,7 @@ enum Source {
 /// The answers of the file at a path.
 fn read_answers(rt: &HostRuntime, path: &str) -> Result<Vec<Answer>, Status> {
     match File::open(rt, path) {
-        Ok(mut file) => of_commands::answers(rt.alloc(), path, &mut file, &mut messages(rt)),
+        Ok(mut file) => of_files::answers(rt.alloc(), path, &mut file, &mut messages(rt)),
         Err(error) => Err(unopened(rt, path, &error)),
     }
 }
@@ -70,7 +109,7 @@ fn read_answers(rt: &HostRuntime, path: &str) -> Result<Vec<Answer>, Status> {
 fn read_board(rt: &HostRuntime, path: &str) -> Result<Source, Status> {
     match File::open(rt, path) {
         Ok(mut file) => {
-            let parts = of_commands::board(rt.alloc(), path, &mut file, &mut messages(rt))?;
+            let parts = of_files::board(rt.alloc(), path, &mut file, &mut messages(rt))?;
             Ok(Source::Board(Board { parts }))
         }
         Err(error) => Err(unopened(rt, path, &error)),
@@ -95,7 +134,7 @@ fn read_lines(rt: &HostRuntime, path: Option<&str>) -> Result<Vec<Vec<u8>>, Stat
         return Ok(Vec::new(rt.alloc()));
     };
     match File::open(rt, path) {
-        Ok(mut file) => of_commands::lines(rt.alloc(), path, &mut file, &mut messages(rt)),
+        Ok(mut file) => of_files::lines(rt.alloc(), path, &mut file, &mut messages(rt)),
         Err(error) => Err(unopened(rt, path, &error)),
     }
 }
@@ -177,7 +216,7 @@ fn call<'a>(
 /// The image of the file at a path, for a console.
 fn read_rom(rt: &HostRuntime, path: &str) -> Result<Vec<u8>, Status> {
     match File::open(rt, path) {
-        Ok(mut file) => of_commands::rom(rt.alloc(), path, &mut file, &mut messages(rt)),
+        Ok(mut file) => of_files::rom(rt.alloc(), path, &mut file, &mut messages(rt)),
         Err(error) => Err(unopened(rt, path, &error)),
     }
 }
@@ -226,7 +265,7 @@ fn console(rt: &HostRuntime, path: Option<&str>, board: Option<&str>, limit: u64
 /// The commands of the script at a path.
 fn read_script(rt: &HostRuntime, path: &str) -> Result<Vec<ScriptCommand>, Status> {
     match File::open(rt, path) {
-        Ok(mut file) => of_commands::script(rt.alloc(), path, &mut file, &mut messages(rt)),
+        Ok(mut file) => of_files::script(rt.alloc(), path, &mut file, &mut messages(rt)),
         Err(error) => Err(unopened(rt, path, &error)),
     }
 }
@@ -311,13 +350,41 @@ fn perform(rt: &HostRuntime, path: &str, request: Request, outside: Outside) -> 
     }
 }
 
+/// The FCode program in the ROM at a path, or in that on the standard input.
+fn read_program(rt: &HostRuntime, path: &str) -> Result<Vec<u8>, Status> {
+    if path == STANDARD {
+        return of_files::program(rt.alloc(), path, &mut rt.stdin(), &mut messages(rt));
+    }
+    match File::open(rt, path) {
+        Ok(mut file) => of_files::program(rt.alloc(), path, &mut file, &mut messages(rt)),
+        Err(error) => Err(unopened(rt, path, &error)),
+    }
+}
+
+/// Does what was asked for with the file at a path, or with the FCode program in the ROM that it is.
+fn perform_in(
+    rt: &HostRuntime,
+    path: &str,
+    pci: bool,
+    request: Request,
+    outside: Outside,
+) -> Status {
+    if !pci {
+        return perform(rt, path, request, outside);
+    }
+    match read_program(rt, path) {
+        Ok(program) => perform_on(rt, request, outside, &mut program.as_slice()),
+        Err(status) => status,
+    }
+}
+
 /// The same, where nothing is run.
-fn translate(rt: &HostRuntime, path: &str, request: Request) -> Status {
+fn translate(rt: &HostRuntime, path: &str, pci: bool, request: Request) -> Status {
     let nothing = Outside {
         lines: &[],
         answerer: Answerer::Answers(&[]),
     };
-    perform(rt, path, request, nothing)
+    perform_in(rt, path, pci, request, nothing)
 }
 
 /// Does what was asked for, where what is handed in to a run can be had.
@@ -327,9 +394,10 @@ fn answer(rt: &HostRuntime, request: Request) -> Status {
             image,
             lines,
             outside,
+            pci,
             ..
         } => match read_handed(rt, lines, outside) {
-            Ok(handed) => perform(rt, image, request, lend(&handed)),
+            Ok(handed) => perform_in(rt, image, pci, request, lend(&handed)),
             Err(status) => status,
         },
         Request::Client {
@@ -358,8 +426,10 @@ fn answer(rt: &HostRuntime, request: Request) -> Status {
             Ok(debugged) => debug(rt, image, script, limit, &debugged),
             Err(status) => status,
         },
-        Request::Tok { source, .. } => translate(rt, source, request),
-        Request::Detok { image, .. } => translate(rt, image, request),
+        Request::Tok { source, .. } => translate(rt, source, false, request),
+        Request::Detok { image, pci, .. } => translate(rt, image, pci, request),
+        Request::Check { image, pci } => translate(rt, image, pci, request),
+        Request::Pci { rom } => translate(rt, rom, false, request),
     }
 }
 

@@ -88,6 +88,7 @@ ofw tok a.fs:a.fs
 ofw tok:
 ofw tok a.fs --limit 5:
 ofw tok a.fs --output a.rom:a.fs a.rom
+ofw tok a.fs -o a.rom:a.fs a.rom
 ofw tok - --output -:- -
 ofw tok --output a.rom:
 ofw detok a.hex --limit 5:
@@ -97,6 +98,12 @@ ofw run a.hex --limit 7 --limit 8:
 ofw run a.hex b.hex:
 ofw run -a.hex:
 ofw run ./-a.hex:./-a.hex 1000000
+ofw run a.rom --pci:a.rom 1000000 pci
+ofw check a.hex:check a.hex
+ofw check a.rom --pci:check a.rom pci
+ofw check a.hex --partial:
+ofw pci a.rom:images of a.rom
+ofw pci:
 ofw:";
 
 /// Words of a command line that ask for no file, and behind `:` how the program ends.
@@ -133,7 +140,11 @@ fn shown(alloc: Global, request: Request) -> Result<String, Fail> {
             limit,
             listings,
             explain,
-        } => shown_listed(alloc, image, lines, outside, limit, listings, explain),
+            pci,
+        } => {
+            let run = shown_listed(alloc, image, lines, outside, limit, listings, explain)?;
+            with_flag(alloc, run, flag(pci, " pci"))
+        }
         Request::Client {
             image,
             calls,
@@ -159,8 +170,22 @@ fn shown(alloc: Global, request: Request) -> Result<String, Fail> {
             image,
             listing,
             partial,
-        } => shown_detok(alloc, image, listing, flag(partial, " partial")),
+            pci,
+        } => {
+            let listed = shown_detok(alloc, image, listing, flag(partial, " partial"))?;
+            with_flag(alloc, listed, flag(pci, " pci"))
+        }
+        Request::Check { image, pci } => {
+            let looked = format!(in alloc; "check {image}")?;
+            with_flag(alloc, looked, flag(pci, " pci"))
+        }
+        Request::Pci { rom } => Ok(format!(in alloc; "images of {rom}")?),
     }
+}
+
+/// What is asked for, with a flag behind it.
+fn with_flag(alloc: Global, asked: String, flag: &str) -> Result<String, Fail> {
+    Ok(format!(in alloc; "{asked}{flag}")?)
 }
 
 /// The file of console lines that is asked for, if one is.

@@ -1,8 +1,9 @@
 //! Sessions on the console.
 use crate::doubles::{blank_screen, reader_of};
 use of_arguments::Status;
-use of_commands::{ConsoleRun, Messages, console, rom};
+use of_commands::{ConsoleRun, console};
 use of_devices::{Board, standard_board};
+use of_files::{Messages, rom};
 use std::alloc::Global;
 use std::test::Fail;
 

@@ -1,7 +1,8 @@
 //! Images under the scripts of a debugger.
 use crate::doubles::{blank_screen, reader_of};
 use of_arguments::Status;
-use of_commands::{DebugRun, Messages, answers, debug, lines, rom, script};
+use of_commands::{DebugRun, debug};
+use of_files::{Messages, answers, lines, rom, script};
 use std::alloc::Global;
 use std::process::Abort;
 use std::test::Fail;

@@ -1,7 +1,8 @@
 use crate::doubles::{Screen, blank_screen, no_listings, reader_of, without_lines};
 use of_arguments::{Outside as Asked, Request, Status};
-use of_commands::{Answerer, Messages, Outside, answer, answers, board};
+use of_commands::{Answerer, Outside, answer};
 use of_devices::{Board, standard_board};
+use of_files::{Messages, answers, board};
 use std::alloc::Global;
 use std::io::Write;
 use std::process::Abort;
@@ -33,6 +34,7 @@ fn run_on<E: Write>(
         limit: 99,
         listings: no_listings(),
         explain,
+        pci: false,
     };
     answer(alloc, request, outside, &mut image, out, errors)
 }

@@ -1,7 +1,8 @@
 //! Runs with console lines of a file.
 use crate::doubles::{blank_screen, no_listings, reader_of};
 use of_arguments::{Outside as Asked, Request};
-use of_commands::{Answerer, Messages, Outside, answer, lines};
+use of_commands::{Answerer, Outside, answer};
+use of_files::{Messages, lines};
 use std::alloc::Global;
 use std::test::Fail;
 
@@ -32,6 +33,7 @@ fn run(alloc: Global, text: &str) -> Result<(u8, Vec<u8>, Vec<u8>), Fail> {
         limit: 99,
         listings: no_listings(),
         explain: true,
+        pci: false,
     };
     let status = match lines(alloc, "a.lines", &mut file, &mut said) {
         Ok(list) => {

@@ -3,7 +3,8 @@
 use crate::commands::code_of;
 use crate::doubles::{blank_screen, reader_of};
 use of_arguments::{Status, parse};
-use of_commands::{Answerer, Messages, Outside, answer};
+use of_commands::{Answerer, Outside, answer};
+use of_files::Messages;
 use std::alloc::Global;
 use std::process::Abort;
 use std::test::Fail;

@@ -2,7 +2,8 @@
 
 use crate::doubles::{blank_screen, reader_of, without_lines};
 use of_arguments::{Listings, Outside as Asked, Request};
-use of_commands::{Answerer, Messages, answer};
+use of_commands::{Answerer, answer};
+use of_files::Messages;
 use std::alloc::Global;
 use std::test::Fail;
 
@@ -40,6 +41,7 @@ fn run(alloc: Global, image: &str, room: u32) -> Result<(u8, Vec<u8>), Fail> {
             state: false,
         },
         explain: false,
+        pci: false,
     };
     let outside = without_lines(Answerer::Answers(&[]));
     let status = answer(alloc, request, outside, &mut file, &mut out, &mut said);

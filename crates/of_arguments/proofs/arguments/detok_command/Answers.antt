@@ -15,5 +15,7 @@ returns c =
     let with_names = c.in_ok-arg-2.ensures.shape names.1 ∙ ap₂ with_rule with_image names.0 in
     let with_indent = c.in_ok-arg-3.ensures.shape indent.1 ∙ ap₂ with_rule with_names indent.0 in
     let with_see = c.in_ok-arg-4.ensures.shape see.1 ∙ ap₂ with_rule with_indent see.0 in
-    IfOk-weaker c.arg-5.result _ _ (λ r h. (h.shape partial.1 ∙ ap₂ with_rule with_see partial.0, search rules))
-    c.arg-5.ensures
+    let pci = c.pci_flag.ensures in
+    let with_partial = c.in_ok-arg-5.ensures.shape partial.1 ∙ ap₂ with_rule with_see partial.0 in
+    IfOk-weaker c.arg-6.result _ _ (λ r h. (h.shape pci.1 ∙ ap₂ with_rule with_partial pci.0, search rules))
+    c.arg-6.ensures

@@ -15,5 +15,7 @@ returns c =
     let with_words = c.in_ok-arg-2.ensures.shape words.1 ∙ ap₂ with_rule with_tree words.0 in
     let with_see = c.in_ok-arg-3.ensures.shape see.1 ∙ ap₂ with_rule with_words see.0 in
     let with_state = c.in_ok-arg-4.ensures.shape state.1 ∙ ap₂ with_rule with_see state.0 in
-    IfOk-weaker c.arg-5.result _ _ (λ r h. (h.shape explain.1 ∙ ap₂ with_rule with_state explain.0, search rules))
-    c.arg-5.ensures
+    let pci = c.pci_flag.ensures in
+    let with_explain = c.in_ok-arg-5.ensures.shape explain.1 ∙ ap₂ with_rule with_state explain.0 in
+    IfOk-weaker c.arg-6.result _ _ (λ r h. (h.shape pci.1 ∙ ap₂ with_rule with_explain pci.0, search rules))
+    c.arg-6.ensures

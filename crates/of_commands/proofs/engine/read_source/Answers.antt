@@ -1,9 +1,0 @@
--- The goals at which wrong bodies are refused.
-use Rattle.std.proofs.Common.{rules}
-use Rattle.of_commands.proofs.engine.read_source.Goals as goal
-
-pub returns-clause-ok : goal.returns-clause-ok
-returns-clause-ok g c = search rules
-
-pub returns-clause-err : goal.returns-clause-err
-returns-clause-err g c = search rules
