@@ -72,6 +72,11 @@ taken_back words w =
     let len : length (words ++ w ∷ []) - 1 ≡ length words = omega (arith, length-append words (w ∷ [])) in
     ap (λ n. take n (words ++ w ∷ [])) len ∙ take_at words (w ∷ []) (length words) refl
 
+-- what adding a word of a name, or one of a slot, stands on
+pub ruleset word_added = (newest_pushed, changed_pushed, name_pushed)
+
+pub ruleset slot_word_added = (newest_pushed, taken_back, name_pushed)
+
 -- the tests of `own_number`
 abbrev is_own : ℕ → Bool
 is_own xt = nat_le (xt_of 0) xt && (nat_eq (xt % 4) 0 && nat_lt ((xt - xt_of 0) / 4) capacity)

@@ -221,7 +221,7 @@ impl Words {
     }
 
     /// Adds a word of a name. A refusal is one of memory.
-    #[tactic(auto, using(crate::proofs::WordsLemmas::newest_pushed, crate::proofs::WordsLemmas::changed_pushed, crate::proofs::WordsLemmas::name_pushed))]
+    #[tactic(auto, using(crate::proofs::WordsLemmas::word_added))]
     fn add_named(&mut self, word: DefiningWord, name: &[u8], kind: Kind) -> Result<(), AllocError>
         requires closed { self.old.defining ≡ None }
         requires room { length self.old.dictionary < capacity }

@@ -233,7 +233,7 @@ impl Words {
     }
 
     /// Makes a word of this name that works on a new slot of a package. -8 where that finds no room.
-    #[tactic(auto, using(crate::proofs::WordsLemmas::newest_pushed, crate::proofs::WordsLemmas::taken_back, crate::proofs::WordsLemmas::name_pushed))]
+    #[tactic(auto, using(crate::proofs::WordsLemmas::slot_word_added))]
     fn add_named_slot(
         &mut self,
         slot: Slot,

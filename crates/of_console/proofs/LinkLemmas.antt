@@ -5,7 +5,8 @@ use Rattle.std.proofs.Common.{if◌then◌else◌, refl, sym, ap, subst, ◌∙�
 use Rattle.std.proofs.lemmas.Bool.{lt-ltb}
 use Rattle.std.proofs.Math.Seq.{drop-cons, drop-length}
 use Rattle.std.proofs.lemmas.Bool.Decides.{eqb_tells, nat_tests}
-use Rattle.std.proofs.lemmas.List.{get_or_read, get_or-replicate, length-append, get_or-set_same, get_or-set_other, length-replicate, length-set}
+use Rattle.std.proofs.lemmas.List.{get_or_read, get_or-replicate, length-append, get_or-set_same, get_or-set_other}
+use Rattle.std.proofs.lemmas.List.{length-replicate, length-set}
 use Rattle.std.specs.Option.{option_or}
 use Rattle.of_nodes.specs.declared.tree.Node.{Node}
 use Rattle.of_nodes.specs.declared.phandles.Phandle.{Phandle}
@@ -261,3 +262,6 @@ above_is ns i o l e =
     let both : ◌≡◌ {A = Result (Option Phandle) NodeFault} (Ok o)
     (Ok (if i == 0 then None else Some (phandle_of (parent_in ns i)))) = sym e ∙ above_at ns i l in
     cc
+
+-- what the walk over all nodes stands on
+pub ruleset walk = (parent_older, none_done, all_done)

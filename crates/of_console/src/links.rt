@@ -68,7 +68,7 @@ fn behind_all(
 /// The node behind each in preorder, if there is one, under the number of its node: the oldest child, or else the node
 /// behind all that is below, which is the next younger child of the same parent, or else what is behind all that is
 /// below the parent. So a walk looks at each node a few times, however many children one has.
-#[tactic(auto, using(crate::proofs::LinkLemmas::parent_older, crate::proofs::LinkLemmas::none_done, crate::proofs::LinkLemmas::all_done))]
+#[tactic(auto, using(crate::proofs::LinkLemmas::walk))]
 pub(crate) fn next_nodes(alloc: Global, tree: &Tree) -> Result<Vec<Option<usize>>, AllocError>
     ensures { IfOk result (λ next. AreNext tree.now next.items) }
 {

@@ -1,8 +1,8 @@
 use Rattle.std.proofs.Common.{rules, ◌≡◌, Some, subst, sym}
 use Rattle.of_nodes.specs.declared.fault.NodeFault.{NodeFault}
 use Rattle.of_nodes.specs.declared.fault.NodeFault.TheVariants.{NoMemory}
-use Rattle.of_console.proofs.NodeTexts.{GoesOn, IsAt, begins, followed, goes_on, has_phandle, moves, only_memory, smaller}
-use Rattle.of_console.proofs.NodeTexts.{stands}
+use Rattle.of_console.proofs.NodeTexts.{GoesOn, IsAt, begins, followed, goes_on, has_phandle, moves}
+use Rattle.of_console.proofs.NodeTexts.{only_memory, smaller, stands}
 use Rattle.of_console.proofs.tree.walk_text.Goals as goal
 
 pub loop-left-init : goal.loop-left-init
