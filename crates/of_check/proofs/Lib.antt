@@ -4,3 +4,4 @@ pub mod Making
 pub mod Steps
 pub mod Clean
 pub mod Ordered
+pub mod Writing

@@ -3,3 +3,4 @@ pub mod Structures
 pub mod Findings
 pub mod Table
 pub mod Law
+pub mod Texts

@@ -9,9 +9,11 @@ mod laws;
 mod made;
 #[cfg(test)]
 mod tests;
+mod text;
 
 pub use checker::findings;
 pub use finding::Finding;
 pub use laws::{
     bound_cuts_nothing, clean_images_are_listed, findings_are_ordered, plain_items_fit,
 };
+pub use text::finding_lines;

@@ -1,6 +1,7 @@
 //! Images and what is found of them, worked out by hand from the bytes (IEEE 1275-1994, 5.2.2, 5.2.2.5, 5.3.3).
 use crate::{
-    bound_cuts_nothing, clean_images_are_listed, findings, findings_are_ordered, plain_items_fit,
+    bound_cuts_nothing, clean_images_are_listed, finding_lines, findings, findings_are_ordered,
+    plain_items_fit,
 };
 use std::alloc::Global;
 
@@ -104,6 +105,15 @@ f108018f0000000eb50800b71b00
 f108032300000011b50800b71bb71bc200
 00000d: the definition of this b(:) has no reading
 
+f10823160000008eb50800b714007f14007b14007714007314006f14006b14006714006314005f14005b1400571400531400\
+4f14004b14004714004314003f14003b14003714003314002f14002b14002714002314001f14001b14001714001314000f14\
+000b140007140003b2b2b2b2b2b2b2b2b2b2b2b2b2b2b2b2b2b2b2b2b2b2b2b2b2b2b2b2b2b2b2b2c200
+
+f108245f00000092b50800b714008314007f14007b14007714007314006f14006b14006714006314005f14005b1400571400\
+5314004f14004b14004714004314003f14003b14003714003314002f14002b14002714002314001f14001b14001714001314\
+000f14000b140007140003b2b2b2b2b2b2b2b2b2b2b2b2b2b2b2b2b2b2b2b2b2b2b2b2b2b2b2b2b2b2b2b2b2c200
+00000b: the definition of this b(:) has no reading
+
 f108043800000011b50800b713fff0c200
 00000b: the definition of this b(:) has no reading
 00000c: the offset -16 of bbranch leads outside
@@ -124,25 +134,24 @@ f10801060000000b07ff00
 
 f10800190000000c11080000
 
+f10800210000000e110800080000
+00000b: 800 is used before it is made
+
 f10800080000000c00080000
 
 f10801070000000cff080000";
 
-/// The lines of an image's findings, the last without its end.
-fn lines_of(alloc: Global, digits: &str) -> Option<String> {
+/// The lines of an image's findings.
+fn lines_of(alloc: Global, digits: &str) -> Option<Vec<u8>> {
     let image = hex::decode(alloc, digits).ok()?;
-    let mut text = String::new(alloc);
-    for finding in findings(alloc, &image).ok()? {
-        let line = format!(in alloc; "\n{finding}").ok()?;
-        text.push_str(&line).ok()?;
-    }
-    Some(text)
+    let found = findings(alloc, &image).ok()?;
+    finding_lines(alloc, &found).ok()
 }
 
-/// The digits of a case's image, and the lines behind them, each with the end of the line before it.
+/// The digits of a case's image, and the lines behind them, the last without its end.
 fn halves(case: &str) -> (&str, &str) {
-    match case.find('\n') {
-        Some(end) => case.split_at(end),
+    match case.split_once('\n') {
+        Some(halves) => halves,
         None => (case, ""),
     }
 }
@@ -151,7 +160,10 @@ fn halves(case: &str) -> (&str, &str) {
 fn holds(alloc: Global, case: &str) -> bool {
     let (digits, lines) = halves(case);
     match lines_of(alloc, digits) {
-        Some(found) => found.as_str() == lines,
+        Some(found) => match found.as_slice() {
+            [whole @ .., b'\n'] => whole == lines.as_bytes(),
+            _ => found.is_empty() && lines.is_empty(),
+        },
         None => false,
     }
 }

@@ -1,21 +1,31 @@
 -- A look at an image that was made.
-use Rattle.std.proofs.Common.{◌≡◌, ◌⊎◌, ◌∙◌, ℕ, List, [], Option, Some, None, IfSome, Ok, Err, Result, refl, sym, subst}
-use Rattle.std.proofs.Common.{inl, inr}
+use Rattle.std.proofs.Common.{◌≡◌, ℕ, List, Option, Some, None, IfSome, Ok, Err, Result, refl, sym, subst, inl, inr}
 use Rattle.std.specs.Io.KnownBytes.{Keeps, Appends}
 use Rattle.of_arguments.specs.declared.status.Status.{Status}
 use Rattle.of_check.specs.Findings.{findings_of}
+use Rattle.of_check.specs.Texts.{findings_text}
 use Rattle.of_check.specs.declared.finding.Finding.{Finding}
-use Rattle.of_files.specs.Faults.{EndsWith, status_of}
+use Rattle.of_files.specs.Faults.{EndsWith, IsUnwritten, status_of}
 use Rattle.of_files.specs.Files.{FaultsReading, image_in}
+use Rattle.of_files.specs.Messages.{AppendsPart}
 use Rattle.of_files.specs.declared.fault.Fault.{Fault}
 use Rattle.of_inspect.specs.Looks.{Checks, ChecksImage, look_status}
 
--- nothing was printed where nothing is wrong
-pub looked : (image : List ℕ) (found : List Finding) (old new : Option (List ℕ)) (text : List ℕ) (s : Status)
-    → found ≡ findings_of image → s ≡ look_status found → (found ≡ [] → text ≡ []) → Appends old new text
-    → ((t : List ℕ) → t ≡ [] → Appends old new t → Keeps old new) → ChecksImage image old new (Ok s)
-looked image found old new text s is ends none all kept =
-    (subst (λ fs. s ≡ look_status fs) is ends, λ clean. kept text (none (is ∙ clean)) all)
+-- what is wrong was printed
+pub looked : (image : List ℕ) (found : List Finding) (text : List ℕ) (old new : Option (List ℕ)) (s : Status)
+    → found ≡ findings_of image → s ≡ look_status found → text ≡ findings_text found → Appends old new text
+    → ChecksImage image old new (Ok s)
+looked image found text old new s is ends same all =
+    let printed : Appends old new (findings_text found) = subst (Appends old new) same all in
+    (subst (λ fs. s ≡ look_status fs) is ends, subst (λ fs. Appends old new (findings_text fs)) is printed)
+
+-- or a write failed
+pub not_looked : (image : List ℕ) (found : List Finding) (text : List ℕ) (f : Fault) (old new : Option (List ℕ))
+    → found ≡ findings_of image → text ≡ findings_text found → AppendsPart old new text → IsUnwritten f
+    → ChecksImage image old new (Err f)
+not_looked image found text f old new is same part unwritten =
+    let printed : AppendsPart old new (findings_text found) = subst (AppendsPart old new) same part in
+    inr (subst (λ fs. AppendsPart old new (findings_text fs)) is printed, unwritten)
 
 -- the image of a file was looked over
 pub file_looked : (known : Option (List ℕ)) (image read : List ℕ) (old new : Option (List ℕ))

@@ -5,6 +5,7 @@ use Rattle.std.specs.Io.KnownBytes.{Keeps, Appends}
 use Rattle.of_arguments.specs.declared.status.Status.{Status}
 use Rattle.of_arguments.specs.declared.status.Status.TheVariants as status
 use Rattle.of_check.specs.Findings.{findings_of}
+use Rattle.of_check.specs.Texts.{findings_text}
 use Rattle.of_check.specs.declared.finding.Finding.{Finding}
 use Rattle.of_files.specs.Faults.{IsUnwritten}
 use Rattle.of_files.specs.Files.{FaultsReading, IsUnread, image_in}
@@ -21,11 +22,13 @@ abbrev pub look_status : List Finding → Status
 look_status [] = status.Done
 look_status (f ∷ found) = status.Fault
 
--- an image was looked over, and nothing was printed where nothing is wrong; or memory was refused, or a write failed
+-- a line for each thing that is wrong with an image was printed; or none for lack of memory, or a write failed
 abbrev pub ChecksImage : List ℕ → Option (List ℕ) → Option (List ℕ) → Result Status Fault → Type 0
 ChecksImage image old new (Ok s) =
-    (s ≡ look_status (findings_of image)) × (findings_of image ≡ [] → Keeps old new)
-ChecksImage image old new (Err f) = ((f ≡ fault.NoMemory) × Keeps old new) ⊎ IsUnwritten f
+    (s ≡ look_status (findings_of image)) × Appends old new (findings_text (findings_of image))
+ChecksImage image old new (Err f) =
+    ((f ≡ fault.NoMemory) × Keeps old new)
+    ⊎ (AppendsPart old new (findings_text (findings_of image)) × IsUnwritten f)
 
 -- the image of a file was, or it has none
 abbrev pub Checks : List ℕ → Option (List ℕ) → Option (List ℕ) → Result Status Fault → Type 0

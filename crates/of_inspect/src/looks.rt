@@ -1,16 +1,13 @@
 //! `check`: what is wrong with an image.
-ghost use Rattle.std.specs.Prelude.{◌≡◌, [], true, IfErr, IfOk, IfSome};
-ghost use Rattle.std.specs.String.{string_bytes};
-ghost use Rattle.of_check.specs.Findings.{findings_of};
+ghost use Rattle.std.specs.Prelude.{◌≡◌, true, IfSome};
 ghost use Rattle.of_files.specs.Faults.{EndsWith, is_done};
 ghost use Rattle.of_files.specs.Saying.{Said};
 ghost use Rattle.of_inspect.specs.Looks.{Checks, ChecksImage, look_status};
 
 use of_arguments::Status;
-use of_check::{Finding, findings};
+use of_check::{Finding, finding_lines, findings};
 use of_files::{Fault, Messages, read_image, report, write_whole};
 use std::alloc::Global;
-use std::fmt::Write as _;
 use std::io::{Read, Write};
 
 /// The status of a look at an image.
@@ -23,34 +20,21 @@ fn look_status(found: &[Finding]) -> Status
     }
 }
 
-/// A line for each finding.
-fn finding_lines(alloc: Global, found: &[Finding]) -> Result<String, Fault>
-    ensures none { IfOk result (λ text. found.now ≡ [] → string_bytes text ≡ []) }
-    ensures err { IfErr result (λ f. f ≡ Fault.NoMemory) }
-{
-    let mut text = String::new(alloc);
-    if found.is_empty() {
-        return Ok(text);
-    }
-    for finding in found {
-        if writeln!(text, "{finding}").is_err() {
-            return Err(Fault::NoMemory);
-        }
-    }
-    Ok(text)
-}
-
 /// Prints a line for each thing that is wrong with an image.
-#[tactic(auto, using(crate::proofs::Looked::looked))]
+#[tactic(auto, using(crate::proofs::Looked::looked, crate::proofs::Looked::not_looked))]
 fn check_image<W: Write>(alloc: Global, image: &[u8], out: &mut W) -> Result<Status, Fault>
     ensures { ChecksImage image.now (W.contents out.old) (W.contents out.new) result }
 {
     let Ok(found) = findings(alloc, image) else {
         return Err(Fault::NoMemory);
     };
-    let text = finding_lines(alloc, &found)?;
-    write_whole(out, text.as_bytes())?;
-    Ok(look_status(&found))
+    let Ok(text) = finding_lines(alloc, &found) else {
+        return Err(Fault::NoMemory);
+    };
+    match write_whole(out, &text) {
+        Ok(()) => Ok(look_status(&found)),
+        Err(fault) => Err(fault),
+    }
 }
 
 /// The same of the image of a file.
