@@ -1,8 +1,12 @@
 -- FirstLemmas: the device tree at first leaves the image region empty.
 -- EventLemmas: the law `calls_agree`.
--- RunLemmas: runs turn by turn, for `run_script` and the law `runs_agree`.
+-- RunLemmas: runs turn by turn, as the code makes them.
+-- AgreeLemmas: the law `runs_agree`, and what `run_script` answers.
 -- RackLemmas: runs whose questions a rack answers, for `run_rack`.
+-- StretchLemmas: the law `stretches_join`.
 pub mod FirstLemmas
 pub mod EventLemmas
 pub mod RunLemmas
+pub mod AgreeLemmas
 pub mod RackLemmas
+pub mod StretchLemmas

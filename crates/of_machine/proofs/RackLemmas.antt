@@ -15,7 +15,7 @@ use Rattle.of_steps.specs.Steps.{asked_by}
 use Rattle.of_eval_laws.specs.Structured.{no_definitions}
 use Rattle.of_machine.specs.declared.answers.End.{End}
 use Rattle.of_machine.specs.declared.answers.End.TheVariants.{AnswersOut}
-use Rattle.of_machine.specs.declared.feeder.Advance.TheVariants as advance
+use Rattle.of_machine.specs.declared.script_run.Advance.TheVariants as advance
 use Rattle.of_machine.specs.States.{MachineState, answer_refusal, answered, can_step, fit_of, flat_machine, idle}
 use Rattle.of_machine.specs.States.{is_running}
 use Rattle.of_machine.specs.States.{loaded, moved, slot}
@@ -23,7 +23,8 @@ use Rattle.of_machine.specs.Runs.{Advances, AreLater, Due, Feed, HasAdvanced, Ha
 use Rattle.of_machine.specs.Runs.{States, after, asking, beginning, clients_heard, end_of, fed_by, fitting, next}
 use Rattle.of_machine.specs.Runs.{settled, told, turned}
 use Rattle.of_machine.specs.Racks.{HasGoneWith, IsLeft, IsLeftWith, Rounds, answers_of}
-use Rattle.of_machine.proofs.RunLemmas.{asks_then, run_ends, same_answers, same_asked, same_steps, same_waiting}
+use Rattle.of_machine.proofs.AgreeLemmas.{run_ends}
+use Rattle.of_machine.proofs.RunLemmas.{asks_then, same_answers, same_asked, same_steps, same_waiting}
 use Rattle.of_machine.proofs.RunLemmas.{settled_is, turn_behind, turns_joined}
 
 -- ---- more answers than are used change nothing

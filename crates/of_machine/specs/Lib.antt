@@ -2,4 +2,5 @@ pub mod States
 pub mod Views
 pub mod Runs
 pub mod Racks
+pub mod Stretches
 pub mod Events

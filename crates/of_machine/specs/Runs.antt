@@ -15,8 +15,8 @@ use Rattle.of_client.specs.Services.{Service, service_of}
 use Rattle.of_client.specs.declared.calls.ClientCall.{ClientCall}
 use Rattle.of_machine.specs.declared.answers.End.{End}
 use Rattle.of_machine.specs.declared.answers.End.TheVariants.{AnswersOut, Done, LimitReached}
-use Rattle.of_machine.specs.declared.feeder.Advance.{Advance}
-use Rattle.of_machine.specs.declared.feeder.Advance.TheVariants.{Asks, Further, Over}
+use Rattle.of_machine.specs.declared.script_run.Advance.{Advance}
+use Rattle.of_machine.specs.declared.script_run.Advance.TheVariants.{Asks, Further, Over}
 use Rattle.of_machine.specs.declared.answers.Refusal.{Refusal}
 use Rattle.of_machine.specs.declared.answers.Refusal.TheVariants.{ImageTooLong, LineTooLong}
 use Rattle.of_machine.specs.States.{MachineState, answered, can_step, flat_machine, idle, is_running, lined, loaded}

@@ -1,6 +1,7 @@
 // A law has no parameters and does nothing: its contract is the law.
 ghost use Rattle.of_machine.specs.Events.{CallsAgree};
 ghost use Rattle.of_machine.specs.Runs.{RunsAgree};
+ghost use Rattle.of_machine.specs.Stretches.{StretchesJoin};
 
 use of_eval_laws::{states_stay_placed, steps_agree};
 
@@ -19,4 +20,12 @@ pub fn calls_agree()
 {
     states_stay_placed();
     steps_agree();
+}
+
+/// A run that is made stretch by stretch is the run that is made in one go: stretches join, and from the beginning they
+/// come to what a run of as many steps answers.
+pub fn stretches_join()
+    ensures { StretchesJoin }
+{
+    runs_agree();
 }

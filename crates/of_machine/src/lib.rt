@@ -2,14 +2,15 @@
 #![tactic(auto)]
 
 mod answers;
-mod feeder;
 mod laws;
 mod machine;
 mod racks;
 mod run;
+mod script_run;
 
 pub use answers::{End, Progress, Refusal};
-pub use laws::{calls_agree, runs_agree};
+pub use laws::{calls_agree, runs_agree, stretches_join};
 pub use machine::{LONGEST_IMAGE, LONGEST_LINE, Machine};
-pub use racks::run_rack;
-pub use run::{ScriptMachine, loaded_machine, run_script, script_machine};
+pub use racks::{go_with, run_rack};
+pub use run::{ScriptMachine, begin_run, loaded_machine, run_script, script_machine};
+pub use script_run::ScriptRun;

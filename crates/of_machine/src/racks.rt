@@ -1,14 +1,15 @@
 ghost use Rattle.std.specs.Prelude.{◌≡◌, ◌≤◌, [], IfOk, IfErr, OnOk, OnErr, None, is_some, map, false, true};
-ghost use Rattle.of_machine.specs.declared.answers.End.TheVariants.{AnswersOut};
+ghost use Rattle.of_machine.specs.declared.answers.End.TheVariants.{AnswersOut, LimitReached};
 ghost use Rattle.of_machine.specs.States.{Refuses};
 ghost use Rattle.of_machine.specs.Racks.{IsLeft, IsLeftWith, Rounds, answers_of};
 ghost use Rattle.of_devices.specs.Racks.{told_all};
 ghost use Rattle.of_machine.specs.Runs.{IsCalm, RunsTo, due_of, script_refusal};
+ghost use Rattle.of_machine.specs.Stretches.{StretchesWith};
 
 use crate::answers::{End, Refusal};
-use crate::feeder::{Advance, Feeder};
 use crate::laws::runs_agree;
 use crate::run::{ScriptMachine, begin_run, end_of};
+use crate::script_run::{Advance, ScriptRun};
 use of_client::ClientCall;
 use of_devices::{Rack, ask};
 use std::alloc::{AllocError, Global};
@@ -17,21 +18,21 @@ use std::alloc::{AllocError, Global};
 /// handed in, at most until `limit` are made; answers whether more can be made.
 ///
 /// An error is for memory alone.
-fn round_with(feeder: &mut Feeder, rack: &mut Rack, limit: u64) -> Result<bool, AllocError>
-    requires few { feeder.old.machine.steps ≤ limit }
-    requires calm { IsCalm feeder.old }
-    requires none { feeder.old.answers ≡ [] }
+fn round_with(run: &mut ScriptRun, rack: &mut Rack, limit: u64) -> Result<bool, AllocError>
+    requires few { run.old.machine.steps ≤ limit }
+    requires calm { IsCalm run.old }
+    requires none { run.old.answers ≡ [] }
     ensures ok { IfOk result (λ more. Rounds limit more
-        (map (λ d. meant d) rack.old.items) (map (λ d. meant d) rack.new.items) feeder.old feeder.new) }
+        (map (λ d. meant d) rack.old.items) (map (λ d. meant d) rack.new.items) run.old run.new) }
     ensures left { OnErr result (IsLeftWith limit
-        (map (λ d. meant d) rack.old.items) (map (λ d. meant d) rack.new.items) feeder.old) }
+        (map (λ d. meant d) rack.old.items) (map (λ d. meant d) rack.new.items) run.old) }
 {
-    match feeder.advance(limit)? {
+    match run.advance(limit)? {
         Advance::Further => Ok(true),
         Advance::Over => Ok(false),
         Advance::Asks(query) => {
             let answer = ask(rack, query);
-            feeder.answer(answer)?;
+            run.answer(answer)?;
             Ok(true)
         }
     }
@@ -41,17 +42,38 @@ fn round_with(feeder: &mut Feeder, rack: &mut Rack, limit: u64) -> Result<bool, 
 /// be.
 ///
 /// An error is for memory alone.
-fn run_with(feeder: &mut Feeder, rack: &mut Rack, limit: u64) -> Result<(), AllocError>
-    requires few { feeder.old.machine.steps ≤ limit }
-    requires calm { IsCalm feeder.old }
-    requires none { feeder.old.answers ≡ [] }
+fn run_with(run: &mut ScriptRun, rack: &mut Rack, limit: u64) -> Result<(), AllocError>
+    requires few { run.old.machine.steps ≤ limit }
+    requires calm { IsCalm run.old }
+    requires none { run.old.answers ≡ [] }
     ensures over { OnOk result (Rounds limit false
-        (map (λ d. meant d) rack.old.items) (map (λ d. meant d) rack.new.items) feeder.old feeder.new) }
+        (map (λ d. meant d) rack.old.items) (map (λ d. meant d) rack.new.items) run.old run.new) }
     ensures left { OnErr result (IsLeftWith limit
-        (map (λ d. meant d) rack.old.items) (map (λ d. meant d) rack.new.items) feeder.old) }
+        (map (λ d. meant d) rack.old.items) (map (λ d. meant d) rack.new.items) run.old) }
 {
-    while round_with(feeder, rack, limit)? {}
+    while round_with(run, rack, limit)? {}
     Ok(())
+}
+
+/// A stretch of a run whose questions the devices of a rack answer, as `ScriptRun::go`: until `limit` steps are made in
+/// all, or no more can be made.
+///
+/// An error is for memory alone: then the run can't go on, and the devices are as the questions left them that were
+/// answered so far.
+pub fn go_with(run: &mut ScriptRun, rack: &mut Rack, limit: u64) -> Result<End, AllocError>
+    requires few { run.old.machine.steps ≤ limit }
+    requires calm { IsCalm run.old }
+    requires none { run.old.answers ≡ [] }
+    ensures gone { IfOk result (λ e. StretchesWith limit
+        (map (λ d. meant d) rack.old.items) (map (λ d. meant d) rack.new.items) run.old run.new e) }
+    ensures calm { OnOk result (IsCalm run.new) }
+    ensures none { OnOk result (run.new.answers ≡ []) }
+    ensures made { IfOk result (λ e. e ≡ LimitReached → run.new.machine.steps ≡ limit) }
+    ensures left { OnErr result (IsLeftWith limit
+        (map (λ d. meant d) rack.old.items) (map (λ d. meant d) rack.new.items) run.old) }
+{
+    run_with(run, rack, limit)?;
+    Ok(end_of(&run.machine))
 }
 
 /// Runs an image for `/slot` on a new machine as `run_script` does, where the devices of a rack answer: the k-th answer
@@ -82,10 +104,10 @@ pub fn run_rack(
         (map (λ d. meant d) rack.old.items) (map (λ d. meant d) rack.new.items)) }
 {
     runs_agree();
-    let mut feeder = begin_run(alloc, image, lines, &[], calls)?;
-    let Ok(()) = run_with(&mut feeder, rack, limit) else {
+    let mut run = begin_run(alloc, image, lines, &[], calls)?;
+    let Ok(()) = run_with(&mut run, rack, limit) else {
         return Err(Refusal::NoMemory);
     };
-    let end = end_of(&feeder.machine);
-    Ok((feeder.machine, end))
+    let end = end_of(&run.machine);
+    Ok((run.machine, end))
 }

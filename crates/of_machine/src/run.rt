@@ -5,9 +5,9 @@ ghost use Rattle.of_machine.specs.States.{Refuses, flat_machine, idle, image_ref
 ghost use Rattle.of_machine.specs.Runs.{IsCalm, RunsTo, beginning, due_of, end_of, has_long, script_refusal};
 
 use crate::answers::{End, Refusal};
-use crate::feeder::Feeder;
 use crate::laws::runs_agree;
 use crate::machine::{LONGEST_IMAGE, LONGEST_LINE, Machine, check_image};
+use crate::script_run::ScriptRun;
 use of_asking::Answer;
 use of_cell_code::CellCode;
 use of_client::ClientCall;
@@ -92,18 +92,18 @@ pub fn loaded_machine(
     begun_machine(alloc, image)
 }
 
-/// Begins a run: an image is loaded for `/slot` on a new machine, the clients due at 0 are answered, and the first line
-/// is handed in if nothing runs then.
+/// Begins a run that is made stretch by stretch: an image is loaded for `/slot` on a new machine, the clients due at 0
+/// are answered, and the first line is handed in if nothing runs then.
 ///
 /// ImageTooLong over 256 KiB, then LineTooLong over 255 bytes, then BadStart where the header can't be read, and
 /// NoMemory.
-pub(crate) fn begin_run<'a>(
+pub fn begin_run<'a>(
     alloc: Global,
     image: &[u8],
     lines: &'a [Vec<u8>],
     answers: &'a [Answer],
     calls: &'a [(u64, ClientCall)],
-) -> Result<Feeder<'a>, Refusal>
+) -> Result<ScriptRun<'a>, Refusal>
     ensures accepted { OnOk result (script_refusal image.now (map (λ l. l.items) lines.now) ≡ None) }
     ensures begun { IfOk result (λ f. f ≡ beginning (flat_of no_definitions) image.now (map (λ l. l.items) lines.now)
         answers.now (map due_of calls.now)) }
@@ -112,16 +112,16 @@ pub(crate) fn begin_run<'a>(
     ensures err { IfErr result (λ e. Refuses (script_refusal image.now (map (λ l. l.items) lines.now)) e) }
 {
     let machine = loaded_machine(alloc, image, lines)?;
-    let mut feeder = Feeder {
+    let mut run = ScriptRun {
         machine,
         lines,
         answers,
         calls,
     };
-    let Ok(()) = feeder.serve() else {
+    let Ok(()) = run.serve() else {
         return Err(Refusal::NoMemory);
     };
-    Ok(feeder)
+    Ok(run)
 }
 
 /// How a run ended whose machine this is.
@@ -160,11 +160,10 @@ pub fn run_script(
         (map due_of calls.now) limit r.0 r.1) }
     ensures err { IfErr result (λ e. Refuses (script_refusal image.now (map (λ l. l.items) lines.now)) e) }
 {
-    let mut feeder = begin_run(alloc, image, lines, answers, calls)?;
-    let Ok(()) = feeder.run(limit) else {
+    let mut run = begin_run(alloc, image, lines, answers, calls)?;
+    let Ok(end) = run.go(limit) else {
         return Err(Refusal::NoMemory);
     };
-    let end = end_of(&feeder.machine);
     runs_agree();
-    Ok((feeder.machine, end))
+    Ok((run.machine, end))
 }

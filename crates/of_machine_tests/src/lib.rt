@@ -32,4 +32,6 @@ mod shared;
 #[cfg(test)]
 mod slots;
 #[cfg(test)]
+mod stretches;
+#[cfg(test)]
 mod tree;

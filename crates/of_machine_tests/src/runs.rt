@@ -22,7 +22,7 @@ fn push_run(text: &mut String, machine: &ScriptMachine, end: End) -> Result<(), 
 }
 
 /// The steps that were made, the end of the run, and the console.
-fn text_of(alloc: Global, machine: &ScriptMachine, end: End) -> Result<String, Fail> {
+pub(crate) fn text_of(alloc: Global, machine: &ScriptMachine, end: End) -> Result<String, Fail> {
     let mut text = String::new(alloc);
     push_run(&mut text, machine, end)?;
     Ok(text)

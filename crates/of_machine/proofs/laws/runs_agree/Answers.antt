@@ -1,4 +1,4 @@
-use Rattle.of_machine.proofs.RunLemmas.{runs_agree}
+use Rattle.of_machine.proofs.AgreeLemmas.{runs_agree}
 use Rattle.of_machine.proofs.laws.runs_agree.Goals as goal
 
 pub returns : goal.returns

@@ -3,7 +3,7 @@ use Rattle.of_asking.specs.declared.query.Query.{Query}
 use Rattle.of_asking.specs.Questions.{fits}
 use Rattle.of_devices.specs.Racks.{Meant, rack_answer, rack_told}
 use Rattle.of_state.specs.State.{flat_calls}
-use Rattle.of_machine.specs.declared.feeder.Advance.TheVariants.{Asks, Further, Over}
+use Rattle.of_machine.specs.declared.script_run.Advance.TheVariants.{Asks, Further, Over}
 use Rattle.of_machine.specs.States.{answered}
 use Rattle.of_machine.specs.Racks.{IsLeftWith, Rounds}
 use Rattle.of_machine.specs.Runs.{Advances, settled}
@@ -15,19 +15,19 @@ use Rattle.of_machine.proofs.racks.round_with.Goals as goal
 pub returns-in-Further-clause-ok : goal.returns-in-Further-clause-ok
 returns-in-Further-clause-ok g c =
     let f : _ → Meant = λ d. (goal.Device-dyn g (d.vtable, d.value)).meant d.value in
-    let goes : Advances c.args.limit Further c.args.feeder.now c.advance.new.self = search rules in
+    let goes : Advances c.args.limit Further c.args.run.now c.advance.new.self = search rules in
     (goes_alone (map f c.args.rack.now.items) _ _ c.requires.none goes.0, goes.1, goes.2)
 
 pub returns-in-Over-clause-ok : goal.returns-in-Over-clause-ok
 returns-in-Over-clause-ok g c =
     let f : _ → Meant = λ d. (goal.Device-dyn g (d.vtable, d.value)).meant d.value in
-    let goes : Advances c.args.limit Over c.args.feeder.now c.advance.new.self = search rules in
+    let goes : Advances c.args.limit Over c.args.run.now c.advance.new.self = search rules in
     (goes_alone (map f c.args.rack.now.items) _ _ c.requires.none goes.0, goes.1, goes.2)
 
 pub returns-in_err-advance-clause-left : goal.returns-in_err-advance-clause-left
 returns-in_err-advance-clause-left g c =
     let f : _ → Meant = λ d. (goal.Device-dyn g (d.vtable, d.value)).meant d.value in
-    on_err _ (left_alone c.args.limit (map f c.args.rack.now.items) c.args.feeder.now c.requires.few)
+    on_err _ (left_alone c.args.limit (map f c.args.rack.now.items) c.args.run.now c.requires.few)
 
 -- ---- a question
 
@@ -37,13 +37,13 @@ returns-in_ok-answer-in-Asks-clause-ok g c =
     let ds = map f c.args.rack.now.items in
     let q : Query = c.in-Asks.query in
     let x = c.ask-answer.result in
-    let asks : Advances c.args.limit (Asks q) c.args.feeder.now c.advance.new.self = search rules in
+    let asks : Advances c.args.limit (Asks q) c.args.run.now c.advance.new.self = search rules in
     let new = c.answer.new.self in
     let asked = c.advance.new.self in
     let told : new ≡ settled (record asked { machine = answered flat_calls x asked.machine }) = search rules in
-    let done = answered_with ds c.args.feeder.now c.advance.new.self new q c.args.limit x c.requires.none asks
+    let done = answered_with ds c.args.run.now c.advance.new.self new q c.args.limit x c.requires.none asks
     c.ask-answer.ensures.answer c.ask-answer.ensures.fits told (search rules) in
-    subst (λ es. Rounds c.args.limit true ds es c.args.feeder.now new) (sym c.ask-answer.ensures.told) done
+    subst (λ es. Rounds c.args.limit true ds es c.args.run.now new) (sym c.ask-answer.ensures.told) done
 
 pub returns-in_err-answer-in-Asks-clause-left : goal.returns-in_err-answer-in-Asks-clause-left
 returns-in_err-answer-in-Asks-clause-left g c =
@@ -51,7 +51,7 @@ returns-in_err-answer-in-Asks-clause-left g c =
     let ds = map f c.args.rack.now.items in
     let q : Query = c.in-Asks.query in
     let x = c.ask-answer.result in
-    let asks : Advances c.args.limit (Asks q) c.args.feeder.now c.advance.new.self = search rules in
-    let left = left_asked ds c.args.feeder.now c.advance.new.self q c.args.limit x c.requires.none asks
+    let asks : Advances c.args.limit (Asks q) c.args.run.now c.advance.new.self = search rules in
+    let left = left_asked ds c.args.run.now c.advance.new.self q c.args.limit x c.requires.none asks
     c.ask-answer.ensures.answer c.ask-answer.ensures.fits in
-    on_err _ (subst (λ es. IsLeftWith c.args.limit ds es c.args.feeder.now) (sym c.ask-answer.ensures.told) left)
+    on_err _ (subst (λ es. IsLeftWith c.args.limit ds es c.args.run.now) (sym c.ask-answer.ensures.told) left)

@@ -20,12 +20,12 @@ run_with-requires-clause-none g c =
       answers = [];
       calls = map due_of c.args.calls.now;
     } in
-    same_answers first c.in_ok-feeder.feeder c.in_ok-feeder.ensures.begun
+    same_answers first c.in_ok-run.run' c.in_ok-run.ensures.begun
 
 -- ---- no memory
 
-pub returns-in_err-feeder-clause-left : goal.returns-in_err-feeder-clause-left
-returns-in_err-feeder-clause-left g c =
+pub returns-in_err-run-clause-left : goal.returns-in_err-run-clause-left
+returns-in_err-run-clause-left g c =
     let f : _ → Meant = λ d. (goal.Device-dyn g (d.vtable, d.value)).meant d.value in
     on_err _
     (never_begun c.runs_agree.ensures c.args.image.now (map (λ l. l.items) c.args.lines.now)
@@ -37,11 +37,11 @@ returns-in_default-clause-left g c =
     let f : _ → Meant = λ d. (goal.Device-dyn g (d.vtable, d.value)).meant d.value in
     let ds = map f c.args.rack.now.items in
     let es = map f c.run_with.new.rack.items in
-    let start : Feed Coding = c.in_ok-feeder.feeder in
+    let start : Feed Coding = c.in_ok-run.run' in
     let left : IsLeftWith c.args.limit ds es start = search rules in
     run_left c.runs_agree.ensures c.args.image.now (map (λ l. l.items) c.args.lines.now)
     (map due_of c.args.calls.now) c.args.limit ds es start
-    c.in_ok-feeder.ensures.begun left
+    c.in_ok-run.ensures.begun left
 
 -- ---- a machine
 
@@ -53,13 +53,13 @@ returns-clause-ok g c =
     let image = c.args.image.now in
     let lines = map (λ l. l.items) c.args.lines.now in
     let calls = map due_of c.args.calls.now in
-    let start : Feed Coding = c.in_ok-feeder.feeder in
-    let end : Feed Coding = c.run_with.new.feeder in
-    let same = ap (λ (x : Feed Coding). x.machine) c.feeder.view_is in
+    let start : Feed Coding = c.in_ok-run.run' in
+    let end : Feed Coding = c.run_with.new.run in
+    let same = ap (λ (x : Feed Coding). x.machine) c.run.view_is in
     let ended = run_ends_with c.runs_agree.ensures image lines calls ds es c.args.limit start end
-    c.in_ok-feeder.ensures.begun c.ranges.limit.fits c.in_ok-feeder.ensures.none c.in-Ok.ensures.over in
-    subst (λ e. RunsTo image lines (answers_of ds c.feeder.inside.machine.asked) calls c.args.limit
-    c.feeder.inside.machine e)
+    c.in_ok-run.ensures.begun c.ranges.limit.fits c.in_ok-run.ensures.none c.in-Ok.ensures.over in
+    subst (λ e. RunsTo image lines (answers_of ds c.run.inside.machine.asked) calls c.args.limit
+    c.run.inside.machine e)
     (sym c.end_of-end.ensures)
     (subst
     (λ m. RunsTo image lines (answers_of ds m.asked) calls c.args.limit m (end_of m.waiting (is_running m)))
@@ -70,8 +70,8 @@ returns-clause-told g c =
     let f : _ → Meant = λ d. (goal.Device-dyn g (d.vtable, d.value)).meant d.value in
     let ds = map f c.args.rack.now.items in
     let es = map f c.run_with.new.rack.items in
-    let same = ap (λ (x : Feed Coding). x.machine) c.feeder.view_is in
+    let same = ap (λ (x : Feed Coding). x.machine) c.run.view_is in
     let lines = map (λ l. l.items) c.args.lines.now in
-    let told = run_told c.args.image.now lines (map due_of c.args.calls.now) ds es c.in_ok-feeder.feeder
-    c.run_with.new.feeder c.in_ok-feeder.ensures.begun c.in-Ok.ensures.over.0 in
+    let told = run_told c.args.image.now lines (map due_of c.args.calls.now) ds es c.in_ok-run.run'
+    c.run_with.new.run c.in_ok-run.ensures.begun c.in-Ok.ensures.over.0 in
     subst (λ m. es ≡ told_all ds m.asked) (sym same) told

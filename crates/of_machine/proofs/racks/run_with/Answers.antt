@@ -8,7 +8,7 @@ pub loop-init : goal.loop-init
 loop-init g c =
     let f : _ → Meant = λ d. (goal.Device-dyn g (d.vtable, d.value)).meant d.value in
     record {
-      gone = none_gone_with (map f c.args.rack.now.items) c.args.feeder.now c.requires.none c.requires.calm;
+      gone = none_gone_with (map f c.args.rack.now.items) c.args.run.now c.requires.none c.requires.calm;
       few = c.requires.few;
     }
 
@@ -18,11 +18,11 @@ loop-preserved g c =
     let ds = map f c.args.rack.now.items in
     let es = map f c.loop.rack.items in
     let hs = map f c.round_with.new.rack.items in
-    let h = c.round_with.new.feeder in
-    let more = subst (λ b. Rounds c.args.limit b es hs c.loop.feeder h) c.if-branch.true
+    let h = c.round_with.new.run in
+    let more = subst (λ b. Rounds c.args.limit b es hs c.loop.run h) c.if-branch.true
     c.in_ok-round_with.ensures.ok in
     record {
-      gone = goes_on_with ds es hs c.args.feeder.now c.loop.feeder h c.loop.invariant.gone more.0;
+      gone = goes_on_with ds es hs c.args.run.now c.loop.run h c.loop.invariant.gone more.0;
       few = more.2;
     }
 
@@ -32,14 +32,14 @@ returns-clause-over g c =
     let ds = map f c.args.rack.now.items in
     let es = map f c.loop.rack.items in
     let hs = map f c.round_with.new.rack.items in
-    let h = c.round_with.new.feeder in
-    over_behind_with c.args.limit ds es hs c.args.feeder.now c.loop.feeder h c.loop.invariant.gone
-    (subst (λ b. Rounds c.args.limit b es hs c.loop.feeder h) c.if-branch.false c.in_ok-round_with.ensures.ok)
+    let h = c.round_with.new.run in
+    over_behind_with c.args.limit ds es hs c.args.run.now c.loop.run h c.loop.invariant.gone
+    (subst (λ b. Rounds c.args.limit b es hs c.loop.run h) c.if-branch.false c.in_ok-round_with.ensures.ok)
 
 pub returns-in_err-round_with-clause-left : goal.returns-in_err-round_with-clause-left
 returns-in_err-round_with-clause-left g c =
     let f : _ → Meant = λ d. (goal.Device-dyn g (d.vtable, d.value)).meant d.value in
     on_err _
     (left_behind c.args.limit (map f c.args.rack.now.items) (map f c.loop.rack.items)
-    (map f c.round_with.new.rack.items) c.args.feeder.now c.loop.feeder c.loop.invariant.gone
+    (map f c.round_with.new.rack.items) c.args.run.now c.loop.run c.loop.invariant.gone
     c.in_err-round_with.ensures.left)

@@ -1,6 +1,6 @@
 use Rattle.std.proofs.Common.{◌-◌, ◌≤◌}
 use Rattle.of_machine.specs.Runs.{HasGone}
-use Rattle.of_machine.proofs.feeder.Feeder.run.Given as goal
+use Rattle.of_machine.proofs.script_run.ScriptRun.go.Given as goal
 
 -- the run has gone on to the feed, within the limit
 abbrev pub invariant-loop : goal.invariant-loop

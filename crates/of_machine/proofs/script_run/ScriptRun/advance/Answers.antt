@@ -8,7 +8,7 @@ use Rattle.of_machine.specs.States.{HasMoved, Steps, goes_on, is_running}
 use Rattle.of_machine.specs.Runs.{Advances, AreUpto, Feed, IsCalm, line_left, settled}
 use Rattle.of_machine.proofs.RunLemmas.{asks_behind, goes_idle, not_made, reaches, rests_so, stands}
 use Rattle.of_machine.proofs.RunLemmas.{until_after}
-use Rattle.of_machine.proofs.feeder.Feeder.advance.Goals as goal
+use Rattle.of_machine.proofs.script_run.ScriptRun.advance.Goals as goal
 
 -- ---- up to a client, or to the limit
 

@@ -1,11 +1,13 @@
 ghost use Rattle.std.specs.Prelude.{◌≡◌, ◌<◌, ◌≤◌, IfOk, OnOk, None, is_some, true, false};
+ghost use Rattle.of_machine.specs.declared.answers.End.TheVariants.{LimitReached};
 ghost use Rattle.of_machine.specs.Runs.{Advances, AreLater, AreUpto, HasGone, IsCalm, IsOut, IsOver, IsTold};
 ghost use Rattle.of_machine.specs.Runs.{clients_heard, fed, line_left, settled};
 ghost use Rattle.of_machine.specs.States.{answer_refusal, answered};
+ghost use Rattle.of_machine.specs.Stretches.{Stretches};
 ghost use Rattle.of_state.specs.State.{flat_calls};
 
-use crate::answers::{Progress, Refusal};
-use crate::run::ScriptMachine;
+use crate::answers::{End, Progress, Refusal};
+use crate::run::{ScriptMachine, end_of};
 use of_asking::{Answer, Query};
 use of_client::ClientCall;
 use std::alloc::AllocError;
@@ -22,17 +24,17 @@ pub(crate) enum Advance {
     Asks(Query),
 }
 
-/// A run: its machine, and the console lines, answers and clients that are left.
+/// A run under way: its machine, and the console lines, answers and clients that are left.
 #[derive(Drop)]
-pub(crate) struct Feeder<'a> {
+pub struct ScriptRun<'a> {
     pub(crate) machine: ScriptMachine,
     pub(crate) lines: &'a [Vec<u8>],
     pub(crate) answers: &'a [Answer],
     pub(crate) calls: &'a [(u64, ClientCall)],
 }
 
-// Clauses see a feed whose definitions are cells.
-impl<'a> Model for Feeder<'a> {
+// Clauses see a machine with what is left to be handed in to it, whose definitions are cells.
+impl<'a> Model for ScriptRun<'a> {
     ghost use Rattle.std.specs.Prelude.{map};
     ghost use Rattle.of_compile.specs.Coding.{Coding};
     ghost use Rattle.of_machine.specs.Runs.{Feed, due_of};
@@ -47,7 +49,7 @@ impl<'a> Model for Feeder<'a> {
     } };
 }
 
-impl<'a> Feeder<'a> {
+impl<'a> ScriptRun<'a> {
     /// Hands in the next line, if nothing runs and one is left.
     ///
     /// An error is for memory alone.
@@ -215,15 +217,34 @@ impl<'a> Feeder<'a> {
         }
     }
 
-    /// Makes steps, answers clients and hands in lines until `limit` are made, or no more can be.
+    /// The machine as the run has left it so far.
+    pub fn machine(&self) -> &ScriptMachine
+        ensures { result.now ≡ self.now.machine }
+    {
+        &self.machine
+    }
+
+    /// The machine, where the run is given up or over.
+    pub fn into_machine(self) -> ScriptMachine
+        ensures { result ≡ self.entry.machine }
+    {
+        self.machine
+    }
+
+    /// A stretch of the run: makes steps, answers clients and hands in lines until `limit` steps are made in all, or no
+    /// more can be made, and answers how the run stands then.
     ///
-    /// An error is for memory alone.
-    pub(crate) fn run(&mut self, limit: u64) -> Result<(), AllocError>
+    /// At LimitReached the run can go on; otherwise it is over. At AnswersOut a step before the limit asks, and the
+    /// next answer doesn't fit, or there is none: that question is open. An error is for memory alone; then the run
+    /// can't go on.
+    pub fn go(&mut self, limit: u64) -> Result<End, AllocError>
         requires few { self.old.machine.steps ≤ limit }
         requires calm { IsCalm self.old }
-        ensures { OnOk result (IsOver limit self.old self.new) }
+        ensures gone { IfOk result (λ e. Stretches limit self.old self.new e) }
+        ensures calm { IfOk result (λ e. e ≡ LimitReached → IsCalm self.new) }
+        ensures made { IfOk result (λ e. e ≡ LimitReached → self.new.machine.steps ≡ limit) }
     {
         while self.round(limit)? {}
-        Ok(())
+        Ok(end_of(&self.machine))
     }
 }

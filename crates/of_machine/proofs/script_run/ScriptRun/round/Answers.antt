@@ -1,10 +1,10 @@
 use Rattle.std.proofs.Common.{rules, ◌≡◌, ◌<◌, ◌≤◌, true, false}
 use Rattle.of_asking.specs.declared.query.Query.{Query}
 use Rattle.of_compile.specs.Coding.{Coding}
-use Rattle.of_machine.specs.declared.feeder.Advance.TheVariants.{Asks}
+use Rattle.of_machine.specs.declared.script_run.Advance.TheVariants.{Asks}
 use Rattle.of_machine.specs.Runs.{Advances, Feed, HasGone, IsOut, IsOver, IsTold}
 use Rattle.of_machine.proofs.RunLemmas.{if_so, out_on, told_on}
-use Rattle.of_machine.proofs.feeder.Feeder.round.Goals as goal
+use Rattle.of_machine.proofs.script_run.ScriptRun.round.Goals as goal
 
 -- ---- a question, with its answer or without one
 

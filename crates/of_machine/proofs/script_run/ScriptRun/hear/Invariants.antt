@@ -1,7 +1,7 @@
 use Rattle.std.proofs.Common.{◌≡◌, [], length, map}
 use Rattle.of_compile.specs.Coding.{Coding}
 use Rattle.of_machine.specs.Runs.{Feed, clients_heard, due_of}
-use Rattle.of_machine.proofs.feeder.Feeder.hear.Given as goal
+use Rattle.of_machine.proofs.script_run.ScriptRun.hear.Given as goal
 
 -- the clients that are left are to be answered as those were that there were at first
 abbrev pub invariant-loop-due : goal.invariant-loop-due

@@ -5,7 +5,7 @@ use Rattle.of_state.specs.State.{flat_calls}
 use Rattle.of_machine.specs.States.{answer_refusal, answered}
 use Rattle.of_machine.specs.Runs.{Feed, settled}
 use Rattle.of_machine.proofs.RunLemmas.{is_told}
-use Rattle.of_machine.proofs.feeder.Feeder.tell.Goals as goal
+use Rattle.of_machine.proofs.script_run.ScriptRun.tell.Goals as goal
 
 pub returns-in_ok-serve-in-Ok-clause-told : goal.returns-in_ok-serve-in-Ok-clause-told
 returns-in_ok-serve-in-Ok-clause-told c = λ fits.
