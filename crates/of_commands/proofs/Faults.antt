@@ -1,9 +1,12 @@
 -- What a file that has no image, or whose image or source has a fault, is given up with.
 use Rattle.std.proofs.Common.{◌≡◌, ℕ, List, Option, Some, None, IfSome, Ok, Err, subst, inl, inr, refl, sym, ◌∙◌}
-use Rattle.std.proofs.Common.{◌⊎◌, Bool, true, false, true≢false, ap, cond, Result, IfOk, IfErr, length}
+use Rattle.std.proofs.Common.{Bool, true, false, true≢false, ap, cond, Result, IfOk, IfErr, length, []}
+use Rattle.std.proofs.Common.{suc, ◌+◌, ◌∷◌, ◌++◌, arith, take}
 use Rattle.std.specs.Prelude.{is_some}
+use Rattle.std.proofs.KnownBytes.{Appends-trans}
 use Rattle.std.specs.Io.KnownBytes.{Appends, Keeps}
-use Rattle.of_commands.specs.declared.outside.Outside.{Outside}
+use Rattle.of_runs.specs.Runs.{GivesUp, console_of}
+use Rattle.of_runs.specs.declared.outside.Outside.{Outside}
 use Rattle.of_files.specs.declared.fault.Fault.{Fault}
 use Rattle.of_files.specs.Files.{image_in, FaultsReading}
 use Rattle.of_files.specs.declared.fault.Fault.TheVariants as fault
@@ -17,28 +20,23 @@ use Rattle.std.proofs.Math.Seq.{take-length}
 use Rattle.of_arguments.specs.declared.status.Status.{Status}
 use Rattle.of_arguments.specs.declared.status.Status.TheVariants as status
 use Rattle.of_files.specs.Messages.{AppendsPart, bad_start_of}
-use Rattle.of_commands.specs.Runs.{EndsPart, FaultsImage, FaultsListing, Lists, ListsFile, ListsPart}
+use Rattle.of_commands.specs.Runs.{EndsPart, Fails, FaultsImage, FaultsListing, IsCut, Lists, ListsFile, ListsPart}
 use Rattle.of_files.specs.Faults.{IsUnwritten}
 use Rattle.of_commands.specs.Runs.{Prints, RunsFile, end_status, run_end}
-use Rattle.of_commands.specs.Listings.{lacks_word, run_text}
-use Rattle.of_commands.specs.Runs.{FaultsRun, IsRefusedFor}
-use Rattle.of_commands.specs.Runs.{lines_of}
-use Rattle.of_files.specs.Faults.{is_done}
-use Rattle.of_files.specs.Faults.{status_of}
+use Rattle.of_commands.specs.Listings.{lacks_word, listed_behind}
 
--- a file that has no image has a fault of a run
-pub run_unread : (known : Option (List ℕ)) (o : Outside) (f : Fault) → IfSome known (λ file. FaultsReading file f)
-    → IfSome known (λ file. FaultsRun file o f)
-run_unread (Some file) o f fault = inr (inl fault)
-run_unread None o f fault = fault
+-- a file that has no image has no run
+pub run_unread : (known : Option (List ℕ)) (o : Outside) (limit : ℕ) (old new : Option (List ℕ)) (f : Fault)
+    → Keeps old new → IfSome known (λ file. FaultsReading file f) → IfSome known (λ file. Fails file o limit old new f)
+run_unread (Some file) o limit old new f kept fault = inl (kept, fault)
+run_unread None o limit old new f kept fault = tt
 
--- and so has one whose image or lines the monitor refuses, or for which no memory is found
-pub run_refused : (known : Option (List ℕ)) (o : Outside) (image : List ℕ) (f : Fault)
-    → IfSome known (λ file. image_in file ≡ Ok image) → IsRefusedFor image (lines_of o) f ⊎ (f ≡ fault.NoMemory)
-    → IfSome known (λ file. FaultsRun file o f)
-run_refused (Some file) o image f has (inl refused) = inr (inr (image, has, refused))
-run_refused (Some file) o image f has (inr none) = inr (inl (inr (inr (inl none))))
-run_refused None o image f has why = tt
+-- and neither has one of whose image the run is given up
+pub run_given_up : (known : Option (List ℕ)) (o : Outside) (limit : ℕ) (image : List ℕ) (old new : Option (List ℕ))
+    (f : Fault) → IfSome known (λ file. image_in file ≡ Ok image) → GivesUp image o limit old new f
+    → IfSome known (λ file. Fails file o limit old new f)
+run_given_up (Some file) o limit image old new f has given_up = inr (image, has, given_up)
+run_given_up None o limit image old new f has given_up = tt
 
 -- a file that has no image has a fault of a listing
 pub listing_unread : (known : Option (List ℕ)) (l : Listing) (partial : Bool) (f : Fault)
@@ -89,33 +87,49 @@ listing_given_up (Some file) l partial old new f kept why = inl (kept, why)
 pub all_are_part : (old new : Option (List ℕ)) (bs : List ℕ) → Appends old new bs → AppendsPart old new bs
 all_are_part old new bs all = (length bs, subst (Appends old new) (sym (take-length bs)) all)
 
--- a write that failed, or memory, is a fault of a run
-fault_of_run : (file : List ℕ) (o : Outside) (f : Fault) → IsUnwritten f ⊎ (f ≡ fault.NoMemory) → FaultsRun file o f
-fault_of_run file o f (inl unwritten) = inl unwritten
-fault_of_run file o f (inr none) = inr (inl (inr (inr (inl none))))
+-- ---- two texts, one behind the other
 
--- what a run prints was printed, or a part of it
+take_both : (a b : List ℕ) (n : ℕ) → a ++ take n b ≡ take (length a + n) (a ++ b)
+take_both [] b n = let whole : 0 + n ≡ n = omega arith in rw whole refl
+take_both (x ∷ a) b n =
+    let whole : suc (length a) + n ≡ suc (length a + n) = omega arith in
+    rw whole (ap (λ t. x ∷ t) (take_both a b n))
+
+-- all of the first, and the first bytes of the second
+pub part_behind : (old mid new : Option (List ℕ)) (a b : List ℕ) → Appends old mid a → AppendsPart mid new b
+    → AppendsPart old new (a ++ b)
+part_behind old mid new a b all part = (
+  length a + part.0,
+  subst (Appends old new) (take_both a b part.0) (Appends-trans old mid new a (take part.0 b) all part.1),
+)
+
+-- ---- runs
+
+-- what a run prints was printed, and what is listed behind it, or a part of that
 pub run_printed : (a : Appendix) (known : Option (List ℕ)) (o : Outside) (limit : ℕ) (m : MachineState Coding)
-    (e : End) (old new : Option (List ℕ)) (r : Result Status Fault) → IfSome known (λ file. RunsFile file o limit m e)
-    → IfOk r (λ s. Appends old new (run_text a m) × (run_end a m (end_status e) ≡ Ok s))
-    → IfErr r (λ f. EndsPart a m e old new f) → IfSome known (λ file. Prints a file o limit old new r)
-run_printed a None o limit m e old new r runs all part = tt
-run_printed a (Some file) o limit m e old new (Ok s) runs all part = (m, (e, runs, all.1), all.0)
-run_printed a (Some file) o limit m e old new (Err f) runs all (inl whole) = inl (m, (e, runs, whole.1), whole.0)
-run_printed a (Some file) o limit m e old new (Err f) runs all (inr some) =
-    inr (inr (m, (e, runs), some.0), fault_of_run file o f some.1)
+    (e : End) (old mid new : Option (List ℕ)) (r : Result Status Fault)
+    → IfSome known (λ file. RunsFile file o limit m e) → Appends old mid (console_of m)
+    → IfOk r (λ s. Appends mid new (listed_behind a m) × (run_end a m (end_status e) ≡ Ok s))
+    → IfErr r (λ f. EndsPart a m e mid new f) → IfSome known (λ file. Prints a file o limit old new r)
+run_printed a None o limit m e old mid new r runs printed all part = tt
+run_printed a (Some file) o limit m e old mid new (Ok s) runs printed all part =
+    (m, (e, runs, all.1), Appends-trans old mid new (console_of m) (listed_behind a m) printed all.0)
+run_printed a (Some file) o limit m e old mid new (Err f) runs printed all (inl whole) =
+    inl (m, (e, runs, whole.1), Appends-trans old mid new (console_of m) (listed_behind a m) printed whole.0)
+run_printed a (Some file) o limit m e old mid new (Err f) runs printed all (inr some) =
+    inr (inr (m, (e, runs), part_behind old mid new (console_of m) (listed_behind a m) printed some.0, some.1))
 
--- there was no run
+-- there was no whole run
 pub run_unrun : (a : Appendix) (known : Option (List ℕ)) (o : Outside) (limit : ℕ) (old new : Option (List ℕ))
-    (f : Fault) → Keeps old new → IfSome known (λ file. FaultsRun file o f)
+    (f : Fault) → IfSome known (λ file. Fails file o limit old new f)
     → IfSome known (λ file. Prints a file o limit old new (Err f))
-run_unrun a None o limit old new f kept why = tt
-run_unrun a (Some file) o limit old new f kept why = inr (inl kept, why)
+run_unrun a None o limit old new f why = tt
+run_unrun a (Some file) o limit old new f why = inr (inl why)
 
 -- all was printed, and this is the end
 pub run_ended : (a : Appendix) (m : MachineState Coding) (e : End) (old new : Option (List ℕ)) (s : Status)
-    (r : Result Status Fault) → s ≡ end_status e → Appends old new (run_text a m) → r ≡ run_end a m s
-    → IfOk r (λ t. Appends old new (run_text a m) × (run_end a m (end_status e) ≡ Ok t))
+    (r : Result Status Fault) → s ≡ end_status e → Appends old new (listed_behind a m) → r ≡ run_end a m s
+    → IfOk r (λ t. Appends old new (listed_behind a m) × (run_end a m (end_status e) ≡ Ok t))
     × IfErr r (λ f. EndsPart a m e old new f)
 run_ended a m e old new s (Ok t) is all ended = ((all, sym (ended ∙ ap (run_end a m) is)), tt)
 run_ended a m e old new s (Err f) is all ended = (tt, inl (all, sym (ended ∙ ap (run_end a m) is)))
@@ -151,12 +165,12 @@ unwritten_begins (fault.Unkept code) unwritten = refl
 unwritten_begins fault.NoMemory unwritten = refl
 
 -- nor is memory
-none_begins : (f : Fault) → IsUnwritten f ⊎ (f ≡ fault.NoMemory) → bad_start_of f ≡ None
+none_begins : (f : Fault) → IsCut f → bad_start_of f ≡ None
 none_begins f (inl unwritten) = unwritten_begins f unwritten
 none_begins f (inr none) = ap bad_start_of none
 
 -- so behind the start of a run there is none of which it could be said
-pub run_begins : (r : Result Status Fault) (Kept : Type 0) → IfErr r (λ f. IsUnwritten f ⊎ (f ≡ fault.NoMemory))
+pub run_begins : (r : Result Status Fault) (Kept : Type 0) → IfErr r IsCut
     → IfErr r (λ f. is_some (bad_start_of f) ≡ true → Kept)
 run_begins (Ok s) Kept why = tt
 run_begins (Err f) Kept why = λ begun. absurd (true≢false (sym begun ∙ ap is_some (none_begins f why)))

@@ -9,10 +9,10 @@ use Rattle.of_compile.specs.Coding.{Coding}
 use Rattle.of_machine.specs.States.{MachineState, served}
 use Rattle.of_machine.specs.declared.answers.End.{End}
 use Rattle.of_arguments.specs.declared.status.Status.{Status}
-use Rattle.of_commands.specs.declared.outside.Outside.{Outside}
+use Rattle.of_runs.specs.Runs.{console_of}
+use Rattle.of_runs.specs.declared.outside.Outside.{Outside}
 use Rattle.of_files.specs.Handed.{FaultsCalls}
-use Rattle.of_files.specs.Messages.{AppendsPart}
-use Rattle.of_commands.specs.Runs.{FaultsRun, RunsFile, end_status}
+use Rattle.of_commands.specs.Runs.{Fails, PrintsPart, RunsFile, end_status}
 use Rattle.of_files.specs.Faults.{ended_with, status_of}
 use Rattle.of_files.specs.declared.fault.Fault.{Fault}
 
@@ -39,7 +39,7 @@ served_all m (s ∷ services) = served_all (served m s) services
 
 -- the console bytes of a machine, and its replies once it has answered
 abbrev pub client_text : List Service → MachineState Coding → List ℕ
-client_text services m = m.eval.board.console.text ++ reply_lines (served_all m services).replies
+client_text services m = console_of m ++ reply_lines (served_all m services).replies
 
 -- what was printed of a run and of its replies to these questions, or of a part of it beside a fault
 abbrev pub PrintsCalls :
@@ -48,10 +48,7 @@ PrintsCalls services file o limit old new (Ok s) =
     (m : MachineState Coding) × ((e : End) × RunsFile file o limit m e × (end_status e ≡ s))
     × Appends old new (client_text services m)
 PrintsCalls services file o limit old new (Err f) =
-    (Keeps old new
-    ⊎ ((m : MachineState Coding) × ((e : End) × RunsFile file o limit m e)
-    × AppendsPart old new (client_text services m)))
-    × FaultsRun file o f
+    Fails file o limit old new f ⊎ PrintsPart (client_text services) file o limit old new f
 
 -- ---- how it ends
 

@@ -10,7 +10,7 @@ use Rattle.of_arguments.specs.declared.status.Status.{Status}
 use Rattle.of_arguments.specs.declared.status.Status.TheVariants as status
 use Rattle.of_files.specs.Faults.{given_up}
 use Rattle.of_files.specs.Messages.{AppendsPart}
-use Rattle.of_commands.specs.Runs.{IsRefusedFor}
+use Rattle.of_runs.specs.Runs.{IsRefusedFor}
 use Rattle.of_files.specs.Faults.{IsUnwritten, ended_with}
 use Rattle.of_commands.specs.declared.debugs.DebugRun.{DebugRun}
 use Rattle.of_files.specs.declared.fault.Fault.{Fault}

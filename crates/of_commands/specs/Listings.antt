@@ -9,6 +9,7 @@ use Rattle.of_state.specs.State.{flat_calls}
 use Rattle.of_machine.specs.States.{MachineState}
 use Rattle.of_machine.specs.Views.{word_named, words_listed}
 use Rattle.of_arguments.specs.Asked.{Appendix}
+use Rattle.of_runs.specs.Runs.{console_of}
 use Rattle.of_commands.specs.States.{state_text}
 
 -- whether no line is open at the end of a text
@@ -50,9 +51,13 @@ state_if state m = if state then state_text m else []
 abbrev pub listings_text : Appendix → MachineState Coding → List ℕ
 listings_text a m = tree_if a.tree m ++ words_if a.words m ++ see_named a.see m ++ state_if a.state m
 
+-- what is listed behind what a machine printed
+abbrev pub listed_behind : Appendix → MachineState Coding → List ℕ
+listed_behind a m = lines_behind (console_of m) (listings_text a m)
+
 -- the console bytes of a run, and behind them what is listed
 abbrev pub run_text : Appendix → MachineState Coding → List ℕ
-run_text a m = m.eval.board.console.text ++ lines_behind m.eval.board.console.text (listings_text a m)
+run_text a m = console_of m ++ listed_behind a m
 
 -- whether a word is asked for by a name that none has
 abbrev pub lacks_word : Option (List ℕ) → MachineState Coding → Bool

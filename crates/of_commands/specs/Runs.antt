@@ -1,51 +1,31 @@
 -- What the program prints of a file's run or listing, and how it ends.
-use Rattle.std.specs.Prelude.{◌≡◌, ◌⊎◌, ℕ, List, [], ◌∷◌, length, Option, Result, Ok, Err}
-use Rattle.std.specs.Prelude.{Some, None, map, Bool, true, false, if◌then◌else◌}
+use Rattle.std.specs.Prelude.{◌≡◌, ◌⊎◌, ℕ, List, [], ◌∷◌, Option, Result, Ok, Err}
+use Rattle.std.specs.Prelude.{Some, None, Bool, false, if◌then◌else◌}
 use Rattle.std.specs.Option.{option_map}
 use Rattle.std.specs.Io.KnownBytes.{Keeps, Appends}
 use Rattle.of_detok.specs.Definitions.{definitions_of}
 use Rattle.of_detok.specs.Listing.{Listed, listed_so_far}
 use Rattle.of_machine.specs.declared.answers.End.{End}
 use Rattle.of_machine.specs.declared.answers.End.TheVariants as end
-use Rattle.of_machine.specs.declared.answers.Refusal.{Refusal}
 use Rattle.of_compile.specs.Coding.{Coding}
-use Rattle.of_machine.specs.States.{MachineState, Refuses}
-use Rattle.of_machine.specs.Runs.{RunsTo, script_refusal}
-use Rattle.of_machine.specs.Racks.{answers_of}
-use Rattle.of_devices.specs.Parts.{board_meant}
+use Rattle.of_machine.specs.States.{MachineState}
 use Rattle.of_arguments.specs.Asked.{Appendix, Asked, a_console, a_debugging, a_listing, a_look, a_rom, a_run}
 use Rattle.of_arguments.specs.Asked.{an_image, client_calls, no_appendix}
 use Rattle.of_arguments.specs.declared.request.Listing.{Listing}
 use Rattle.of_arguments.specs.declared.request.Listing.TheVariants as listing
 use Rattle.of_inspect.specs.Looks.{Checks, ShowsRom}
-use Rattle.of_files.specs.Faults.{IsUnwritten, refused_as}
+use Rattle.of_files.specs.Faults.{IsUnwritten}
 use Rattle.of_files.specs.Files.{image_in, FaultsReading}
 use Rattle.of_files.specs.Messages.{AppendsPart}
 use Rattle.of_files.specs.Sources.{Tokenizes}
 use Rattle.of_commands.specs.Definitions.{SeesShown, dev_slot, shown_lines}
-use Rattle.of_commands.specs.Listings.{lacks_word, run_text}
-use Rattle.of_commands.specs.declared.outside.Outside.{Outside}
-use Rattle.of_commands.specs.declared.outside.Answerer.{Answerer}
-use Rattle.of_commands.specs.declared.outside.Answerer.TheVariants as answering
+use Rattle.of_commands.specs.Listings.{lacks_word, listed_behind, run_text}
+use Rattle.of_runs.specs.Runs.{GivesUp, IsRefusedFor, RunsOn}
+use Rattle.of_runs.specs.declared.outside.Outside.{Outside}
 use Rattle.of_files.specs.declared.fault.Fault.{Fault}
 use Rattle.of_files.specs.declared.fault.Fault.TheVariants as fault
 use Rattle.of_arguments.specs.declared.status.Status.{Status}
 use Rattle.of_arguments.specs.declared.status.Status.TheVariants as status
-
--- the console lines that are handed in to a run
-abbrev pub lines_of : Outside → List (List ℕ)
-lines_of o = map (λ l. l.items) o.lines.now
-
--- The run of an image and of lines, for at most so many steps, whose questions are answered in order, or by the devices
--- of a board.
-abbrev pub RunsBy : List ℕ → List (List ℕ) → Answerer → ℕ → MachineState Coding → End → Type 0
-RunsBy image lines (answering.Answers answers) limit m e = RunsTo image lines answers.now [] limit m e
-RunsBy image lines (answering.Board board) limit m e =
-    RunsTo image lines (answers_of (board_meant board.now ∷ []) m.asked) [] limit m e
-
--- the same with what is handed in
-abbrev pub RunsOn : List ℕ → Outside → ℕ → MachineState Coding → End → Type 0
-RunsOn image o limit m e = RunsBy image (lines_of o) o.answerer limit m e
 
 -- the run of the image that a file has
 abbrev pub RunsFile : List ℕ → Outside → ℕ → MachineState Coding → End → Type 0
@@ -62,6 +42,8 @@ end_status end.AnswersOut = status.AnswersOut
 abbrev pub run_end : Appendix → MachineState Coding → Status → Result Status Fault
 run_end a m s = if lacks_word a.see m then Err fault.NoWord else Ok s
 
+-- ---- what goes out of a run
+
 -- the text of the run of the file was printed, with what is listed behind it, and it ended so
 abbrev pub PrintsRun :
     Appendix → List ℕ → Outside → ℕ → Option (List ℕ) → Option (List ℕ) → Result Status Fault → Type 0
@@ -69,36 +51,37 @@ PrintsRun a file o limit old new r =
     (m : MachineState Coding) × ((e : End) × RunsFile file o limit m e × (run_end a m (end_status e) ≡ r))
     × Appends old new (run_text a m)
 
--- nothing was printed, or the first bytes of the text of the run
-abbrev pub PrintsPart : Appendix → List ℕ → Outside → ℕ → Option (List ℕ) → Option (List ℕ) → Type 0
-PrintsPart a file o limit old new = Keeps old new
-    ⊎ ((m : MachineState Coding) × ((e : End) × RunsFile file o limit m e) × AppendsPart old new (run_text a m))
+-- there was no whole run of the file: it can't be read, or the run of its image was given up
+abbrev pub Fails : List ℕ → Outside → ℕ → Option (List ℕ) → Option (List ℕ) → Fault → Type 0
+Fails file o limit old new f =
+    (Keeps old new × FaultsReading file f)
+    ⊎ ((image : List ℕ) × (image_in file ≡ Ok image) × GivesUp image o limit old new f)
 
--- what the monitor refuses the image or the lines for
-abbrev pub IsRefusedFor : List ℕ → List (List ℕ) → Fault → Type 0
-IsRefusedFor image lines f =
-    (r : Refusal) × (f ≡ refused_as (length image) r) × Refuses (script_refusal image lines) r
+-- a write failed, or memory was refused
+abbrev pub IsCut : Fault → Type 0
+IsCut f = IsUnwritten f ⊎ (f ≡ fault.NoMemory)
 
--- the faults of a run: of reading, of a write, or what the monitor refuses the image or the lines for
-abbrev pub FaultsRun : List ℕ → Outside → Fault → Type 0
-FaultsRun file o f =
-    IsUnwritten f
-    ⊎ FaultsReading file f
-    ⊎ ((image : List ℕ) × (image_in file ≡ Ok image) × IsRefusedFor image (lines_of o) f)
+-- a run was made of the file, and a part of this text of it was printed
+abbrev pub PrintsPart :
+    (MachineState Coding → List ℕ) → List ℕ → Outside → ℕ → Option (List ℕ) → Option (List ℕ) → Fault → Type 0
+PrintsPart text file o limit old new f =
+    (m : MachineState Coding) × ((e : End) × RunsFile file o limit m e) × AppendsPart old new (text m) × IsCut f
 
--- all was printed of a run, and it ended with this fault; or a part was, and a write failed or memory was refused
+-- behind a run all was listed, and it ended with this fault; or a part was, and a write failed or memory was refused
 abbrev pub EndsPart :
     Appendix → MachineState Coding → End → Option (List ℕ) → Option (List ℕ) → Fault → Type 0
 EndsPart a m e old new f =
-    (Appends old new (run_text a m) × (run_end a m (end_status e) ≡ Err f))
-    ⊎ (AppendsPart old new (run_text a m) × (IsUnwritten f ⊎ (f ≡ fault.NoMemory)))
+    (Appends old new (listed_behind a m) × (run_end a m (end_status e) ≡ Err f))
+    ⊎ (AppendsPart old new (listed_behind a m) × IsCut f)
 
 -- what was printed of the run, and how it ended, or of a part of it beside a fault
 abbrev pub Prints :
     Appendix → List ℕ → Outside → ℕ → Option (List ℕ) → Option (List ℕ) → Result Status Fault → Type 0
 Prints a file o limit old new (Ok s) = PrintsRun a file o limit old new (Ok s)
 Prints a file o limit old new (Err f) =
-    PrintsRun a file o limit old new (Err f) ⊎ (PrintsPart a file o limit old new × FaultsRun file o f)
+    PrintsRun a file o limit old new (Err f)
+    ⊎ Fails file o limit old new f
+    ⊎ PrintsPart (run_text a) file o limit old new f
 
 -- ---- listings
 

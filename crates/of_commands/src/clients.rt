@@ -1,15 +1,15 @@
 //! `client`: a run, and then the replies to a client's calls.
-ghost use Rattle.std.specs.Prelude.{◌≡◌, ◌⊎◌, false, true, is_some, map, Ok, IfOk, IfErr, IfSome, OnOk, OnErr};
+ghost use Rattle.std.specs.Prelude.{◌≡◌, false, true, is_some, map, Ok, IfOk, IfErr, IfSome, OnOk, OnErr};
 ghost use Rattle.std.specs.Io.KnownBytes.{Appends};
 ghost use Rattle.std.specs.String.{string_bytes};
 ghost use Rattle.of_client.specs.Services.{service_of};
 ghost use Rattle.of_machine.specs.States.{reply_shown};
 ghost use Rattle.of_commands.specs.Clients.{AnswersCalls, AnswersClient, PrintsCalls, bytes_shown};
-ghost use Rattle.of_commands.specs.Clients.{client_text, reply_line, reply_lines, served_all};
+ghost use Rattle.of_commands.specs.Clients.{reply_line, reply_lines, served_all};
 ghost use Rattle.of_files.specs.Messages.{AppendsPart, bad_start_of};
 ghost use Rattle.of_files.specs.Saying.{Said};
-ghost use Rattle.of_files.specs.Faults.{IsUnwritten};
 ghost use Rattle.of_files.specs.Faults.{is_done};
+ghost use Rattle.of_commands.specs.Runs.{IsCut};
 
 use crate::engine::{Run, explain_end, run_file};
 use hex::encode;
@@ -105,30 +105,11 @@ fn print_replies<W: Write>(
         (reply_lines (served_all machine.old (map service_of calls.now)).replies)) }
     ensures err { OnErr result (AppendsPart (W.contents out.old) (W.contents out.new)
         (reply_lines (served_all machine.old (map service_of calls.now)).replies)) }
-    ensures fault { IfErr result (λ f. IsUnwritten f ⊎ (f ≡ Fault.NoMemory)) }
+    ensures fault { IfErr result IsCut }
 {
     serve(machine, calls)?;
     let text = reply_lines(alloc, machine.replies())?;
     write_whole(out, text.as_bytes())
-}
-
-/// Prints what a run printed, answers calls, and prints a line for each reply.
-fn print_called<W: Write>(
-    alloc: Global,
-    machine: &mut ScriptMachine,
-    calls: &[ClientCall],
-    out: &mut W,
-) -> Result<(), Fault>
-    ensures ok { OnOk result (Appends (W.contents out.old) (W.contents out.new)
-        (client_text (map service_of calls.now) machine.old)) }
-    ensures err { OnErr result (AppendsPart (W.contents out.old) (W.contents out.new)
-        (client_text (map service_of calls.now) machine.old)) }
-    ensures fault { IfErr result (λ f. IsUnwritten f ⊎ (f ≡ Fault.NoMemory)) }
-{
-    match write_whole(out, machine.console()) {
-        Ok(()) => print_replies(alloc, machine, calls, out),
-        Err(fault) => Err(fault),
-    }
 }
 
 /// Runs the image of a file, prints what it prints and what calls are answered then, and explains how the run ended,
@@ -148,8 +129,8 @@ fn run_calls<R: Read, W: Write, E: Write>(
     ensures silent { run.entry.explain ≡ false → errors.new ≡ errors.old }
     ensures unsaid { IfErr result (λ f. is_some (bad_start_of f) ≡ true → errors.new ≡ errors.old) }
 {
-    match run_file(alloc, run, file) {
-        Ok((image, mut machine, end)) => match print_called(alloc, &mut machine, calls, out) {
+    match run_file(alloc, run, file, out) {
+        Ok((image, mut machine, end)) => match print_replies(alloc, &mut machine, calls, out) {
             Ok(()) => explain_end(alloc, run, &image, &machine, end, errors),
             Err(fault) => Err(fault),
         },
@@ -158,7 +139,7 @@ fn run_calls<R: Read, W: Write, E: Write>(
 }
 
 /// The same, with the status, and with the fault said on the error output.
-#[tactic(auto, using(crate::proofs::Called::called_done, crate::proofs::Ends::not_done))]
+#[tactic(auto, using(crate::proofs::Called::called_done))]
 fn answer_calls<R: Read, W: Write, E: Write>(
     alloc: Global,
     run: Run<'_>,
@@ -186,7 +167,7 @@ fn answer_calls<R: Read, W: Write, E: Write>(
 /// The questions of the run are answered by what it is given for that. The calls are read before the run begins. With
 /// a fault of their file or of the image nothing is printed. What is wrong is said on the error output, behind the path
 /// of the file that it is in; and how the run ended, where that is to be explained. Else nothing is said.
-#[tactic(auto, using(crate::proofs::Called::answers, crate::proofs::Ends::not_done))]
+#[tactic(auto, using(crate::proofs::Called::answers))]
 pub fn client<C: Read, R: Read, W: Write, E: Write>(
     alloc: Global,
     asked: &ClientRun<'_>,

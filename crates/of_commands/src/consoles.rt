@@ -260,7 +260,6 @@ fn converse<L: BufRead, W: Write, E: Write>(
 ///
 /// What is wrong is said on the error output: with the image behind its path; why a line was refused, which changes
 /// nothing; and that a line has made as many steps as are allowed, where an empty line lets it go on.
-#[tactic(auto, using(crate::proofs::Ends::not_done))]
 pub fn console<L: BufRead, W: Write, E: Write>(
     alloc: Global,
     console: ConsoleRun<'_>,

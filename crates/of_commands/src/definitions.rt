@@ -3,14 +3,13 @@ ghost use Rattle.std.specs.Prelude.{◌≡◌, ◌⊎◌, [], ◌∷◌, IfOk, I
 ghost use Rattle.of_detok.specs.Definitions.{definitions_of};
 ghost use Rattle.of_commands.specs.Definitions.{Sees, SeesShown, all_definitions, definition_text, dev_slot};
 ghost use Rattle.of_commands.specs.Definitions.{shown_lines};
-ghost use Rattle.of_commands.specs.Runs.{IsRefusedFor};
+ghost use Rattle.of_runs.specs.Runs.{IsRefusedFor};
 
-use crate::engine::run_answers;
 use of_cells::Cell;
 use of_detok::definitions;
 use of_dict::{CAPACITY, OwnWord};
-use of_files::Fault;
-use of_machine::ScriptMachine;
+use of_files::{Fault, refused};
+use of_machine::{ScriptMachine, run_script};
 use of_stream::StreamFault;
 use std::alloc::Global;
 
@@ -58,9 +57,9 @@ fn see_definitions(alloc: Global, image: &[u8]) -> Result<Vec<u8>, Fault>
     let Ok(line) = Vec::from_slice(alloc, b"dev /slot") else {
         return Err(Fault::NoMemory);
     };
-    match run_answers(alloc, image, &[line], &[], MOST_STEPS) {
+    match run_script(alloc, image, &[line], &[], &[], MOST_STEPS) {
         Ok((machine, _)) => all_definitions(alloc, &machine),
-        Err(fault) => Err(fault),
+        Err(refusal) => Err(refused(image.len(), refusal)),
     }
 }
 

@@ -1,33 +1,27 @@
-ghost use Rattle.std.specs.Prelude.{◌≡◌, ◌⊎◌, [], ◌∷◌, Ok, None, IfOk, IfErr, IfSome};
-ghost use Rattle.std.specs.Prelude.{is_some, map, true, false};
+ghost use Rattle.std.specs.Prelude.{◌≡◌, Ok, None, IfOk, IfErr, IfSome, is_some, true, false};
 ghost use Rattle.std.specs.Io.KnownBytes.{Appends};
 ghost use Rattle.of_arguments.specs.Asked.{appendix_of, asked, no_appendix};
 ghost use Rattle.of_detok.specs.Listing.{listed_so_far};
-ghost use Rattle.of_devices.specs.Parts.{board_meant};
-ghost use Rattle.of_machine.specs.Racks.{answers_of};
-ghost use Rattle.of_machine.specs.Runs.{RunsTo};
 ghost use Rattle.of_files.specs.Messages.{bad_start_of};
 ghost use Rattle.of_files.specs.Faults.{EndsWith};
 ghost use Rattle.of_files.specs.Saying.{Said};
 ghost use Rattle.of_commands.specs.Definitions.{shown_lines};
-ghost use Rattle.of_commands.specs.Listings.{run_text};
-ghost use Rattle.of_commands.specs.Runs.{EndsPart, FaultsImage, FaultsListing, FaultsRun, IsRefusedFor};
-ghost use Rattle.of_commands.specs.Runs.{Lists, ListsFile, ListsImage, ListsPart, Prints, RunsFile, RunsOn};
-ghost use Rattle.of_commands.specs.Runs.{end_status, lines_of, run_end};
+ghost use Rattle.of_commands.specs.Listings.{listed_behind};
+ghost use Rattle.of_commands.specs.Runs.{EndsPart, Fails, FaultsImage, FaultsListing, Lists, ListsFile, ListsImage};
+ghost use Rattle.of_commands.specs.Runs.{ListsPart, Prints, RunsFile, end_status, run_end};
+ghost use Rattle.of_runs.specs.Runs.{console_of};
 ghost use Rattle.of_commands.specs.Runs.{Does, is_explained};
 ghost use Rattle.of_files.specs.Faults.{is_done};
 
 use crate::definitions::list_definitions;
 use crate::explain::say_end;
-use crate::listings::{no_listings, print_text, run_end};
-use crate::outside::{Answerer, Outside};
+use crate::listings::{no_listings, print_listings, run_end};
 use of_arguments::{Listing, Listings, Request, Status};
-use of_asking::Answer;
 use of_detok::{Extras, partial_listing};
-use of_devices::{Board, Rack};
-use of_files::{Fault, Messages, read_image, refused, report, tok, write_whole};
+use of_files::{Fault, Messages, read_image, report, tok, write_whole};
 use of_inspect::{check, pci};
-use of_machine::{End, ScriptMachine, run_rack, run_script};
+use of_machine::{End, ScriptMachine};
+use of_runs::Outside;
 use of_stream::StreamFault;
 use std::alloc::Global;
 use std::io::{Read, Write};
@@ -47,82 +41,23 @@ pub struct Run<'a> {
     pub explain: bool,
 }
 
-/// Runs an image and console lines with answers in order.
-pub(crate) fn run_answers(
-    alloc: Global,
-    image: &[u8],
-    lines: &[Vec<u8>],
-    answers: &[Answer],
-    limit: u64,
-) -> Result<(ScriptMachine, End), Fault>
-    ensures ok { IfOk result (λ r. RunsTo image.now (map (λ l. l.items) lines.now) answers.now [] limit r.0 r.1) }
-    ensures err { IfErr result (IsRefusedFor image.now (map (λ l. l.items) lines.now)) }
-{
-    match run_script(alloc, image, lines, answers, &[], limit) {
-        Ok(run) => Ok(run),
-        Err(refusal) => Err(refused(image.len(), refusal)),
-    }
-}
-
-/// Runs an image and console lines on a board that no run was made on.
-fn run_board(
-    alloc: Global,
-    image: &[u8],
-    lines: &[Vec<u8>],
-    board: Board,
-    limit: u64,
-) -> Result<(ScriptMachine, End), Fault>
-    ensures ok { IfOk result (λ r. RunsTo image.now (map (λ l. l.items) lines.now)
-        (answers_of (board_meant board ∷ []) r.0.asked) [] limit r.0 r.1) }
-    ensures err { IfErr result (λ f. IsRefusedFor image.now (map (λ l. l.items) lines.now) f
-        ⊎ (f ≡ Fault.NoMemory)) }
-{
-    let Ok(device) = Box::new(alloc, board) else {
-        return Err(Fault::NoMemory);
-    };
-    let mut rack: Rack = Vec::new(alloc);
-    let Ok(()) = rack.push(device) else {
-        return Err(Fault::NoMemory);
-    };
-    match run_rack(alloc, image, lines, &mut rack, &[], limit) {
-        Ok(run) => Ok(run),
-        Err(reason) => Err(refused(image.len(), reason)),
-    }
-}
-
-/// Runs an image and console lines; a board stays as it was.
-fn run_image(
-    alloc: Global,
-    image: &[u8],
-    outside: Outside<'_>,
-    limit: u64,
-) -> Result<(ScriptMachine, End), Fault>
-    ensures ok { IfOk result (λ r. RunsOn image.now outside.entry limit r.0 r.1) }
-    ensures err { IfErr result (λ f. IsRefusedFor image.now (lines_of outside.entry) f ⊎ (f ≡ Fault.NoMemory)) }
-{
-    match outside.answerer {
-        Answerer::Answers(answers) => run_answers(alloc, image, outside.lines, answers, limit),
-        Answerer::Board(board) => match board.copy(alloc) {
-            Ok(board) => run_board(alloc, image, outside.lines, board, limit),
-            Err(_) => Err(Fault::NoMemory),
-        },
-    }
-}
-
-/// Runs the image of a file, and gives the image, too.
-#[tactic(auto, using(crate::proofs::Faults::run_unread, crate::proofs::Faults::run_refused))]
-pub(crate) fn run_file<R: Read>(
+/// Runs the image of a file for at most `limit` steps, prints what the run prints as it comes, and gives the image,
+/// too.
+#[tactic(auto, using(crate::proofs::Faults::run_unread, crate::proofs::Faults::run_given_up))]
+pub(crate) fn run_file<R: Read, W: Write>(
     alloc: Global,
     run: Run<'_>,
     file: &mut R,
+    out: &mut W,
 ) -> Result<(Vec<u8>, ScriptMachine, End), Fault>
     ensures ok { IfOk result (λ r. IfSome (R.remaining file.old) (λ bytes.
         RunsFile bytes run.entry.outside run.entry.limit r.1 r.2)) }
+    ensures printed { IfOk result (λ r. Appends (W.contents out.old) (W.contents out.new) (console_of r.1)) }
     ensures err { IfErr result (λ f. IfSome (R.remaining file.old) (λ bytes.
-        FaultsRun bytes run.entry.outside f)) }
+        Fails bytes run.entry.outside run.entry.limit (W.contents out.old) (W.contents out.new) f)) }
 {
     let image = read_image(alloc, file)?;
-    match run_image(alloc, &image, run.outside, run.limit) {
+    match of_runs::print_run(alloc, &image, run.outside, run.limit, out) {
         Ok((machine, end)) => Ok((image, machine, end)),
         Err(fault) => Err(fault),
     }
@@ -158,7 +93,7 @@ pub(crate) fn explain_end<E: Write>(
     Ok(end_status(end))
 }
 
-/// Prints what a run printed, and what is listed behind it, and then says how it ended, where that is to be explained.
+/// Prints what is listed behind what a run printed, and then says how it ended, where that is to be explained.
 ///
 /// NoWord, once that is done, where a word is asked for by a name that none has.
 #[tactic(auto, using(crate::proofs::Faults::all_are_part, crate::proofs::Faults::run_ended))]
@@ -172,19 +107,19 @@ fn print_end<W: Write, E: Write>(
     errors: &mut Messages<E>,
 ) -> Result<Status, Fault>
     ensures ok { IfOk result (λ s. Appends (W.contents out.old) (W.contents out.new)
-        (run_text (appendix_of run.entry.listings) machine.now)
+        (listed_behind (appendix_of run.entry.listings) machine.now)
         × (run_end (appendix_of run.entry.listings) machine.now (end_status end) ≡ Ok s)) }
     ensures err { IfErr result (λ f. EndsPart (appendix_of run.entry.listings) machine.now end
         (W.contents out.old) (W.contents out.new) f) }
     ensures silent { run.entry.explain ≡ false → errors.new ≡ errors.old }
 {
-    print_text(alloc, run.listings, machine, out)?;
+    print_listings(alloc, run.listings, machine, out)?;
     let status = explain_end(alloc, run, image, machine, end, errors)?;
     run_end(run.listings, machine, status)
 }
 
-/// Runs the image of a file for at most `limit` steps, prints what the run prints, and what is listed behind it,
-/// explains how it ended, where that is asked for, and gives the status.
+/// Runs the image of a file for at most `limit` steps, prints what the run prints as it comes, and behind it what is
+/// listed, explains how it ended, where that is asked for, and gives the status.
 ///
 /// The file is the image as it stands where it begins with a start word, 0xF0 to 0xF3 or 0xFD, and
 /// else a text of hexadecimal digits. With a fault of the file nothing is printed.
@@ -202,7 +137,7 @@ fn print_run<R: Read, W: Write, E: Write>(
     ensures silent { run.entry.explain ≡ false → errors.new ≡ errors.old }
     ensures unsaid { IfErr result (λ f. is_some (bad_start_of f) ≡ true → errors.new ≡ errors.old) }
 {
-    match run_file(alloc, run, file) {
+    match run_file(alloc, run, file, out) {
         Ok((image, machine, end)) => print_end(alloc, run, &image, &machine, end, out, errors),
         Err(fault) => Err(fault),
     }
@@ -323,7 +258,7 @@ fn answer_listing<R: Read, W: Write, E: Write>(
 }
 
 /// Runs the image of a file, prints what it prints, and gives the status; a fault is said on the error output.
-#[tactic(auto, using(crate::proofs::Ends::ended, crate::proofs::Ends::not_ended, crate::proofs::Ends::not_done))]
+#[tactic(auto, using(crate::proofs::Ends::ended, crate::proofs::Ends::not_ended))]
 fn answer_run<R: Read, W: Write, E: Write>(
     alloc: Global,
     run: Run<'_>,

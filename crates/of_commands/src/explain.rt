@@ -2,12 +2,12 @@
 ghost use Rattle.std.specs.Prelude.{◌≡◌, IfErr};
 
 use crate::engine::Run;
-use crate::outside::{Answerer, Outside};
 use of_asking::{Answer, Query};
 use of_devices::{Board, Device};
 use of_fcodes::{FCode, name_of};
 use of_files::Fault;
 use of_machine::{End, Progress, ScriptMachine, script_machine};
+use of_runs::{Answerer, Outside};
 use std::alloc::Global;
 use std::io::{self, Write};
 

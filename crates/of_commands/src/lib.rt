@@ -8,11 +8,9 @@ mod definitions;
 mod engine;
 mod explain;
 mod listings;
-mod outside;
 mod state;
 
 pub use clients::{ClientRun, client};
 pub use consoles::{ConsoleRun, console};
 pub use debugs::{DebugRun, debug};
 pub use engine::{Run, answer};
-pub use outside::{Answerer, Outside};

@@ -1,13 +1,12 @@
 //! What is listed behind what a run printed: the device tree, the words, the word of a name, and the state.
-ghost use Rattle.std.specs.Prelude.{◌≡◌, ◌⊎◌, IfOk, IfErr, OnOk, OnErr};
+ghost use Rattle.std.specs.Prelude.{◌≡◌, IfOk, IfErr, OnOk, OnErr};
 ghost use Rattle.std.specs.Io.KnownBytes.{Appends};
 ghost use Rattle.of_arguments.specs.Asked.{appendix_of, no_appendix, path_of};
-ghost use Rattle.of_commands.specs.Listings.{ends_line, lacks_word, lines_behind, listings_text, run_text, see_named};
-ghost use Rattle.of_commands.specs.Listings.{see_word, state_if, tree_if, words_if};
+ghost use Rattle.of_commands.specs.Listings.{ends_line, lacks_word, lines_behind, listed_behind, listings_text};
+ghost use Rattle.of_commands.specs.Listings.{see_named, see_word, state_if, tree_if, words_if};
 ghost use Rattle.std.specs.String.{string_bytes};
 ghost use Rattle.of_files.specs.Messages.{AppendsPart};
-ghost use Rattle.of_files.specs.Faults.{IsUnwritten};
-ghost use Rattle.of_commands.specs.Runs.{run_end};
+ghost use Rattle.of_commands.specs.Runs.{IsCut, run_end};
 
 use crate::state::state_text;
 use of_arguments::{Listings, Status};
@@ -143,42 +142,21 @@ fn lines_behind(alloc: Global, text: &[u8], lines: &[u8]) -> Result<Vec<u8>, Fau
 }
 
 /// Prints what is listed of a machine, on lines of its own behind what was printed.
-fn print_listings<W: Write>(
+pub(crate) fn print_listings<W: Write>(
     alloc: Global,
     listings: Listings<'_>,
     machine: &ScriptMachine,
     out: &mut W,
 ) -> Result<(), Fault>
     ensures ok { OnOk result (Appends (W.contents out.old) (W.contents out.new)
-        (lines_behind machine.now.eval.board.console.text
-        (listings_text (appendix_of listings.entry) machine.now))) }
+        (listed_behind (appendix_of listings.entry) machine.now)) }
     ensures err { OnErr result (AppendsPart (W.contents out.old) (W.contents out.new)
-        (lines_behind machine.now.eval.board.console.text
-        (listings_text (appendix_of listings.entry) machine.now))) }
-    ensures fault { IfErr result (λ f. IsUnwritten f ⊎ (f ≡ Fault.NoMemory)) }
+        (listed_behind (appendix_of listings.entry) machine.now)) }
+    ensures fault { IfErr result IsCut }
 {
     let lines = listings_text(alloc, listings, machine)?;
     let behind = lines_behind(alloc, machine.console(), &lines)?;
     write_whole(out, &behind)
-}
-
-/// Prints what a run printed, and behind it what is listed.
-pub(crate) fn print_text<W: Write>(
-    alloc: Global,
-    listings: Listings<'_>,
-    machine: &ScriptMachine,
-    out: &mut W,
-) -> Result<(), Fault>
-    ensures ok { OnOk result (Appends (W.contents out.old) (W.contents out.new)
-        (run_text (appendix_of listings.entry) machine.now)) }
-    ensures err { OnErr result (AppendsPart (W.contents out.old) (W.contents out.new)
-        (run_text (appendix_of listings.entry) machine.now)) }
-    ensures fault { IfErr result (λ f. IsUnwritten f ⊎ (f ≡ Fault.NoMemory)) }
-{
-    match write_whole(out, machine.console()) {
-        Ok(()) => print_listings(alloc, listings, machine, out),
-        Err(fault) => Err(fault),
-    }
 }
 
 /// Whether a word is asked for by a name that none has.

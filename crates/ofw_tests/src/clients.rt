@@ -1,8 +1,9 @@
 use crate::doubles::{blank_screen, no_listings, reader_of, without_lines};
 use of_asking::Answer;
 use of_client::{names_are_met, values_are_got};
-use of_commands::{Answerer, ClientRun, Outside, Run, client};
+use of_commands::{ClientRun, Run, client};
 use of_files::Messages;
+use of_runs::{Answerer, Outside};
 use std::alloc::Global;
 use std::process::Abort;
 use std::test::Fail;

@@ -1,10 +1,11 @@
 use crate::doubles::{Endless, Screen, blank_screen, reader_of, without_lines};
 use of_arguments::{Status, parse, status_of};
-use of_commands::{Answerer, answer};
+use of_commands::answer;
 use of_files::{Fault, Messages, image, keep, report};
+use of_runs::Answerer;
 use of_stream::StreamFault;
 use std::alloc::Global;
-use std::io::Read;
+use std::io::{Read, Write};
 use std::process::Abort;
 use std::test::Fail;
 
@@ -18,7 +19,7 @@ pub(crate) fn code_of(
     alloc: Global,
     words: &str,
     file: &mut impl Read,
-    out: &mut Screen,
+    out: &mut impl Write,
     errors: &mut Screen,
 ) -> Result<u8, Fail> {
     let mut line = vec![in alloc; String::from_str(alloc, "ofw")?]?;
@@ -156,6 +157,8 @@ ofw: no word that is known here has this name, and it is no number||fcode-versio
 check a.hex|99|99|0|||f108020a0000000da7a81e9d00;
 check a.hex|99|999|1||000002: the header says the sum 020b, and it is 02b1
 00000d: the image ends without end0 or end1|f108020b0000000da7a81e9da7;
+check a.hex|99|99|1||000002: the header says the sum 020b, and it is 020a|f108020b0000000da7a81e9d00;
+check a.hex|99|3|1|ofw: the output can't be written: other error|000|f108020b0000000da7a81e9d00;
 check a.hex|99|99|1|ofw: a.hex:1:1: 'x' is no hexadecimal digit||x;
 pci a.rom|99|99|1|ofw: a.rom: image at 000000: no signature||none;
 tok card.fs|2|999|1|ofw: card.fs: other error||fcode-version2 fcode-end;

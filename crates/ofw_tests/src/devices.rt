@@ -1,8 +1,9 @@
 use crate::doubles::{Screen, blank_screen, no_listings, reader_of, without_lines};
 use of_arguments::{Outside as Asked, Request, Status};
-use of_commands::{Answerer, Outside, answer};
+use of_commands::answer;
 use of_devices::{Board, standard_board};
 use of_files::{Messages, answers, board};
+use of_runs::{Answerer, Outside};
 use std::alloc::Global;
 use std::io::Write;
 use std::process::Abort;

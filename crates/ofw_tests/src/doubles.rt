@@ -1,6 +1,6 @@
 //! Readers and writers that fail where a test wants it, and what is handed in to a run.
 use of_arguments::Listings;
-use of_commands::{Answerer, Outside};
+use of_runs::{Answerer, Outside};
 use std::alloc::Global;
 use std::io::{Error, ErrorKind, Read, Result, Write};
 

@@ -22,4 +22,6 @@ mod lines;
 #[cfg(test)]
 mod listings;
 #[cfg(test)]
+mod pages;
+#[cfg(test)]
 mod trees;

@@ -1,8 +1,9 @@
 //! Runs with console lines of a file.
 use crate::doubles::{blank_screen, no_listings, reader_of};
 use of_arguments::{Outside as Asked, Request};
-use of_commands::{Answerer, Outside, answer};
+use of_commands::answer;
 use of_files::{Messages, lines};
+use of_runs::{Answerer, Outside};
 use std::alloc::Global;
 use std::test::Fail;
 

@@ -3,8 +3,9 @@
 use crate::commands::code_of;
 use crate::doubles::{blank_screen, reader_of};
 use of_arguments::{Status, parse};
-use of_commands::{Answerer, Outside, answer};
+use of_commands::answer;
 use of_files::Messages;
+use of_runs::{Answerer, Outside};
 use std::alloc::Global;
 use std::process::Abort;
 use std::test::Fail;

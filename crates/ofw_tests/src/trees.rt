@@ -2,8 +2,9 @@
 
 use crate::doubles::{blank_screen, reader_of, without_lines};
 use of_arguments::{Listings, Outside as Asked, Request};
-use of_commands::{Answerer, answer};
+use of_commands::answer;
 use of_files::Messages;
+use of_runs::Answerer;
 use std::alloc::Global;
 use std::test::Fail;
 

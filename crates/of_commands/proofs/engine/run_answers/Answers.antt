@@ -1,9 +1,0 @@
--- The goals at which wrong bodies are refused.
-use Rattle.std.proofs.Common.{rules}
-use Rattle.of_commands.proofs.engine.run_answers.Goals as goal
-
-pub returns-in-Ok-clause-ok : goal.returns-in-Ok-clause-ok
-returns-in-Ok-clause-ok c = search rules
-
-pub returns-in-Err-clause-err : goal.returns-in-Err-clause-err
-returns-in-Err-clause-err c = search rules
