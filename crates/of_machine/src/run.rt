@@ -109,6 +109,7 @@ pub fn begin_run<'a>(
         answers.now (map due_of calls.now)) }
     ensures calm { IfOk result IsCalm }
     ensures none { IfOk result (λ f. f.machine.steps ≡ 0) }
+    ensures answers { IfOk result (λ f. f.answers ≡ answers.now) }
     ensures err { IfErr result (λ e. Refuses (script_refusal image.now (map (λ l. l.items) lines.now)) e) }
 {
     let machine = loaded_machine(alloc, image, lines)?;

@@ -58,7 +58,7 @@ fn part_of(alloc: Global, word: &str) -> Result<Part, Fail> {
 }
 
 /// The devices that words stand for.
-fn rack_of(alloc: Global, devices: &str) -> Result<Rack, Fail> {
+pub(crate) fn rack_of(alloc: Global, devices: &str) -> Result<Rack, Fail> {
     let mut rack: Rack = Vec::new(alloc);
     for word in devices.split_whitespace() {
         rack.push(Box::new(alloc, part_of(alloc, word)?)?)?;
