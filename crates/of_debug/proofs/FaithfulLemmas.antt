@@ -16,7 +16,7 @@ use Rattle.of_debug.proofs.StepLemmas.{run_none, run_one, shows_itself, shows_so
 use Rattle.of_debug.proofs.TurnLemmas.{Stayed, Turned, Went, settled_turn, steps_at, turn_at, turned_so}
 use Rattle.of_debug.specs.Debugging.{BreakAt, Clear, Command, Debugged, Go, IsFaithful, Obey, Obeys, Remarks, StepIn}
 use Rattle.of_debug.specs.Debugging.{StepOut, StepOver, Steps, begun, breaks, clears, depth_now, does_step, left}
-use Rattle.of_debug.specs.Stepping.{Advances, has_stayed, is_there, until}
+use Rattle.of_debug.specs.Stepping.{Advances, IsRefused, has_stayed, is_there, until}
 use Rattle.of_debug.specs.Turns.{IsAt, Shows, Stands, between, run, turn}
 
 -- ---- feeds with their next question open
@@ -37,7 +37,7 @@ unfolding run
 run_at zero f g at = at
 run_at (suc n) f g at = inl (turn_at (run flat_calls n f) (run flat_calls n g) (run_at n f g at))
 
-run_joined : (n k : ℕ) (s : Feed Coding)
+pub run_joined : (n k : ℕ) (s : Feed Coding)
     → run flat_calls k (run flat_calls n s) ≡ run flat_calls (n + k) s
 unfolding run
 run_joined n zero s = let none : n + 0 ≡ n = omega arith in ap (λ j. run flat_calls j s) (sym none)
@@ -46,7 +46,7 @@ run_joined n (suc k) s =
     ap (turn flat_calls) (run_joined n k s) ∙ ap (λ j. run flat_calls j s) more
 
 -- a feed of a run, and one of the run from there
-shows_joined : (s f g : Feed Coding) → Shows s f → Shows f g → Shows s g
+pub shows_joined : (s f g : Feed Coding) → Shows s f → Shows f g → Shows s g
 shows_joined s f g (few, at) (more, next) =
     let n = between s f in
     let k = between f g in
@@ -102,11 +102,22 @@ stopped_stands s marks goal n old new o full e =
     subst (λ x. Stands s x) (sym e)
     (subst (λ x. Shows s x) (sym (settled_until marks goal n old full)) (shows_until s marks goal n old o))
 
+-- where memory was refused, what was made is of the run, too
+refused_shows : (marks : List Mark) (goal : Goal) (n : ℕ) (old new : Feed Coding) → IsRefused marks goal n old new
+    → Shows old (settled new)
+refused_shows marks goal n old new r =
+    let u = until marks goal r.made old in
+    let near : Shows u (settled new) =
+    shows_so 0 u (settled new) (omega (arith, steps_at u (settled new) r.at))
+    (subst (λ x. IsAt x (settled new)) (sym (run_none u)) r.at) in
+    shows_joined old u (settled new) (shows_until old marks goal r.made old (shows_itself old)) near
+
 advances_stand : (s : Feed Coding) (marks : List Mark) (goal : Goal) (n : ℕ) (old new : Feed Coding)
     (r : Result ⊤ DebugFault) → Shows s old → settled old ≡ old → Advances marks goal n old new r → Stands s new
 advances_stand s marks goal n old new (Ok u) o full a = stopped_stands s marks goal n old new o full a.0
 advances_stand s marks goal n old new (Err fault.Idle) o full a = stopped_stands s marks goal n old new o full a.0
-advances_stand s marks goal n old new (Err fault.NoMemory) o full a = shows_joined s old (settled new) o a
+advances_stand s marks goal n old new (Err fault.NoMemory) o full a =
+    shows_joined s old (settled new) o (refused_shows marks goal n old new a)
 advances_stand s marks goal n old new (Err fault.NoWord) o full a = absurd a
 advances_stand s marks goal n old new (Err fault.NoItem) o full a = absurd a
 advances_stand s marks goal n old new (Err fault.TooMany) o full a = absurd a

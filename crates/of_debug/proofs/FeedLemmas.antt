@@ -1,5 +1,5 @@
 -- What is handed in to a machine, and that nothing is handed in twice.
-use Rattle.std.proofs.Common.{◌≡◌, inl, inr, ℕ, ◌+◌, Bool, true, false, List, [], ◌∷◌, refl, ap}
+use Rattle.std.proofs.Common.{◌≡◌, ◌⊎◌, inl, inr, ℕ, ◌+◌, Bool, true, false, List, [], ◌∷◌, refl, ap}
 use Rattle.std.proofs.Common.{sym, subst, ◌∙◌, nat_le, arith}
 use Rattle.std.proofs.lemmas.Bool.{leb-false}
 use Rattle.std.proofs.lemmas.Bool.Decides.{nat_tests}
@@ -7,6 +7,8 @@ use Rattle.std.specs.Prelude.{if◌then◌else◌, ◌<◌, ◌≤◌, ◌-◌}
 use Rattle.of_compile.specs.Coding.{Coding}
 use Rattle.of_machine.specs.States.{MachineState, is_running, served}
 use Rattle.of_machine.specs.Runs.{AreLater, Due, Feed, IsFed, caught_up, clients_heard, fed, fed_by, settled}
+use Rattle.of_debug.specs.Stepping.{HasDue, has_line, is_first_due}
+use Rattle.of_debug.specs.Stops.{DueIsLeft}
 
 -- ---- clients
 
@@ -132,3 +134,26 @@ settled_waiting f =
 
 pub settled_answers : (f : Feed Coding) → (settled f).answers ≡ f.answers
 settled_answers f = (lined_so (clients_heard f)).answers
+
+-- ---- what is due
+
+no_line : (b : Bool) (lines : List (List ℕ)) → (b ≡ true) ⊎ (lines ≡ []) → has_line b lines ≡ true → ⊥
+no_line true lines fed e = absurd cc
+no_line false [] fed e = absurd cc
+no_line false (line ∷ lines) (inl runs) e = absurd cc
+no_line false (line ∷ lines) (inr none) e = absurd cc
+
+not_first : (n : ℕ) (calls : List Due) → AreLater n calls → is_first_due calls n ≡ true → ⊥
+not_first n [] later e = absurd cc
+not_first n (call ∷ calls) later e = absurd (grind (arith, nat_tests))
+
+-- is handed in
+pub due_is_left : DueIsLeft
+due_is_left = record { due = is_left }
+  where
+    is_left : (f : Feed Coding) → HasDue f → settled f ≡ f → ⊥
+    is_left f (inl first) full =
+        not_first f.machine.steps f.calls
+        (subst (λ (x : Feed Coding). AreLater x.machine.steps x.calls) full (settled_later f)) first
+    is_left f (inr line) full =
+        no_line (is_running f.machine) f.lines (subst (λ x. IsFed x) full (settled_fed f)) line

@@ -3,4 +3,5 @@ pub mod TurnLemmas
 pub mod TellLemmas
 pub mod StepLemmas
 pub mod FaithfulLemmas
+pub mod StopLemmas
 pub mod AgreeLemmas

@@ -11,8 +11,9 @@ use Rattle.of_debug.specs.declared.fault.DebugFault.TheVariants as fault
 use Rattle.of_debug.specs.declared.goal.Goal.{Goal}
 use Rattle.of_debug.specs.declared.marks.Mark.{Mark}
 use Rattle.of_debug.proofs.FeedLemmas.{settled_steps}
-use Rattle.of_debug.proofs.TurnLemmas.{settled_at, settled_turn, steps_at}
-use Rattle.of_debug.specs.Stepping.{Advances, Breaks, Comes, has_stayed, is_there, onwards, until}
+use Rattle.of_debug.proofs.TurnLemmas.{grows_at, settled_at, settled_turn, steps_at}
+use Rattle.of_debug.specs.Stepping.{Advances, Breaks, Comes, HasDue, IsRefused, has_stayed, is_there, onwards}
+use Rattle.of_debug.specs.Stepping.{until}
 use Rattle.of_debug.specs.Turns.{IsAt, Shows, between, run, turn}
 
 -- ---- runs
@@ -31,16 +32,6 @@ pub shows_so : (n : ℕ) (s f : Feed Coding) → f.machine.steps ≡ s.machine.s
 shows_so n s f steps at =
     let same : n ≡ between s f = omega (arith, steps) in
     (omega (arith, steps), subst (λ k. IsAt (run flat_calls k s) f) same at)
-
--- where memory was refused, a whole step stands
-pub breaks_shows : (n : ℕ) (s f g : Feed Coding) → f ≡ run flat_calls n s → f.machine.steps ≡ s.machine.steps + n
-    → settled f ≡ f → Breaks f g → Shows s (settled g)
-breaks_shows n s f g e steps full (inl at) =
-    subst (λ x. Shows s x) (sym (settled_at f g at full))
-    (shows_so n s g (steps_at f g at ∙ steps) (subst (λ x. IsAt x g) e at))
-breaks_shows n s f g e steps full (inr made) =
-    let there : settled g ≡ run flat_calls (n + 1) s = made.0 ∙ ap (turn flat_calls) e ∙ run_one n s in
-    shows_so (n + 1) s (settled g) (omega (arith, settled_steps g, made.1, steps)) (inl there)
 
 -- ---- up to a goal
 
@@ -128,9 +119,55 @@ pub none_made : (marks : List Mark) (goal : Goal) (n i : ℕ) (old f new : Feed 
 none_made marks goal n i old f new r e m turned same less c =
     comes_to marks goal n i old new r (sym (e ∙ until_stops marks goal n i f new turned same less)) (same ∙ m) c
 
+-- ---- where memory was refused
+
+last_turn : (b : Bool) (marks : List Mark) (goal : Goal) (g : Feed Coding)
+    → (if b then g else until marks goal 0 g) ≡ g
+last_turn true marks goal g = refl
+last_turn false marks goal g = until_none marks goal g
+
+-- up to one step is a turn
+until_turn : (marks : List Mark) (goal : Goal) (f : Feed Coding) → until marks goal 1 f ≡ turn flat_calls f
+until_turn marks goal f =
+    let g = turn flat_calls f in
+    until_suc marks goal 0 f ∙ last_turn (has_stayed f g || is_there marks goal g.machine) marks goal g
+
+-- what was made so far leads on under every bound; so the call has come as far as one that is bound by it
+pub breaks_refused : (marks : List Mark) (goal : Goal) (most i : ℕ) (old f g : Feed Coding)
+    → ((b : ℕ) → i ≤ b → until marks goal b old ≡ until marks goal (b - i) f)
+    → f.machine.steps ≡ old.machine.steps + i → i < most → settled f ≡ f → Breaks f g
+    → IsRefused marks goal most old g
+breaks_refused marks goal most i old f g leads steps less full (inl (at, grows)) =
+    let none : i - i ≡ 0 = omega arith in
+    let here : until marks goal i old ≡ f =
+    leads i (omega arith) ∙ ap (λ j. until marks goal j f) none ∙ until_none marks goal f in record {
+      made = i;
+      few = omega (arith, less);
+      at =
+          subst (λ x. IsAt (until marks goal i old) x) (sym (settled_at f g at full))
+          (subst (λ x. IsAt x g) (sym here) at);
+      steps = steps_at f g at ∙ steps;
+      grows = inr (grows_at f g at grows);
+    }
+breaks_refused marks goal most i old f g leads steps less full (inr (there, more, due)) =
+    let one : i + 1 - i ≡ 1 = omega arith in
+    let next : until marks goal (i + 1) old ≡ turn flat_calls f =
+    leads (i + 1) (omega arith) ∙ ap (λ j. until marks goal j f) one ∙ until_turn marks goal f in record {
+      made = i + 1;
+      few = omega (arith, less);
+      at = inl (there ∙ sym next);
+      steps = omega (arith, more, steps);
+      grows = inl due;
+    }
+
+-- at first nothing is made, and a call leads where it leads
+pub leads_first : (marks : List Mark) (goal : Goal) (b : ℕ) (f : Feed Coding)
+    → until marks goal b f ≡ until marks goal (b - 0) f
+leads_first marks goal b f = let same : b ≡ b - 0 = omega arith in ap (λ j. until marks goal j f) same
+
 -- a call that goes on, turn by turn
 pub ruleset advances =
-    (run_none, run_one, until_there, until_goes, none_made, all_made, breaks_shows, settled_turn)
+    (run_none, run_one, until_there, until_goes, none_made, all_made, settled_turn)
 
 -- ---- what is handed in before
 
@@ -139,5 +176,13 @@ pub shows_itself : (s : Feed Coding) → Shows s s
 shows_itself s =
     shows_so 0 s s (omega arith) (inl (sym (run_none s)))
 
-pub settle_breaks : (f g : Feed Coding) → settled g ≡ settled f → Shows (settled f) (settled g)
-settle_breaks f g e = subst (λ x. Shows (settled f) x) (sym e) (shows_itself (settled f))
+-- what is due before a call wasn't all handed in: no step was made
+pub settle_refused : (marks : List Mark) (goal : Goal) (n : ℕ) (f g : Feed Coding) → settled g ≡ settled f
+    → g.machine.steps ≡ f.machine.steps → HasDue g → IsRefused marks goal n (settled f) g
+settle_refused marks goal n f g e steps due = record {
+  made = 0;
+  few = omega arith;
+  at = inl (e ∙ sym (until_none marks goal (settled f)));
+  steps = omega (arith, steps, settled_steps f);
+  grows = inl due;
+}

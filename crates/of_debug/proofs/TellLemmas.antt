@@ -2,20 +2,20 @@
 use Rattle.std.proofs.Common.{◌≡◌, ◌∙◌, inl, inr, ◌+◌, Bool, true, false, List, [], ◌∷◌, Option, Some, None}
 use Rattle.std.proofs.Common.{Result, Ok, Err, IfOk, OnErr, refl, sym, ap, subst}
 use Rattle.std.proofs.lemmas.Option.{same_Some}
-use Rattle.std.specs.Prelude.{if◌then◌else◌, drop}
+use Rattle.std.specs.Prelude.{if◌then◌else◌, is_some}
 use Rattle.of_asking.specs.Questions.{fits}
 use Rattle.of_asking.specs.declared.query.Answer.{Answer}
 use Rattle.of_asking.specs.declared.query.Query.{Query}
 use Rattle.of_compile.specs.Coding.{Coding}
 use Rattle.of_machine.specs.Runs.{Feed, asking, fitting, next_answer, settled, told}
-use Rattle.of_machine.specs.States.{MachineState, Steps, answered, can_step, made_or_opened, moved, question}
-use Rattle.of_machine.specs.States.{tried}
+use Rattle.of_machine.specs.States.{MachineState, MayGrow, Steps, can_step}
+use Rattle.of_machine.specs.States.{made_or_opened, moved, question, tried}
 use Rattle.of_machine.specs.declared.answers.Progress.TheVariants.{Asks, Done, Ended}
 use Rattle.of_state.specs.State.{flat_calls}
-use Rattle.of_steps.specs.Steps.{asked_by}
+use Rattle.of_steps.specs.Steps.{asked_by, due_grows}
 use Rattle.of_debug.proofs.FeedLemmas.{settled_steps}
 use Rattle.of_debug.proofs.TurnLemmas.{turn_asks, turn_moves, turn_none, turn_open}
-use Rattle.of_debug.specs.Stepping.{Breaks, IsTold, Turns, Untold}
+use Rattle.of_debug.specs.Stepping.{Breaks, HasDue, IsTold, Turns, Untold}
 use Rattle.of_debug.specs.Turns.{IsAt, turn}
 
 -- ---- the next answer
@@ -34,45 +34,6 @@ pub misfits : (f : Feed Coding) (q : Query) (answer : Answer) (rest : List Answe
     → f.answers ≡ answer ∷ rest → fits q answer ≡ false → IsTold false f f
 misfits f q answer rest waits left e =
     (refl, next_is f q (answer ∷ rest) waits left ∙ ap (λ b. if b then Some answer else None) e)
-
--- or it does: what the step with it leaves
-told_is : (f g : Feed Coding) (q : Query) (m : MachineState Coding) (answer : Answer) (rest : List Answer)
-    → f.machine.waiting ≡ Some q → f.answers ≡ answer ∷ rest → fits q answer ≡ true
-    → m ≡ answered flat_calls answer f.machine → g ≡ record f { machine = m; answers = rest }
-    → told flat_calls (next_answer f.machine.waiting f.answers) f ≡ settled g
-told_is f g q m answer rest waits left e moved same =
-    let next = next_is f q (answer ∷ rest) waits left ∙ ap (λ b. if b then Some answer else None) e in
-    ap (λ o. told flat_calls o f) next
-    ∙ ap settled
-    (ap (λ x. record f { machine = x; answers = drop 1 f.answers }) (sym moved)
-    ∙ ap (λ x. record f { machine = m; answers = drop 1 x }) left
-    ∙ sym same)
-
-counted : (f g : Feed Coding) (m : MachineState Coding) (answer : Answer) (rest : List Answer)
-    → m ≡ answered flat_calls answer f.machine → g ≡ record f { machine = m; answers = rest }
-    → g.machine.steps ≡ f.machine.steps + 1
-counted f g m answer rest moved same =
-    ap (λ (x : Feed Coding). x.machine.steps) same ∙ ap (λ (x : MachineState Coding). x.steps) moved
-
-pub is_told : (f g new : Feed Coding) (q : Query) (m : MachineState Coding) (answer : Answer) (rest : List Answer)
-    → f.machine.waiting ≡ Some q → f.answers ≡ answer ∷ rest → fits q answer ≡ true
-    → m ≡ answered flat_calls answer f.machine → g ≡ record f { machine = m; answers = rest } → new ≡ settled g
-    → IsTold true f new
-is_told f g new q m answer rest waits left e moved same done = (
-  done ∙ sym (told_is f g q m answer rest waits left e moved same),
-  ap (λ (x : Feed Coding). x.machine.steps) done ∙ settled_steps g ∙ counted f g m answer rest moved same,
-)
-
--- not all behind it found memory
-pub is_untold : (f g new : Feed Coding) (q : Query) (m : MachineState Coding) (answer : Answer) (rest : List Answer)
-    → f.machine.waiting ≡ Some q → f.answers ≡ answer ∷ rest → fits q answer ≡ true
-    → m ≡ answered flat_calls answer f.machine → g ≡ record f { machine = m; answers = rest }
-    → settled new ≡ settled g → new.machine.steps ≡ g.machine.steps → Untold f new
-is_untold f g new q m answer rest waits left e moved same later steps =
-    inr (
-      later ∙ sym (told_is f g q m answer rest waits left e moved same),
-      steps ∙ counted f g m answer rest moved same,
-    )
 
 -- ---- the step
 
@@ -109,15 +70,17 @@ is_done f g new m done same all =
     (all ∙ sym there.0, ap (λ (x : Feed Coding). x.machine.steps) all ∙ settled_steps g ∙ there.1)
 
 pub is_broken : (f g new : Feed Coding) (m : MachineState Coding) → Steps Done f.machine m
-    → g ≡ record f { machine = m } → settled new ≡ settled g → new.machine.steps ≡ g.machine.steps → Breaks f new
-is_broken f g new m done same later steps =
-    let there = done_is f g m done same in inr (later ∙ sym there.0, steps ∙ there.1)
+    → g ≡ record f { machine = m } → settled new ≡ settled g → new.machine.steps ≡ g.machine.steps → HasDue new
+    → Breaks f new
+is_broken f g new m done same later steps due =
+    let there = done_is f g m done same in inr (later ∙ sym there.0, steps ∙ there.1, due)
 
 -- one is made that asks, or whose question is open: where it stands, and what its turn leaves
 record IsAsked (f g : Feed Coding) (q : Query) : Type 0 where
   at : IsAt f g
   waits : g.machine.waiting ≡ Some q
   steps : g.machine.steps ≡ f.machine.steps
+  eval : g.machine.eval ≡ f.machine.eval
   turned : turn flat_calls f ≡ told flat_calls (fitting q g.answers) g
 
 asked_none : (f g : Feed Coding) (m : MachineState Coding) (q : Query) → f.machine.waiting ≡ None
@@ -130,6 +93,7 @@ asked_none f g m q none can asks made same =
       at = inr (q, can, none, asks, there);
       waits = ap (λ (x : Feed Coding). x.machine.waiting) there;
       steps = ap (λ (x : Feed Coding). x.machine.steps) there;
+      eval = ap (λ (x : Feed Coding). x.machine.eval) there;
       turned =
           turn_asks f q can none asks
           ∙ ap (λ (x : Feed Coding). told flat_calls (fitting q x.answers) x) (sym there);
@@ -143,6 +107,7 @@ asked_open f g m p q waits asks can made same =
       at = inl there;
       waits = ap (λ (x : Feed Coding). x.machine.waiting) there ∙ still;
       steps = ap (λ (x : Feed Coding). x.machine.steps) there;
+      eval = ap (λ (x : Feed Coding). x.machine.eval) there;
       turned =
           turn_open f q can still
           ∙ ap (λ (x : Feed Coding). told flat_calls (fitting q x.answers) x) (sym there);
@@ -174,12 +139,18 @@ is_asked f g new m q false steps same t =
       ap (λ (x : Feed Coding). x.machine.steps) t.0 ∙ a.steps,
     )
 
+-- what may grow is read off the evaluator
+grows_by : (m n : MachineState Coding) → m.eval ≡ n.eval → MayGrow m → MayGrow n
+grows_by m n e (inl due) = inl (subst (λ x. due_grows flat_calls x.flow.next x ≡ true) e due)
+grows_by m n e (inr asks) = inr (subst (λ x. is_some (asked_by flat_calls x) ≡ true) e asks)
+
 pub is_unasked : (f g new : Feed Coding) (m : MachineState Coding) (q : Query) → Steps (Asks q) f.machine m
     → g ≡ record f { machine = m } → Untold g new → Breaks f new
-is_unasked f g new m q steps same (inl here) =
-    inl (subst (λ x. IsAt f x) (sym here) (asked f g m q steps same).at)
-is_unasked f g new m q steps same (inr made) =
-    let a = asked f g m q steps same in inr (made.0 ∙ sym (told_so f g q a), made.1 ∙ ap (λ n. n + 1) a.steps)
+is_unasked f g new m q steps same (inl (here, grows)) =
+    let a = asked f g m q steps same in
+    inl (subst (λ x. IsAt f x) (sym here) a.at, grows_by g.machine f.machine a.eval grows)
+is_unasked f g new m q steps same (inr (there, more, due)) =
+    let a = asked f g m q steps same in inr (there ∙ sym (told_so f g q a), more ∙ ap (λ n. n + 1) a.steps, due)
 
 -- ---- by what was answered
 

@@ -8,7 +8,7 @@ use Rattle.of_asking.specs.declared.query.Query.{Query}
 use Rattle.of_compile.specs.Coding.{Coding}
 use Rattle.of_state.specs.State.{flat_calls}
 use Rattle.of_steps.specs.Steps.{asked_by}
-use Rattle.of_machine.specs.States.{MachineState, answered, can_step, is_running, moved}
+use Rattle.of_machine.specs.States.{MachineState, MayGrow, answered, can_step, is_running, moved}
 use Rattle.of_machine.specs.Runs.{AreLater, Feed, asking, fitting, settled, told, turned}
 use Rattle.of_debug.proofs.FeedLemmas.{rests, settled_again, settled_later, settled_steps}
 use Rattle.of_debug.specs.Turns.{IsAt, resumed, turn}
@@ -105,6 +105,12 @@ settled_at f g (inr (q, can, none, asks, same)) full =
 pub steps_at : (f g : Feed Coding) → IsAt f g → g.machine.steps ≡ f.machine.steps
 steps_at f g (inl same) = ap (λ (x : Feed Coding). x.machine.steps) same
 steps_at f g (inr (q, can, none, asks, same)) = ap (λ (x : Feed Coding). x.machine.steps) same
+
+-- and it may grow as without
+pub grows_at : (f g : Feed Coding) → IsAt f g → MayGrow f.machine → MayGrow g.machine
+grows_at f g (inl same) grows = subst (λ (x : Feed Coding). MayGrow x.machine) (sym same) grows
+grows_at f g (inr (q, can, none, asks, same)) grows =
+    subst (λ (x : Feed Coding). MayGrow x.machine) (sym same) grows
 
 settled_by : (f g : Feed Coding) → Turned f g → settled f ≡ f → settled g ≡ g
 settled_by f g (Went rest steps) full = rest

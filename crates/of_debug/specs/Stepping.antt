@@ -1,9 +1,9 @@
 -- Where a stepping call stops.
-use Rattle.std.specs.Prelude.{ℕ, zero, suc, ◌≡◌, ◌<◌, ◌+◌, ◌⊎◌, Bool, true, false, List, length, Result, Ok, Err}
-use Rattle.std.specs.Prelude.{nat_eq, nat_le, nat_lt, ◌||◌, None, if◌then◌else◌, ⊤}
+use Rattle.std.specs.Prelude.{ℕ, zero, suc, ◌≡◌, ◌<◌, ◌≤◌, ◌+◌, ◌⊎◌, Bool, true, false, List, [], ◌∷◌, length}
+use Rattle.std.specs.Prelude.{Result, Ok, Err, nat_eq, nat_le, nat_lt, ◌||◌, None, if◌then◌else◌, ⊤}
 use Rattle.of_compile.specs.Coding.{Coding}
-use Rattle.of_machine.specs.Runs.{Feed, next_answer, settled, told}
-use Rattle.of_machine.specs.States.{MachineState}
+use Rattle.of_machine.specs.Runs.{Due, Feed, next_answer, settled, told}
+use Rattle.of_machine.specs.States.{MachineState, MayGrow, is_running}
 use Rattle.of_state.specs.State.{flat_calls}
 use Rattle.of_state.specs.Views.{next_item}
 use Rattle.of_debug.specs.declared.fault.DebugFault.{DebugFault}
@@ -12,7 +12,7 @@ use Rattle.of_debug.specs.declared.goal.Goal.{Goal}
 use Rattle.of_debug.specs.declared.goal.Goal.TheVariants as goal
 use Rattle.of_debug.specs.declared.marks.Mark.{Mark}
 use Rattle.of_debug.specs.Marks.{is_marked}
-use Rattle.of_debug.specs.Turns.{IsAt, Shows, turn}
+use Rattle.of_debug.specs.Turns.{IsAt, turn}
 
 -- how many items the return stack has
 abbrev pub depth : MachineState Coding → ℕ
@@ -38,13 +38,41 @@ unfoldable pub until : List Mark → Goal → ℕ → Feed Coding → Feed Codin
 until marks goal zero f = f
 until marks goal (suc n) f = onwards marks goal (until marks goal n) f (turn flat_calls f)
 
--- What a stepping call comes to from a feed: Ok where a step was made, Idle where none was. Where memory was refused
--- the steps so far are whole.
+-- ---- where memory is refused
+
+-- whether a client is to be answered now
+abbrev pub is_first_due : List Due → ℕ → Bool
+is_first_due [] n = false
+is_first_due (call ∷ calls) n = nat_le call.0 n
+
+-- whether a line is to be handed in now
+abbrev pub has_line : Bool → List (List ℕ) → Bool
+has_line true lines = false
+has_line false [] = false
+has_line false (line ∷ lines) = true
+
+-- something is to be handed in, for which memory is asked: a client is to be answered, or a line to be kept
+abbrev pub HasDue : Feed Coding → Type 0
+HasDue f = (is_first_due f.calls f.machine.steps ≡ true) ⊎ (has_line (is_running f.machine) f.lines ≡ true)
+
+-- Memory was refused to a stepping call: it has come as far as one of so many steps comes that makes all of them, so
+-- the steps are whole and none but the last may have reached the goal; and what comes next asks for memory: what is to
+-- be handed in, or the next step.
+pub record IsRefused (marks : List Mark) (goal : Goal) (n : ℕ) (old new : Feed Coding) : Type 0 where
+  pub made : ℕ
+  pub few : made ≤ n
+  pub at : IsAt (until marks goal made old) (settled new)
+  pub steps : new.machine.steps ≡ old.machine.steps + made
+  pub grows : HasDue new ⊎ MayGrow new.machine
+
+-- ---- what a call comes to
+
+-- What a stepping call comes to from a feed: Ok where a step was made, Idle where none was, or memory was refused.
 abbrev pub Advances : List Mark → Goal → ℕ → Feed Coding → Feed Coding → Result ⊤ DebugFault → Type 0
 Advances marks goal n old new (Ok _) = (new ≡ until marks goal n old) × (old.machine.steps < new.machine.steps)
 Advances marks goal n old new (Err fault.Idle) =
     (new ≡ until marks goal n old) × (new.machine.steps ≡ old.machine.steps)
-Advances marks goal n old new (Err fault.NoMemory) = Shows old (settled new)
+Advances marks goal n old new (Err fault.NoMemory) = IsRefused marks goal n old new
 Advances marks goal n old new (Err fault.NoWord) = ⊥
 Advances marks goal n old new (Err fault.NoItem) = ⊥
 Advances marks goal n old new (Err fault.TooMany) = ⊥
@@ -61,11 +89,12 @@ abbrev pub Turns : Bool → Feed Coding → Feed Coding → Type 0
 Turns true old new = (new ≡ turn flat_calls old) × (new.machine.steps ≡ old.machine.steps + 1)
 Turns false old new = (new ≡ turn flat_calls old) × (new.machine.steps ≡ old.machine.steps)
 
--- Memory was refused: no step was made, but its question may be open; or a whole one, behind which not all is handed
--- in.
+-- Memory was refused: no step was made, which may grow, but its question may be open; or a whole one, behind which not
+-- all is handed in.
 abbrev pub Breaks : Feed Coding → Feed Coding → Type 0
 Breaks old new =
-    IsAt old new ⊎ ((settled new ≡ turn flat_calls old) × (new.machine.steps ≡ old.machine.steps + 1))
+    (IsAt old new × MayGrow old.machine)
+    ⊎ ((settled new ≡ turn flat_calls old) × (new.machine.steps ≡ old.machine.steps + 1) × HasDue new)
 
 -- the step whose question is open was made with the next answer, or there is none that fits
 abbrev pub IsTold : Bool → Feed Coding → Feed Coding → Type 0
@@ -74,9 +103,10 @@ IsTold true old new =
     × (new.machine.steps ≡ old.machine.steps + 1)
 IsTold false old new = (new ≡ old) × (next_answer old.machine.waiting old.answers ≡ None)
 
--- Memory was refused: the question is open still, or the step was made, and not all behind it is handed in.
+-- Memory was refused: the question is open still, and its step may grow; or the step was made, and not all behind it is
+-- handed in.
 abbrev pub Untold : Feed Coding → Feed Coding → Type 0
 Untold old new =
-    (new ≡ old)
+    ((new ≡ old) × MayGrow old.machine)
     ⊎ ((settled new ≡ told flat_calls (next_answer old.machine.waiting old.answers) old)
-    × (new.machine.steps ≡ old.machine.steps + 1))
+    × (new.machine.steps ≡ old.machine.steps + 1) × HasDue new)

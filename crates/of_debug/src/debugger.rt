@@ -2,7 +2,7 @@ ghost use Rattle.std.specs.Prelude.{◌≡◌, ◌≤◌, ◌+◌, ◌^◌, IfEr
 ghost use Rattle.of_machine.specs.Runs.{settled};
 ghost use Rattle.of_debug.specs.Debugging.{BreakAt, Clear, Go, Obeys, StepIn, StepOut, StepOver, begun, item_fault};
 ghost use Rattle.of_debug.specs.Debugging.{left, made};
-ghost use Rattle.of_debug.specs.Stepping.{Advances, Comes};
+ghost use Rattle.of_debug.specs.Stepping.{Advances, Comes, HasDue};
 ghost use Rattle.of_debug.specs.Turns.{handed_over};
 ghost use Rattle.of_state.specs.Views.{items_of_word};
 
@@ -120,8 +120,9 @@ impl<'a, C: CodeStore> Debugger<'a, C> {
     /// Makes one step.
     ///
     /// Idle where none can be made: nothing runs and no line is left, the limit or the machine's last step is reached,
-    /// or no answer fits the next question. NoMemory, behind the last whole step.
-    #[tactic(auto, using(crate::proofs::StepLemmas::settle_breaks, crate::proofs::FeedLemmas::settled_again))]
+    /// or no answer fits the next question. NoMemory, behind the last whole step, and only where what comes next asks
+    /// for memory: a step that may grow, a client or a line.
+    #[tactic(auto, using(crate::proofs::StepLemmas::settle_refused, crate::proofs::FeedLemmas::settled_again))]
     pub fn step_in(&mut self) -> Result<(), DebugFault>
         ensures { Obeys StepIn result self.old self.new }
     {
@@ -133,7 +134,7 @@ impl<'a, C: CodeStore> Debugger<'a, C> {
     /// it.
     ///
     /// The errors are those of `step_in`.
-    #[tactic(auto, using(crate::proofs::StepLemmas::settle_breaks, crate::proofs::FeedLemmas::settled_again))]
+    #[tactic(auto, using(crate::proofs::StepLemmas::settle_refused, crate::proofs::FeedLemmas::settled_again))]
     pub fn step_over(&mut self) -> Result<(), DebugFault>
         ensures { Obeys StepOver result self.old self.new }
     {
@@ -146,7 +147,7 @@ impl<'a, C: CodeStore> Debugger<'a, C> {
     /// it.
     ///
     /// The errors are those of `step_in`.
-    #[tactic(auto, using(crate::proofs::StepLemmas::settle_breaks, crate::proofs::FeedLemmas::settled_again))]
+    #[tactic(auto, using(crate::proofs::StepLemmas::settle_refused, crate::proofs::FeedLemmas::settled_again))]
     pub fn step_out(&mut self) -> Result<(), DebugFault>
         ensures { Obeys StepOut result self.old self.new }
     {
@@ -158,7 +159,7 @@ impl<'a, C: CodeStore> Debugger<'a, C> {
     /// Makes steps, one at least and `limit` at most, until the item that comes next is marked, or none can be made.
     ///
     /// Idle for no step, which changes nothing; else the errors are those of `step_in`.
-    #[tactic(auto, using(crate::proofs::StepLemmas::settle_breaks, crate::proofs::FeedLemmas::settled_again))]
+    #[tactic(auto, using(crate::proofs::StepLemmas::settle_refused, crate::proofs::FeedLemmas::settled_again))]
     pub fn go(&mut self, limit: u64) -> Result<(), DebugFault>
         ensures { Obeys (Go limit) result self.old self.new }
     {
@@ -219,6 +220,7 @@ impl<'a, C: CodeStore> Debugger<'a, C> {
         ensures settled { OnOk result (self.new ≡ record self.old { feed = settled self.old.feed }) }
         ensures err { IfErr result (λ e. e ≡ DebugFault.NoMemory) }
         ensures later { OnErr result (settled self.new.feed ≡ settled self.old.feed) }
+        ensures due { OnErr result (HasDue self.new.feed) }
         ensures steps { self.new.feed.machine.steps ≡ self.old.feed.machine.steps }
         ensures kept { (self.new.began ≡ self.old.began) × (self.new.limit ≡ self.old.limit)
             × (self.new.marks ≡ self.old.marks) }

@@ -1,6 +1,7 @@
-ghost use Rattle.std.specs.Prelude.{◌≡◌, ◌≤◌, ◌-◌, ◌+◌, IfOk, OnErr, OnOk, Some, map, nat_le};
+ghost use Rattle.std.specs.Prelude.{◌≡◌, ◌≤◌, ◌-◌, ◌+◌, IfOk, OnErr, OnOk, Some, map, nat_le, true};
 ghost use Rattle.of_machine.specs.Runs.{clients_heard, fed, settled};
-ghost use Rattle.of_debug.specs.Stepping.{Breaks, IsTold, Turns, Untold};
+ghost use Rattle.of_machine.specs.States.{is_running};
+ghost use Rattle.of_debug.specs.Stepping.{Breaks, HasDue, IsTold, Turns, Untold, has_line, is_first_due};
 ghost use Rattle.of_debug.specs.Turns.{handed_over};
 
 use of_asking::{Answer, Query, is_fitting};
@@ -89,10 +90,12 @@ impl<'a, C: CodeStore> Feeder<'a, C> {
         due <= self.machine.steps() - self.began
     }
 
-    /// Answers the clients that are to be answered now. Where memory is refused, those that were answered are.
+    /// Answers the clients that are to be answered now. Where memory is refused, those that were answered are, and one
+    /// is left.
     fn hear(&mut self) -> Result<(), AllocError>
         ensures heard { OnOk result (self.new.feed ≡ clients_heard self.old.feed) }
         ensures later { OnErr result (clients_heard self.new.feed ≡ clients_heard self.old.feed) }
+        ensures due { OnErr result (is_first_due self.new.feed.calls self.new.feed.machine.steps ≡ true) }
         ensures began { self.new.began ≡ self.old.began }
         ensures steps { self.new.feed.machine.steps ≡ self.old.feed.machine.steps }
     {
@@ -112,6 +115,7 @@ impl<'a, C: CodeStore> Feeder<'a, C> {
     fn feed(&mut self) -> Result<(), AllocError>
         ensures fed { OnOk result (self.new.feed ≡ fed self.old.feed) }
         ensures err { OnErr result (self.new ≡ self.old) }
+        ensures due { OnErr result (has_line (is_running self.new.feed.machine) self.new.feed.lines ≡ true) }
         ensures began { self.new.began ≡ self.old.began }
         ensures steps { self.new.feed.machine.steps ≡ self.old.feed.machine.steps }
     {
@@ -130,11 +134,12 @@ impl<'a, C: CodeStore> Feeder<'a, C> {
 
     /// Answers the clients that are to be answered now, and hands in the next line, if nothing runs.
     ///
-    /// Where memory is refused, what was done stays, and the next call does the rest.
+    /// Where memory is refused, what was done stays, and the next call does the rest, of which there is some.
     #[tactic(auto, using(crate::proofs::FeedLemmas::settled_heard))]
     pub(crate) fn settle(&mut self) -> Result<(), AllocError>
         ensures settled { OnOk result (self.new.feed ≡ settled self.old.feed) }
         ensures later { OnErr result (settled self.new.feed ≡ settled self.old.feed) }
+        ensures due { OnErr result (HasDue self.new.feed) }
         ensures began { self.new.began ≡ self.old.began }
         ensures steps { self.new.feed.machine.steps ≡ self.old.feed.machine.steps }
     {
@@ -156,8 +161,9 @@ impl<'a, C: CodeStore> Feeder<'a, C> {
         if !is_fitting(query, *answer) {
             return Ok(false);
         }
-        if self.machine.answer(*answer).is_err() {
-            return Err(AllocError);
+        match self.machine.answer(*answer) {
+            Ok(()) => {}
+            Err(_) => return Err(AllocError),
         }
         self.answers = rest;
         self.settle()?;
@@ -167,7 +173,7 @@ impl<'a, C: CodeStore> Feeder<'a, C> {
     /// Makes a turn of the run: a step, with its answer if it asks, and what is due behind it; answers whether one was
     /// made.
     ///
-    /// Where memory is refused, no step was made, or a whole one, behind which not all is handed in.
+    /// Where memory is refused, no step was made, which may grow, or a whole one, behind which not all is handed in.
     pub(crate) fn turn(&mut self) -> Result<bool, AllocError>
         ensures turned { IfOk result (λ went. Turns went self.old.feed self.new.feed) }
         ensures broken { OnErr result (Breaks self.old.feed self.new.feed) }

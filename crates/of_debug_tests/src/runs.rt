@@ -3,7 +3,9 @@ use crate::shared::lend;
 use of_asking::Answer;
 use of_cells::Cell;
 use of_code::CodeStore;
-use of_debug::Debugger;
+use of_debug::{
+    Debugger, calls_stop_first, debugged_runs_agree, due_is_left, shown_states_are_the_runs,
+};
 use of_machine::{Machine, loaded_machine, run_script};
 use std::alloc::Global;
 use std::process::Abort;
@@ -173,4 +175,12 @@ fn limits(rt: HostRuntime) -> Result<(), Fail> {
         assert_eq!(rt; shown.as_str(), run(alloc, &case, limit)?.as_str());
     }
     Ok(())
+}
+
+#[test]
+fn laws_hold() {
+    shown_states_are_the_runs();
+    debugged_runs_agree();
+    calls_stop_first();
+    due_is_left();
 }

@@ -3,6 +3,7 @@ use Rattle.of_compile.specs.Coding.{Coding}
 use Rattle.of_machine.specs.Runs.{Feed, settled}
 use Rattle.of_machine.specs.States.{Steps}
 use Rattle.of_machine.specs.declared.answers.Progress.TheVariants.{Asks, Done, Ended}
+use Rattle.of_debug.specs.Stepping.{HasDue}
 use Rattle.of_debug.specs.Turns.{due_from}
 use Rattle.of_debug.proofs.TellLemmas.{broken_if, is_broken, is_done, is_ended, on_err, turned_if}
 use Rattle.of_debug.proofs.feeder.Feeder.turn.Goals as goal
@@ -51,7 +52,8 @@ returns-in_err-settle-in-Done-clause-broken g c =
     let done : Steps Done f.machine m = search rules in
     let later : settled new ≡ settled h = search rules in
     let steps : new.machine.steps ≡ h.machine.steps = search rules in
-    on_err c.from_residual-in_err-settle-in-Done.result (is_broken f h new m done same later steps)
+    let due : HasDue new = search rules in
+    on_err c.from_residual-in_err-settle-in-Done.result (is_broken f h new m done same later steps due)
 
 pub returns-in-Asks-clause-turned : goal.returns-in-Asks-clause-turned
 returns-in-Asks-clause-turned g c =
