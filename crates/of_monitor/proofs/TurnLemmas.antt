@@ -1,13 +1,14 @@
 -- Turns of a machine with its devices.
 use Rattle.std.proofs.Common.{◌≡◌, ℕ, zero, suc, ◌+◌, ◌-◌, ◌<◌, ◌≤◌, Bool, true, false, List, Option, Some, None}
-use Rattle.std.proofs.Common.{refl, sym, ap, ◌∙◌, arith, replicate, is_some, if◌then◌else◌}
+use Rattle.std.proofs.Common.{Result, Ok, Err, OnErr, refl, sym, ap, subst, ◌∙◌, ◌⊎◌, inl, inr, arith, replicate, is_some, if◌then◌else◌}
 use Rattle.of_asking.specs.declared.query.Query.{Query}
 use Rattle.of_devices.specs.Racks.{Meant, rack_answer, rack_told}
 use Rattle.of_compile.specs.Coding.{Coding}
 use Rattle.of_state.specs.State.{flat_calls}
 use Rattle.of_machine.specs.Events.{Answers, CallsAgree, Step, after_events, done_by}
-use Rattle.of_machine.specs.States.{HasMoved, MachineState, can_step, tried}
-use Rattle.of_monitor.specs.Turns.{Attended, answered_by, turn, turns}
+use Rattle.of_machine.specs.States.{HasMoved, MachineState, MayGrow, Steps, can_step, question, tried}
+use Rattle.of_machine.specs.declared.answers.Progress.TheVariants.{Asks}
+use Rattle.of_monitor.specs.Turns.{Attended, IsAsked, IsHeld, answered_by, turn, turns}
 
 -- ---- so many turns, and as many more
 
@@ -112,24 +113,74 @@ behind_run left old new ds agree calm moved few most =
     sum : (a b : ℕ) → b ≤ a → (a - b) + b ≡ a
     sum a b h = omega (arith, h)
 
--- behind one turn more
-pub behind_turn : (rest : ℕ) (m : MachineState Coding) (ds : List Meant) (y : Attended Coding) → 1 ≤ rest
-    → turn flat_calls (m, ds) ≡ y → turns flat_calls (rest - 1) y ≡ turns flat_calls rest (m, ds)
+-- one turn more
+pub one_more : (n : ℕ) (x y z : Attended Coding) → turns flat_calls n x ≡ y → turn flat_calls y ≡ z
+    → z ≡ turns flat_calls (n + 1) x
 unfolding turns
-behind_turn rest m ds y some e =
-    ap (turns flat_calls (rest - 1)) (sym e) ∙ joined 1 (rest - 1) (m, ds)
-    ∙ ap (λ k. turns flat_calls k (m, ds)) (one_more rest some)
+one_more n x y z e made = sym made ∙ sym (ap (turn flat_calls) e) ∙ ap (λ k. turns flat_calls k x) (suc_is n)
   where
-    one_more : (n : ℕ) → 1 ≤ n → (n - 1) + 1 ≡ n
-    one_more n h = omega (arith, h)
+    suc_is : (n : ℕ) → suc n ≡ n + 1
+    suc_is n = omega arith
 
 -- where no step can be made, nothing is left to do
-pub no_turn_left : (rest : ℕ) (m : MachineState Coding) (ds : List Meant) → can_step m ≡ false → m.waiting ≡ None
-    → turns flat_calls 0 (m, ds) ≡ turns flat_calls rest (m, ds)
-unfolding turns
-no_turn_left rest m ds ended calm = sym (no_turns rest m ds ended calm)
+pub none_left : (left : ℕ) (old new : MachineState Coding) (ds : List Meant) → CallsAgree → old.waiting ≡ None
+    → HasMoved old new → new.steps < 18446744073709551616 → new.steps - old.steps ≤ left → can_step new ≡ false
+    → new.waiting ≡ None → (new, ds) ≡ turns flat_calls left (old, ds)
+none_left left old new ds agree calm moved few most ended now =
+    sym (no_turns (left - (new.steps - old.steps)) new ds ended now)
+    ∙ behind_run left old new ds agree calm moved few most
 
--- none left are none
-pub all_made : (left : ℕ) (x y : Attended Coding) → left ≡ 0 → turns flat_calls left x ≡ y → x ≡ y
+-- none are made at first
+pub none_yet : (limit : ℕ) (x : Attended Coding) → x ≡ turns flat_calls (limit - limit) x
 unfolding turns
-all_made left x y none e = ap (λ n. turns flat_calls n x) (sym none) ∙ e
+none_yet limit x = let none : limit - limit ≡ 0 = omega arith in ap (λ n. turns flat_calls n x) (sym none)
+
+-- turns behind turns
+pub goes_on : (limit left rest : ℕ) (x y z : Attended Coding) → y ≡ turns flat_calls (limit - left) x
+    → z ≡ turns flat_calls (left - rest) y → rest ≤ left → left ≤ limit → z ≡ turns flat_calls (limit - rest) x
+goes_on limit left rest x y z e made few most =
+    let sum : (left - rest) + (limit - left) ≡ limit - rest = omega (arith, few, most) in
+    made ∙ ap (turns flat_calls (left - rest)) e ∙ joined (limit - left) (left - rest) x
+    ∙ ap (λ n. turns flat_calls n x) sum
+
+-- ---- where memory is refused
+
+pub held_here : (limit n : ℕ) (x y : Attended Coding) → n ≤ limit → turns flat_calls n x ≡ y → MayGrow y.0
+    → IsHeld limit x y
+held_here limit n x y few there grows = record {
+  made = n;
+  few = few;
+  grows = subst (λ (z : Attended Coding). MayGrow z.0) (sym there) grows;
+  at = inl (sym there);
+}
+
+-- a step that asks may grow
+pub asks_grow : (m n : MachineState Coding) (q : Query) → m.waiting ≡ None → Steps (Asks q) m n → MayGrow m
+asks_grow m n q calm made = inr (ap is_some (sym (ap (λ o. question flat_calls o m) calm) ∙ made.1))
+
+-- by a step that asks
+pub held_asked : (limit n : ℕ) (x y z : Attended Coding) → n ≤ limit → turns flat_calls n x ≡ y → MayGrow y.0
+    → IsAsked y z → IsHeld limit x z
+held_asked limit n x y z few there grows asked = record {
+  made = n;
+  few = few;
+  grows = subst (λ (w : Attended Coding). MayGrow w.0) (sym there) grows;
+  at = inr (subst (λ w. IsAsked w z) (sym there) asked);
+}
+
+-- behind turns that were made
+pub held_behind : (limit left : ℕ) (x y z : Attended Coding) → y ≡ turns flat_calls (limit - left) x → left ≤ limit
+    → IsHeld left y z → IsHeld limit x z
+held_behind limit left x y z e most held =
+    let n = held.made + (limit - left) in
+    let there : turns flat_calls held.made y ≡ turns flat_calls n x =
+    ap (turns flat_calls held.made) e ∙ joined (limit - left) held.made x in record {
+      made = n;
+      few = omega (arith, held.few, most);
+      grows = subst (λ (w : Attended Coding). MayGrow w.0) there held.grows;
+      at = subst (λ w. (z ≡ w) ⊎ IsAsked w z) there held.at;
+    }
+
+pub on_err : {A E P : Type 0} (r : Result A E) → P → OnErr r P
+on_err (Ok a) p = tt
+on_err (Err e) p = p

@@ -1,10 +1,11 @@
 -- A console session: lines are entered one after the other (Forth 2012, 3.4; IEEE 1275-1994, 7.3).
-use Rattle.std.specs.Prelude.{ℕ, Bool, List, ◌&&◌, ◌==◌, length, Option, Some, None, if◌then◌else◌}
+use Rattle.std.specs.Prelude.{ℕ, ◌≡◌, ◌⊎◌, Bool, List, ◌&&◌, ◌==◌, length, Option, Some, None, if◌then◌else◌}
+use Rattle.of_compile.specs.Coding.{Coding}
 use Rattle.of_machine.specs.declared.answers.Refusal.{Refusal}
 use Rattle.of_machine.specs.Events.{Line, done_by}
 use Rattle.of_machine.specs.States.{MachineState, is_running, line_refusal}
-use Rattle.of_state.specs.State.{Calls}
-use Rattle.of_monitor.specs.Turns.{Attended, turns}
+use Rattle.of_state.specs.State.{Calls, flat_calls}
+use Rattle.of_monitor.specs.Turns.{Attended, IsHeld, turns}
 
 -- ---- a line
 
@@ -32,3 +33,8 @@ entered_unless c (Some e) limit line x = x
 -- what a line makes of a session
 abbrev pub entry : {S : Type 0} → Calls S → ℕ → List ℕ → Attended S → Attended S
 entry c limit line x = entered_unless c (entry_refusal x.0 line) limit line x
+
+-- what a line leaves that was refused, or for which no memory was found: it wasn't handed in, or not all of its steps
+-- were made
+abbrev pub IsBroken : ℕ → List ℕ → Attended Coding → Attended Coding → Type 0
+IsBroken limit line x y = (y ≡ x) ⊎ IsHeld limit (begun_with flat_calls line x.0, x.1) y

@@ -1,7 +1,7 @@
-ghost use Rattle.std.specs.Prelude.{◌≡◌, IfErr, None, OnOk, is_some, map, true};
+ghost use Rattle.std.specs.Prelude.{◌≡◌, IfErr, None, OnErr, OnOk, is_some, map, true};
 ghost use Rattle.of_machine.specs.States.{Refuses};
 ghost use Rattle.of_state.specs.State.{flat_calls};
-ghost use Rattle.of_monitor.specs.Sessions.{entered, entry_refusal};
+ghost use Rattle.of_monitor.specs.Sessions.{IsBroken, entered, entry_refusal};
 
 use crate::attending::attend;
 use of_code::CodeStore;
@@ -12,7 +12,7 @@ use of_machine::{Machine, Refusal};
 /// runs that the line before has begun, an empty line lets it go on for as many.
 ///
 /// Busy where something runs and the line isn't empty, then LineTooLong over 255 bytes, which change nothing; and
-/// NoMemory.
+/// NoMemory, where the line isn't handed in, or, as by `attend`, where the next of its steps may grow.
 pub fn enter<C: CodeStore>(
     machine: &mut Machine<C>,
     rack: &mut Rack,
@@ -27,6 +27,8 @@ pub fn enter<C: CodeStore>(
     ensures refused { IfErr result (Refuses (entry_refusal machine.old line.now)) }
     ensures unchanged { is_some (entry_refusal machine.old line.now) ≡ true → (machine.new ≡ machine.old)
         × (map (λ d. meant d) rack.new.items ≡ map (λ d. meant d) rack.old.items) }
+    ensures broken { OnErr result (IsBroken limit line.now (machine.old, map (λ d. meant d) rack.old.items)
+        (machine.new, map (λ d. meant d) rack.new.items)) }
 {
     if !(machine.is_running() && line.is_empty()) {
         machine.line(line)?;
