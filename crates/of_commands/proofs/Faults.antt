@@ -1,7 +1,7 @@
 -- What a file that has no image, or whose image or source has a fault, is given up with.
 use Rattle.std.proofs.Common.{◌≡◌, ℕ, List, Option, Some, None, IfSome, Ok, Err, subst, inl, inr, refl, sym, ◌∙◌}
-use Rattle.std.proofs.Common.{Bool, true, false, true≢false, ap, cond, Result, IfOk, IfErr, length, []}
-use Rattle.std.proofs.Common.{suc, ◌+◌, ◌∷◌, ◌++◌, arith, take}
+use Rattle.std.proofs.Common.{Bool, true, false, true≢false, ap, cond, Result, IfOk, IfErr, length}
+use Rattle.std.proofs.Common.{◌+◌, ◌++◌, take}
 use Rattle.std.specs.Prelude.{is_some}
 use Rattle.std.proofs.KnownBytes.{Appends-trans}
 use Rattle.std.specs.Io.KnownBytes.{Appends, Keeps}
@@ -16,7 +16,7 @@ use Rattle.of_arguments.specs.declared.request.Listing.{Listing}
 use Rattle.of_compile.specs.Coding.{Coding}
 use Rattle.of_machine.specs.declared.answers.End.{End}
 use Rattle.of_machine.specs.States.{MachineState}
-use Rattle.std.proofs.Math.Seq.{take-length}
+use Rattle.std.proofs.Math.Seq.{take-append-add, take-length}
 use Rattle.of_arguments.specs.declared.status.Status.{Status}
 use Rattle.of_arguments.specs.declared.status.Status.TheVariants as status
 use Rattle.of_files.specs.Messages.{AppendsPart, bad_start_of}
@@ -89,18 +89,12 @@ all_are_part old new bs all = (length bs, subst (Appends old new) (sym (take-len
 
 -- ---- two texts, one behind the other
 
-take_both : (a b : List ℕ) (n : ℕ) → a ++ take n b ≡ take (length a + n) (a ++ b)
-take_both [] b n = let whole : 0 + n ≡ n = omega arith in rw whole refl
-take_both (x ∷ a) b n =
-    let whole : suc (length a) + n ≡ suc (length a + n) = omega arith in
-    rw whole (ap (λ t. x ∷ t) (take_both a b n))
-
 -- all of the first, and the first bytes of the second
 pub part_behind : (old mid new : Option (List ℕ)) (a b : List ℕ) → Appends old mid a → AppendsPart mid new b
     → AppendsPart old new (a ++ b)
 part_behind old mid new a b all part = (
   length a + part.0,
-  subst (Appends old new) (take_both a b part.0) (Appends-trans old mid new a (take part.0 b) all part.1),
+  subst (Appends old new) (sym (take-append-add a b part.0)) (Appends-trans old mid new a (take part.0 b) all part.1),
 )
 
 -- ---- runs

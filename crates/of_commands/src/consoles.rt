@@ -4,6 +4,8 @@ ghost use Rattle.std.specs.Prelude.{length, map, not, option_map};
 ghost use Rattle.std.specs.Io.BufRead.{DropsThrough, strip_last, take_through};
 ghost use Rattle.std.specs.Io.KnownBytes.{Appends};
 ghost use Rattle.of_devices.specs.Parts.{board_meant};
+ghost use Rattle.of_eval_laws.specs.Structured.{no_definitions};
+ghost use Rattle.of_machine.specs.States.{flat_machine, idle};
 ghost use Rattle.of_state.specs.State.{flat_calls};
 ghost use Rattle.of_monitor.specs.Sessions.{entry};
 ghost use Rattle.of_commands.specs.Consoles.{behind_image, console_text, image_of, line_in, printed_since, prompt};
@@ -205,7 +207,28 @@ fn run_first(
     }
 }
 
-/// Runs the image, if there is one, and then the lines, as they come, on a new machine with a rack of devices.
+/// Runs the image, if there is one, and then the lines, as they come, on a machine that is new.
+fn talk_on<L: BufRead, W: Write, E: Write>(
+    alloc: Global,
+    machine: &mut ScriptMachine,
+    console: ConsoleRun<'_>,
+    rack: &mut Rack,
+    lines: &mut L,
+    out: &mut W,
+    errors: &mut E,
+) -> Result<(), Fault>
+    requires new { machine.old ≡ flat_machine (idle no_definitions) }
+    ensures { OnOk result (IfSome (L.remaining lines.old) (λ bytes.
+        Appends (W.contents out.old) (W.contents out.new)
+        (console_text (map (λ d. meant d) rack.old.items) console.entry.limit (image_of console.entry) bytes))) }
+{
+    run_first(machine, rack, first_image(console), console.limit)?;
+    print_since(machine, 0, out)?;
+    session(alloc, machine, rack, console.limit, lines, out, errors)?;
+    Ok(())
+}
+
+/// The same on a new machine with a rack of devices.
 fn talk<L: BufRead, W: Write, E: Write>(
     alloc: Global,
     console: ConsoleRun<'_>,
@@ -218,13 +241,10 @@ fn talk<L: BufRead, W: Write, E: Write>(
         Appends (W.contents out.old) (W.contents out.new)
         (console_text (map (λ d. meant d) rack.old.items) console.entry.limit (image_of console.entry) bytes))) }
 {
-    let Ok(mut machine) = script_machine(alloc) else {
-        return Err(Fault::NoMemory);
-    };
-    run_first(&mut machine, rack, first_image(console), console.limit)?;
-    print_since(&machine, 0, out)?;
-    session(alloc, &mut machine, rack, console.limit, lines, out, errors)?;
-    Ok(())
+    match script_machine(alloc) {
+        Ok(mut machine) => talk_on(alloc, &mut machine, console, rack, lines, out, errors),
+        Err(_) => Err(Fault::NoMemory),
+    }
 }
 
 /// The same with the devices of a board, which stays as it was.

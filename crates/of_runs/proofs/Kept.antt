@@ -1,8 +1,9 @@
 -- What goes out of stretches, one behind another.
 use Rattle.std.proofs.Common.{◌≡◌, ◌⊎◌, inl, inr, ℕ, ◌+◌, ◌-◌, ◌≤◌, ◌<◌, ◌^◌}
-use Rattle.std.proofs.Common.{zero, suc, Bool, true, false, List, [], ◌∷◌, ◌++◌, Option, arith}
+use Rattle.std.proofs.Common.{List, [], ◌++◌, Option, arith}
 use Rattle.std.proofs.Common.{refl, sym, ap, ◌∙◌, subst, length, take, drop, Result, Ok, Err, IfOk, IfErr}
 use Rattle.std.proofs.KnownBytes.{Appends-trans}
+use Rattle.std.proofs.Math.Seq.{drop-append_seam, take-append-add}
 use Rattle.std.proofs.lemmas.List.{append-nil}
 use Rattle.std.specs.Io.KnownBytes.{Appends}
 use Rattle.of_asking.specs.declared.query.Answer.{Answer}
@@ -15,15 +16,15 @@ use Rattle.of_files.specs.Messages.{AppendsPart}
 use Rattle.of_files.specs.declared.fault.Fault.{Fault}
 use Rattle.of_files.specs.declared.fault.Fault.TheVariants as fault
 use Rattle.of_machine.specs.Racks.{HasGoneWith, answers_of}
-use Rattle.of_machine.specs.Runs.{Feed, HasGone, IsCalm, RunsTo, after, beginning, clients_heard, fed_by}
-use Rattle.of_machine.specs.States.{MachineState, idle, is_running, loaded, slot}
+use Rattle.of_machine.specs.Runs.{Feed, HasGone, IsCalm, RunsTo, after, beginning}
+use Rattle.of_machine.specs.States.{MachineState}
 use Rattle.of_machine.specs.Stretches.{Stretches, StretchesJoin, StretchesWith, stands}
 use Rattle.of_machine.specs.declared.answers.End.{End}
 use Rattle.of_machine.specs.declared.answers.End.TheVariants.{AnswersOut, Done, LimitReached}
 use Rattle.of_print_laws.specs.Printed.{Begins, PrintedStays}
 use Rattle.of_runs.specs.Printing.{FallsBehind, KeepsUp, OnRack, Prints, PrintsAll, PrintsAllWith}
 use Rattle.of_runs.specs.Printing.{PrintsWith, Stops, StopsAll, StopsAllWith, StopsWith}
-use Rattle.of_runs.specs.Runs.{Breaks, CutsShort, console_of}
+use Rattle.of_runs.specs.Runs.{Breaks, console_of}
 use Rattle.of_runs.proofs.Printed.{over_prints, rack_prints}
 use Rattle.of_state.specs.State.{flat_calls}
 
@@ -45,18 +46,8 @@ out_is_over h = cc
 
 -- ---- a text behind one that begins it
 
-drop_seam : (a b : List ℕ) → drop (length a) (a ++ b) ≡ b
-drop_seam [] b = refl
-drop_seam (x ∷ a) b = drop_seam a b
-
 rest_of : (a b : List ℕ) → Begins a b → b ≡ a ++ drop (length a) b
-rest_of a b x = x.1 ∙ ap (λ t. a ++ t) (sym (ap (drop (length a)) x.1 ∙ drop_seam a x.0))
-
-take_both : (a b : List ℕ) (n : ℕ) → a ++ take n b ≡ take (length a + n) (a ++ b)
-take_both [] b n = let whole : 0 + n ≡ n = omega arith in rw whole refl
-take_both (x ∷ a) b n =
-    let whole : suc (length a) + n ≡ suc (length a + n) = omega arith in
-    rw whole (ap (λ t. x ∷ t) (take_both a b n))
+rest_of a b x = x.1 ∙ ap (λ t. a ++ t) (sym (ap (drop (length a)) x.1 ∙ drop-append_seam a x.0))
 
 -- ---- a stretch
 
@@ -82,7 +73,7 @@ fell_behind old new f g x begins part unwritten first before =
       (
         length a + part.0,
         subst (λ (t : List ℕ). Appends first new (take (length a + part.0) t)) (sym (rest_of a b begins))
-            (subst (Appends first new) (take_both a rest part.0)
+            (subst (Appends first new) (sym (take-append-add a rest part.0))
             (Appends-trans first old new a (take part.0 rest) before part.1)),
       ),
     )
@@ -310,28 +301,6 @@ pub ends_first_with : StretchesJoin → (image : List ℕ) (lines : List (List �
 ends_first_with join image lines limit ds es start g e small begun s =
     join.ends_with image lines [] limit ds es g e small
     (subst (λ (f : Feed Coding). StretchesWith limit ds es f g e) begun s)
-
--- a rack answers from the first on
-pub no_answers_first : (image : List ℕ) (lines : List (List ℕ)) (start : Feed Coding)
-    → start ≡ beginning (flat_of no_definitions) image lines [] [] → start.answers ≡ []
-no_answers_first image lines start begun = ap (λ (f : Feed Coding). f.answers) begun ∙ still_none image lines
-  where
-    fed_none : (b : Bool) (lines : List (List ℕ)) (f : Feed Coding) → (fed_by b lines f).answers ≡ f.answers
-    fed_none true lines f = refl
-    fed_none false [] f = refl
-    fed_none false (line ∷ lines) f = refl
-
-    still_none : (image : List ℕ) (lines : List (List ℕ))
-        → (beginning (flat_of no_definitions) image lines [] []).answers ≡ []
-    still_none image lines =
-        let begun : Feed Coding = record {
-          machine = loaded (idle (flat_of no_definitions)) image slot;
-          lines = lines;
-          answers = [];
-          calls = [];
-        } in
-        let heard = clients_heard begun in
-        fed_none (is_running heard.machine) heard.lines heard
 
 -- runs of one kind are runs of another
 pub given_as : (Runs Others : ℕ → MachineState Coding → End → Type 0) (Never : Type 0) (limit : ℕ)

@@ -4,12 +4,8 @@ use Rattle.of_devices.specs.Racks.{Meant}
 use Rattle.of_machine.specs.Racks.{answers_of}
 use Rattle.of_machine.specs.Runs.{Feed, RunsTo}
 use Rattle.of_runs.specs.Printing.{PrintsAllWith, StopsAllWith}
-use Rattle.of_runs.proofs.Kept.{breaks_with, ends_first_with, no_answers_first}
+use Rattle.of_runs.proofs.Kept.{breaks_with, ends_first_with}
 use Rattle.of_runs.proofs.boards.print_on_rack.Goals as goal
-
-pub print_begun-requires-clause-none : goal.print_begun-requires-clause-none
-print_begun-requires-clause-none g c =
-    no_answers_first c.args.image.now (map (λ l. l.items) c.args.lines.now) c.in-Ok.run' c.in-Ok.ensures.begun
 
 pub returns-in-Ok-print_begun-clause-run : goal.returns-in-Ok-print_begun-clause-run
 returns-in-Ok-print_begun-clause-run g c =
