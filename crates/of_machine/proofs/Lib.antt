@@ -4,9 +4,13 @@
 -- AgreeLemmas: the law `runs_agree`, and what `run_script` answers.
 -- RackLemmas: runs whose questions a rack answers, for `run_rack`.
 -- StretchLemmas: the law `stretches_join`.
+-- RefusedLemmas: runs for which memory is refused.
+-- OwnNumbers: the numbers of own words by their execution tokens, for the view `name`.
 pub mod FirstLemmas
 pub mod EventLemmas
 pub mod RunLemmas
 pub mod AgreeLemmas
 pub mod RackLemmas
 pub mod StretchLemmas
+pub mod RefusedLemmas
+pub mod OwnNumbers

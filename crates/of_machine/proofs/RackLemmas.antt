@@ -1,5 +1,5 @@
 -- Runs whose questions a rack answers: a run that makes all its steps is the same with more answers.
-use Rattle.std.proofs.Common.{◌≡◌, ◌⊎◌, inl, inr, ℕ, zero, suc, ◌+◌, ◌-◌, ◌≤◌, ◌<◌, ◌^◌, Bool, true, false, List, []}
+use Rattle.std.proofs.Common.{◌≡◌, inl, ℕ, zero, suc, ◌+◌, ◌-◌, ◌≤◌, ◌<◌, ◌^◌, Bool, true, false, List, []}
 use Rattle.std.proofs.Common.{Result, Ok, Err, OnErr, ◌∷◌, ◌++◌, Option, Some, None, refl, sym, ap, subst, ◌∙◌}
 use Rattle.std.proofs.Common.{arith, drop}
 use Rattle.std.proofs.lemmas.List.{append_assoc, append-nil}
@@ -9,18 +9,17 @@ use Rattle.of_asking.specs.declared.query.Query.{Query}
 use Rattle.of_asking.specs.Questions.{fits}
 use Rattle.of_devices.specs.Racks.{Meant, rack_answer, rack_told, told_all}
 use Rattle.of_compile.specs.Coding.{Coding}
-use Rattle.of_compile.specs.Structured.{Definitions, flat_of}
+use Rattle.of_compile.specs.Structured.{flat_of}
 use Rattle.of_state.specs.State.{flat_calls}
 use Rattle.of_steps.specs.Steps.{asked_by}
 use Rattle.of_eval_laws.specs.Structured.{no_definitions}
-use Rattle.of_machine.specs.declared.answers.End.{End}
 use Rattle.of_machine.specs.declared.answers.End.TheVariants.{AnswersOut}
 use Rattle.of_machine.specs.declared.script_run.Advance.TheVariants as advance
-use Rattle.of_machine.specs.States.{MachineState, answer_refusal, answered, can_step, fit_of, flat_machine, idle}
+use Rattle.of_machine.specs.States.{MachineState, answer_refusal, answered, can_step, fit_of, idle}
 use Rattle.of_machine.specs.States.{is_running}
 use Rattle.of_machine.specs.States.{loaded, moved, slot}
 use Rattle.of_machine.specs.Runs.{Advances, AreLater, Due, Feed, HasAdvanced, HasGone, IsCalm, RunsAgree, RunsTo}
-use Rattle.of_machine.specs.Runs.{States, after, asking, beginning, clients_heard, end_of, fed_by, fitting, next}
+use Rattle.of_machine.specs.Runs.{after, asking, beginning, clients_heard, end_of, fed_by, fitting, next}
 use Rattle.of_machine.specs.Runs.{settled, told, turned}
 use Rattle.of_machine.specs.Racks.{HasGoneWith, IsLeft, IsLeftWith, Rounds, answers_of}
 use Rattle.of_machine.proofs.AgreeLemmas.{run_ends}

@@ -21,7 +21,6 @@ use Rattle.of_eval_laws.specs.Structured.{no_definitions}
 use Rattle.of_machine.specs.declared.answers.Refusal.{Refusal}
 use Rattle.of_machine.specs.declared.answers.Refusal.TheVariants.{ImageTooLong, NoNode}
 use Rattle.of_machine.specs.declared.answers.Refusal.TheVariants as refusal
-use Rattle.of_machine.specs.declared.answers.End.TheVariants.{Done}
 use Rattle.of_machine.specs.declared.answers.Progress.TheVariants.{Asks, Ended}
 use Rattle.of_machine.specs.declared.answers.Progress.TheVariants as progress
 use Rattle.of_machine.specs.States.{HasMoved, MachineState, RefusesBefore, Steps, answer_refusal, answered, can_step}
@@ -93,7 +92,7 @@ not_due m call calls true e later = absurd (omega (arith, leb-true call.0 m.step
 not_due m call calls false e later = refl
 
 -- none is answered that is to be later
-none_due : {S : Type 0} (m : MachineState S) (calls : List Due) → AreLater m.steps calls
+pub none_due : {S : Type 0} (m : MachineState S) (calls : List Due) → AreLater m.steps calls
     → caught_up m calls ≡ (m, calls)
 none_due m [] later = refl
 none_due m (call ∷ calls) later = not_due m call calls (nat_le call.0 m.steps) refl later
@@ -379,7 +378,7 @@ reaches f g new m until calm moves few at upto same e later =
     )
 
 -- steps that ask nothing, before a client that isn't reached, while something runs
-goes : (f : Feed Coding) (m : MachineState Coding) (until : ℕ) → IsCalm f → HasMoved f.machine m → m.steps < 2 ^ 64
+pub goes : (f : Feed Coding) (m : MachineState Coding) (until : ℕ) → IsCalm f → HasMoved f.machine m → m.steps < 2 ^ 64
     → m.steps < until → AreUpto until f.calls → is_running m ≡ true → HasAdvanced f (record f { machine = m })
 goes f m until calm moves few less upto runs =
     let g : Feed Coding = record f { machine = m } in (

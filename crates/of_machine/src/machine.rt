@@ -1,7 +1,8 @@
-ghost use Rattle.std.specs.Prelude.{◌≡◌, length, ◌≤◌, ◌+◌, ◌⊎◌, [], false, true, is_ok, IfOk, IfErr, OnOk, OnErr};
+ghost use Rattle.std.specs.Prelude.{◌≡◌, length, ◌≤◌, ◌<◌, ◌+◌, ◌⊎◌, [], false, true, is_ok, IfOk, IfErr, OnOk, OnErr};
 ghost use Rattle.std.specs.Prelude.{None, Some};
 ghost use Rattle.of_eval_laws.specs.Structured.{no_definitions};
-ghost use Rattle.of_machine.specs.States.{MayGrow, RefusesBefore, Steps, answer_refusal, answered, first_refusal};
+ghost use Rattle.of_machine.specs.States.{MayGrow, RefusesBefore, Steps, answer_refusal, answered, can_step};
+ghost use Rattle.of_machine.specs.States.{first_refusal};
 ghost use Rattle.of_machine.specs.States.{fit_refusal, flat_machine, goes_on, idle, image_refusal, instance_refusal};
 ghost use Rattle.of_machine.specs.States.{loaded, or_next};
 ghost use Rattle.of_client.specs.Services.{service_of};
@@ -35,11 +36,13 @@ pub const LONGEST_LINE: usize = 255;
 
 /// A boot monitor on its board, over a store of code.
 ///
+/// What it works on stands in a block of its own, so a machine that is handed on takes little of the stack.
+///
 /// A call that answers NoMemory has changed nothing, and may be made again.
 #[derive(Drop)]
 pub struct Machine<C: CodeStore> {
     alloc: Global,
-    eval: Eval<C>,
+    eval: Box<Eval<C>>,
     steps: u64,
     replies: Vec<ClientReply>,
     asked: Vec<Query>,
@@ -55,7 +58,7 @@ impl<C: CodeStore> Model for Machine<C> {
     ghost Value = { MachineState Coding };
 
     ghost view = { λ m. record {
-      eval = m.eval;
+      eval = m.eval.value;
       steps = m.steps;
       replies = map reply_shown m.replies.items;
       asked = m.asked.items;
@@ -92,9 +95,10 @@ impl<C: CodeStore + Drop> Machine<C> {
         requires empty { C.code code ≡ record { cells = []; opened = record { cell = 0 }; starts = [] } }
         ensures { IfOk result (λ m. m ≡ flat_machine (idle no_definitions)) }
     {
+        let eval = Eval::new(alloc, code)?;
         Ok(Machine {
             alloc,
-            eval: Eval::new(alloc, code)?,
+            eval: Box::new(alloc, eval)?,
             steps: 0,
             replies: Vec::new(alloc),
             asked: Vec::new(alloc),
@@ -167,10 +171,13 @@ impl<C: CodeStore> Machine<C> {
     /// Makes steps while one is made, at most `limit`, as `step` does; none while a question is open, and it stops
     /// before a step that asks.
     ///
-    /// An error is for memory alone: the steps before stand, and the next one may grow.
+    /// An error is for memory alone: the steps before stand, which are fewer than `limit`, and the next one, which can
+    /// be made, may grow.
     #[tactic(auto, using(crate::proofs::EventLemmas::stays_put))]
     pub fn run(&mut self, limit: u64) -> Result<(), AllocError>
         ensures few { self.new.steps ≤ self.old.steps + limit }
+        ensures fewer { OnErr result (self.new.steps < self.old.steps + limit) }
+        ensures next { OnErr result (can_step self.new ≡ true) }
         ensures steps { HasMoved self.old self.new }
         ensures ok { OnOk result ((self.new.steps ≡ self.old.steps + limit) ⊎ (goes_on flat_calls self.new ≡ false)) }
         ensures grows { OnErr result (MayGrow self.new) }

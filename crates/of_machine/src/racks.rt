@@ -2,6 +2,7 @@ ghost use Rattle.std.specs.Prelude.{◌≡◌, ◌≤◌, [], IfOk, IfErr, OnOk,
 ghost use Rattle.of_machine.specs.declared.answers.End.TheVariants.{AnswersOut, LimitReached};
 ghost use Rattle.of_machine.specs.States.{Refuses};
 ghost use Rattle.of_machine.specs.Racks.{IsLeft, IsLeftWith, Rounds, answers_of};
+ghost use Rattle.of_machine.specs.Refused.{IsHeldWith};
 ghost use Rattle.of_devices.specs.Racks.{told_all};
 ghost use Rattle.of_machine.specs.Runs.{IsCalm, RunsTo, due_of, script_refusal};
 ghost use Rattle.of_machine.specs.Stretches.{StretchesWith};
@@ -26,6 +27,8 @@ fn round_with(run: &mut ScriptRun, rack: &mut Rack, limit: u64) -> Result<bool, 
         (map (λ d. meant d) rack.old.items) (map (λ d. meant d) rack.new.items) run.old run.new) }
     ensures left { OnErr result (IsLeftWith limit
         (map (λ d. meant d) rack.old.items) (map (λ d. meant d) rack.new.items) run.old) }
+    ensures held { OnErr result (IsHeldWith limit
+        (map (λ d. meant d) rack.old.items) (map (λ d. meant d) rack.new.items) run.old run.new) }
 {
     match run.advance(limit)? {
         Advance::Further => Ok(true),
@@ -50,6 +53,8 @@ fn run_with(run: &mut ScriptRun, rack: &mut Rack, limit: u64) -> Result<(), Allo
         (map (λ d. meant d) rack.old.items) (map (λ d. meant d) rack.new.items) run.old run.new) }
     ensures left { OnErr result (IsLeftWith limit
         (map (λ d. meant d) rack.old.items) (map (λ d. meant d) rack.new.items) run.old) }
+    ensures held { OnErr result (IsHeldWith limit
+        (map (λ d. meant d) rack.old.items) (map (λ d. meant d) rack.new.items) run.old run.new) }
 {
     while round_with(run, rack, limit)? {}
     Ok(())
@@ -58,8 +63,8 @@ fn run_with(run: &mut ScriptRun, rack: &mut Rack, limit: u64) -> Result<(), Allo
 /// A stretch of a run whose questions the devices of a rack answer, as `ScriptRun::go`: until `limit` steps are made in
 /// all, or no more can be made.
 ///
-/// An error is for memory alone: then the run can't go on, and the devices are as the questions left them that were
-/// answered so far.
+/// An error is for memory alone, and comes where that of `ScriptRun::go` does: then the run can't go on, and the
+/// devices are as the questions left them that were answered so far, and the one that is open, if one is.
 pub fn go_with(run: &mut ScriptRun, rack: &mut Rack, limit: u64) -> Result<End, AllocError>
     requires few { run.old.machine.steps ≤ limit }
     requires calm { IsCalm run.old }
@@ -71,6 +76,8 @@ pub fn go_with(run: &mut ScriptRun, rack: &mut Rack, limit: u64) -> Result<End, 
     ensures made { IfOk result (λ e. e ≡ LimitReached → run.new.machine.steps ≡ limit) }
     ensures left { OnErr result (IsLeftWith limit
         (map (λ d. meant d) rack.old.items) (map (λ d. meant d) rack.new.items) run.old) }
+    ensures held { OnErr result (IsHeldWith limit
+        (map (λ d. meant d) rack.old.items) (map (λ d. meant d) rack.new.items) run.old run.new) }
 {
     run_with(run, rack, limit)?;
     Ok(end_of(&run.machine))

@@ -1,8 +1,9 @@
-ghost use Rattle.std.specs.Prelude.{◌≡◌, ◌<◌, ◌≤◌, IfOk, OnOk, None, is_some, true, false};
+ghost use Rattle.std.specs.Prelude.{◌≡◌, ◌⊎◌, ◌<◌, ◌≤◌, IfOk, OnOk, OnErr, None, is_some, true, false};
 ghost use Rattle.of_machine.specs.declared.answers.End.TheVariants.{LimitReached};
 ghost use Rattle.of_machine.specs.Runs.{Advances, AreLater, AreUpto, HasGone, IsCalm, IsOut, IsOver, IsTold};
 ghost use Rattle.of_machine.specs.Runs.{clients_heard, fed, line_left, settled};
-ghost use Rattle.of_machine.specs.States.{answer_refusal, answered};
+ghost use Rattle.of_machine.specs.Refused.{IsHeld, IsHeldAlone, IsUnserved, IsUntold, has_line, is_first_due};
+ghost use Rattle.of_machine.specs.States.{MayGrow, answer_refusal, answered, is_running};
 ghost use Rattle.of_machine.specs.Stretches.{Stretches};
 ghost use Rattle.of_state.specs.State.{flat_calls};
 
@@ -52,9 +53,11 @@ impl<'a> Model for ScriptRun<'a> {
 impl<'a> ScriptRun<'a> {
     /// Hands in the next line, if nothing runs and one is left.
     ///
-    /// An error is for memory alone.
+    /// An error is for memory alone; then nothing has changed, and a line is to be handed in.
     fn feed(&mut self) -> Result<(), AllocError>
-        ensures { OnOk result (self.new ≡ fed self.old) }
+        ensures fed { OnOk result (self.new ≡ fed self.old) }
+        ensures err { OnErr result (self.new ≡ self.old) }
+        ensures due { OnErr result (has_line (is_running self.new.machine) self.new.lines ≡ true) }
     {
         if self.machine.is_running() {
             return Ok(());
@@ -71,11 +74,12 @@ impl<'a> ScriptRun<'a> {
 
     /// Answers the clients that are to be answered now, and hands in the next line, if nothing runs.
     ///
-    /// An error is for memory alone.
-    #[tactic(auto, using(crate::proofs::RunLemmas::still_later))]
+    /// An error is for memory alone; then what was done stays, and the rest is to be done, of which there is some.
+    #[tactic(auto, using(crate::proofs::RunLemmas::still_later, crate::proofs::RefusedLemmas::client_left))]
     pub(crate) fn serve(&mut self) -> Result<(), AllocError>
         ensures served { OnOk result (self.new ≡ settled self.old) }
         ensures later { OnOk result (AreLater self.new.machine.steps self.new.calls) }
+        ensures unserved { OnErr result (IsUnserved (settled self.old) self.new) }
     {
         self.hear()?;
         self.feed()
@@ -83,10 +87,12 @@ impl<'a> ScriptRun<'a> {
 
     /// Answers the clients that are to be answered now.
     ///
-    /// An error is for memory alone.
+    /// An error is for memory alone; then those that were answered are, and one is left.
     fn hear(&mut self) -> Result<(), AllocError>
         ensures heard { OnOk result (self.new ≡ clients_heard self.old) }
         ensures later { OnOk result (AreLater self.new.machine.steps self.new.calls) }
+        ensures rest { OnErr result (clients_heard self.new ≡ clients_heard self.old) }
+        ensures due { OnErr result (is_first_due self.new.calls self.new.machine.steps ≡ true) }
     {
         while let Some(((due, call), rest)) = self.calls.split_first() {
             if *due > self.machine.steps() {
@@ -102,10 +108,11 @@ impl<'a> ScriptRun<'a> {
 
     /// Hands in the next line, where nothing runs; answers whether one was left.
     ///
-    /// An error is for memory alone.
+    /// An error is for memory alone, as that of `serve`.
     fn go_on(&mut self) -> Result<Advance, AllocError>
         ensures served { OnOk result (self.new ≡ settled self.old) }
         ensures later { OnOk result (AreLater self.new.machine.steps self.new.calls) }
+        ensures unserved { OnErr result (IsUnserved (settled self.old) self.new) }
         ensures further { IfOk result (λ a. a ≡ line_left self.old.lines) }
     {
         let is_last = self.lines.is_empty();
@@ -132,11 +139,12 @@ impl<'a> ScriptRun<'a> {
 
     /// Makes the step that asks with the next answer; answers whether there is one that fits.
     ///
-    /// An error is for memory alone.
+    /// An error is for memory alone: the step isn't made, which may grow, or not all behind it is handed in.
     fn tell(&mut self) -> Result<bool, AllocError>
         requires { is_some self.old.machine.waiting ≡ true }
         ensures told { IfOk result (λ fits. fits ≡ true → IsTold self.old self.new) }
         ensures out { IfOk result (λ fits. fits ≡ false → IsOut self.old self.new) }
+        ensures untold { OnErr result (IsUntold self.old self.new) }
     {
         let Some((answer, rest)) = self.answers.split_first() else {
             return Ok(false);
@@ -154,12 +162,15 @@ impl<'a> ScriptRun<'a> {
 
     /// Makes the step that asks with an answer that fits.
     ///
-    /// An error is for memory alone.
+    /// An error is for memory alone: the step isn't made, which may grow, or not all behind it is handed in.
     pub(crate) fn answer(&mut self, answer: Answer) -> Result<(), AllocError>
         requires { answer_refusal self.old.machine.waiting answer ≡ None }
         ensures told { OnOk result (self.new
             ≡ settled (record self.old { machine = answered flat_calls answer self.old.machine })) }
         ensures later { OnOk result (AreLater self.new.machine.steps self.new.calls) }
+        ensures untold { OnErr result (((self.new ≡ self.old) × MayGrow self.old.machine)
+            ⊎ IsUnserved (settled (record self.old { machine = answered flat_calls answer self.old.machine }))
+            self.new) }
     {
         let Ok(()) = self.machine.answer(answer) else {
             return Err(AllocError);
@@ -174,7 +185,8 @@ impl<'a> ScriptRun<'a> {
     pub(crate) fn advance(&mut self, limit: u64) -> Result<Advance, AllocError>
         requires few { self.old.machine.steps ≤ limit }
         requires calm { IsCalm self.old }
-        ensures { IfOk result (λ a. Advances limit a self.old self.new) }
+        ensures ok { IfOk result (λ a. Advances limit a self.old self.new) }
+        ensures held { OnErr result (IsHeldAlone limit self.old self.new) }
     {
         let until = self.until(limit);
         self.machine.run(until - self.machine.steps())?;
@@ -201,7 +213,7 @@ impl<'a> ScriptRun<'a> {
     /// Makes steps up to one that asks, and this with its answer, or up to one behind which clients are answered or a
     /// line is handed in, at most until `limit` are made; answers whether more can be made.
     ///
-    /// An error is for memory alone.
+    /// An error is for memory alone, as that of `go`.
     fn round(&mut self, limit: u64) -> Result<bool, AllocError>
         requires few { self.old.machine.steps ≤ limit }
         requires calm { IsCalm self.old }
@@ -209,6 +221,7 @@ impl<'a> ScriptRun<'a> {
         ensures more { IfOk result (λ more. more ≡ true → self.old.machine.steps < self.new.machine.steps) }
         ensures few { IfOk result (λ more. more ≡ true → self.new.machine.steps ≤ limit) }
         ensures over { IfOk result (λ more. more ≡ false → IsOver limit self.old self.new) }
+        ensures held { OnErr result (IsHeld limit self.old self.new) }
     {
         match self.advance(limit)? {
             Advance::Further => Ok(true),
@@ -235,14 +248,16 @@ impl<'a> ScriptRun<'a> {
     /// more can be made, and answers how the run stands then.
     ///
     /// At LimitReached the run can go on; otherwise it is over. At AnswersOut a step before the limit asks, and the
-    /// next answer doesn't fit, or there is none: that question is open. An error is for memory alone; then the run
-    /// can't go on.
+    /// next answer doesn't fit, or there is none: that question is open. An error is for memory alone: the run has come
+    /// to where a client is to be answered or a line to be handed in, or to a step within the limit that may grow. Then
+    /// it can't go on.
     pub fn go(&mut self, limit: u64) -> Result<End, AllocError>
         requires few { self.old.machine.steps ≤ limit }
         requires calm { IsCalm self.old }
         ensures gone { IfOk result (λ e. Stretches limit self.old self.new e) }
         ensures calm { IfOk result (λ e. e ≡ LimitReached → IsCalm self.new) }
         ensures made { IfOk result (λ e. e ≡ LimitReached → self.new.machine.steps ≡ limit) }
+        ensures held { OnErr result (IsHeld limit self.old self.new) }
     {
         while self.round(limit)? {}
         Ok(end_of(&self.machine))

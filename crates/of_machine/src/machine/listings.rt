@@ -1,16 +1,33 @@
 //! What the console's listings say of a machine's words.
-ghost use Rattle.std.specs.Prelude.{◌≡◌, IfOk, length};
+ghost use Rattle.std.specs.Prelude.{◌≡◌, IfOk, length, option_copied};
+ghost use Rattle.of_compile.specs.Words.{own_word};
+ghost use Rattle.of_dict.specs.Words.{name_in};
+ghost use Rattle.of_fcodes.specs.Finding.{word_with_xt};
 ghost use Rattle.of_interpret.specs.TextActs.{names_in, seen};
 ghost use Rattle.of_machine.specs.Views.{word_named, words_listed};
+ghost use Rattle.of_see.specs.SeeText.{name_at};
 ghost use Rattle.of_state.specs.State.{flat_calls};
 
 use super::Machine;
 use of_cells::Cell;
 use of_code::CodeStore;
 use of_console::words_text;
+use of_dict::{Dict, OwnWord};
+use of_fcodes::word_with_xt;
 use of_see::see_text;
 use of_text::Names;
 use std::alloc::{AllocError, Global};
+
+/// The name of the own word that has an execution token.
+#[tactic(auto, using(crate::proofs::OwnNumbers::own_is, crate::proofs::OwnNumbers::own_none))]
+fn own_name(dictionary: &Dict, xt: Cell) -> Option<&[u8]>
+    ensures { option_copied result ≡ name_in (own_word dictionary.now xt.0) }
+{
+    match OwnWord::with_xt(xt) {
+        Some(word) => dictionary.name_of(word),
+        None => None,
+    }
+}
 
 impl<C: CodeStore> Machine<C> {
     /// Where names are looked up.
@@ -31,6 +48,16 @@ impl<C: CodeStore> Machine<C> {
         ensures { result ≡ word_named self.now.eval name.now }
     {
         self.names().xt(name)
+    }
+
+    /// The name of the word of an execution token, as it was spelt, if it has one: `see` prints it by that.
+    pub fn name(&self, xt: Cell) -> Option<&[u8]>
+        ensures { option_copied result ≡ name_at self.now.eval.words.dictionary xt.0 }
+    {
+        match word_with_xt(xt.0) {
+            Some(word) => Some(word.name().as_bytes()),
+            None => own_name(self.eval.words().dictionary(), xt),
+        }
     }
 
     /// How many own words were made; the execution token of the k-th is that of `OwnWord(k)`.

@@ -1,5 +1,5 @@
 ghost use Rattle.std.specs.Prelude.{◌≡◌, length, map, reverse};
-ghost use Rattle.of_state.specs.Views.{items_of_word, next_item, next_token, next_word};
+ghost use Rattle.of_state.specs.Views.{item_behind, items_of_word, next_item, next_token, next_word};
 ghost use Rattle.of_machine.specs.States.{is_running, reply_shown};
 ghost use Rattle.of_machine.specs.Views.{byte_of, xt_numbered};
 
@@ -7,10 +7,11 @@ use super::Machine;
 use of_asking::Query;
 use of_cells::Cell;
 use of_client::ClientReply;
-use of_code::{CodeStore, ItemPlace};
+use of_code::{CodeStore, ItemPlace, Place, item_place};
 use of_fcodes::FCode;
 use of_memory::Memory;
 use of_nodes::Tree;
+use of_stacks::{Continuation, Reading, ReturnItem};
 
 impl<C: CodeStore> Machine<C> {
     /// The cells of the data stack, the bottom first.
@@ -101,6 +102,31 @@ impl<C: CodeStore> Machine<C> {
         ensures { result ≡ length self.now.eval.flow.items }
     {
         self.eval.depth()
+    }
+
+    /// The items of the return stack, the bottom first (Forth 2012, 3.2.3.3).
+    pub fn returns(&self) -> &[ReturnItem]
+        ensures { reverse result.now ≡ self.now.eval.flow.items }
+    {
+        self.eval.flow.items.items()
+    }
+
+    /// What is being read, and how far: the image or text whose tokens or words run, or that goes on behind the
+    /// definition which runs.
+    pub fn reading(&self) -> Reading
+        ensures { result ≡ self.now.eval.flow.reading }
+    {
+        self.eval.flow.reading
+    }
+
+    /// The item of a finished definition at which control goes on, by its word and number, where it goes on in one.
+    pub fn resumed(&self, next: Continuation) -> Option<ItemPlace>
+        ensures { result ≡ item_behind next self.now.eval.code }
+    {
+        match next {
+            Continuation::Source => None,
+            Continuation::Code(cell) => item_place(self.eval.coding.code(), Place { cell }),
+        }
     }
 
     /// The token that comes next, behind its position in the image that is read. None where nothing runs, where a

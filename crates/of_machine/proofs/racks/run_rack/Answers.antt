@@ -1,10 +1,10 @@
 use Rattle.std.proofs.Common.{rules, ◌≡◌, [], map, ap, subst, sym}
 use Rattle.of_compile.specs.Coding.{Coding}
 use Rattle.of_devices.specs.Racks.{Meant, told_all}
-use Rattle.of_machine.specs.Racks.{IsLeftWith, Rounds, answers_of}
+use Rattle.of_machine.specs.Racks.{IsLeftWith, answers_of}
 use Rattle.of_compile.specs.Structured.{flat_of}
 use Rattle.of_eval_laws.specs.Structured.{no_definitions}
-use Rattle.of_machine.specs.States.{MachineState, idle, is_running, loaded, slot}
+use Rattle.of_machine.specs.States.{idle, is_running, loaded, slot}
 use Rattle.of_machine.proofs.RunLemmas.{same_answers}
 use Rattle.of_machine.specs.Runs.{Feed, RunsTo, due_of, end_of}
 use Rattle.of_machine.proofs.RackLemmas.{never_begun, on_err, run_ends_with, run_left, run_told}

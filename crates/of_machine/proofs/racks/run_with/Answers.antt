@@ -1,6 +1,7 @@
 use Rattle.std.proofs.Common.{map, subst}
 use Rattle.of_devices.specs.Racks.{Meant}
 use Rattle.of_machine.specs.Racks.{Rounds}
+use Rattle.of_machine.proofs.RefusedLemmas.{held_on_with}
 use Rattle.of_machine.proofs.RackLemmas.{goes_on_with, left_behind, none_gone_with, on_err, over_behind_with}
 use Rattle.of_machine.proofs.racks.run_with.Goals as goal
 
@@ -43,3 +44,11 @@ returns-in_err-round_with-clause-left g c =
     (left_behind c.args.limit (map f c.args.rack.now.items) (map f c.loop.rack.items)
     (map f c.round_with.new.rack.items) c.args.run.now c.loop.run c.loop.invariant.gone
     c.in_err-round_with.ensures.left)
+
+pub returns-in_err-round_with-clause-held : goal.returns-in_err-round_with-clause-held
+returns-in_err-round_with-clause-held g c =
+    let f : _ → Meant = λ d. (goal.Device-dyn g (d.vtable, d.value)).meant d.value in
+    on_err _
+    (held_on_with c.args.limit (map f c.args.rack.now.items) (map f c.loop.rack.items)
+    (map f c.round_with.new.rack.items) c.args.run.now c.loop.run c.round_with.new.run c.loop.invariant.gone
+    c.in_err-round_with.ensures.held)

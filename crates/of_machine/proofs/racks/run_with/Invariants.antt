@@ -1,5 +1,4 @@
 use Rattle.std.proofs.Common.{◌-◌, ◌≤◌, map}
-use Rattle.of_devices.specs.Racks.{Meant}
 use Rattle.of_machine.specs.Racks.{HasGoneWith}
 use Rattle.of_machine.proofs.racks.run_with.Given as goal
 

@@ -1,4 +1,4 @@
-use Rattle.std.proofs.Common.{rules, ◌≡◌, map, ap, subst, sym}
+use Rattle.std.proofs.Common.{rules, map, ap, subst, sym}
 use Rattle.of_compile.specs.Coding.{Coding}
 use Rattle.of_machine.specs.Runs.{Feed, RunsTo, due_of}
 use Rattle.of_machine.specs.Stretches.{Stretches, stands}

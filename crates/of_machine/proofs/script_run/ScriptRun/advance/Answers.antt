@@ -1,19 +1,21 @@
-use Rattle.std.proofs.Common.{rules, ◌≡◌, ◌≤◌, ◌<◌, ◌^◌, false, true, inl, ap, subst, sym, refl, suc, arith}
+use Rattle.std.proofs.Common.{rules, ◌≡◌, ◌∙◌, ◌≤◌, ◌<◌, ◌^◌, false, true, inl, ap, subst, sym, refl, suc, arith}
 use Rattle.std.proofs.lemmas.Bool.{leb-false, leb-true}
 use Rattle.of_asking.specs.declared.query.Query.{Query}
 use Rattle.of_compile.specs.Coding.{Coding}
 use Rattle.of_state.specs.State.{flat_calls}
 use Rattle.of_machine.specs.declared.answers.Progress.TheVariants.{Asks, Done, Ended}
-use Rattle.of_machine.specs.States.{HasMoved, Steps, goes_on, is_running}
+use Rattle.of_machine.specs.States.{HasMoved, MayGrow, Steps, goes_on, is_running}
 use Rattle.of_machine.specs.Runs.{Advances, AreUpto, Feed, IsCalm, line_left, settled}
+use Rattle.of_machine.specs.Refused.{IsUnserved}
+use Rattle.of_machine.proofs.RefusedLemmas.{held_before, held_behind, on_err}
 use Rattle.of_machine.proofs.RunLemmas.{asks_behind, goes_idle, not_made, reaches, rests_so, stands}
 use Rattle.of_machine.proofs.RunLemmas.{until_after}
 use Rattle.of_machine.proofs.script_run.ScriptRun.advance.Goals as goal
 
 -- ---- up to a client, or to the limit
 
-pub returns-then-until-limit : goal.returns-then-until-limit
-returns-then-until-limit c =
+pub returns-then-until-limit-clause-ok : goal.returns-then-until-limit-clause-ok
+returns-then-until-limit-clause-ok c =
     let f = c.args.self.now in
     let m = c.run.new.self in
     let until = c.until-until.result in
@@ -36,8 +38,8 @@ returns-then-until-limit c =
       omega (arith, there.1, c.until-until.ensures.few),
     )
 
-pub returns-else-until-limit : goal.returns-else-until-limit
-returns-else-until-limit c =
+pub returns-else-until-limit-clause-ok : goal.returns-else-until-limit-clause-ok
+returns-else-until-limit-clause-ok c =
     let f = c.args.self.now in
     let m = c.run.new.self in
     let until = c.until-until.result in
@@ -61,8 +63,8 @@ returns-else-until-limit c =
 
 -- ---- up to a step that asks
 
-pub returns-in-Asks : goal.returns-in-Asks
-returns-in-Asks c =
+pub returns-in-Asks-clause-ok : goal.returns-in-Asks-clause-ok
+returns-in-Asks-clause-ok c =
     let f = c.args.self.now in
     let m = c.run.new.self in
     let until = c.until-until.result in
@@ -85,8 +87,8 @@ returns-in-Asks c =
 
 -- ---- where nothing runs
 
-pub returns-then-not-is_running : goal.returns-then-not-is_running
-returns-then-not-is_running c =
+pub returns-then-not-is_running-clause-ok : goal.returns-then-not-is_running-clause-ok
+returns-then-not-is_running-clause-ok c =
     let f = c.args.self.now in
     let m = c.run.new.self in
     let until = c.until-until.result in
@@ -113,8 +115,8 @@ returns-then-not-is_running c =
 
 -- ---- where none can be made
 
-pub returns-in-Ended : goal.returns-in-Ended
-returns-in-Ended c =
+pub returns-in-Ended-clause-ok : goal.returns-in-Ended-clause-ok
+returns-in-Ended-clause-ok c =
     let f = c.args.self.now in
     let m = c.run.new.self in
     let until = c.until-until.result in
@@ -135,8 +137,8 @@ returns-in-Ended c =
     stands f _ m n until c.args.limit calm moves few less c.until-until.ensures.few upto runs ended
     (ap (λ (x : Feed Coding). record x { machine = n }) c.self.view_is)
 
-pub returns-in-Done : goal.returns-in-Done
-returns-in-Done c =
+pub returns-in-Done-clause-ok : goal.returns-in-Done-clause-ok
+returns-in-Done-clause-ok c =
     let f = c.args.self.now in
     let m = c.run.new.self in
     let until = c.until-until.result in
@@ -155,3 +157,88 @@ returns-in-Done c =
     let made : Steps Done m n = search rules in
     let stays : goes_on flat_calls m ≡ false = rests_so m f.machine.steps until ready (search rules) less in
     absurd (not_made m n stays made)
+
+-- ---- where memory is refused
+
+pub returns-in_err-run-clause-held : goal.returns-in_err-run-clause-held
+returns-in_err-run-clause-held c =
+    let f = c.args.self.now in
+    let m = c.run.new.self in
+    let until = c.until-until.result in
+    let same : c.self.inside.machine ≡ f.machine = ap (λ (x : Feed Coding). x.machine) c.self.view_is in
+    let calm : IsCalm f = c.requires.calm in
+    let upto : AreUpto until f.calls = c.until-until.ensures.upto in
+    let ready : f.machine.steps ≤ until =
+    until_after f.machine.steps until c.args.limit c.requires.few c.until-until.ensures.few
+    (λ less. c.until-until.ensures.due less calm.0) in
+    let moves : HasMoved f.machine m = subst (λ x. HasMoved x m) same c.run.ensures.steps in
+    let some : m.steps ≤ until = search rules in
+    let few : m.steps < 2 ^ 64 = omega (arith, some, c.until-until.ensures.few, c.ranges.limit.fits) in
+    let less : m.steps < until = search rules in
+    let runs : is_running m ≡ true = search rules in
+    let grows : MayGrow m = search rules in
+    on_err c.from_residual.result
+    (held_before f _ m until c.args.limit calm moves few less c.until-until.ensures.few upto runs
+    (ap (λ (x : Feed Coding). record x { machine = m }) c.self.view_is) grows)
+
+pub returns-in_err-serve-clause-held : goal.returns-in_err-serve-clause-held
+returns-in_err-serve-clause-held c =
+    let f = c.args.self.now in
+    let m = c.run.new.self in
+    let until = c.until-until.result in
+    let same : c.self.inside.machine ≡ f.machine = ap (λ (x : Feed Coding). x.machine) c.self.view_is in
+    let calm : IsCalm f = c.requires.calm in
+    let upto : AreUpto until f.calls = c.until-until.ensures.upto in
+    let ready : f.machine.steps ≤ until =
+    until_after f.machine.steps until c.args.limit c.requires.few c.until-until.ensures.few
+    (λ less. c.until-until.ensures.due less calm.0) in
+    let moves : HasMoved f.machine m = subst (λ x. HasMoved x m) same c.run.ensures.steps in
+    let some : m.steps ≤ until = search rules in
+    let few : m.steps < 2 ^ 64 = omega (arith, some, c.until-until.ensures.few, c.ranges.limit.fits) in
+    let g : Feed Coding = record f { machine = m } in
+    let left : IsUnserved (settled g) c.serve.new.self = search rules in
+    on_err c.from_residual-in_err-serve.result
+    (held_behind f g c.serve.new.self m until c.args.limit calm moves few some c.until-until.ensures.few upto refl left)
+
+pub returns-in_err-behind-clause-held : goal.returns-in_err-behind-clause-held
+returns-in_err-behind-clause-held c =
+    let f = c.args.self.now in
+    let m = c.run.new.self in
+    let until = c.until-until.result in
+    let same : c.self.inside.machine ≡ f.machine = ap (λ (x : Feed Coding). x.machine) c.self.view_is in
+    let calm : IsCalm f = c.requires.calm in
+    let upto : AreUpto until f.calls = c.until-until.ensures.upto in
+    let ready : f.machine.steps ≤ until =
+    until_after f.machine.steps until c.args.limit c.requires.few c.until-until.ensures.few
+    (λ less. c.until-until.ensures.due less calm.0) in
+    let moves : HasMoved f.machine m = subst (λ x. HasMoved x m) same c.run.ensures.steps in
+    let some : m.steps ≤ until = search rules in
+    let few : m.steps < 2 ^ 64 = omega (arith, some, c.until-until.ensures.few, c.ranges.limit.fits) in
+    let g : Feed Coding = record f { machine = m } in
+    let left : IsUnserved (settled g) c.go_on.new.self = search rules in
+    on_err c.from_residual-in_err-behind.result
+    (held_behind f g c.go_on.new.self m until c.args.limit calm moves few some c.until-until.ensures.few upto refl left)
+
+pub returns-in_err-query-clause-held : goal.returns-in_err-query-clause-held
+returns-in_err-query-clause-held c =
+    let f = c.args.self.now in
+    let m = c.run.new.self in
+    let until = c.until-until.result in
+    let same : c.self.inside.machine ≡ f.machine = ap (λ (x : Feed Coding). x.machine) c.self.view_is in
+    let calm : IsCalm f = c.requires.calm in
+    let upto : AreUpto until f.calls = c.until-until.ensures.upto in
+    let ready : f.machine.steps ≤ until =
+    until_after f.machine.steps until c.args.limit c.requires.few c.until-until.ensures.few
+    (λ less. c.until-until.ensures.due less calm.0) in
+    let moves : HasMoved f.machine m = subst (λ x. HasMoved x m) same c.run.ensures.steps in
+    let some : m.steps ≤ until = search rules in
+    let few : m.steps < 2 ^ 64 = omega (arith, some, c.until-until.ensures.few, c.ranges.limit.fits) in
+    let apart : m.steps ≡ until → ⊥ = search rules in
+    let less : m.steps < until = omega (arith, some, apart) in
+    let runs : is_running m ≡ true = search rules in
+    let grows : MayGrow m = search rules in
+    let stays : c.step.new.self ≡ m = search rules in
+    on_err c.from_residual-in_err-query.result
+    (held_before f _ m until c.args.limit calm moves few less c.until-until.ensures.few upto runs
+    (ap (λ (x : Feed Coding). record x { machine = c.step.new.self }) c.self.view_is
+    ∙ ap (λ n. record f { machine = n }) stays) grows)

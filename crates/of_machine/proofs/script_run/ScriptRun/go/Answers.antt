@@ -1,7 +1,9 @@
-use Rattle.std.proofs.Common.{ap, ◌∙◌}
+use Rattle.std.proofs.Common.{rules, ap, ◌∙◌}
 use Rattle.of_compile.specs.Coding.{Coding}
 use Rattle.of_machine.specs.Runs.{Feed}
 use Rattle.of_machine.specs.Stretches.{stands}
+use Rattle.of_machine.specs.Refused.{IsHeld}
+use Rattle.of_machine.proofs.RefusedLemmas.{held_on, on_err}
 use Rattle.of_machine.proofs.RunLemmas.{gone_on, none_gone, over_behind}
 use Rattle.of_machine.proofs.StretchLemmas.{all_made, still_calm}
 use Rattle.of_machine.proofs.script_run.ScriptRun.go.Goals as goal
@@ -36,3 +38,9 @@ returns-clause-made c cut =
     (c.in_ok-round.ensures.over c.if-branch.false) in
     all_made c.args.limit c.args.self.now c.round.new.self _ c.ranges.limit.fits over
     (c.end_of.ensures ∙ ap (λ (x : Feed Coding). stands x) c.self.view_is) cut
+
+pub returns-in_err-round-clause-held : goal.returns-in_err-round-clause-held
+returns-in_err-round-clause-held c =
+    let held : IsHeld c.args.limit c.loop.self c.round.new.self = search rules in
+    on_err c.from_residual.result
+    (held_on c.args.limit c.args.self.now c.loop.self c.round.new.self c.loop.invariant.gone held)

@@ -3,6 +3,8 @@ use Rattle.of_asking.specs.declared.query.Query.{Query}
 use Rattle.of_compile.specs.Coding.{Coding}
 use Rattle.of_machine.specs.declared.script_run.Advance.TheVariants.{Asks}
 use Rattle.of_machine.specs.Runs.{Advances, Feed, HasGone, IsOut, IsOver, IsTold}
+use Rattle.of_machine.specs.Refused.{IsHeldAlone, IsUntold}
+use Rattle.of_machine.proofs.RefusedLemmas.{held_alone, held_asking, on_err, so_err}
 use Rattle.of_machine.proofs.RunLemmas.{if_so, out_on, told_on}
 use Rattle.of_machine.proofs.script_run.ScriptRun.round.Goals as goal
 
@@ -59,3 +61,19 @@ returns-in-Asks-clause-over c =
     (λ more. more ≡ false → IsOver c.args.limit f new)
     (λ b h e. out_on f g new q c.args.limit asks (h e))
     c.tell.ensures.out
+
+-- ---- where memory is refused
+
+pub returns-in_err-advance-clause-held : goal.returns-in_err-advance-clause-held
+returns-in_err-advance-clause-held c =
+    let held : IsHeldAlone c.args.limit c.args.self.now c.advance.new.self = search rules in
+    on_err c.from_residual.result (held_alone c.args.limit c.args.self.now c.advance.new.self held)
+
+pub returns-in-Asks-clause-held : goal.returns-in-Asks-clause-held
+returns-in-Asks-clause-held c =
+    let f : Feed Coding = c.args.self.now in
+    let g : Feed Coding = c.advance.new.self in
+    let new : Feed Coding = c.tell.new.self in
+    let q : Query = c.in-Asks.field-0 in
+    let asks : Advances c.args.limit (Asks q) f g = search rules in
+    so_err c.tell.result (λ (u : IsUntold g new). held_asking f g new q c.args.limit asks u) c.tell.ensures.untold
