@@ -7,7 +7,7 @@ use Rattle.std.specs.Prelude.{if◌then◌else◌, ◌<◌, ◌≤◌, ◌-◌}
 use Rattle.of_compile.specs.Coding.{Coding}
 use Rattle.of_machine.specs.States.{MachineState, is_running, served}
 use Rattle.of_machine.specs.Runs.{AreLater, Due, Feed, IsFed, caught_up, clients_heard, fed, fed_by, settled}
-use Rattle.of_debug.specs.Stepping.{HasDue, has_line, is_first_due}
+use Rattle.of_machine.specs.Refused.{HasDue, has_line, is_first_due}
 use Rattle.of_debug.specs.Stops.{DueIsLeft}
 
 -- ---- clients

@@ -12,7 +12,8 @@ use Rattle.of_debug.specs.declared.goal.Goal.{Goal}
 use Rattle.of_debug.specs.declared.marks.Mark.{Mark}
 use Rattle.of_debug.proofs.FeedLemmas.{settled_steps}
 use Rattle.of_debug.proofs.TurnLemmas.{grows_at, settled_at, settled_turn, steps_at}
-use Rattle.of_debug.specs.Stepping.{Advances, Breaks, Comes, HasDue, IsRefused, has_stayed, is_there, onwards}
+use Rattle.of_machine.specs.Refused.{HasDue}
+use Rattle.of_debug.specs.Stepping.{Advances, Breaks, Comes, IsRefused, has_stayed, is_there, onwards}
 use Rattle.of_debug.specs.Stepping.{until}
 use Rattle.of_debug.specs.Turns.{IsAt, Shows, between, run, turn}
 

@@ -15,7 +15,8 @@ use Rattle.of_state.specs.State.{flat_calls}
 use Rattle.of_steps.specs.Steps.{asked_by, due_grows}
 use Rattle.of_debug.proofs.FeedLemmas.{settled_steps}
 use Rattle.of_debug.proofs.TurnLemmas.{turn_asks, turn_moves, turn_none, turn_open}
-use Rattle.of_debug.specs.Stepping.{Breaks, HasDue, IsTold, Turns, Untold}
+use Rattle.of_machine.specs.Refused.{HasDue}
+use Rattle.of_debug.specs.Stepping.{Breaks, IsTold, Turns, Untold}
 use Rattle.of_debug.specs.Turns.{IsAt, turn}
 
 -- ---- the next answer

@@ -1,9 +1,10 @@
 -- Where a stepping call stops.
-use Rattle.std.specs.Prelude.{ℕ, zero, suc, ◌≡◌, ◌<◌, ◌≤◌, ◌+◌, ◌⊎◌, Bool, true, false, List, [], ◌∷◌, length}
+use Rattle.std.specs.Prelude.{ℕ, zero, suc, ◌≡◌, ◌<◌, ◌≤◌, ◌+◌, ◌⊎◌, Bool, true, false, List, length}
 use Rattle.std.specs.Prelude.{Result, Ok, Err, nat_eq, nat_le, nat_lt, ◌||◌, None, if◌then◌else◌, ⊤}
 use Rattle.of_compile.specs.Coding.{Coding}
-use Rattle.of_machine.specs.Runs.{Due, Feed, next_answer, settled, told}
-use Rattle.of_machine.specs.States.{MachineState, MayGrow, is_running}
+use Rattle.of_machine.specs.Refused.{HasDue}
+use Rattle.of_machine.specs.Runs.{Feed, next_answer, settled, told}
+use Rattle.of_machine.specs.States.{MachineState, MayGrow}
 use Rattle.of_state.specs.State.{flat_calls}
 use Rattle.of_state.specs.Views.{next_item}
 use Rattle.of_debug.specs.declared.fault.DebugFault.{DebugFault}
@@ -39,21 +40,6 @@ until marks goal zero f = f
 until marks goal (suc n) f = onwards marks goal (until marks goal n) f (turn flat_calls f)
 
 -- ---- where memory is refused
-
--- whether a client is to be answered now
-abbrev pub is_first_due : List Due → ℕ → Bool
-is_first_due [] n = false
-is_first_due (call ∷ calls) n = nat_le call.0 n
-
--- whether a line is to be handed in now
-abbrev pub has_line : Bool → List (List ℕ) → Bool
-has_line true lines = false
-has_line false [] = false
-has_line false (line ∷ lines) = true
-
--- something is to be handed in, for which memory is asked: a client is to be answered, or a line to be kept
-abbrev pub HasDue : Feed Coding → Type 0
-HasDue f = (is_first_due f.calls f.machine.steps ≡ true) ⊎ (has_line (is_running f.machine) f.lines ≡ true)
 
 -- Memory was refused to a stepping call: it has come as far as one of so many steps comes that makes all of them, so
 -- the steps are whole and none but the last may have reached the goal; and what comes next asks for memory: what is to

@@ -5,7 +5,8 @@ use Rattle.of_machine.specs.Runs.{Feed, settled}
 use Rattle.of_state.specs.State.{flat_calls}
 use Rattle.of_debug.specs.declared.goal.Goal.{Goal}
 use Rattle.of_debug.specs.declared.marks.Mark.{Mark}
-use Rattle.of_debug.specs.Stepping.{HasDue, is_there, until}
+use Rattle.of_machine.specs.Refused.{HasDue}
+use Rattle.of_debug.specs.Stepping.{is_there, until}
 use Rattle.of_debug.specs.Turns.{Shows, between, run, turn}
 
 -- all steps that may be made are, or the last has reached the goal, or no more can be made

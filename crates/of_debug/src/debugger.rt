@@ -2,7 +2,8 @@ ghost use Rattle.std.specs.Prelude.{◌≡◌, ◌≤◌, ◌+◌, ◌^◌, IfEr
 ghost use Rattle.of_machine.specs.Runs.{settled};
 ghost use Rattle.of_debug.specs.Debugging.{BreakAt, Clear, Go, Obeys, StepIn, StepOut, StepOver, begun, item_fault};
 ghost use Rattle.of_debug.specs.Debugging.{left, made};
-ghost use Rattle.of_debug.specs.Stepping.{Advances, Comes, HasDue};
+ghost use Rattle.of_debug.specs.Stepping.{Advances, Comes};
+ghost use Rattle.of_machine.specs.Refused.{HasDue};
 ghost use Rattle.of_debug.specs.Turns.{handed_over};
 ghost use Rattle.of_state.specs.Views.{items_of_word};
 

@@ -1,7 +1,8 @@
 ghost use Rattle.std.specs.Prelude.{◌≡◌, ◌≤◌, ◌-◌, ◌+◌, IfOk, OnErr, OnOk, Some, map, nat_le, true};
 ghost use Rattle.of_machine.specs.Runs.{clients_heard, fed, settled};
 ghost use Rattle.of_machine.specs.States.{is_running};
-ghost use Rattle.of_debug.specs.Stepping.{Breaks, HasDue, IsTold, Turns, Untold, has_line, is_first_due};
+ghost use Rattle.of_machine.specs.Refused.{HasDue, has_line, is_first_due};
+ghost use Rattle.of_debug.specs.Stepping.{Breaks, IsTold, Turns, Untold};
 ghost use Rattle.of_debug.specs.Turns.{handed_over};
 
 use of_asking::{Answer, Query, is_fitting};

@@ -1,5 +1,5 @@
 -- A console session: lines are entered one after the other (Forth 2012, 3.4; IEEE 1275-1994, 7.3).
-use Rattle.std.specs.Prelude.{ℕ, ◌≡◌, ◌⊎◌, Bool, List, ◌&&◌, ◌==◌, length, Option, Some, None, if◌then◌else◌}
+use Rattle.std.specs.Prelude.{ℕ, ◌≡◌, ◌⊎◌, Bool, false, List, ◌&&◌, ◌==◌, length, Option, Some, None, if◌then◌else◌}
 use Rattle.of_compile.specs.Coding.{Coding}
 use Rattle.of_machine.specs.declared.answers.Refusal.{Refusal}
 use Rattle.of_machine.specs.Events.{Line, done_by}
@@ -34,7 +34,8 @@ entered_unless c (Some e) limit line x = x
 abbrev pub entry : {S : Type 0} → Calls S → ℕ → List ℕ → Attended S → Attended S
 entry c limit line x = entered_unless c (entry_refusal x.0 line) limit line x
 
--- what a line leaves that was refused, or for which no memory was found: it wasn't handed in, or not all of its steps
--- were made
+-- what a line leaves that was refused, or for which no memory was found: it wasn't handed in, where it was to be, or
+-- not all of its steps were made
 abbrev pub IsBroken : ℕ → List ℕ → Attended Coding → Attended Coding → Type 0
-IsBroken limit line x y = (y ≡ x) ⊎ IsHeld limit (begun_with flat_calls line x.0, x.1) y
+IsBroken limit line x y =
+    ((goes_on x.0 line ≡ false) × (y ≡ x)) ⊎ IsHeld limit (begun_with flat_calls line x.0, x.1) y

@@ -12,7 +12,7 @@ use of_machine::{Machine, Refusal};
 /// runs that the line before has begun, an empty line lets it go on for as many.
 ///
 /// Busy where something runs and the line isn't empty, then LineTooLong over 255 bytes, which change nothing; and
-/// NoMemory, where the line isn't handed in, or, as by `attend`, where the next of its steps may grow.
+/// NoMemory, where the line is to be handed in and isn't, or, as by `attend`, where the next of its steps may grow.
 pub fn enter<C: CodeStore>(
     machine: &mut Machine<C>,
     rack: &mut Rack,

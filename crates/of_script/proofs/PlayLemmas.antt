@@ -1,32 +1,45 @@
 -- Scripts, command by command.
 use Rattle.std.proofs.Common.{◌≡◌, inl, inr, ℕ, ◌+◌, List, [], ◌∷◌, ◌++◌, Option, Some, None, Result, Ok, Err}
+use Rattle.std.specs.Prelude.{⊤}
 use Rattle.std.proofs.Common.{refl, sym, subst, append_assoc, append-nil, length, map}
 use Rattle.of_calls.specs.Scripts.{Break, Clear, Go, In, Out, Over, Scripted}
 use Rattle.of_cells.specs.declared.cells.Cell.{Cell}
 use Rattle.of_debug.specs.Debugging.{BreakAt, Clear as ClearAt, Command, Debugged}
 use Rattle.of_script.specs.declared.fault.ScriptFault.{ScriptFault}
 use Rattle.of_script.specs.declared.fault.ScriptFault.TheVariants as fault
-use Rattle.of_script.specs.Scripts.{Carries, HasMarked, Plays, word_of}
+use Rattle.of_debug.specs.declared.fault.DebugFault.{DebugFault}
+use Rattle.of_debug.specs.declared.fault.DebugFault.TheVariants as refused
+use Rattle.of_script.specs.Scripts.{Carries, HasMarked, Plays, marked_text, word_of}
 
 no_text : {A : Type 0} {said : List ℕ} {f : ScriptFault} → ◌≡◌ {A = Result (List ℕ) ScriptFault} (Ok said) (Err f) → A
 no_text e = absurd cc
 
-marked_refused : (line : ℕ) (o : Option Cell) (command : Cell → Command) (old new : Debugged) (said : List ℕ)
-    → HasMarked line o command old new (Ok said) → HasMarked line o command old new (Err fault.NoMemory)
-marked_refused line None command old new said h = no_text h.0
-marked_refused line (Some xt) command old new said h = (h.0, h.1, inr refl)
+-- what marks or clears an item prints nothing
+none_said : (line : ℕ) (r : Result ⊤ DebugFault) (said : List ℕ)
+    → ◌≡◌ {A = Result (List ℕ) ScriptFault} (Ok said) (marked_text line r) → length said ≡ 0
+none_said line (Ok x) said e = cc
+none_said line (Err refused.NoWord) said e = no_text e
+none_said line (Err refused.NoItem) said e = no_text e
+none_said line (Err refused.TooMany) said e = no_text e
+none_said line (Err refused.Idle) said e = cc
+none_said line (Err refused.NoMemory) said e = no_text e
 
--- a command whose text finds no memory
-pub text_refused : (line : ℕ) (c : Scripted) (old new : Debugged) (said : List ℕ) → Carries line c old new (Ok said)
-    → Carries line c old new (Err fault.NoMemory)
-text_refused line In old new said h = (h.0, h.1, inr refl)
-text_refused line Over old new said h = (h.0, h.1, inr refl)
-text_refused line Out old new said h = (h.0, h.1, inr refl)
-text_refused line (Go n) old new said h = (h.0, h.1, inr refl)
-text_refused line (Break word item) old new said h =
-    marked_refused line (word_of word old.feed.machine) (λ xt. BreakAt xt item) old new said h
-text_refused line (Clear word item) old new said h =
-    marked_refused line (word_of word old.feed.machine) (λ xt. ClearAt xt item) old new said h
+marked_refused : {A : Type 0} (line : ℕ) (o : Option Cell) (command : Cell → Command) (old new : Debugged)
+    (said : List ℕ) → (length said ≡ 0 → ⊥) → HasMarked line o command old new (Ok said) → A
+marked_refused line None command old new said some h = no_text h.0
+marked_refused line (Some xt) command old new said some h = absurd (some (none_said line h.0 said h.2))
+
+-- a command whose text finds no memory, which is some
+pub text_refused : (line : ℕ) (c : Scripted) (old new : Debugged) (said : List ℕ) → (length said ≡ 0 → ⊥)
+    → Carries line c old new (Ok said) → Carries line c old new (Err fault.NoMemory)
+text_refused line In old new said some h = (h.0, h.1, inr refl)
+text_refused line Over old new said some h = (h.0, h.1, inr refl)
+text_refused line Out old new said some h = (h.0, h.1, inr refl)
+text_refused line (Go n) old new said some h = (h.0, h.1, inr refl)
+text_refused line (Break word item) old new said some h =
+    marked_refused line (word_of word old.feed.machine) (λ xt. BreakAt xt item) old new said some h
+text_refused line (Clear word item) old new said some h =
+    marked_refused line (word_of word old.feed.machine) (λ xt. ClearAt xt item) old new said some h
 
 -- what the commands that are left lead to is what all of them do, behind the text so far
 pub record LeadsTo

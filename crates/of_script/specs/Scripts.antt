@@ -47,12 +47,12 @@ abbrev pub HasStepped : Command → Debugged → Debugged → Result (List ℕ) 
 HasStepped command old new said =
     (r : Result ⊤ DebugFault) × Obeys command r old new × Says said (stepped_text r new)
 
--- an item of a word was marked or cleared, if there is such a word
+-- an item of a word was marked or cleared, if there is such a word; no memory is asked for that
 abbrev pub HasMarked :
     ℕ → Option Cell → (Cell → Command) → Debugged → Debugged → Result (List ℕ) ScriptFault → Type 0
 HasMarked line None command old new said = (said ≡ Err (fault.Unknown line)) × (new ≡ old)
 HasMarked line (Some xt) command old new said =
-    (r : Result ⊤ DebugFault) × Obeys (command xt) r old new × Says said (marked_text line r)
+    (r : Result ⊤ DebugFault) × Obeys (command xt) r old new × (said ≡ marked_text line r)
 
 -- what the command in this line makes of a debugger, and what it prints, or why it was given up
 abbrev pub Carries : ℕ → Scripted → Debugged → Debugged → Result (List ℕ) ScriptFault → Type 0

@@ -24,7 +24,8 @@ pub struct Played {
 
 /// Carries out the commands of a script, up to one that is given up.
 ///
-/// Each `in`, `over`, `out` and `go` prints the state that it leads to, also where no step can be made.
+/// Each `in`, `over`, `out` and `go` prints the state that it leads to, also where no step can be made. Where a script
+/// is given up for memory, it is one of these: none was found for its steps, or for the text of its state.
 #[tactic(auto, using(crate::proofs::PlayLemmas::plays))]
 pub fn play<C: CodeStore>(
     alloc: Global,

@@ -31,7 +31,8 @@ returns-then-is_err g c =
     let carries : Carries now.line (command_of command) now.debugger new (Ok (string_bytes c.in-Ok.said)) =
     search rules in
     let same : c.extend_from_slice.new.self.items ≡ now.text.items = search rules in
+    let some : length (string_bytes c.in-Ok.said) ≡ 0 → ⊥ = λ none. search rules in
     subst (λ t. Plays 1 (map command_of c.args.script.now) c.args.debugger.now new t _) (sym same)
     (leads_out _ _ now.line (command_of command) _ _ now.debugger new now.text.items fault.NoMemory
     now.invariant.leads (ap (map command_of) split)
-    (text_refused now.line (command_of command) now.debugger new (string_bytes c.in-Ok.said) carries))
+    (text_refused now.line (command_of command) now.debugger new (string_bytes c.in-Ok.said) some carries))

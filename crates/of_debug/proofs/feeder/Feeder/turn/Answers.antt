@@ -3,7 +3,7 @@ use Rattle.of_compile.specs.Coding.{Coding}
 use Rattle.of_machine.specs.Runs.{Feed, settled}
 use Rattle.of_machine.specs.States.{Steps}
 use Rattle.of_machine.specs.declared.answers.Progress.TheVariants.{Asks, Done, Ended}
-use Rattle.of_debug.specs.Stepping.{HasDue}
+use Rattle.of_machine.specs.Refused.{HasDue}
 use Rattle.of_debug.specs.Turns.{due_from}
 use Rattle.of_debug.proofs.TellLemmas.{broken_if, is_broken, is_done, is_ended, on_err, turned_if}
 use Rattle.of_debug.proofs.feeder.Feeder.turn.Goals as goal
