@@ -8,6 +8,7 @@ mod definitions;
 mod engine;
 mod explain;
 mod listings;
+mod places;
 mod state;
 
 pub use clients::{ClientRun, client};
