@@ -1,0 +1,74 @@
+//! The FCodes of phrases, with the numbers, strings and texts that they work on.
+
+/// What puts a number on the stack.
+pub(super) const PUSHING: [u16; 14] = [
+    0x0a4, 0x0a5, 0x0a6, 0x0a7, 0x0a8, 0x0a6, 0x0a7, 0x0a8, 0x047, 0x048, 0x051, 0x0a9, 0x05d,
+    0x0ad,
+];
+
+/// What takes numbers from the stack.
+pub(super) const TAKING: [u16; 8] = [0x046, 0x09d, 0x09b, 0x01e, 0x01f, 0x04d, 0x026, 0x02c];
+
+/// Sums, comparisons, moves on the stack and addresses, a range for each.
+pub(super) const RANGES: [(u16, usize); 8] = [
+    (0x01e, 18),
+    (0x034, 18),
+    (0x046, 18),
+    (0x056, 16),
+    (0x066, 4),
+    (0x07c, 5),
+    (0x0ac, 5),
+    (0x0d4, 6),
+];
+
+/// What works on an address.
+pub(super) const FETCHES: [u16; 10] = [
+    0x06d, 0x06e, 0x06f, 0x070, 0x071, 0x076, 0x06a, 0x06b, 0x084, 0x046,
+];
+
+/// What works on a number and an address.
+pub(super) const STORES: [u16; 8] = [0x072, 0x073, 0x074, 0x075, 0x06c, 0x072, 0x075, 0x08c];
+
+/// What asks about an address, and what asks about a number and an address.
+pub(super) const READS: [u16; 6] = [0x230, 0x232, 0x234, 0x220, 0x221, 0x222];
+
+pub(super) const WRITES: [u16; 6] = [0x231, 0x233, 0x235, 0x223, 0x224, 0x225];
+
+/// What works on a string.
+pub(super) const ON_STRINGS: [u16; 20] = [
+    0x090, 0x090, 0x052, 0x0cd, 0x0cd, 0x0cb, 0x0a2, 0x114, 0x119, 0x11a, 0x201, 0x204, 0x21a,
+    0x21d, 0x11b, 0x115, 0x21b, 0x21e, 0x209, 0x23f,
+];
+
+/// Words over properties, packages and instances, and others that are seldom met.
+pub(super) const OTHERS: [u16; 32] = [
+    0x110, 0x111, 0x112, 0x113, 0x116, 0x128, 0x21c, 0x23d, 0x21f, 0x102, 0x103, 0x202, 0x203,
+    0x205, 0x206, 0x207, 0x208, 0x20a, 0x20b, 0x20d, 0x20e, 0x20f, 0x23b, 0x23c, 0x0da, 0x0db,
+    0x0dc, 0x0fc, 0x216, 0x240, 0x08b, 0x08c,
+];
+
+/// Strings: texts that are evaluated, names and numbers.
+pub(super) const TEXTS: [&[u8]; 16] = [
+    b"1 2 + .",
+    b"dup .",
+    b": sq dup * ; 5 sq .",
+    b"7 throw",
+    b"5 value seven seven .",
+    b"word-1",
+    b": begun",
+    b"name",
+    b"device-name",
+    b"/slot",
+    b"/",
+    b"put",
+    b"12ab",
+    b"1,2",
+    b"",
+    b"hello",
+];
+
+/// Numbers that are thrown.
+pub(super) const THROWN: [u32; 5] = [0, 7, 0, 0xffff_fff0, 0xffff_ffff];
+
+/// An image that prints 5.
+pub(super) const NESTED: [u8; 13] = [0xf1, 8, 0, 0, 0, 0, 0, 13, 0xa7, 0xa8, 0x1e, 0x9d, 0];
