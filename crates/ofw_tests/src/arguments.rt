@@ -1,5 +1,7 @@
-use of_arguments::{Listing, Listings, Outside, Request, lines_ask, parse, status_of};
-use std::alloc::Global;
+use crate::shared::{requested, words_of};
+use crate::tables::{Rows, check, halves};
+use of_arguments::{Listing, Listings, Outside, Request, lines_ask};
+use std::alloc::{AllocError, Global};
 use std::test::Fail;
 
 /// Words of a command line, and behind `:` what they ask for, if anything: the image, for a client the calls, for a
@@ -125,13 +127,121 @@ ofw run a.hex --steps 5:Some(Usage)
 ofw run a.hex:None
 ";
 
-/// A name behind a blank where a flag is given.
-fn flag(is_given: bool, name: &str) -> &str {
-    if is_given { name } else { "" }
+/// Appends a name behind a blank, where a flag is given.
+fn push_flag(text: &mut String, is_given: bool, name: &str) -> Result<(), AllocError> {
+    if is_given {
+        return write!(text, " {name}");
+    }
+    Ok(())
 }
 
-/// What a request asks for, as it stands behind `:`.
-fn shown(alloc: Global, request: Request) -> Result<String, Fail> {
+/// Appends a name and what is said with it, behind a blank each, if something is.
+fn push_said(text: &mut String, name: &str, said: Option<&str>) -> Result<(), AllocError> {
+    match said {
+        Some(said) => write!(text, " {name} {said}"),
+        None => Ok(()),
+    }
+}
+
+/// Appends what answers the questions of a run, where that is a file.
+fn push_outside(text: &mut String, outside: Outside) -> Result<(), AllocError> {
+    match outside {
+        Outside::Standard => Ok(()),
+        Outside::Answers(path) => push_said(text, "answers", Some(path)),
+        Outside::Board(path) => push_said(text, "board", Some(path)),
+    }
+}
+
+/// Appends a path, and what a run behind it asks for.
+fn push_run(
+    text: &mut String,
+    path: &str,
+    outside: Outside,
+    limit: u64,
+    explain: bool,
+) -> Result<(), AllocError> {
+    text.push_str(path)?;
+    push_outside(text, outside)?;
+    write!(text, " {limit}")?;
+    push_flag(text, explain, "explained")
+}
+
+/// Appends what is to be printed behind a run.
+fn push_listings(text: &mut String, listings: Listings) -> Result<(), AllocError> {
+    push_flag(text, listings.tree, "tree")?;
+    push_flag(text, listings.words, "words")?;
+    push_said(text, "see", listings.see)?;
+    push_flag(text, listings.state, "state")
+}
+
+/// Appends what a console asks for.
+fn push_console(
+    text: &mut String,
+    image: &str,
+    board: Option<&str>,
+    limit: u64,
+) -> Result<(), AllocError> {
+    write!(text, "console {image}")?;
+    push_said(text, "board", board)?;
+    write!(text, " {limit}")
+}
+
+/// Appends what a run under a script asks for.
+fn push_debug(
+    text: &mut String,
+    (image, script): (&str, &str),
+    lines: Option<&str>,
+    answers: Option<&str>,
+    limit: u64,
+) -> Result<(), AllocError> {
+    write!(text, "debug {image} {script}")?;
+    push_said(text, "answers", answers)?;
+    write!(text, " {limit}")?;
+    push_said(text, "lines", lines)
+}
+
+/// Appends what is listed of an image.
+fn push_listing(text: &mut String, listing: Listing) -> Result<(), AllocError> {
+    match listing {
+        Listing::Tokens(extras) => {
+            push_flag(text, extras.names, "names")?;
+            push_flag(text, extras.indents, "indents")
+        }
+        Listing::Definitions => push_flag(text, true, "definitions"),
+    }
+}
+
+/// Appends what the image of a source asks for.
+fn push_tok(text: &mut String, source: &str, output: Option<&str>) -> Result<(), AllocError> {
+    text.push_str(source)?;
+    match output {
+        Some(output) => write!(text, " {output}"),
+        None => Ok(()),
+    }
+}
+
+/// Appends what a listing of an image asks for.
+fn push_detok(
+    text: &mut String,
+    image: &str,
+    listing: Listing,
+    partial: bool,
+    pci: bool,
+) -> Result<(), AllocError> {
+    text.push_str(image)?;
+    push_listing(text, listing)?;
+    push_flag(text, partial, "partial")?;
+    push_flag(text, pci, "pci")
+}
+
+/// Appends what a look at an image asks for.
+fn push_check(text: &mut String, image: &str, pci: bool) -> Result<(), AllocError> {
+    write!(text, "check {image}")?;
+    push_flag(text, pci, "pci")
+}
+
+/// Appends what a request for a run asks for, or for a run and a client's calls.
+fn push_running(text: &mut String, request: Request) -> Result<(), AllocError> {
     match request {
         Request::Run {
             image,
@@ -142,8 +252,10 @@ fn shown(alloc: Global, request: Request) -> Result<String, Fail> {
             explain,
             pci,
         } => {
-            let run = shown_listed(alloc, image, lines, outside, limit, listings, explain)?;
-            with_flag(alloc, run, flag(pci, " pci"))
+            push_run(text, image, outside, limit, explain)?;
+            push_listings(text, listings)?;
+            push_said(text, "lines", lines)?;
+            push_flag(text, pci, "pci")
         }
         Request::Client {
             image,
@@ -152,203 +264,88 @@ fn shown(alloc: Global, request: Request) -> Result<String, Fail> {
             outside,
             limit,
             explain,
-        } => shown_client(alloc, image, calls, lines, outside, limit, explain),
+        } => {
+            write!(text, "{image} ")?;
+            push_run(text, calls, outside, limit, explain)?;
+            push_said(text, "lines", lines)
+        }
+        _ => Ok(()),
+    }
+}
+
+/// Appends what a request asks for, as it stands behind `:`.
+fn push_request(text: &mut String, request: Request) -> Result<(), AllocError> {
+    match request {
+        Request::Run { .. } | Request::Client { .. } => push_running(text, request),
         Request::Console {
             image,
             board,
             limit,
-        } => shown_console(alloc, image, board, limit),
+        } => push_console(text, image.unwrap_or("no image"), board, limit),
         Request::Debug {
             image,
             script,
             lines,
             answers,
             limit,
-        } => shown_debug(alloc, image, script, lines, answers, limit),
-        Request::Tok { source, output } => shown_tok(alloc, source, output),
+        } => push_debug(text, (image, script), lines, answers, limit),
+        Request::Tok { source, output } => push_tok(text, source, output),
         Request::Detok {
             image,
             listing,
             partial,
             pci,
-        } => {
-            let listed = shown_detok(alloc, image, listing, flag(partial, " partial"))?;
-            with_flag(alloc, listed, flag(pci, " pci"))
-        }
-        Request::Check { image, pci } => {
-            let looked = format!(in alloc; "check {image}")?;
-            with_flag(alloc, looked, flag(pci, " pci"))
-        }
-        Request::Pci { rom } => Ok(format!(in alloc; "images of {rom}")?),
+        } => push_detok(text, image, listing, partial, pci),
+        Request::Check { image, pci } => push_check(text, image, pci),
+        Request::Pci { rom } => write!(text, "images of {rom}"),
     }
-}
-
-/// What is asked for, with a flag behind it.
-fn with_flag(alloc: Global, asked: String, flag: &str) -> Result<String, Fail> {
-    Ok(format!(in alloc; "{asked}{flag}")?)
-}
-
-/// The file of console lines that is asked for, if one is.
-fn shown_lines(alloc: Global, lines: Option<&str>) -> Result<String, Fail> {
-    let Some(path) = lines else {
-        return Ok(String::new(alloc));
-    };
-    Ok(format!(in alloc; " lines {path}")?)
-}
-
-/// What is to be printed behind a run.
-fn shown_listings(alloc: Global, listings: Listings) -> Result<String, Fail> {
-    let (tree, words) = (flag(listings.tree, " tree"), flag(listings.words, " words"));
-    let state = flag(listings.state, " state");
-    Ok(match listings.see {
-        Some(name) => format!(in alloc; "{tree}{words} see {name}{state}")?,
-        None => format!(in alloc; "{tree}{words}{state}")?,
-    })
-}
-
-/// What a run asks for, with what is to be printed behind it.
-fn shown_listed(
-    alloc: Global,
-    image: &str,
-    lines: Option<&str>,
-    outside: Outside,
-    limit: u64,
-    listings: Listings,
-    explain: bool,
-) -> Result<String, Fail> {
-    let run = shown_run(alloc, image, outside, limit, flag(explain, " explained"))?;
-    let listings = shown_listings(alloc, listings)?;
-    let lines = shown_lines(alloc, lines)?;
-    Ok(format!(in alloc; "{run}{listings}{lines}")?)
-}
-
-/// What a client asks for.
-fn shown_client(
-    alloc: Global,
-    image: &str,
-    calls: &str,
-    lines: Option<&str>,
-    outside: Outside,
-    limit: u64,
-    explain: bool,
-) -> Result<String, Fail> {
-    let run = shown_run(alloc, calls, outside, limit, flag(explain, " explained"))?;
-    let lines = shown_lines(alloc, lines)?;
-    Ok(format!(in alloc; "{image} {run}{lines}")?)
-}
-
-/// What a run asks for.
-fn shown_run(
-    alloc: Global,
-    image: &str,
-    outside: Outside,
-    limit: u64,
-    explained: &str,
-) -> Result<String, Fail> {
-    Ok(match outside {
-        Outside::Standard => format!(in alloc; "{image} {limit}{explained}")?,
-        Outside::Answers(path) => format!(in alloc; "{image} answers {path} {limit}{explained}")?,
-        Outside::Board(path) => format!(in alloc; "{image} board {path} {limit}{explained}")?,
-    })
-}
-
-/// What a console asks for.
-fn shown_console(
-    alloc: Global,
-    image: Option<&str>,
-    board: Option<&str>,
-    limit: u64,
-) -> Result<String, Fail> {
-    let image = image.unwrap_or("no image");
-    Ok(match board {
-        Some(path) => format!(in alloc; "console {image} board {path} {limit}")?,
-        None => format!(in alloc; "console {image} {limit}")?,
-    })
-}
-
-/// What a run under a script asks for.
-fn shown_debug(
-    alloc: Global,
-    image: &str,
-    script: &str,
-    lines: Option<&str>,
-    answers: Option<&str>,
-    limit: u64,
-) -> Result<String, Fail> {
-    let lines = shown_lines(alloc, lines)?;
-    Ok(match answers {
-        Some(path) => format!(in alloc; "debug {image} {script} answers {path} {limit}{lines}")?,
-        None => format!(in alloc; "debug {image} {script} {limit}{lines}")?,
-    })
-}
-
-/// What the image of a source asks for.
-fn shown_tok(alloc: Global, source: &str, output: Option<&str>) -> Result<String, Fail> {
-    let Some(output) = output else {
-        return Ok(String::from_str(alloc, source)?);
-    };
-    Ok(format!(in alloc; "{source} {output}")?)
-}
-
-/// What a listing asks for.
-fn shown_detok(
-    alloc: Global,
-    image: &str,
-    listing: Listing,
-    partial: &str,
-) -> Result<String, Fail> {
-    let extras = match listing {
-        Listing::Tokens(extras) => extras,
-        Listing::Definitions => return Ok(format!(in alloc; "{image} definitions{partial}")?),
-    };
-    let names = flag(extras.names, " names");
-    let indents = flag(extras.indents, " indents");
-    Ok(format!(in alloc; "{image}{names}{indents}{partial}")?)
 }
 
 /// What the words of a line ask for, as it stands behind `:`.
-fn asked(alloc: Global, line: &[String]) -> Result<String, Fail> {
-    match parse(alloc, line) {
-        Ok(Some(request)) => shown(alloc, request),
-        _ => Ok(String::new(alloc)),
+fn asked(alloc: Global, words: &[String]) -> Result<String, Fail> {
+    let mut text = String::new(alloc);
+    if let Ok(Some(request)) = requested(alloc, words) {
+        push_request(&mut text, request)?;
     }
-}
-
-/// The words of a command line.
-fn words_of(alloc: Global, line: &str) -> Result<Vec<String>, Fail> {
-    let mut words = Vec::new(alloc);
-    for word in line.split(' ') {
-        words.push(String::from_str(alloc, word)?)?;
-    }
-    Ok(words)
+    Ok(text)
 }
 
 /// How the program ends by the words of a line alone, as it stands behind `:`.
-fn ended(alloc: Global, line: &[String]) -> Result<String, Fail> {
-    let status = match parse(alloc, line) {
-        Ok(_) => None,
-        Err(error) => Some(status_of(&error)),
-    };
+fn ended(alloc: Global, words: &[String]) -> Result<String, Fail> {
+    let status = requested(alloc, words).err();
     Ok(format!(in alloc; "{status:?}")?)
+}
+
+/// What words ask for.
+struct AskedRows;
+
+impl Rows for AskedRows {
+    fn given(alloc: Global, line: &str) -> Result<(String, String), Fail> {
+        let (words, wanted) = halves(line, ':');
+        let words = words_of(alloc, words)?;
+        Ok((asked(alloc, &words)?, String::from_str(alloc, wanted)?))
+    }
+}
+
+/// How the program ends by words alone.
+struct EndedRows;
+
+impl Rows for EndedRows {
+    fn given(alloc: Global, line: &str) -> Result<(String, String), Fail> {
+        let (words, wanted) = halves(line, ':');
+        let words = words_of(alloc, words)?;
+        Ok((ended(alloc, &words)?, String::from_str(alloc, wanted)?))
+    }
 }
 
 #[test]
 fn statuses(rt: HostRuntime) -> Result<(), Fail> {
-    for case in STATUSES.lines() {
-        let (words, wanted) = case.split_once(':').unwrap_or(("", ""));
-        let ended = ended(rt.alloc(), &words_of(rt.alloc(), words)?)?;
-        assert_eq!(rt; ended.as_str(), wanted, "{case}");
-    }
-    Ok(())
+    check::<EndedRows, _>(&rt, rt.alloc(), STATUSES)
 }
 
 #[test]
 fn arguments(rt: HostRuntime) -> Result<(), Fail> {
+    check::<AskedRows, _>(&rt, rt.alloc(), LINES)?;
     lines_ask();
-    for case in LINES.lines() {
-        let (words, wanted) = case.split_once(':').unwrap_or(("", ""));
-        let asked = asked(rt.alloc(), &words_of(rt.alloc(), words)?)?;
-        assert_eq!(rt; asked.as_str(), wanted, "{case}");
-    }
     Ok(())
 }

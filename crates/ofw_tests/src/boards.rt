@@ -1,5 +1,6 @@
 //! Texts of devices: which devices they say, and which word fits nowhere.
 
+use crate::tables::{Rows, check, halves, replaced};
 use of_asking::{Answer, Query};
 use of_calls::{TextFault, parse_board};
 use of_cells::Cell;
@@ -70,14 +71,14 @@ memory 80000000 2 a1b2,keys 616|2:6 number
 ";
 
 /// A text, whose newlines are written `,`, tabs `\t` and carriage returns `\r`.
-fn text_of(alloc: Global, written: &str) -> Result<String, AllocError> {
-    let lines = written.replace(alloc, ",", "\n")?;
-    let tabbed = lines.replace(alloc, "\\t", "\t")?;
-    tabbed.replace(alloc, "\\r", "\r")
+fn text_of(alloc: Global, written: &str) -> Result<String, Fail> {
+    let lines = replaced(alloc, written, ",", "\n")?;
+    let tabbed = replaced(alloc, lines.as_str(), "\\t", "\t")?;
+    replaced(alloc, tabbed.as_str(), "\\r", "\r")
 }
 
-/// Shows an answer behind others.
-fn show(text: &mut String, answer: Answer) -> Result<(), AllocError> {
+/// Appends an answer.
+fn push_answer(text: &mut String, answer: Answer) -> Result<(), AllocError> {
     match answer {
         Answer::Value(x) => write!(text, "{x:x} "),
         Answer::Done => text.push_str("done "),
@@ -85,18 +86,16 @@ fn show(text: &mut String, answer: Answer) -> Result<(), AllocError> {
     }
 }
 
-/// What devices answer to the questions of the table, in turn.
-fn answers(alloc: Global, parts: Vec<Part>) -> Result<String, Fail> {
-    let mut rack: Rack = Vec::new(alloc);
-    for part in parts {
-        rack.push(Box::new(alloc, part)?)?;
-    }
-    let mut text = String::new(alloc);
+/// What devices answer to a question.
+fn answer_to(rack: &mut Rack, query: Query) -> Answer {
+    ask(rack, query)
+}
+
+/// Appends what devices answer to the questions of the table, in turn.
+fn push_answers(text: &mut String, rack: &mut Rack) -> Result<(), AllocError> {
     for address in [0x8000_0000, 0x8000_0001, 0x8000_0002, 0xffff_ffff] {
-        show(
-            &mut text,
-            ask(&mut rack, Query::Read(Width::One, Cell(address))),
-        )?;
+        let query = Query::Read(Width::One, Cell(address));
+        push_answer(text, answer_to(rack, query))?;
     }
     let others = [
         Query::Key,
@@ -105,41 +104,67 @@ fn answers(alloc: Global, parts: Vec<Part>) -> Result<String, Fail> {
         Query::Milliseconds,
     ];
     for query in others {
-        show(&mut text, ask(&mut rack, query))?;
+        push_answer(text, answer_to(rack, query))?;
     }
-    Ok(text)
+    Ok(())
+}
+
+/// What the devices of a rack answer.
+fn answers_of(alloc: Global, rack: &mut Rack) -> Result<String, Fail> {
+    let mut text = String::new(alloc);
+    push_answers(&mut text, rack)?;
+    Ok(String::from_str(alloc, text.trim_end())?)
+}
+
+/// What devices answer.
+fn answers(alloc: Global, parts: Vec<Part>) -> Result<String, Fail> {
+    let mut rack: Rack = Vec::new(alloc);
+    for part in parts {
+        rack.push(Box::new(alloc, part)?)?;
+    }
+    answers_of(alloc, &mut rack)
 }
 
 /// Line and column of a fault, and which it is.
-fn shown(alloc: Global, fault: TextFault) -> Result<String, AllocError> {
+fn shown(alloc: Global, fault: TextFault) -> Result<String, Fail> {
     let (place, name) = match fault {
         TextFault::Unknown(place) => (place, "unknown"),
         TextFault::BadName(place) => (place, "name"),
         TextFault::BadNumber(place) => (place, "number"),
         TextFault::TooMany(place) => (place, "many"),
         TextFault::TooLong(place) => (place, "long"),
-        TextFault::NoMemory => return String::from_str(alloc, "no memory"),
+        TextFault::NoMemory => return Ok(String::from_str(alloc, "no memory")?),
     };
-    format!(in alloc; "{}:{} {name}", place.line, place.column)
+    Ok(format!(in alloc; "{}:{} {name}", place.line, place.column)?)
+}
+
+/// The devices of a text.
+fn parts_of(alloc: Global, text: &str) -> Result<Vec<Part>, TextFault> {
+    parse_board(alloc, text.as_bytes())
 }
 
 /// What the devices of a text answer, or the text's fault.
-fn given(alloc: Global, written: &str) -> Result<String, Fail> {
-    let text = text_of(alloc, written)?;
-    match parse_board(alloc, text.as_bytes()) {
+fn answers_in(alloc: Global, text: &str) -> Result<String, Fail> {
+    match parts_of(alloc, text) {
         Ok(parts) => answers(alloc, parts),
-        Err(fault) => Ok(shown(alloc, fault)?),
+        Err(fault) => shown(alloc, fault),
+    }
+}
+
+/// Texts of devices.
+struct BoardRows;
+
+impl Rows for BoardRows {
+    fn given(alloc: Global, line: &str) -> Result<(String, String), Fail> {
+        let (written, wanted) = halves(line, '|');
+        let text = text_of(alloc, written)?;
+        let given = answers_in(alloc, text.as_str())?;
+        Ok((given, String::from_str(alloc, wanted)?))
     }
 }
 
 #[test]
 fn texts(rt: HostRuntime) -> Result<(), Fail> {
-    for table in [BOARDS, FAULTS] {
-        for line in table.lines() {
-            let (text, wanted) = line.split_once('|').unwrap_or(("", ""));
-            let given = given(rt.alloc(), text)?;
-            assert_eq!(rt; given.trim_end(), wanted, "{line}");
-        }
-    }
-    Ok(())
+    check::<BoardRows, _>(&rt, rt.alloc(), BOARDS)?;
+    check::<BoardRows, _>(&rt, rt.alloc(), FAULTS)
 }

@@ -1,10 +1,13 @@
-use crate::doubles::{blank_screen, no_listings, reader_of, without_lines};
+use crate::doubles::{no_listings, reader_of, without_lines};
+use crate::shared::{Outputs, left_by, outcome};
+use crate::tables::{Rows, agree, check, halves};
 use of_asking::Answer;
 use of_client::{names_are_met, values_are_got};
 use of_commands::{ClientRun, Run, client};
 use of_files::Messages;
 use of_runs::{Answerer, Outside};
 use std::alloc::Global;
+use std::io::{Read, Write};
 use std::process::Abort;
 use std::test::Fail;
 
@@ -54,12 +57,8 @@ fn whole<'a>(
     }
 }
 
-/// Whether a case does what it says.
-fn holds(rt: &impl Abort, alloc: Global, case: &Case<'_>) {
-    let mut calls = reader_of(case.calls.as_bytes(), case.read);
-    let mut image = reader_of(case.image.as_bytes(), 9999);
-    let mut out = blank_screen(alloc, case.write);
-    let mut errors = blank_screen(alloc, 9999);
+/// What is asked for by a case.
+fn asked<'a>(case: &Case<'a>) -> ClientRun<'a> {
     let run = Run {
         image: "a.hex",
         outside: case.outside,
@@ -67,31 +66,45 @@ fn holds(rt: &impl Abort, alloc: Global, case: &Case<'_>) {
         listings: no_listings(),
         explain: case.explain,
     };
-    let asked = ClientRun {
+    ClientRun {
         run,
         calls: "a.calls",
-    };
-    let status = client(
-        alloc,
-        &asked,
-        &mut calls,
-        &mut image,
-        &mut out,
-        &mut Messages::new(&mut errors),
-    );
-    assert_eq!(rt; status.code(), case.status, "{}", case.calls);
-    assert_eq!(rt;
-        out.text.as_slice(),
-        case.printed.as_bytes(),
-        "{}",
-        case.calls
-    );
-    assert_eq!(rt;
-        errors.text.as_slice(),
-        case.said.as_bytes(),
-        "{}",
-        case.calls
-    );
+    }
+}
+
+/// Makes calls, and gives the number of the status.
+fn called<C: Read, R: Read, W: Write, E: Write>(
+    alloc: Global,
+    asked: &ClientRun<'_>,
+    calls: &mut C,
+    image: &mut R,
+    out: &mut W,
+    errors: &mut E,
+) -> u8 {
+    let mut said = Messages::new(errors);
+    client(alloc, asked, calls, image, out, &mut said).code()
+}
+
+/// Does what is asked for by a case, and gives the number of the status.
+fn code_of(alloc: Global, case: &Case<'_>, outputs: &mut Outputs) -> u8 {
+    let mut calls = reader_of(case.calls.as_bytes(), case.read);
+    let mut image = reader_of(case.image.as_bytes(), 9999);
+    let Outputs { out, errors } = outputs;
+    called(alloc, &asked(case), &mut calls, &mut image, out, errors)
+}
+
+/// What a case leaves, and what it says that it leaves.
+fn outcomes(alloc: Global, case: &Case<'_>) -> Result<(String, String), Fail> {
+    let left = left_by(alloc, case.write, |outputs| code_of(alloc, case, outputs))?;
+    let wanted = outcome(alloc, case.status, case.printed, case.said)?;
+    Ok((left, wanted))
+}
+
+/// Sees that a case does what it says.
+fn holds<R: Abort>(rt: &R, alloc: Global, case: &Case<'_>) -> Result<(), Fail> {
+    let (left, wanted) = outcomes(alloc, case)?;
+    agree(rt, case.calls, left.as_str(), wanted.as_str());
+    Ok(())
 }
 
 /// The calls of the worked example, a line for each service or more, and the lines that answer them.
@@ -121,8 +134,8 @@ ffffffff
 ";
 
 #[test]
-fn worked_example(rt: HostRuntime) {
-    holds(&rt, rt.alloc(), &whole(WORKED, EMPTY, 0, ANSWERED, ""));
+fn worked_example(rt: HostRuntime) -> Result<(), Fail> {
+    holds(&rt, rt.alloc(), &whole(WORKED, EMPTY, 0, ANSWERED, ""))
 }
 
 /// Texts of calls that have no fault, and what is printed for each behind `:`, with a blank for a newline.
@@ -175,105 +188,110 @@ getprop d0000008 name x|1:23: bad number: hexadecimal digits up to ffffffff
 package-to-path d0000008|1:25: bad number: hexadecimal digits up to ffffffff
 nextprop d0000008 name x|1:24: more than the service takes";
 
+/// Calls that have no fault.
+struct GoodCalls;
+
+impl Rows for GoodCalls {
+    fn given(alloc: Global, line: &str) -> Result<(String, String), Fail> {
+        let (calls, wanted) = halves(line, ':');
+        let end = if wanted.is_empty() { "" } else { "\n" };
+        let printed = format!(in alloc; "{wanted}{end}")?;
+        outcomes(alloc, &whole(calls, EMPTY, 0, printed.as_str(), ""))
+    }
+}
+
+/// Calls that have a fault.
+struct BadCalls;
+
+impl Rows for BadCalls {
+    fn given(alloc: Global, line: &str) -> Result<(String, String), Fail> {
+        let (calls, wanted) = halves(line, '|');
+        let said = format!(in alloc; "ofw: a.calls:{wanted}\n")?;
+        outcomes(alloc, &whole(calls, FIVE, 1, "", said.as_str()))
+    }
+}
+
 #[test]
 fn lines(rt: HostRuntime) -> Result<(), Fail> {
-    for line in LINES.lines() {
-        let (calls, wanted) = line.split_once(':').unwrap_or(("", ""));
-        let mut printed = String::from_str(rt.alloc(), wanted)?;
-        if !wanted.is_empty() {
-            printed.push('\n')?;
-        }
-        holds(&rt, rt.alloc(), &whole(calls, EMPTY, 0, &printed, ""));
-    }
-    Ok(())
+    check::<GoodCalls, _>(&rt, rt.alloc(), LINES)
 }
 
 #[test]
 fn faults(rt: HostRuntime) -> Result<(), Fail> {
-    for line in FAULTS.lines() {
-        let (calls, wanted) = line.split_once('|').unwrap_or(("", ""));
-        let said = format!(in rt.alloc(); "ofw: a.calls:{wanted}\n")?;
-        holds(&rt, rt.alloc(), &whole(calls, FIVE, 1, "", &said));
-    }
-    Ok(())
+    check::<BadCalls, _>(&rt, rt.alloc(), FAULTS)
 }
 
 /// The first fault of several lines counts; a line without words is one. An empty piece behind the last newline is no
 /// line.
 #[test]
-fn several_lines(rt: HostRuntime) {
+fn several_lines(rt: HostRuntime) -> Result<(), Fail> {
     let calls = "child d0000000\npeer x\nzork\n";
     let said = "ofw: a.calls:2:6: bad number: hexadecimal digits up to ffffffff\n";
-    holds(&rt, rt.alloc(), &whole(calls, FIVE, 1, "", said));
+    holds(&rt, rt.alloc(), &whole(calls, FIVE, 1, "", said))?;
     let calls = "child d0000000\n\npeer x\n";
     let said = "ofw: a.calls:2:1: unknown service\n";
-    holds(&rt, rt.alloc(), &whole(calls, FIVE, 1, "", said));
+    holds(&rt, rt.alloc(), &whole(calls, FIVE, 1, "", said))?;
     let calls = "child d0000000\n \t\npeer 0\n";
     let said = "ofw: a.calls:2:3: unknown service\n";
-    holds(&rt, rt.alloc(), &whole(calls, FIVE, 1, "", said));
+    holds(&rt, rt.alloc(), &whole(calls, FIVE, 1, "", said))?;
     let calls = "child d0000000\n\n";
     let said = "ofw: a.calls:2:1: unknown service\n";
-    holds(&rt, rt.alloc(), &whole(calls, FIVE, 1, "", said));
+    holds(&rt, rt.alloc(), &whole(calls, FIVE, 1, "", said))?;
     let calls = "finddevice /slot\nfinddevice /\n";
     let printed = "5 d0000008\nd0000000\n";
-    holds(&rt, rt.alloc(), &whole(calls, FIVE, 0, printed, ""));
+    holds(&rt, rt.alloc(), &whole(calls, FIVE, 0, printed, ""))
 }
 
 /// The calls are made however the run ended, and its end can be explained.
 #[test]
-fn ends(rt: HostRuntime) {
-    let cut = whole("child d0000000\n", FIVE, 3, "5 d0000004\n", "");
-    holds(&rt, rt.alloc(), &Case { limit: 4, ..cut });
+fn ends(rt: HostRuntime) -> Result<(), Fail> {
+    let mut cut = whole("child d0000000\n", FIVE, 3, "5 d0000004\n", "");
+    cut.limit = 4;
+    holds(&rt, rt.alloc(), &cut)?;
     let said = "ofw: a.hex: done after 5 steps\nofw: a.hex: stack:\n";
-    let done = whole("child d0000000\n", FIVE, 0, "5 d0000004\n", said);
-    holds(
-        &rt,
-        rt.alloc(),
-        &Case {
-            explain: true,
-            ..done
-        },
-    );
+    let mut done = whole("child d0000000\n", FIVE, 0, "5 d0000004\n", said);
+    done.explain = true;
+    holds(&rt, rt.alloc(), &done)
+}
+
+/// Sees that calls are made behind what devices answered.
+fn holds_with<R: Abort>(rt: &R, alloc: Global, answers: &[Answer]) -> Result<(), Fail> {
+    let read = whole("child d0000000\n", BUS_READ, 0, "5 d0000004\n", "");
+    let outside = without_lines(Answerer::Answers(answers));
+    holds(rt, alloc, &Case { outside, ..read })
 }
 
 /// The calls are made behind what devices answered, also where an answer is missing.
 #[test]
-fn answers_of_devices(rt: HostRuntime) {
-    let printed = "5 d0000004\n";
-    let read = whole("child d0000000\n", BUS_READ, 0, printed, "");
-    let answers = [Answer::Value(5)];
-    let outside = without_lines(Answerer::Answers(&answers));
-    holds(&rt, rt.alloc(), &Case { outside, ..read });
+fn answers_of_devices(rt: HostRuntime) -> Result<(), Fail> {
+    holds_with(&rt, rt.alloc(), &[Answer::Value(5)])?;
     let out = whole("child d0000000\n", BUS_READ, 4, "d0000004\n", "");
-    holds(&rt, rt.alloc(), &out);
+    holds(&rt, rt.alloc(), &out)
 }
 
 /// What is wrong is said with the path of the file that it is in, and the calls come first.
 #[test]
-fn files(rt: HostRuntime) {
+fn files(rt: HostRuntime) -> Result<(), Fail> {
     let said = "ofw: a.hex: image shorter than its header\n";
-    holds(&rt, rt.alloc(), &whole("child 0", "f108", 1, "", said));
+    holds(&rt, rt.alloc(), &whole("child 0", "f108", 1, "", said))?;
     let said = "ofw: bad start byte ff\n";
-    holds(
-        &rt,
-        rt.alloc(),
-        &whole("child 0", "ffffffffffffffff", 1, "", said),
-    );
+    let bad = whole("child 0", "ffffffffffffffff", 1, "", said);
+    holds(&rt, rt.alloc(), &bad)?;
     let said = "ofw: a.calls:1:1: unknown service\n";
-    holds(
-        &rt,
-        rt.alloc(),
-        &whole("x", "ffffffffffffffff", 1, "", said),
-    );
+    let bad = whole("x", "ffffffffffffffff", 1, "", said);
+    holds(&rt, rt.alloc(), &bad)
 }
 
 #[test]
-fn reads_and_writes_that_fail(rt: HostRuntime) {
-    let case = whole("child d0000000", FIVE, 1, "", "ofw: a.calls: other error\n");
-    holds(&rt, rt.alloc(), &Case { read: 1, ..case });
+fn reads_and_writes_that_fail(rt: HostRuntime) -> Result<(), Fail> {
+    let said = "ofw: a.calls: other error\n";
+    let mut unread = whole("child d0000000", FIVE, 1, "", said);
+    unread.read = 1;
+    holds(&rt, rt.alloc(), &unread)?;
     let said = "ofw: the output can't be written: other error\n";
-    let case = whole("child d0000000", FIVE, 1, "5 d00", said);
-    holds(&rt, rt.alloc(), &Case { write: 5, ..case });
+    let mut unwritten = whole("child d0000000", FIVE, 1, "5 d00", said);
+    unwritten.write = 5;
+    holds(&rt, rt.alloc(), &unwritten)
 }
 
 #[test]

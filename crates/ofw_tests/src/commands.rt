@@ -1,47 +1,13 @@
-use crate::doubles::{Endless, Screen, blank_screen, reader_of, without_lines};
-use of_arguments::{Status, parse, status_of};
-use of_commands::answer;
+use crate::doubles::{Endless, Screen, blank_screen, reader_of};
+use crate::shared::{Outputs, blank_outputs, code_on, left, lend, outcome, text_on};
+use crate::tables::{Rows, agree, check_line, halves, number};
+use of_arguments::Status;
 use of_files::{Fault, Messages, image, keep, report};
-use of_runs::Answerer;
 use of_stream::StreamFault;
 use std::alloc::Global;
-use std::io::{Read, Write};
+use std::io::Write;
 use std::process::Abort;
 use std::test::Fail;
-
-/// A text without the newline at its end.
-fn without_newline(text: &[u8]) -> &[u8] {
-    text.strip_suffix(b"\n").unwrap_or(text)
-}
-
-/// Does what the words of a line ask for, behind the program's name, and gives the number of the status.
-pub(crate) fn code_of(
-    alloc: Global,
-    words: &str,
-    file: &mut impl Read,
-    out: &mut impl Write,
-    errors: &mut Screen,
-) -> Result<u8, Fail> {
-    let mut line = vec![in alloc; String::from_str(alloc, "ofw")?]?;
-    for word in words.split(' ') {
-        line.push(String::from_str(alloc, word)?)?;
-    }
-    Ok(match parse(alloc, &line) {
-        Ok(Some(request)) => {
-            answer(
-                alloc,
-                request,
-                without_lines(Answerer::Answers(&[])),
-                file,
-                out,
-                &mut Messages::new(errors),
-            )
-            .code()
-        }
-        Ok(None) => Status::Usage.code(),
-        Err(error) => status_of(&error).code(),
-    })
-}
 
 /// The words of a command line, the read and the write that fail, the number of the status, what is said, what goes
 /// out, and the file.
@@ -50,7 +16,7 @@ struct Case<'a> {
     words: &'a str,
     read: u32,
     write: u32,
-    status: u8,
+    status: &'a str,
     said: &'a str,
     printed: &'a str,
     file: &'a str,
@@ -58,34 +24,60 @@ struct Case<'a> {
 
 /// The case of fields between `|`.
 fn case_of(text: &str) -> Result<Case<'_>, Fail> {
-    let mut fields = text.split('|');
+    let (words, rest) = halves(text, '|');
+    let (read, rest) = halves(rest, '|');
+    let (write, rest) = halves(rest, '|');
+    let (status, rest) = halves(rest, '|');
+    let (said, rest) = halves(rest, '|');
+    let (printed, file) = halves(rest, '|');
     Ok(Case {
-        words: fields.next().unwrap_or(""),
-        read: fields.next().unwrap_or("").parse()?,
-        write: fields.next().unwrap_or("").parse()?,
-        status: fields.next().unwrap_or("").parse()?,
-        said: fields.next().unwrap_or(""),
-        printed: fields.next().unwrap_or(""),
-        file: fields.next().unwrap_or(""),
+        words,
+        read: number(read)?,
+        write: number(write)?,
+        status,
+        said,
+        printed,
+        file,
     })
 }
 
-/// Whether a case does what it says.
-fn holds(rt: &impl Abort, alloc: Global, case: &Case<'_>) -> Result<(), Fail> {
-    let mut file = reader_of(case.file.as_bytes(), case.read);
-    let mut out = blank_screen(alloc, case.write);
-    let mut errors = blank_screen(alloc, 999);
-    let code = code_of(alloc, case.words, &mut file, &mut out, &mut errors)?;
-    assert_eq!(rt; code, case.status, "{}: {}", case.words, case.file);
-    shows(rt, case, &out, case.printed);
-    shows(rt, case, &errors, case.said);
-    Ok(())
+/// A text without the newline at its end.
+fn without_newline(text: &str) -> &str {
+    text.strip_suffix("\n").unwrap_or(text)
 }
 
-/// Whether a text stands on a screen, but for the newline at its end.
-fn shows(rt: &impl Abort, case: &Case<'_>, screen: &Screen, text: &str) {
-    let shown = without_newline(&screen.text);
-    assert_eq!(rt; shown, text.as_bytes(), "{}: {}", case.words, case.file);
+/// What a case leaves on outputs, without the newlines at the ends.
+fn left_by(alloc: Global, case: &Case<'_>, outputs: &mut Outputs) -> Result<String, Fail> {
+    let mut file = reader_of(case.file.as_bytes(), case.read);
+    let code = code_on(alloc, case.words, &mut file, outputs)?;
+    let printed = without_newline(text_on(&outputs.out));
+    let said = without_newline(text_on(&outputs.errors));
+    outcome(alloc, code, printed, said)
+}
+
+/// What is to be left by a case.
+fn wanted(alloc: Global, case: &Case<'_>) -> Result<String, Fail> {
+    let Case {
+        status,
+        printed,
+        said,
+        ..
+    } = *case;
+    Ok(format!(in alloc; "{status}|{printed}|{said}")?)
+}
+
+/// Commands.
+struct CommandRows;
+
+impl Rows for CommandRows {
+    fn given(alloc: Global, line: &str) -> Result<(String, String), Fail> {
+        let case = case_of(line)?;
+        let left = lend(
+            blank_outputs(alloc, case.write),
+            |outputs| left_by(alloc, &case, outputs),
+        )?;
+        Ok((left, wanted(alloc, &case)?))
+    }
 }
 
 /// Cases, each ended by `;`, with fields as those of `Case`.
@@ -104,13 +96,19 @@ run a.hex --limit 9 --explain|99|99|0|ofw: a.hex: `@` at 000009: fault -9: inval
 ofw: a.hex: stack:|fault -9: invalid memory address|f10800000000000ba76d00;
 run a.hex --limit 9 --explain|99|99|0|ofw: a.hex: `end0` at 00000c: fault -29: compiler nesting
 ofw: a.hex: stack:|fault -29: compiler nesting|f108000000000000b50800b700;
-run a.hex --limit 9 --explain|99|99|0|ofw: a.hex: at the cut end, behind `2` at 000008: fault -257: image ended
+run a.hex --limit 9 --explain|99|99|0|ofw: a.hex: at the end of the image, behind `2` at 000008: fault -257: image ended
 ofw: a.hex: stack:|fault -257: image ended|f108000000000000a710;
-run a.hex --limit 9 --explain|99|99|0|ofw: a.hex: at the cut end, behind `0` at 00000c: fault -257: image ended
+run a.hex --limit 9 --explain|99|99|0|ofw: a.hex: at the end of the image, behind `0` at 00000c: fault -257: image ended
 ofw: a.hex: stack:|fault -257: image ended|f108000000000000b50800b7a5;
 run a.hex --limit 4 --explain|99|99|3|\
-ofw: a.hex: limit reached after 4 steps; next: at the cut end, behind `0` at 00000d
+ofw: a.hex: limit reached after 4 steps; next: at the end of the image, behind `0` at 00000d
 ofw: a.hex: stack:||f108000000000000b50800b7a5a5;
+run a.hex --limit 99 --explain|99|99|0|\
+ofw: a.hex: item 1 of `inner`, behind `fcode-802` at 00003f: fault -4: stack underflow
+ofw: a.hex: return stack: item 4 of `outer`, loop 0 of 3, item 2 of `main`, 7
+ofw: a.hex: stack:|fault -4: stack underflow|\
+f10811dc00000042ca05696e6e65720800b74646c2ca056f757465720801b7a8a517000819080015fffcc2\
+ca046d61696e0802b710000000073008013146c2080200;
 run a.hex --limit 9|99|99|1|ofw: bad start byte ff||ffffffffffffffff;
 run a.hex --limit 9|99|99|1|ofw: a.hex: image shorter than its header||f108;
 run a.hex --limit 9|99|99|1|ofw: a.hex: image shorter than its header||;
@@ -166,106 +164,142 @@ tok card.fs|99|3|1|ofw: the output can't be written: other error|f10|fcode-versi
 
 #[test]
 fn statuses(rt: HostRuntime) -> Result<(), Fail> {
-    for text in CASES.split(";\n") {
-        holds(&rt, rt.alloc(), &case_of(text)?)?;
+    for case in CASES.split(";\n") {
+        check_line::<CommandRows, _>(&rt, rt.alloc(), case)?;
     }
     Ok(())
 }
 
+/// What the run of an image that isn't written in digits leaves.
+fn left_by_binary(alloc: Global, outputs: &mut Outputs) -> Result<String, Fail> {
+    let mut file = reader_of(b"\xf1\x08\x02\x0a\0\0\0\x0d\xa7\xa8\x1e\x9d\0", 99);
+    let code = code_on(alloc, "run five.rom --limit 9", &mut file, outputs)?;
+    left(alloc, code, outputs)
+}
+
 #[test]
 fn binary_images(rt: HostRuntime) -> Result<(), Fail> {
-    let mut file = reader_of(b"\xf1\x08\x02\x0a\0\0\0\x0d\xa7\xa8\x1e\x9d\0", 99);
-    let mut out = blank_screen(rt.alloc(), 99);
-    let mut errors = blank_screen(rt.alloc(), 99);
-    let words = "run five.rom --limit 9";
-    assert_eq!(rt;
-        code_of(rt.alloc(), words, &mut file, &mut out, &mut errors)?,
-        0
-    );
-    assert_eq!(rt; out.text.as_slice(), b"5 ".as_slice());
+    let alloc = rt.alloc();
+    let left = lend(
+        blank_outputs(alloc, 99),
+        |outputs| left_by_binary(alloc, outputs),
+    )?;
+    agree(&rt, "five.rom", left.as_str(), "0|5 |");
     Ok(())
+}
+
+/// The image of a source, or the status of the fault that it has.
+fn made(alloc: Global, source: &[u8], errors: &mut Screen) -> Result<Vec<u8>, Status> {
+    let mut file = reader_of(source, 99);
+    image(alloc, "a.fs", &mut file, &mut Messages::new(errors))
+}
+
+/// Keeps an image, and gives the status.
+fn kept(image: &[u8], out: &mut Screen, errors: &mut Screen) -> Status {
+    keep("a.rom", image, out, &mut Messages::new(errors))
 }
 
 #[test]
 fn an_image_is_kept(rt: HostRuntime) {
-    let mut file = reader_of(b"fcode-version2 fcode-end", 99);
     let mut out = blank_screen(rt.alloc(), 99);
-    let mut errors = Messages::new(blank_screen(rt.alloc(), 0));
-    let made = image(rt.alloc(), "a.fs", &mut file, &mut errors).unwrap_or(Vec::new(rt.alloc()));
+    let mut errors = blank_screen(rt.alloc(), 0);
+    let made = made(rt.alloc(), b"fcode-version2 fcode-end", &mut errors);
+    let made = made.unwrap_or(Vec::new(rt.alloc()));
     let wanted = b"\xf1\x08\0\0\0\0\0\x09\0".as_slice();
     assert_eq!(rt; made.as_slice(), wanted);
-    assert_eq!(rt; keep("a.rom", &made, &mut out, &mut errors), Status::Done);
+    assert_eq!(rt; kept(&made, &mut out, &mut errors), Status::Done);
     assert_eq!(rt; out.text.as_slice(), wanted);
 }
 
 /// What is wrong with a source whose image is to be kept is said with its path, line and column.
 #[test]
 fn an_image_that_cannot_be_made(rt: HostRuntime) {
-    let mut file = reader_of(b"fcode-version2 zork fcode-end", 99);
     let mut screen = blank_screen(rt.alloc(), 999);
-    let mut errors = Messages::new(&mut screen);
-    let status = match image(rt.alloc(), "a.fs", &mut file, &mut errors) {
-        Ok(_) => Status::Done,
-        Err(status) => status,
-    };
-    assert_eq!(rt; status, Status::Fault);
-    let said = b"ofw: a.fs:1:16: unknown word\n".as_slice();
-    assert!(rt; screen.text.starts_with(said));
+    let made = made(rt.alloc(), b"fcode-version2 zork fcode-end", &mut screen);
+    assert_eq!(rt; made.err(), Some(Status::Fault));
+    let said = "ofw: a.fs:1:16: unknown word\n";
+    assert!(rt; text_on(&screen).starts_with(said));
 }
 
-/// Runs the image of a file that gives a byte for ever: after so many reads it is given up, and this is said.
-fn give_up(rt: &impl Abort, alloc: Global, byte: u8, reads: u32, wanted: &str) -> Result<(), Fail> {
+/// After how many reads a file is given up that gives a byte for ever, and what the run of its image leaves.
+fn given_up(alloc: Global, byte: u8, outputs: &mut Outputs) -> Result<String, Fail> {
     let mut file = Endless { byte, reads: 0 };
-    let mut out = blank_screen(alloc, 0);
-    let mut errors = blank_screen(alloc, 999);
-    let words = "run /dev/zero --limit 9";
-    assert_eq!(rt; code_of(alloc, words, &mut file, &mut out, &mut errors)?, 1);
-    assert_eq!(rt; file.reads, reads);
-    assert_eq!(rt; errors.text.as_slice(), wanted.as_bytes());
+    let code = code_on(alloc, "run /dev/zero --limit 9", &mut file, outputs)?;
+    let left = left(alloc, code, outputs)?;
+    Ok(format!(in alloc; "{} reads|{left}", file.reads)?)
+}
+
+/// Sees when a file is given up that gives a byte for ever, and what is said then.
+fn give_up<R: Abort>(rt: &R, alloc: Global, byte: u8, wanted: &str) -> Result<(), Fail> {
+    let given = lend(
+        blank_outputs(alloc, 0),
+        |outputs| given_up(alloc, byte, outputs),
+    )?;
+    agree(rt, "/dev/zero", given.as_str(), wanted);
     Ok(())
 }
 
 /// A text is refused at its first byte, not at its end.
 #[test]
 fn endless_zeros(rt: HostRuntime) -> Result<(), Fail> {
-    let said = "ofw: /dev/zero:1:1: byte 00 is no hexadecimal digit\n";
-    give_up(&rt, rt.alloc(), 0, 1, said)
+    let wanted = "1 reads|1||ofw: /dev/zero:1:1: byte 00 is no hexadecimal digit\n";
+    give_up(&rt, rt.alloc(), 0, wanted)
 }
 
 #[test]
 fn endless_file(rt: HostRuntime) -> Result<(), Fail> {
-    let said = "ofw: /dev/zero: doesn't end after 16777216 reads\n";
-    give_up(&rt, rt.alloc(), b'0', 16_777_216, said)
+    let wanted = "16777216 reads|1||ofw: /dev/zero: doesn't end after 16777216 reads\n";
+    give_up(&rt, rt.alloc(), b'0', wanted)
+}
+
+/// Says a fault of the file at a path, and gives the status.
+fn told<E: Write>(path: &str, fault: Fault, errors: &mut Messages<E>) -> Status {
+    report(path, fault, errors)
 }
 
 /// Says a fault of the file at a path, where a write fails: the number of its status, and what was said.
 fn reported(alloc: Global, path: &str, fault: Fault, fails_at: u32) -> Result<String, Fail> {
     let mut screen = blank_screen(alloc, fails_at);
-    let code = report(path, fault, &mut Messages::new(&mut screen)).code();
-    let said = std::str::from_utf8(&screen.text).unwrap_or("");
+    let code = told(path, fault, &mut Messages::new(&mut screen)).code();
+    let said = text_on(&screen);
     Ok(format!(in alloc; "{code} {said}")?)
+}
+
+/// Sees what is said of a fault of the file at a path, where a write fails.
+fn says<R: Abort>(
+    rt: &R,
+    alloc: Global,
+    (path, fault): (&str, Fault),
+    fails_at: u32,
+    wanted: &str,
+) -> Result<(), Fail> {
+    let said = reported(alloc, path, fault, fails_at)?;
+    agree(rt, path, said.as_str(), wanted);
+    Ok(())
 }
 
 #[test]
 fn reports(rt: HostRuntime) -> Result<(), Fail> {
-    let said = reported(rt.alloc(), "", Fault::NoMemory, 999)?;
-    assert_eq!(rt; said.as_str(), "5 ofw: no memory\n");
-    let said = reported(rt.alloc(), "", Fault::ArgumentNotText, 999)?;
-    assert_eq!(rt; said.as_str(), "2 ofw: an argument is not text\n");
-    let said = reported(rt.alloc(), "a.rom", Fault::TooLong(262_145), 999)?;
+    let fault = ("", Fault::NoMemory);
+    says(&rt, rt.alloc(), fault, 999, "5 ofw: no memory\n")?;
+    let fault = ("", Fault::ArgumentNotText);
+    says(
+        &rt,
+        rt.alloc(),
+        fault,
+        999,
+        "2 ofw: an argument is not text\n",
+    )?;
+    let fault = ("a.rom", Fault::TooLong(262_145));
     let wanted = "1 ofw: a.rom: image of 262145 bytes, of which 262144 fit\n";
-    assert_eq!(rt; said.as_str(), wanted);
-    Ok(())
+    says(&rt, rt.alloc(), fault, 999, wanted)
 }
 
 #[test]
 fn a_report_that_is_cut(rt: HostRuntime) -> Result<(), Fail> {
-    let fault = Fault::Unlisted(StreamFault::BadStart(0x0a));
-    let said = reported(rt.alloc(), "a.rom", fault, 999)?;
-    assert_eq!(rt; said.as_str(), "1 ofw: bad start byte 0a\n");
-    let said = reported(rt.alloc(), "a.rom", fault, 3)?;
-    assert_eq!(rt; said.as_str(), "1 ofw");
-    Ok(())
+    let fault = ("a.rom", Fault::Unlisted(StreamFault::BadStart(0x0a)));
+    says(&rt, rt.alloc(), fault, 999, "1 ofw: bad start byte 0a\n")?;
+    says(&rt, rt.alloc(), fault, 3, "1 ofw")
 }
 
 /// Once a write has failed, nothing more is said.
@@ -274,8 +308,8 @@ fn a_line_behind_a_failed_write(rt: HostRuntime) {
     let mut screen = blank_screen(rt.alloc(), 3);
     let mut errors = Messages::new(&mut screen);
     let fault = Fault::Unlisted(StreamFault::BadStart(0x0a));
-    assert_eq!(rt; report("", fault, &mut errors), Status::Fault);
-    assert_eq!(rt; report("", fault, &mut errors), Status::Fault);
-    assert_eq!(rt; report("", Fault::NoMemory, &mut errors), Status::NoMemory);
-    assert_eq!(rt; screen.text.as_slice(), b"ofw".as_slice());
+    assert_eq!(rt; told("", fault, &mut errors), Status::Fault);
+    assert_eq!(rt; told("", fault, &mut errors), Status::Fault);
+    assert_eq!(rt; told("", Fault::NoMemory, &mut errors), Status::NoMemory);
+    agree(&rt, "", text_on(&screen), "ofw");
 }

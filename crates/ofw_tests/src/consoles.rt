@@ -1,10 +1,13 @@
 //! Sessions on the console.
-use crate::doubles::{blank_screen, reader_of};
+use crate::doubles::{Screen, blank_screen, reader_of};
+use crate::shared::{Outputs, left_by, lend};
+use crate::tables::{Rows, agree, check, halves, replaced};
 use of_arguments::Status;
 use of_commands::{ConsoleRun, console};
 use of_devices::{Board, standard_board};
 use of_files::{Messages, rom};
 use std::alloc::Global;
+use std::io::Write;
 use std::test::Fail;
 
 /// Lines with `,` for a newline; the number of the status; and what is printed and said, with `/` for a newline. Each
@@ -27,44 +30,76 @@ ofw: limit reached after 99 steps: an empty line lets it go on/
 : t 0 begin 1 + dup 18 = until ; t,,. 1 .,|0|ok ok ok 18 1 /ok /|\
 ofw: limit reached after 99 steps: an empty line lets it go on/";
 
-/// Runs an image, if there is one, and the lines of a text, and gives the number of the status, what goes out, and what
-/// is said.
-fn run(
+/// The board of which nothing is said.
+fn plain_board(alloc: Global) -> Result<Board, Fail> {
+    Ok(Board {
+        parts: standard_board(alloc)?,
+    })
+}
+
+/// Runs a console that reads the lines of a text, and gives the number of the status.
+fn talked<W: Write, E: Write>(
+    alloc: Global,
+    begun: ConsoleRun<'_>,
+    text: &str,
+    out: &mut W,
+    errors: &mut E,
+) -> u8 {
+    let mut lines = text.as_bytes();
+    let mut said = Messages::new(errors);
+    console(alloc, begun, &mut lines, out, &mut said).code()
+}
+
+/// The same where what is printed and said goes to outputs.
+fn code_of(alloc: Global, begun: ConsoleRun<'_>, text: &str, outputs: &mut Outputs) -> u8 {
+    let Outputs { out, errors } = outputs;
+    talked(alloc, begun, text, out, errors)
+}
+
+/// What a console with a board leaves, behind an image, if there is one.
+fn left_with(
     alloc: Global,
     image: Option<(&str, &[u8])>,
     text: &str,
-) -> Result<(u8, Vec<u8>, Vec<u8>), Fail> {
-    let board = Board {
-        parts: standard_board(alloc)?,
-    };
-    let mut lines = text.as_bytes();
-    let mut out = blank_screen(alloc, 9999);
-    let mut errors = blank_screen(alloc, 9999);
-    let mut said = Messages::new(&mut errors);
+    board: &Board,
+) -> Result<String, Fail> {
     let begun = ConsoleRun {
         image,
-        board: &board,
+        board,
         limit: 99,
     };
-    let status = console(alloc, begun, &mut lines, &mut out, &mut said);
-    Ok((status.code(), out.text, errors.text))
+    left_by(alloc, 9999, |outputs| code_of(alloc, begun, text, outputs))
+}
+
+/// What an image, if there is one, and the lines of a text leave.
+fn run(alloc: Global, image: Option<(&str, &[u8])>, text: &str) -> Result<String, Fail> {
+    lend(
+        plain_board(alloc)?,
+        |board| left_with(alloc, image, text, board),
+    )
+}
+
+/// The lines of a session, as they are read.
+fn lines_of(alloc: Global, written: &str) -> Result<String, Fail> {
+    let text = replaced(alloc, written, ",", "\n")?;
+    replaced(alloc, text.as_str(), "~", "\r")
+}
+
+/// Sessions.
+struct SessionRows;
+
+impl Rows for SessionRows {
+    fn given(alloc: Global, line: &str) -> Result<(String, String), Fail> {
+        let (written, wanted) = halves(line, '|');
+        let text = lines_of(alloc, written)?;
+        let left = run(alloc, None, text.as_str())?;
+        Ok((left, replaced(alloc, wanted, "/", "\n")?))
+    }
 }
 
 #[test]
 fn sessions(rt: HostRuntime) -> Result<(), Fail> {
-    for case in SESSIONS.lines() {
-        let mut fields = case.split('|');
-        let text = fields.next().unwrap_or("").replace(rt.alloc(), ",", "\n")?;
-        let text = text.replace(rt.alloc(), "~", "\r")?;
-        let code: u8 = fields.next().unwrap_or("").parse()?;
-        let printed = fields.next().unwrap_or("").replace(rt.alloc(), "/", "\n")?;
-        let wanted = fields.next().unwrap_or("").replace(rt.alloc(), "/", "\n")?;
-        let (found, out, said) = run(rt.alloc(), None, &text)?;
-        assert_eq!(rt; found, code, "{case}");
-        assert_eq!(rt; out.as_slice(), printed.as_bytes(), "{case}");
-        assert_eq!(rt; said.as_slice(), wanted.as_bytes(), "{case}");
-    }
-    Ok(())
+    check::<SessionRows, _>(&rt, rt.alloc(), SESSIONS)
 }
 
 /// An image is run first: its words are methods of `/slot`. One that begins with another byte is refused.
@@ -75,32 +110,44 @@ fn images(rt: HostRuntime) -> Result<(), Fail> {
         0xf1, 0x08, 0, 0, 0, 0, 0, 0x25, 0xca, 4, b'n', b'i', b'n', b'e', 8, 0, 0xb7, 0x10, 0, 0,
         0, 9, 0xc2, 0x10, 0, 0, 0, 8, 0x9d, 0,
     ];
-    let (code, out, said) = run(rt.alloc(), Some(("a.rom", &image)), "dev /slot nine .\n")?;
-    assert_eq!(rt; code, 0);
-    assert_eq!(rt; out.as_slice(), b"8 \nok 9 \nok \n".as_slice());
-    assert_eq!(rt; said.as_slice(), b"".as_slice());
-    let (code, out, said) = run(rt.alloc(), Some(("a.rom", b"99999999")), "1 .\n")?;
-    assert_eq!(rt; code, 1);
-    assert_eq!(rt; out.as_slice(), b"".as_slice());
-    assert_eq!(rt; said.as_slice(), b"ofw: bad start byte 39\n".as_slice());
+    let left = run(rt.alloc(), Some(("a.rom", &image)), "dev /slot nine .\n")?;
+    agree(&rt, "nine", left.as_str(), "0|8 \nok 9 \nok \n|");
+    let left = run(rt.alloc(), Some(("a.rom", b"99999999")), "1 .\n")?;
+    agree(
+        &rt,
+        "99999999",
+        left.as_str(),
+        "1||ofw: bad start byte 39\n",
+    );
     Ok(())
+}
+
+/// The image of the file at a path, or the status of the fault that the file has.
+fn image_at(
+    alloc: Global,
+    path: &str,
+    text: &[u8],
+    fails_at: u32,
+    errors: &mut Screen,
+) -> Result<Vec<u8>, Status> {
+    let mut file = reader_of(text, fails_at);
+    rom(alloc, path, &mut file, &mut Messages::new(errors))
 }
 
 /// The image of a file in digits; and a file that can't be read.
 #[test]
-fn files(rt: HostRuntime) -> Result<(), Fail> {
+fn files(rt: HostRuntime) {
     let mut errors = blank_screen(rt.alloc(), 9999);
-    let mut said = Messages::new(&mut errors);
-    let mut file = reader_of(b"f108 0000\n0000000900", 9999);
-    let Ok(image) = rom(rt.alloc(), "a.hex", &mut file, &mut said) else {
-        return Err(Fail::new("no image"));
-    };
-    assert_eq!(rt;
-        image.as_slice(),
-        [0xf1, 0x08, 0, 0, 0, 0, 0, 9, 0].as_slice()
+    let image = image_at(
+        rt.alloc(),
+        "a.hex",
+        b"f108 0000\n0000000900",
+        9999,
+        &mut errors,
     );
-    let mut broken = reader_of(b"f1080000", 0);
-    let status = rom(rt.alloc(), "b.hex", &mut broken, &mut said).err();
-    assert_eq!(rt; status, Some(Status::Fault));
-    Ok(())
+    let image = image.unwrap_or(Vec::new(rt.alloc()));
+    let wanted = b"\xf1\x08\0\0\0\0\0\x09\0".as_slice();
+    assert_eq!(rt; image.as_slice(), wanted);
+    let broken = image_at(rt.alloc(), "b.hex", b"f1080000", 0, &mut errors);
+    assert_eq!(rt; broken.err(), Some(Status::Fault));
 }

@@ -1,9 +1,14 @@
 //! Images under the scripts of a debugger.
-use crate::doubles::{blank_screen, reader_of};
+use crate::doubles::{Screen, reader_of};
+use crate::shared::{Outputs, answers_in, blank_outputs, left, lend, lines_in, printed};
+use crate::tables::{Rows, agree, check, number, replaced};
 use of_arguments::Status;
+use of_asking::Answer;
+use of_calls::ScriptCommand;
 use of_commands::{DebugRun, debug};
-use of_files::{Messages, answers, lines, rom, script};
+use of_files::{Messages, rom, script};
 use std::alloc::Global;
+use std::io::Write;
 use std::process::Abort;
 use std::test::Fail;
 
@@ -60,14 +65,6 @@ fn image_of(name: &str) -> &str {
     }
 }
 
-/// The number of a status, what goes out, and what is said.
-#[derive(Drop)]
-struct Seen {
-    code: u8,
-    printed: Vec<u8>,
-    said: Vec<u8>,
-}
-
 /// What was read of a file without a fault.
 fn had<T: Drop>(read: Result<T, Status>) -> Result<T, Fail> {
     match read {
@@ -81,87 +78,141 @@ fn field(case: &str, place: usize) -> &str {
     case.split('|').nth(place).unwrap_or("")
 }
 
-/// Runs the image of a case under its script, each from its file.
-fn run(alloc: Global, case: &str) -> Result<Seen, Fail> {
-    let mut out = blank_screen(alloc, 9999);
-    let mut errors = blank_screen(alloc, 9999);
-    let mut said = Messages::new(&mut errors);
-    let mut file = reader_of(image_of(field(case, 0)).as_bytes(), 9999);
-    let image = had(rom(alloc, "a.hex", &mut file, &mut said))?;
-    let mut file = reader_of(field(case, 1).as_bytes(), 9999);
-    let console = had(lines(alloc, "a.lines", &mut file, &mut said))?;
-    let mut file = reader_of(field(case, 2).as_bytes(), 9999);
-    let replies = had(answers(alloc, "a.answers", &mut file, &mut said))?;
-    let limit: u64 = field(case, 3).parse()?;
-    let commands = field(case, 4).replace(alloc, ",", "\n")?;
-    let mut file = reader_of(commands.as_bytes(), 9999);
-    let status = match script(alloc, "a.script", &mut file, &mut said) {
-        Ok(commands) => {
-            let asked = DebugRun {
-                path: "a.hex",
-                image: &image,
-                lines: &console,
-                answers: &replies,
-                limit,
-                script: "a.script",
-                commands: &commands,
-            };
-            debug(alloc, asked, &mut out, &mut said)
-        }
-        Err(status) => status,
-    };
-    Ok(Seen {
-        code: status.code(),
-        printed: out.text,
-        said: errors.text,
+/// The image of digits.
+fn image_in(alloc: Global, digits: &str, errors: &mut Screen) -> Result<Vec<u8>, Status> {
+    let mut file = reader_of(digits.as_bytes(), 9999);
+    rom(alloc, "a.hex", &mut file, &mut Messages::new(errors))
+}
+
+/// The commands of a script.
+fn script_in(alloc: Global, text: &str, errors: &mut Screen) -> Result<Vec<ScriptCommand>, Status> {
+    let mut file = reader_of(text.as_bytes(), 9999);
+    script(alloc, "a.script", &mut file, &mut Messages::new(errors))
+}
+
+/// What is run under a script.
+#[derive(Drop)]
+struct Subject {
+    image: Vec<u8>,
+    lines: Vec<Vec<u8>>,
+    answers: Vec<Answer>,
+}
+
+/// What a case says that is run, each part from its file.
+fn subject_of(alloc: Global, case: &str, errors: &mut Screen) -> Result<Subject, Fail> {
+    Ok(Subject {
+        image: had(image_in(alloc, image_of(field(case, 0)), errors))?,
+        lines: had(lines_in(alloc, field(case, 1), errors))?,
+        answers: had(answers_in(alloc, field(case, 2), 9999, errors))?,
     })
 }
 
-/// Checks a case.
-fn check(rt: &impl Abort, alloc: Global, case: &str) -> Result<(), Fail> {
-    let seen = run(alloc, case)?;
-    let code: u8 = field(case, 5).parse()?;
-    let printed = field(case, 6).replace(alloc, "/", "\n")?;
-    let said = field(case, 7).replace(alloc, "/", "\n")?;
-    assert_eq!(rt; seen.code, code, "{case}");
-    assert_eq!(rt; seen.printed.as_slice(), printed.as_bytes(), "{case}");
-    assert_eq!(rt; seen.said.as_slice(), said.as_bytes(), "{case}");
-    Ok(())
+/// Runs an image under commands, and gives the number of the status.
+fn debugged<W: Write, E: Write>(
+    alloc: Global,
+    asked: DebugRun<'_>,
+    out: &mut W,
+    errors: &mut E,
+) -> u8 {
+    let mut said = Messages::new(errors);
+    debug(alloc, asked, out, &mut said).code()
+}
+
+/// Runs what a case says under commands, and gives the number of the status.
+fn code_under(
+    alloc: Global,
+    subject: &Subject,
+    limit: u32,
+    commands: &[ScriptCommand],
+    outputs: &mut Outputs,
+) -> u8 {
+    let asked = DebugRun {
+        path: "a.hex",
+        image: &subject.image,
+        lines: &subject.lines,
+        answers: &subject.answers,
+        limit: u64::from(limit),
+        script: "a.script",
+        commands,
+    };
+    let Outputs { out, errors } = outputs;
+    debugged(alloc, asked, out, errors)
+}
+
+/// Runs what a case says under its script, and gives the number of the status.
+fn code_by(alloc: Global, subject: &Subject, limit: u32, text: &str, outputs: &mut Outputs) -> u8 {
+    match script_in(alloc, text, &mut outputs.errors) {
+        Ok(commands) => code_under(alloc, subject, limit, &commands, outputs),
+        Err(status) => status.code(),
+    }
+}
+
+/// Runs the image of a case under its script, and gives the number of the status.
+fn run(alloc: Global, case: &str, outputs: &mut Outputs) -> Result<u8, Fail> {
+    let limit = number(field(case, 3))?;
+    let text = replaced(alloc, field(case, 4), ",", "\n")?;
+    let subject = subject_of(alloc, case, &mut outputs.errors)?;
+    Ok(code_by(alloc, &subject, limit, text.as_str(), outputs))
+}
+
+/// What a case leaves on outputs.
+fn left_by(alloc: Global, case: &str, outputs: &mut Outputs) -> Result<String, Fail> {
+    let code = run(alloc, case, outputs)?;
+    left(alloc, code, outputs)
+}
+
+/// Images under scripts.
+struct ScriptRows;
+
+impl Rows for ScriptRows {
+    fn given(alloc: Global, line: &str) -> Result<(String, String), Fail> {
+        let left = lend(
+            blank_outputs(alloc, 9999),
+            |outputs| left_by(alloc, line, outputs),
+        )?;
+        let wanted = line.splitn(6, '|').nth(5).unwrap_or("");
+        Ok((left, replaced(alloc, wanted, "/", "\n")?))
+    }
 }
 
 #[test]
 fn scripts(rt: HostRuntime) -> Result<(), Fail> {
-    for case in CASES.lines() {
-        check(&rt, rt.alloc(), case)?;
-    }
+    check::<ScriptRows, _>(&rt, rt.alloc(), CASES)
+}
+
+/// A case, and what is printed of it, 18 bytes.
+const WRITTEN: &str = "five|||99|go 3,out,";
+
+const WHOLE: &str = "@3 [ 5 ]\n@5 [ ]\n5 ";
+
+/// What is printed of a case, with the number of the status.
+fn printed_by(alloc: Global, case: &str, outputs: &mut Outputs) -> Result<String, Fail> {
+    let code = run(alloc, case, outputs)?;
+    printed(alloc, code, outputs)
+}
+
+/// The first bytes of a text.
+fn first_of(text: &str, count: u32) -> &str {
+    let bytes = text.as_bytes();
+    std::str::from_utf8(bytes.get(..count as usize).unwrap_or(bytes)).unwrap_or("")
+}
+
+/// Sees that what went out is the first of what is printed, where a write fails.
+fn check_cut<R: Abort>(rt: &R, alloc: Global, fails_at: u32) -> Result<(), Fail> {
+    let printed = lend(
+        blank_outputs(alloc, fails_at),
+        |outputs| printed_by(alloc, WRITTEN, outputs),
+    )?;
+    let wanted = format!(in alloc; "1|{}", first_of(WHOLE, fails_at))?;
+    agree(rt, WRITTEN, printed.as_str(), wanted.as_str());
     Ok(())
 }
 
 /// A write that fails: what went out is the first of what is printed.
 #[test]
 fn writes(rt: HostRuntime) -> Result<(), Fail> {
-    let image = [
-        0xf1, 0x08, 0x02, 0x0a, 0, 0, 0, 0x0d, 0xa7, 0xa8, 0x1e, 0x9d, 0,
-    ];
-    let whole = b"@3 [ 5 ]\n@5 [ ]\n5 ";
-    let mut errors = blank_screen(rt.alloc(), 9999);
-    let mut said = Messages::new(&mut errors);
-    let mut file = reader_of(b"go 3\nout\n", 9999);
-    let commands = had(script(rt.alloc(), "a.script", &mut file, &mut said))?;
-    for fails_at in 0..whole.len() as u32 {
-        let mut out = blank_screen(rt.alloc(), fails_at);
-        let asked = DebugRun {
-            path: "a.hex",
-            image: &image,
-            lines: &[],
-            answers: &[],
-            limit: 99,
-            script: "a.script",
-            commands: &commands,
-        };
-        let status = debug(rt.alloc(), asked, &mut out, &mut said);
-        assert_eq!(rt; status, Status::Fault);
-        assert_eq!(rt; out.text.as_slice(), &whole[..fails_at as usize]);
+    for fails_at in 0..18 {
+        check_cut(&rt, rt.alloc(), fails_at)?;
     }
     Ok(())
 }

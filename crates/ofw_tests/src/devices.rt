@@ -1,11 +1,11 @@
 use crate::doubles::{Screen, blank_screen, no_listings, reader_of, without_lines};
+use crate::shared::{Outputs, answered, answers_in, left_by, lend, outcome, text_on};
+use crate::tables::{Rows, agree, check, halves, replaced};
 use of_arguments::{Outside as Asked, Request, Status};
-use of_commands::answer;
-use of_devices::{Board, standard_board};
-use of_files::{Messages, answers, board};
+use of_devices::{Board, Part, standard_board};
+use of_files::{Messages, board};
 use of_runs::{Answerer, Outside};
 use std::alloc::Global;
-use std::io::Write;
 use std::process::Abort;
 use std::test::Fail;
 
@@ -19,14 +19,8 @@ enum Kind {
     Board,
 }
 
-/// A run of the image, of at most 99 steps.
-fn run_on<E: Write>(
-    alloc: Global,
-    outside: Outside,
-    explain: bool,
-    out: &mut Screen,
-    errors: &mut Messages<E>,
-) -> Status {
+/// Runs the image, for at most 99 steps, and gives the number of the status.
+fn code_with(alloc: Global, outside: Outside, explain: bool, outputs: &mut Outputs) -> u8 {
     let mut image = reader_of(BUS_READ.as_bytes(), 9999);
     let request = Request::Run {
         image: "a.hex",
@@ -37,38 +31,63 @@ fn run_on<E: Write>(
         explain,
         pci: false,
     };
-    answer(alloc, request, outside, &mut image, out, errors)
+    let Outputs { out, errors } = outputs;
+    answered(alloc, request, outside, &mut image, out, errors)
 }
 
-/// Runs the image with what a text says, and gives the number of the status, what goes out, and what is said.
-fn run(
-    alloc: Global,
-    kind: Kind,
-    text: &str,
-    explain: bool,
-) -> Result<(u8, Vec<u8>, Vec<u8>), Fail> {
+/// The devices of a text.
+fn parts_in(alloc: Global, text: &str, errors: &mut Screen) -> Result<Vec<Part>, Status> {
     let mut file = reader_of(text.as_bytes(), 9999);
-    let mut out = blank_screen(alloc, 9999);
-    let mut errors = blank_screen(alloc, 9999);
-    let mut said = Messages::new(&mut errors);
-    let status = match kind {
-        Kind::Answers => match answers(alloc, "a.answers", &mut file, &mut said) {
-            Ok(list) => {
-                let outside = without_lines(Answerer::Answers(&list));
-                run_on(alloc, outside, explain, &mut out, &mut said)
-            }
-            Err(status) => status,
-        },
-        Kind::Board => match board(alloc, "a.board", &mut file, &mut said) {
-            Ok(parts) => {
-                let board = Board { parts };
-                let outside = without_lines(Answerer::Board(&board));
-                run_on(alloc, outside, explain, &mut out, &mut said)
-            }
-            Err(status) => status,
-        },
-    };
-    Ok((status.code(), out.text, errors.text))
+    board(alloc, "a.board", &mut file, &mut Messages::new(errors))
+}
+
+/// Runs the image with the answers of a text, and gives the number of the status.
+fn code_by_answers(alloc: Global, text: &str, explain: bool, outputs: &mut Outputs) -> u8 {
+    match answers_in(alloc, text, 9999, &mut outputs.errors) {
+        Ok(list) => code_with(
+            alloc,
+            without_lines(Answerer::Answers(&list)),
+            explain,
+            outputs,
+        ),
+        Err(status) => status.code(),
+    }
+}
+
+/// Runs the image on a board, and gives the number of the status.
+fn code_on_board(alloc: Global, board: &Board, explain: bool, outputs: &mut Outputs) -> u8 {
+    let outside = without_lines(Answerer::Board(board));
+    code_with(alloc, outside, explain, outputs)
+}
+
+/// Runs the image on the devices of a text, and gives the number of the status.
+fn code_by_board(alloc: Global, text: &str, explain: bool, outputs: &mut Outputs) -> u8 {
+    match parts_in(alloc, text, &mut outputs.errors) {
+        Ok(parts) => {
+            let board = Board { parts };
+            code_on_board(alloc, &board, explain, outputs)
+        }
+        Err(status) => status.code(),
+    }
+}
+
+/// Runs the image with what a text says, and gives the number of the status.
+fn code_by(alloc: Global, (kind, text): (Kind, &str), explain: bool, outputs: &mut Outputs) -> u8 {
+    match kind {
+        Kind::Answers => code_by_answers(alloc, text, explain, outputs),
+        Kind::Board => code_by_board(alloc, text, explain, outputs),
+    }
+}
+
+/// What a run of the image with what a text says, with `,` for a newline, leaves.
+fn run(alloc: Global, (kind, written): (Kind, &str), explain: bool) -> Result<String, Fail> {
+    let text = replaced(alloc, written, ",", "\n")?;
+    let said = (kind, text.as_str());
+    left_by(
+        alloc,
+        9999,
+        |outputs| code_by(alloc, said, explain, outputs),
+    )
 }
 
 /// Answers, with `,` for a newline, the number of the status, and what is printed, with `;` for a newline.
@@ -83,22 +102,6 @@ fault|0|fault -258: bus fault;
 done|4|
 done,v 5|4|";
 
-/// Whether a run does what is said of it.
-fn holds(
-    rt: &impl Abort,
-    alloc: Global,
-    (kind, text): (Kind, &str),
-    explain: bool,
-    wanted: (u8, &str, &str),
-) -> Result<(), Fail> {
-    let text = text.replace(alloc, ",", "\n")?;
-    let (code, printed, said) = run(alloc, kind, &text, explain)?;
-    assert_eq!(rt; code, wanted.0, "{text}");
-    assert_eq!(rt; printed.as_slice(), wanted.1.as_bytes(), "{text}");
-    assert_eq!(rt; said.as_slice(), wanted.2.as_bytes(), "{text}");
-    Ok(())
-}
-
 /// Devices in the same way. The first device that knows a question answers it.
 const BOARDS: &str = "\
 memory 80000000 4|0|0 |
@@ -111,36 +114,56 @@ memory 80000001 4|0|fault -258: bus fault;
 keys 41,clock|0|fault -258: bus fault;
 |0|fault -258: bus fault;";
 
-/// Whether runs do what the lines of a table say.
-fn hold_all(rt: &impl Abort, alloc: Global, kind: Kind, table: &str) -> Result<(), Fail> {
-    for case in table.lines() {
-        let mut fields = case.split('|');
-        let text = fields.next().unwrap_or("");
-        let code: u8 = fields.next().unwrap_or("").parse()?;
-        let printed = fields.next().unwrap_or("").replace(alloc, ";", "\n")?;
-        holds(rt, alloc, (kind, text), false, (code, &printed, ""))?;
+/// What the run of a line leaves, and what the line says that it leaves.
+fn run_of(alloc: Global, kind: Kind, line: &str) -> Result<(String, String), Fail> {
+    let (text, rest) = halves(line, '|');
+    let (code, rest) = halves(rest, '|');
+    let (printed, _) = halves(rest, '|');
+    let left = run(alloc, (kind, text), false)?;
+    let printed = replaced(alloc, printed, ";", "\n")?;
+    Ok((left, format!(in alloc; "{code}|{printed}|")?))
+}
+
+/// Runs with answers.
+struct AnswerRuns;
+
+impl Rows for AnswerRuns {
+    fn given(alloc: Global, line: &str) -> Result<(String, String), Fail> {
+        run_of(alloc, Kind::Answers, line)
     }
-    Ok(())
+}
+
+/// Runs on devices.
+struct BoardRuns;
+
+impl Rows for BoardRuns {
+    fn given(alloc: Global, line: &str) -> Result<(String, String), Fail> {
+        run_of(alloc, Kind::Board, line)
+    }
 }
 
 #[test]
 fn runs(rt: HostRuntime) -> Result<(), Fail> {
-    hold_all(&rt, rt.alloc(), Kind::Answers, RUNS)?;
-    hold_all(&rt, rt.alloc(), Kind::Board, BOARDS)
+    check::<AnswerRuns, _>(&rt, rt.alloc(), RUNS)?;
+    check::<BoardRuns, _>(&rt, rt.alloc(), BOARDS)
+}
+
+/// What a run of the image on a board leaves.
+fn left_on(alloc: Global, board: &Board) -> Result<String, Fail> {
+    left_by(
+        alloc,
+        9999,
+        |outputs| code_on_board(alloc, board, false, outputs),
+    )
 }
 
 /// The standard board has zeros at 0x80000000.
 #[test]
 fn the_standard_board(rt: HostRuntime) -> Result<(), Fail> {
-    let parts = standard_board(rt.alloc())?;
-    let mut out = blank_screen(rt.alloc(), 9999);
-    let mut errors = blank_screen(rt.alloc(), 9999);
-    let mut said = Messages::new(&mut errors);
-    let board = Board { parts };
-    let outside = without_lines(Answerer::Board(&board));
-    let status = run_on(rt.alloc(), outside, false, &mut out, &mut said);
-    assert_eq!(rt; status, Status::Done);
-    assert_eq!(rt; out.text.as_slice(), b"0 ".as_slice());
+    let alloc = rt.alloc();
+    let parts = standard_board(alloc)?;
+    let left = lend(Board { parts }, |board| left_on(alloc, board))?;
+    agree(&rt, "the standard board", left.as_str(), "0|0 |");
     Ok(())
 }
 
@@ -174,25 +197,52 @@ memory 80000000 4 00,fault 80000000|2:15: bad number: hexadecimal digits up to f
 keys 41 42|1:9: more than the device takes
 clock\r|1:1: unknown device";
 
-/// Whether runs say the faults that the lines of a table say of the file at a path.
-fn all_wrong(
-    rt: &impl Abort,
+/// What the run of a line leaves, and what the line says is wrong in the file at a path.
+fn fault_of(
     alloc: Global,
     (kind, path): (Kind, &str),
-    table: &str,
-) -> Result<(), Fail> {
-    for line in table.lines() {
-        let (text, wrong) = line.split_once('|').unwrap_or(("", ""));
-        let said = format!(in alloc; "ofw: {path}:{wrong}\n")?;
-        holds(rt, alloc, (kind, text), false, (1, "", &said))?;
+    line: &str,
+) -> Result<(String, String), Fail> {
+    let (text, wrong) = halves(line, '|');
+    let left = run(alloc, (kind, text), false)?;
+    Ok((left, format!(in alloc; "1||ofw: {path}:{wrong}\n")?))
+}
+
+/// Answers that have a fault.
+struct AnswerFaults;
+
+impl Rows for AnswerFaults {
+    fn given(alloc: Global, line: &str) -> Result<(String, String), Fail> {
+        fault_of(alloc, (Kind::Answers, "a.answers"), line)
     }
-    Ok(())
+}
+
+/// Devices that have a fault.
+struct BoardFaults;
+
+impl Rows for BoardFaults {
+    fn given(alloc: Global, line: &str) -> Result<(String, String), Fail> {
+        fault_of(alloc, (Kind::Board, "a.board"), line)
+    }
 }
 
 #[test]
 fn faults(rt: HostRuntime) -> Result<(), Fail> {
-    all_wrong(&rt, rt.alloc(), (Kind::Answers, "a.answers"), FAULTS)?;
-    all_wrong(&rt, rt.alloc(), (Kind::Board, "a.board"), BAD_BOARDS)
+    check::<AnswerFaults, _>(&rt, rt.alloc(), FAULTS)?;
+    check::<BoardFaults, _>(&rt, rt.alloc(), BAD_BOARDS)
+}
+
+/// Sees what a run leaves whose end is explained.
+fn explains<R: Abort>(
+    rt: &R,
+    alloc: Global,
+    (kind, text): (Kind, &str),
+    (code, printed, said): (u8, &str, &str),
+) -> Result<(), Fail> {
+    let left = run(alloc, (kind, text), true)?;
+    let wanted = outcome(alloc, code, printed, said)?;
+    agree(rt, text, left.as_str(), wanted.as_str());
+    Ok(())
 }
 
 /// A run that ends at a question without an answer says which token asks.
@@ -200,42 +250,25 @@ fn faults(rt: HostRuntime) -> Result<(), Fail> {
 fn ends(rt: HostRuntime) -> Result<(), Fail> {
     let said =
         "ofw: a.hex: answers out after 1 steps; next: `rl@` at 00000d\nofw: a.hex: stack: 80000000\n";
-    holds(
-        &rt,
-        rt.alloc(),
-        (Kind::Answers, "done"),
-        true,
-        (4, "", said),
-    )?;
+    let done = (Kind::Answers, "done");
+    explains(&rt, rt.alloc(), done, (4, "", said))?;
     let said = "ofw: a.hex: done after 4 steps\nofw: a.hex: stack:\n";
-    holds(
-        &rt,
-        rt.alloc(),
-        (Kind::Answers, "v 5"),
-        true,
-        (0, "5 ", said),
-    )?;
-    let memory = "memory 80000000 4 00000005";
-    holds(
-        &rt,
-        rt.alloc(),
-        (Kind::Board, memory),
-        true,
-        (0, "5 ", said),
-    )
+    let five = (Kind::Answers, "v 5");
+    explains(&rt, rt.alloc(), five, (0, "5 ", said))?;
+    let memory = (Kind::Board, "memory 80000000 4 00000005");
+    explains(&rt, rt.alloc(), memory, (0, "5 ", said))
 }
 
 /// A file of answers that can't be read has a fault, and the image isn't read.
 #[test]
 fn a_read_that_fails(rt: HostRuntime) {
-    let mut file = reader_of(b"v 5", 0);
     let mut screen = blank_screen(rt.alloc(), 99);
-    let mut errors = Messages::new(&mut screen);
-    let status = match answers(rt.alloc(), "a.answers", &mut file, &mut errors) {
-        Ok(_) => Status::Done,
-        Err(status) => status,
-    };
-    assert_eq!(rt; status, Status::Fault);
-    let said = b"ofw: a.answers: other error\n".as_slice();
-    assert_eq!(rt; screen.text.as_slice(), said);
+    let unread = answers_in(rt.alloc(), "v 5", 0, &mut screen);
+    assert_eq!(rt; unread.err(), Some(Status::Fault));
+    agree(
+        &rt,
+        "v 5",
+        text_on(&screen),
+        "ofw: a.answers: other error\n",
+    );
 }

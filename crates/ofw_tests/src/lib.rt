@@ -24,4 +24,8 @@ mod listings;
 #[cfg(test)]
 mod pages;
 #[cfg(test)]
+mod shared;
+#[cfg(test)]
+mod tables;
+#[cfg(test)]
 mod trees;

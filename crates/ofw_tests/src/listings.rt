@@ -1,13 +1,10 @@
 //! What is listed behind a run, and the definitions that are listed of an image.
 
-use crate::commands::code_of;
-use crate::doubles::{blank_screen, reader_of};
-use of_arguments::{Status, parse};
-use of_commands::answer;
-use of_files::Messages;
+use crate::doubles::reader_of;
+use crate::shared::{Outputs, blank_outputs, code_by, code_on, left, lend, printed, words_of};
+use crate::tables::{Rows, check, halves, number, replaced};
 use of_runs::{Answerer, Outside};
 use std::alloc::Global;
-use std::process::Abort;
 use std::test::Fail;
 
 /// The words of a command line, an image in hexadecimal digits, how many bytes can be written, the number of the
@@ -69,92 +66,97 @@ detok a.hex --see --partial|f1080000|9999|1|ofw: a.hex: image shorter than its h
 detok a.hex --see|f108000000000000ca0466697665 0800b7a7a81ec208009d00|6|1|\
 ofw: the output can't be written: other error$|: five";
 
-/// Runs the image of LINES as the words of a line ask for, with console lines, and gives the number of the status and
-/// what goes out.
-fn done_with(alloc: Global, words: &[String], lines: &[Vec<u8>]) -> Result<(u8, Vec<u8>), Fail> {
-    let Ok(Some(request)) = parse(alloc, words) else {
-        return Ok((Status::Usage.code(), Vec::new(alloc)));
-    };
-    let mut file = reader_of(b"f108000000000000ca0466697665 0800b7a7a81ec208009d00", 9999);
-    let mut out = blank_screen(alloc, 9999);
-    let mut errors = blank_screen(alloc, 9999);
-    let outside = Outside {
-        lines,
-        answerer: Answerer::Answers(&[]),
-    };
-    let mut said = Messages::new(&mut errors);
-    let status = answer(alloc, request, outside, &mut file, &mut out, &mut said);
-    Ok((status.code(), out.text))
-}
-
-/// The parts of a text.
-fn parts_of(alloc: Global, text: &str, between: char) -> Result<Vec<String>, Fail> {
-    let mut parts = Vec::new(alloc);
-    for part in text.split(between) {
-        parts.push(String::from_str(alloc, part)?)?;
-    }
-    Ok(parts)
-}
-
-/// Does what the words of a line ask for with an image, and gives the number of the status, what is said, and what goes
-/// out.
-fn done(
-    alloc: Global,
-    words: &str,
-    image: &str,
-    room: u32,
-) -> Result<(u8, Vec<u8>, Vec<u8>), Fail> {
+/// What is left on outputs by what words ask for of an image.
+fn left_by(alloc: Global, words: &str, image: &str, outputs: &mut Outputs) -> Result<String, Fail> {
     let mut file = reader_of(image.as_bytes(), 9999);
-    let mut out = blank_screen(alloc, room);
-    let mut errors = blank_screen(alloc, 9999);
-    let code = code_of(alloc, words, &mut file, &mut out, &mut errors)?;
-    Ok((code, errors.text, out.text))
+    let code = code_on(alloc, words, &mut file, outputs)?;
+    left(alloc, code, outputs)
 }
 
-/// Whether each line of a text holds.
-fn check<R: Abort>(rt: &R, alloc: Global, lines: &str) -> Result<(), Fail> {
-    for case in lines.lines() {
-        let mut fields = case.split('|');
-        let words = fields.next().unwrap_or("");
-        let image = fields.next().unwrap_or("");
-        let room: u32 = fields.next().unwrap_or("").parse()?;
-        let code: u8 = fields.next().unwrap_or("").parse()?;
-        let wanted = fields.next().unwrap_or("").replace(alloc, "$", "\n")?;
-        let listed = fields.next().unwrap_or("").replace(alloc, "$", "\n")?;
-        let (found, said, printed) = done(alloc, words, image, room)?;
-        assert_eq!(rt; found, code, "{case}");
-        assert_eq!(rt; said.as_slice(), wanted.as_bytes(), "{case}");
-        assert_eq!(rt; printed.as_slice(), listed.as_bytes(), "{case}");
+/// What is to be left, behind the number of the status, by these fields of a line: what is said, and what is printed.
+fn wanted(alloc: Global, code: &str, said: &str, printed: &str) -> Result<String, Fail> {
+    let text = format!(in alloc; "{code}|{printed}|{said}")?;
+    replaced(alloc, text.as_str(), "$", "\n")
+}
+
+/// Listings.
+struct ListingRows;
+
+impl Rows for ListingRows {
+    fn given(alloc: Global, line: &str) -> Result<(String, String), Fail> {
+        let (words, rest) = halves(line, '|');
+        let (image, rest) = halves(rest, '|');
+        let (room, rest) = halves(rest, '|');
+        let (code, rest) = halves(rest, '|');
+        let (said, listed) = halves(rest, '|');
+        let left = lend(
+            blank_outputs(alloc, number(room)?),
+            |outputs| left_by(alloc, words, image, outputs),
+        )?;
+        Ok((left, wanted(alloc, code, said, listed)?))
     }
-    Ok(())
 }
 
 #[test]
 fn listings_are_printed(rt: HostRuntime) -> Result<(), Fail> {
-    check(&rt, rt.alloc(), RUNS)
-}
-
-#[test]
-fn listings_behind_lines(rt: HostRuntime) -> Result<(), Fail> {
-    for case in LINES.lines() {
-        let mut fields = case.split('|');
-        let words = format!(in rt.alloc(); "ofw {}", fields.next().unwrap_or(""))?;
-        let words = parts_of(rt.alloc(), words.as_str(), ' ')?;
-        let text = fields.next().unwrap_or("");
-        let code: u8 = fields.next().unwrap_or("").parse()?;
-        let wanted = fields.next().unwrap_or("").replace(rt.alloc(), "$", "\n")?;
-        let mut lines = Vec::new(rt.alloc());
-        for line in parts_of(rt.alloc(), text, ',')? {
-            lines.push(line.into_bytes())?;
-        }
-        let (found, printed) = done_with(rt.alloc(), &words, &lines)?;
-        assert_eq!(rt; found, code, "{case}");
-        assert_eq!(rt; printed.as_slice(), wanted.as_bytes(), "{case}");
-    }
-    Ok(())
+    check::<ListingRows, _>(&rt, rt.alloc(), RUNS)
 }
 
 #[test]
 fn definitions_are_listed(rt: HostRuntime) -> Result<(), Fail> {
-    check(&rt, rt.alloc(), DEFINITIONS)
+    check::<ListingRows, _>(&rt, rt.alloc(), DEFINITIONS)
+}
+
+/// The console lines of a text, with `,` for a newline.
+fn lines_of(alloc: Global, text: &str) -> Result<Vec<Vec<u8>>, Fail> {
+    let mut lines = Vec::new(alloc);
+    for line in text.split(',') {
+        lines.push(line.as_bytes().to_vec(alloc)?)?;
+    }
+    Ok(lines)
+}
+
+/// Does what the words of a line ask for with the image of LINES and console lines, and gives the number of the status.
+fn code_behind(alloc: Global, words: &[String], lines: &[Vec<u8>], outputs: &mut Outputs) -> u8 {
+    let mut file = reader_of(b"f108000000000000ca0466697665 0800b7a7a81ec208009d00", 9999);
+    let outside = Outside {
+        lines,
+        answerer: Answerer::Answers(&[]),
+    };
+    let Outputs { out, errors } = outputs;
+    code_by(alloc, words, outside, &mut file, out, errors)
+}
+
+/// What is printed by what words ask for of the image of LINES with the console lines of a text.
+fn printed_behind(
+    alloc: Global,
+    words: &str,
+    text: &str,
+    outputs: &mut Outputs,
+) -> Result<String, Fail> {
+    let line = format!(in alloc; "ofw {words}")?;
+    let words = words_of(alloc, line.as_str())?;
+    let lines = lines_of(alloc, text)?;
+    let code = code_behind(alloc, &words, &lines, outputs);
+    printed(alloc, code, outputs)
+}
+
+/// Listings behind lines.
+struct LineRows;
+
+impl Rows for LineRows {
+    fn given(alloc: Global, line: &str) -> Result<(String, String), Fail> {
+        let (words, rest) = halves(line, '|');
+        let (text, wanted) = halves(rest, '|');
+        let printed = lend(
+            blank_outputs(alloc, 9999),
+            |outputs| printed_behind(alloc, words, text, outputs),
+        )?;
+        Ok((printed, replaced(alloc, wanted, "$", "\n")?))
+    }
+}
+
+#[test]
+fn listings_behind_lines(rt: HostRuntime) -> Result<(), Fail> {
+    check::<LineRows, _>(&rt, rt.alloc(), LINES)
 }

@@ -1,9 +1,9 @@
 //! Runs with the device tree behind what they print.
 
-use crate::doubles::{blank_screen, reader_of, without_lines};
+use crate::doubles::{reader_of, without_lines};
+use crate::shared::{Outputs, answered, blank_outputs, lend, printed};
+use crate::tables::{Rows, check, halves, number, replaced};
 use of_arguments::{Listings, Outside as Asked, Request};
-use of_commands::answer;
-use of_files::Messages;
 use of_runs::Answerer;
 use std::alloc::Global;
 use std::test::Fail;
@@ -24,12 +24,9 @@ f10800000000000000|3|1|/;n
 f108075c000000211204636172640201b604616464330800b7a81ec2a708009d00|3|1|5 ;
 f10800000000000000|0|1|";
 
-/// Runs an image with the tree behind it, and gives the number of the status and what goes out.
-fn run(alloc: Global, image: &str, room: u32) -> Result<(u8, Vec<u8>), Fail> {
+/// Runs an image with the tree behind it, and gives the number of the status.
+fn code_of(alloc: Global, image: &str, outputs: &mut Outputs) -> u8 {
     let mut file = reader_of(image.as_bytes(), 9999);
-    let mut out = blank_screen(alloc, room);
-    let mut errors = blank_screen(alloc, 9999);
-    let mut said = Messages::new(&mut errors);
     let request = Request::Run {
         image: "a.hex",
         lines: None,
@@ -45,21 +42,32 @@ fn run(alloc: Global, image: &str, room: u32) -> Result<(u8, Vec<u8>), Fail> {
         pci: false,
     };
     let outside = without_lines(Answerer::Answers(&[]));
-    let status = answer(alloc, request, outside, &mut file, &mut out, &mut said);
-    Ok((status.code(), out.text))
+    let Outputs { out, errors } = outputs;
+    answered(alloc, request, outside, &mut file, out, errors)
+}
+
+/// What an image with the tree behind it prints, and the number of its status.
+fn printed_by(alloc: Global, image: &str, outputs: &mut Outputs) -> Result<String, Fail> {
+    let code = code_of(alloc, image, outputs);
+    printed(alloc, code, outputs)
+}
+
+/// Images with the tree behind them.
+struct TreeRows;
+
+impl Rows for TreeRows {
+    fn given(alloc: Global, line: &str) -> Result<(String, String), Fail> {
+        let (image, rest) = halves(line, '|');
+        let (room, wanted) = halves(rest, '|');
+        let printed = lend(
+            blank_outputs(alloc, number(room)?),
+            |outputs| printed_by(alloc, image, outputs),
+        )?;
+        Ok((printed, replaced(alloc, wanted, ";", "\n")?))
+    }
 }
 
 #[test]
 fn trees_are_printed(rt: HostRuntime) -> Result<(), Fail> {
-    for case in RUNS.lines() {
-        let mut fields = case.split('|');
-        let image = fields.next().unwrap_or("");
-        let room = u32::from_str_radix(fields.next().unwrap_or(""), 10)?;
-        let code = u8::from_str_radix(fields.next().unwrap_or(""), 10)?;
-        let wanted = fields.next().unwrap_or("").replace(rt.alloc(), ";", "\n")?;
-        let (status, printed) = run(rt.alloc(), image, room)?;
-        assert_eq!(rt; status, code, "{case}");
-        assert_eq!(rt; printed.as_slice(), wanted.as_bytes(), "{case}");
-    }
-    Ok(())
+    check::<TreeRows, _>(&rt, rt.alloc(), RUNS)
 }
