@@ -7,6 +7,7 @@ use of_stacks::{
 };
 use of_stream::OffsetSize;
 use std::alloc::Global;
+use std::test::Fail;
 
 /// A loop of an index and a limit, which is left for the code cell 9.
 fn loop_of(index: u32, limit: u32) -> ReturnItem {
@@ -64,8 +65,8 @@ fn loop_item_of(digits: &str) -> Option<ReturnItem> {
 }
 
 /// The stack of the items that words name, the top last.
-fn stack_of(words: &str) -> Option<ReturnStack> {
-    let mut stack = ReturnStack::new();
+fn stack_of(alloc: Global, words: &str) -> Option<ReturnStack> {
+    let mut stack = ReturnStack::new(alloc).ok()?;
     for word in words.split_whitespace() {
         stack.try_push(item_of(word)?).ok()?;
     }
@@ -73,8 +74,8 @@ fn stack_of(words: &str) -> Option<ReturnStack> {
 }
 
 /// Whether a stack has the items that words name, the top last.
-fn has_items(stack: &ReturnStack, words: &str) -> bool {
-    match stack_of(words) {
+fn has_items(alloc: Global, stack: &ReturnStack, words: &str) -> bool {
+    match stack_of(alloc, words) {
         Some(wanted) => stack.items() == wanted.items(),
         None => false,
     }
@@ -177,10 +178,10 @@ fn given(line: &str, stack: &mut ReturnStack) -> Option<i64> {
 struct WordRows;
 
 impl Rows for WordRows {
-    fn holds(&mut self, _alloc: Global, line: &str) -> Option<bool> {
-        let mut stack = stack_of(part(line, 1))?;
+    fn holds(&mut self, alloc: Global, line: &str) -> Option<bool> {
+        let mut stack = stack_of(alloc, part(line, 1))?;
         let given = given(line, &mut stack)?;
-        Some(given == decimal(part(line, 2))? && has_items(&stack, part(line, 3)))
+        Some(given == decimal(part(line, 2))? && has_items(alloc, &stack, part(line, 3)))
     }
 }
 
@@ -201,8 +202,8 @@ fn number(line: &str, place: usize) -> Option<u32> {
 }
 
 /// The stack of a line's loop.
-fn loop_at(line: &str) -> Option<ReturnStack> {
-    let mut stack = ReturnStack::new();
+fn loop_at(alloc: Global, line: &str) -> Option<ReturnStack> {
+    let mut stack = ReturnStack::new(alloc).ok()?;
     stack.push(loop_of(number(line, 0)?, number(line, 1)?));
     Some(stack)
 }
@@ -221,8 +222,8 @@ fn has_loop(stack: &ReturnStack, line: &str, goes_on: bool) -> Option<bool> {
 struct StepRows;
 
 impl Rows for StepRows {
-    fn holds(&mut self, _alloc: Global, line: &str) -> Option<bool> {
-        let mut stack = loop_at(line)?;
+    fn holds(&mut self, alloc: Global, line: &str) -> Option<bool> {
+        let mut stack = loop_at(alloc, line)?;
         let (step, wanted) = (Cell(number(line, 2)?), number(line, 3)? == 1);
         if stack.loop_goes_on(step) != Ok(wanted) || stack.turn_loop(step) != Ok(wanted) {
             return Some(false);
@@ -259,12 +260,12 @@ fn is_depth(found: Option<ExceptionFrame>, wanted: &str) -> bool {
 struct ThrowRows;
 
 impl Rows for ThrowRows {
-    fn holds(&mut self, _alloc: Global, line: &str) -> Option<bool> {
+    fn holds(&mut self, alloc: Global, line: &str) -> Option<bool> {
         let thrown = Throw(part(line, 0).parse::<i32>().ok()?);
-        let mut stack = stack_of(part(line, 1))?;
+        let mut stack = stack_of(alloc, part(line, 1))?;
         let mut cells = cells_of(part(line, 2))?;
         let found = stack.unwind(thrown, &mut cells);
-        let is_left = has_items(&stack, part(line, 4)) && has_cells(&cells, part(line, 5));
+        let is_left = has_items(alloc, &stack, part(line, 4)) && has_cells(&cells, part(line, 5));
         Some(is_depth(found, part(line, 3)) && is_left)
     }
 }
@@ -286,13 +287,26 @@ fn takes_sevens(stack: &mut ReturnStack, count: u32) -> bool {
 }
 
 #[test]
-fn holds_256_items(rt: HostRuntime) {
-    let mut stack = ReturnStack::new();
+fn holds_256_items(rt: HostRuntime) -> Result<(), Fail> {
+    let mut stack = ReturnStack::new(rt.alloc())?;
     assert!(rt; takes_sevens(&mut stack, 256));
     assert!(rt; stack.room_for(1) == Err(Throw(-5)));
     assert!(rt; stack.push_user(Cell(8)) == Err(Throw(-5)));
     assert!(rt; stack.pop() == Some(ReturnItem::User(Cell(7))));
     assert!(rt; stack.room_for(1).is_ok());
+    Ok(())
+}
+
+/// What may not be covered counts before what finds no room.
+#[test]
+fn a_handler_counts_first(rt: HostRuntime) -> Result<(), Fail> {
+    let mut stack = ReturnStack::new(rt.alloc())?;
+    assert!(rt; takes_sevens(&mut stack, 255));
+    assert!(rt; stack.try_push(ReturnItem::Handler(frame_at(0))).is_ok());
+    assert!(rt; stack.push_user(Cell(8)) == Err(Throw(-25)));
+    stack.clear();
+    assert_eq!(rt; stack.depth(), 0);
+    Ok(())
 }
 
 #[test]

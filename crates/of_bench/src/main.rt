@@ -19,7 +19,7 @@ fn calls(rt: &HostRuntime, part: &str, kind: &str, count: u32) -> Option<u32> {
         "space" => space::calls(rt.alloc(), kind, count),
         "vector" => plain::calls(rt.alloc(), kind, count),
         "dictionary" => dictionary::calls(rt.alloc(), kind, count),
-        "returns" => returns::calls(kind, count),
+        "returns" => returns::calls(rt.alloc(), kind, count),
         "one-node" => nodes::calls(rt.alloc(), kind, false, count),
         "many-nodes" => nodes::calls(rt.alloc(), kind, true, count),
         "texts" => texts::calls(rt.alloc(), kind, count),

@@ -4,6 +4,7 @@ use of_stacks::{
     Continuation, DataStack, ExceptionFrame, LoopExit, LoopParameters, ReturnItem, ReturnStack,
     Throw,
 };
+use std::alloc::Global;
 
 /// A loop up to a limit.
 fn loop_to(limit: u32) -> ReturnItem {
@@ -29,12 +30,11 @@ fn take(stack: &mut ReturnStack) -> Result<Cell, Throw> {
 }
 
 /// Puts cells on the stack and takes them.
-fn cells(count: u32) -> Result<u32, Throw> {
-    let mut stack = ReturnStack::new();
+fn cells(stack: &mut ReturnStack, count: u32) -> Result<u32, Throw> {
     let mut sum = 0u32;
     for i in 0..count {
-        put(Cell(i), &mut stack)?;
-        sum = sum.wrapping_add(take(&mut stack)?.0);
+        put(Cell(i), stack)?;
+        sum = sum.wrapping_add(take(stack)?.0);
     }
     Ok(sum)
 }
@@ -55,12 +55,11 @@ fn leave(stack: &mut ReturnStack) -> Result<u32, Throw> {
 }
 
 /// Enters definitions and leaves them.
-fn returns(count: u32) -> Result<u32, Throw> {
-    let mut stack = ReturnStack::new();
+fn returns(stack: &mut ReturnStack, count: u32) -> Result<u32, Throw> {
     let mut sum = 0u32;
     for i in 0..count {
-        enter(i, &mut stack)?;
-        sum = sum.wrapping_add(leave(&mut stack)?);
+        enter(i, stack)?;
+        sum = sum.wrapping_add(leave(stack)?);
     }
     Ok(sum)
 }
@@ -78,15 +77,14 @@ fn turn_by_one(stack: &mut ReturnStack) -> Result<bool, Throw> {
 }
 
 /// Turns a loop without end.
-fn steps(count: u32, step: u32) -> Result<u32, Throw> {
-    let mut stack = ReturnStack::new();
+fn steps(stack: &mut ReturnStack, count: u32, step: u32) -> Result<u32, Throw> {
     stack.try_push(loop_to(0))?;
     let mut ended = 0u32;
     for _ in 0..count {
         let goes_on = if step == 1 {
-            turn_by_one(&mut stack)?
+            turn_by_one(stack)?
         } else {
-            turn(Cell(step), &mut stack)?
+            turn(Cell(step), stack)?
         };
         if !goes_on {
             stack.try_push(loop_to(0))?;
@@ -103,13 +101,12 @@ fn index(stack: &ReturnStack) -> Result<Cell, Throw> {
 }
 
 /// Turns a loop without end, and reads its index.
-fn indices(count: u32) -> Result<u32, Throw> {
-    let mut stack = ReturnStack::new();
+fn indices(stack: &mut ReturnStack, count: u32) -> Result<u32, Throw> {
     stack.try_push(loop_to(0))?;
     let mut sum = 0u32;
     for _ in 0..count {
-        turn_by_one(&mut stack)?;
-        sum = sum.wrapping_add(index(&stack)?.0);
+        turn_by_one(stack)?;
+        sum = sum.wrapping_add(index(stack)?.0);
     }
     Ok(sum)
 }
@@ -121,14 +118,13 @@ fn outer_index(stack: &ReturnStack) -> Result<Cell, Throw> {
 }
 
 /// Turns a loop without end, and reads the index of the one that it stands in.
-fn outer_indices(count: u32) -> Result<u32, Throw> {
-    let mut stack = ReturnStack::new();
+fn outer_indices(stack: &mut ReturnStack, count: u32) -> Result<u32, Throw> {
     stack.try_push(loop_to(9))?;
     stack.try_push(loop_to(0))?;
     let mut sum = 0u32;
     for _ in 0..count {
-        turn_by_one(&mut stack)?;
-        sum = sum.wrapping_add(outer_index(&stack)?.0);
+        turn_by_one(stack)?;
+        sum = sum.wrapping_add(outer_index(stack)?.0);
     }
     Ok(sum)
 }
@@ -150,26 +146,26 @@ fn catch(thrown: Throw, stack: &mut ReturnStack, cells: &mut DataStack) -> Resul
 }
 
 /// Throws and catches.
-fn throws(count: u32) -> Result<u32, Throw> {
-    let mut stack = ReturnStack::new();
+fn throws(stack: &mut ReturnStack, count: u32) -> Result<u32, Throw> {
     let mut cells = DataStack::new();
     let mut sum = 0u32;
     for _ in 0..count {
-        sum = sum.wrapping_add(catch(Throw::ABORT, &mut stack, &mut cells)?);
+        sum = sum.wrapping_add(catch(Throw::ABORT, stack, &mut cells)?);
     }
     Ok(sum)
 }
 
 /// Makes so many calls of a kind, and answers a number that depends on all of them.
-pub fn calls(kind: &str, count: u32) -> Option<u32> {
+pub fn calls(alloc: Global, kind: &str, count: u32) -> Option<u32> {
+    let mut stack = ReturnStack::new(alloc).ok()?;
     match kind {
-        "cells" => cells(count).ok(),
-        "returns" => returns(count).ok(),
-        "loop" => steps(count, 1).ok(),
-        "+loop" => steps(count, 3).ok(),
-        "loop-i" => indices(count).ok(),
-        "loop-j" => outer_indices(count).ok(),
-        "throw" => throws(count).ok(),
+        "cells" => cells(&mut stack, count).ok(),
+        "returns" => returns(&mut stack, count).ok(),
+        "loop" => steps(&mut stack, count, 1).ok(),
+        "+loop" => steps(&mut stack, count, 3).ok(),
+        "loop-i" => indices(&mut stack, count).ok(),
+        "loop-j" => outer_indices(&mut stack, count).ok(),
+        "throw" => throws(&mut stack, count).ok(),
         _ => None,
     }
 }

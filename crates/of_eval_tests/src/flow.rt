@@ -22,7 +22,7 @@ fn stack_of(cells: &[u32]) -> Result<DataStack, Fail> {
 /// `of` goes to its target where the numbers differ, and leaves the lower one then.
 #[test]
 fn arms(rt: HostRuntime) -> Result<(), Fail> {
-    let mut items = ReturnStack::new();
+    let mut items = ReturnStack::new(rt.alloc())?;
     let exit = LoopExit::Position(0);
     let mut stack = stack_of(&[5, 6])?;
     let goes = run_control(ControlWord::Of, true, exit, &mut stack, &mut items);
@@ -38,7 +38,7 @@ fn arms(rt: HostRuntime) -> Result<(), Fail> {
 /// A loop from 3 to 5 gives 3 and then 4, and ends at 5.
 #[test]
 fn loops(rt: HostRuntime) -> Result<(), Fail> {
-    let mut items = ReturnStack::new();
+    let mut items = ReturnStack::new(rt.alloc())?;
     let exit = LoopExit::Position(0);
     let mut stack = stack_of(&[5, 3])?;
     let goes = run_control(ControlWord::Do, true, exit, &mut stack, &mut items);
@@ -59,7 +59,7 @@ fn loops(rt: HostRuntime) -> Result<(), Fail> {
 #[test]
 fn words_end(rt: HostRuntime) -> Result<(), Fail> {
     let mut flow = Flow {
-        items: ReturnStack::new(),
+        items: ReturnStack::new(rt.alloc())?,
         reading: Reading {
             input: Input::Nothing,
             opened: None,

@@ -92,6 +92,16 @@ reverse_set xs x h =
     ∙ take-set_at xs (length xs - 1) (length xs) x last within in
     ap reverse whole ∙ reverse-append (take (length xs - 1) xs) (x ∷ []) ∙ ap (λ ys. x ∷ ys) (reverse_take xs 1 h)
 
+-- the element that was lent at the end of the array is the top
+pub reverse_lent : {X : Type 0} (xs : List X) (n : ℕ) (x : X) → x ≡ get_or xs (n - 1) x → n ≡ length xs
+    → 0 < length xs → reverse xs ≡ x ∷ drop 1 (reverse xs)
+reverse_lent xs n x e f h = reverse_first xs xs n x refl f h ∙ ap (λ y. y ∷ drop 1 (reverse xs)) (sym e)
+
+-- and a write of it is a write of the top
+pub reverse_written : {X : Type 0} (xs : List X) (n : ℕ) (x : X) → n ≡ length xs → 0 < length xs
+    → reverse (set xs (n - 1) x) ≡ x ∷ drop 1 (reverse xs)
+reverse_written xs n x f h = rw f (reverse_set xs x h)
+
 -- cells of the same number leave nothing to fill up
 refill_same : {X : Type 0} (xs ws : List X) → length ws ≡ length xs → refill (length xs) xs ws ≡ ws
 refill_same xs ws e = ap (λ n. take n (ws ++ drop (length ws) xs)) (sym e) ∙ take-append_seam ws (drop (length ws) xs)

@@ -1,5 +1,5 @@
 ghost use Rattle.std.specs.Prelude.{◌+◌, IfErr, OnOk, OnErr, reverse, ◌≡◌, ◌<◌, ◌≤◌, List, [], ◌∷◌, length, drop};
-ghost use Rattle.std.specs.Prelude.{slice_get, Ok, Err, Some, None, IfOk, if◌then◌else◌};
+ghost use Rattle.std.specs.Prelude.{slice_get, Ok, Err, Some, None, IfOk, if◌then◌else◌, vec_capacity};
 ghost use Rattle.of_stacks.specs.declared.return_item.ReturnItem.{ReturnItem};
 ghost use Rattle.of_stacks.specs.Throws.{return_stack_overflow};
 ghost use Rattle.of_cells.specs.Outcomes.{Becomes};
@@ -11,26 +11,30 @@ use crate::data_stack::DataStack;
 use crate::loops::{index_inside, passes_limit};
 use crate::return_item::{Continuation, ExceptionFrame, LoopParameters, Reading, ReturnItem};
 use crate::throws::Throw;
-use arrayvec::ArrayVec;
 use of_cells::Cell;
+use std::alloc::{AllocError, Global};
 use std::marker::Model;
 
-/// The return stack: at most 256 items (Forth 2012, 3.2.3.3). A refused call changes nothing.
+/// How many items the return stack holds at most.
+const MOST_ITEMS: usize = 256;
+
+/// The return stack: at most 256 items (Forth 2012, 3.2.3.3). A refused call changes nothing, and only `new` takes
+/// memory.
 #[derive(Drop)]
 pub struct ReturnStack {
-    items: ArrayVec<ReturnItem, 256>,
+    items: Vec<ReturnItem>,
 }
 
 // Clauses see the items, the top first.
 impl Model for ReturnStack {
-    ghost use Rattle.std.specs.Prelude.{List, length, reverse, ◌≤◌};
+    ghost use Rattle.std.specs.Prelude.{List, length, reverse, ◌≤◌, vec_capacity};
     ghost use Rattle.of_stacks.specs.declared.return_item.ReturnItem.{ReturnItem};
 
     ghost Value = { List ReturnItem };
 
     ghost view = { λ s. reverse s.items.items };
 
-    ghost invariant = { λ s. length s.items.items ≤ 256 };
+    ghost invariant = { λ s. (length s.items.items ≤ 256) × (256 ≤ vec_capacity s.items) };
 }
 
 /// Adds a signed step to the index of a loop on top, if that doesn't pass its limit, and answers whether the loop goes
@@ -53,13 +57,22 @@ fn turn(top: &mut ReturnItem, step: Cell) -> Result<bool, Throw>
 }
 
 impl ReturnStack {
-    /// An empty stack.
-    pub fn new() -> Self
-        ensures { result ≡ [] }
+    /// An empty stack, with room for all the items that it may ever hold.
+    ///
+    /// An error is for memory alone.
+    pub fn new(alloc: Global) -> Result<ReturnStack, AllocError>
+        ensures { IfOk result (λ s. s ≡ []) }
     {
-        ReturnStack {
-            items: ArrayVec::new(),
-        }
+        Ok(ReturnStack {
+            items: Vec::with_capacity(alloc, MOST_ITEMS)?,
+        })
+    }
+
+    /// Drops all items.
+    pub fn clear(&mut self)
+        ensures { self.new ≡ [] }
+    {
+        self.items.clear();
     }
 
     /// How many items there are.
@@ -77,7 +90,7 @@ impl ReturnStack {
         ensures value { reverse result.now ≡ self.now }
         ensures fits { length result.now ≤ 256 }
     {
-        self.items.as_slice()
+        &self.items
     }
 
     /// Whether there is room for `count` more items, or -5 where there isn't.
@@ -100,7 +113,7 @@ impl ReturnStack {
         requires { length self.old < 256 }
         ensures { self.new ≡ item ∷ self.old }
     {
-        self.items.push(item);
+        self.items.push_reserved(item);
     }
 
     /// Pushes an item, or throws -5 where 256 items are there already.

@@ -54,7 +54,7 @@ impl<C: CodeStore + Drop> Eval<C> {
                 instances: Instances::new(alloc),
             },
             flow: Flow {
-                items: ReturnStack::new(),
+                items: ReturnStack::new(alloc)?,
                 reading: NOTHING_READ,
                 is_running: false,
                 next: Continuation::Source,
@@ -125,7 +125,7 @@ impl<C: CodeStore> Eval<C> {
         let outer = self.flow.reading;
         self.board.active.package = Some(node);
         self.board.active.my_self = instance;
-        self.flow.items = ReturnStack::new();
+        self.flow.items.clear();
         self.flow.items.push(ReturnItem::Caller(Due::Load {
             active: cell_of(before),
             my_self: outer_self,
@@ -160,7 +160,7 @@ impl<C: CodeStore> Eval<C> {
             return Err(AllocError);
         }
         let before = self.flow.reading;
-        self.flow.items = ReturnStack::new();
+        self.flow.items.clear();
         self.flow.items.push(ReturnItem::Source(before));
         self.flow.reading = Reading {
             input: Input::Text { position: 0 },

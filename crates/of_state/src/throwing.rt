@@ -16,9 +16,7 @@ use of_compile::abandon_definition;
 use of_flow::{Flow, Texts};
 use of_memory::Memory;
 use of_nodes::Phandle;
-use of_stacks::{
-    Continuation, DataStack, Due, ExceptionFrame, Input, Reading, ReturnItem, ReturnStack, Throw,
-};
+use of_stacks::{Continuation, DataStack, Due, ExceptionFrame, Input, Reading, ReturnItem, Throw};
 
 /// Nothing is read.
 pub(crate) const NOTHING_READ: Reading = Reading {
@@ -256,7 +254,7 @@ impl<C: CodeStore> Eval<C> {
         self.board.stack = DataStack::new();
         self.board.console.print_fault(thrown);
         self.board.finish_all();
-        self.flow.items = ReturnStack::new();
+        self.flow.items.clear();
         self.flow.reading = NOTHING_READ;
         self.flow.is_running = false;
         self.flow.next = Continuation::Source;
