@@ -3,14 +3,15 @@ ghost use Rattle.std.specs.Prelude.{◌≡◌, ◌<◌, ◌≤◌, ◌+◌, ◌+
 ghost use Rattle.std.specs.Box.{box_value};
 ghost use Rattle.std.specs.Option.{option_map};
 ghost use Rattle.of_stacks.specs.Order.{counting};
-ghost use Rattle.of_instances.specs.Calling.{beneath, operand_cells};
+ghost use Rattle.of_instances.specs.Calling.{TakesOperands, beneath, calling_entry, operand_cells};
 ghost use Rattle.of_eval.specs.Executing.{call_faults};
 ghost use Rattle.of_eval.specs.Unrolled.{IsCallee, IsKeptFor, IsRefused, IsUnopened, begun, is_new, uncalled};
 
+use of_board::Board;
 use of_cells::Cell;
 use of_code::CodeStore;
 use of_dict::Kind;
-use of_instances::{Callee, MethodCall, Operands, open_instance};
+use of_instances::{Callee, CallingWord, MethodCall, Operands, find_call, open_instance};
 use of_memory::Memory;
 use of_stacks::{DataStack, Due, ReturnItem, Stop, Throw};
 use of_state::Eval;
@@ -53,7 +54,20 @@ pub(crate) fn put_back(operands: Operands, stack: &mut DataStack)
     }
 }
 
+/// The method that a word calls, if it calls one, as `find_call` finds it.
+///
+/// It and what begins and undoes a call stand in no line of the function that calls the method, so that methods which
+/// call one another in a step take little of the processor's stack.
+#[inline(never)]
+pub(crate) fn find_method(calling: CallingWord, board: &Board) -> Result<Option<MethodCall>, Throw>
+    ensures found { result ≡ calling_entry calling board.now }
+    ensures taken { TakesOperands board.now.stack result }
+{
+    find_call(calling, board)
+}
+
 /// Whether a method can be called: -263 where the number is no word, -5 where the return stack has no room.
+#[inline(never)]
 #[tactic(auto, using(crate::proofs::Called::no_word))]
 pub(crate) fn may_call<C: CodeStore>(eval: &Eval<C>, xt: Cell) -> Result<(), Throw>
     ensures good { OnOk result (counting (call_faults eval.now xt) ≡ None) }
@@ -68,6 +82,7 @@ pub(crate) fn may_call<C: CodeStore>(eval: &Eval<C>, xt: Cell) -> Result<(), Thr
 
 /// A copy of the data space, if the word of an execution token may ask for memory that is run for a new instance.
 /// Nothing is copied where that is a definition.
+#[inline(never)]
 pub(crate) fn keep_memory<C: CodeStore>(
     eval: &Eval<C>,
     callee: Callee,
@@ -112,6 +127,7 @@ fn callee<C: CodeStore>(eval: &mut Eval<C>, callee: Callee) -> Result<(Cell, Due
 /// current one, and is opened before where it is a new one.
 ///
 /// What the opening throws, or NoMemory; then nothing has changed.
+#[inline(never)]
 pub(crate) fn begin_call<C: CodeStore>(eval: &mut Eval<C>, call: MethodCall) -> Result<(), Stop>
     requires taken { eval.old.board.stack ≡ operand_cells call.operands ++ beneath call.operands
         eval.old.board.stack }
@@ -130,6 +146,7 @@ pub(crate) fn begin_call<C: CodeStore>(eval: &mut Eval<C>, call: MethodCall) -> 
 }
 
 /// The state before a method was called, whose word found no memory.
+#[inline(never)]
 pub(crate) fn undo_call<C: CodeStore>(
     eval: &mut Eval<C>,
     call: MethodCall,
