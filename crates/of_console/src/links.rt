@@ -48,8 +48,8 @@ fn linked(alloc: Global, tree: &Tree) -> Result<Links, AllocError>
     Ok(Links { oldest, younger })
 }
 
-/// What stands behind all that is below a node, by the next younger child of the same parent, and what stands behind all
-/// that is below the parent.
+/// What stands behind all that is below a node, by the next younger child of the same parent, and what stands behind
+/// all that is below the parent.
 fn behind_all(
     younger: Option<usize>,
     parent: Option<usize>,

@@ -2,3 +2,4 @@ mod Alone
 mod Appended
 mod TextLaws
 mod Spelt
+pub mod InFull

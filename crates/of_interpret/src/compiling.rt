@@ -103,7 +103,7 @@ fn leave_compiling<C: CodeStore>(eval: &mut Eval<C>)
 }
 
 /// A word that serves while words are compiled, while they are.
-#[tactic(auto, unfolding(crate::specs::TextWords::compiling_act, crate::specs::TextActs::text_acted, of_eval::specs::Doing::acted, of_eval::specs::Doing::worked))]
+#[tactic(auto, unfolding(crate::specs::TextWords::compiling_act, crate::proofs::InFull::in_full))]
 fn run_open<C: CodeStore>(eval: &mut Eval<C>, word: CompilingWord) -> Result<(), Stop>
     ensures { IsSpoken (compiling_act word (front_of eval.old)) eval.old eval.new result }
 {
@@ -141,7 +141,7 @@ fn run_open<C: CodeStore>(eval: &mut Eval<C>, word: CompilingWord) -> Result<(),
 }
 
 /// A word that serves only while words are compiled: -14 while they are executed.
-#[tactic(auto, unfolding(crate::specs::TextActs::text_acted, of_eval::specs::Doing::acted, of_eval::specs::Doing::worked))]
+#[tactic(auto, unfolding(crate::proofs::InFull::in_full))]
 pub(crate) fn run_compiling<C: CodeStore>(
     eval: &mut Eval<C>,
     word: CompilingWord,

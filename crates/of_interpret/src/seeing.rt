@@ -27,7 +27,7 @@ fn seen<C: CodeStore>(eval: &Eval<C>, xt: Cell) -> Result<Vec<u8>, AllocError>
 
 /// `see` ( -- ) prints what the word does that its name finds (IEEE 1275-1994, annex A, `see`; Forth 2012,
 /// 15.6.1.2194), or throws what is wrong with the name.
-#[tactic(auto, unfolding(crate::specs::TextActs::text_acted, of_eval::specs::Doing::acted, of_eval::specs::Doing::worked))]
+#[tactic(auto, unfolding(crate::proofs::InFull::in_full))]
 pub(crate) fn see<C: CodeStore>(eval: &mut Eval<C>, found: Result<Cell, Throw>) -> Result<(), Stop>
     ensures { IsSpoken (seeing found) eval.old eval.new result }
 {

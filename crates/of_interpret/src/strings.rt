@@ -140,7 +140,7 @@ fn is_long(bytes: &[u8]) -> bool
 /// The string at a part of the text is compiled while words are compiled, and else left with its address and length.
 ///
 /// -24 for more than 255 bytes, -3 where the data stack has no room, -8 where the code or the data region has none.
-#[tactic(auto, unfolding(crate::specs::TextActs::text_acted, of_eval::specs::Doing::acted, of_eval::specs::Doing::worked))]
+#[tactic(auto, unfolding(crate::proofs::InFull::in_full))]
 pub(crate) fn run_string<C: CodeStore>(eval: &mut Eval<C>, string: Part) -> Result<(), Stop>
     ensures { IsSpoken (string_act (bytes_in (latest_text eval.old.flow.texts) string) (front_of eval.old)) eval.old
         eval.new result }
@@ -156,7 +156,7 @@ pub(crate) fn run_string<C: CodeStore>(eval: &mut Eval<C>, string: Part) -> Resu
 }
 
 /// The same of the string of `"`, which begins at a position of the text, with its groups.
-#[tactic(auto, unfolding(crate::specs::TextActs::text_acted, of_eval::specs::Doing::acted, of_eval::specs::Doing::worked))]
+#[tactic(auto, unfolding(crate::proofs::InFull::in_full))]
 pub(crate) fn run_quoted<C: CodeStore>(eval: &mut Eval<C>, at: usize) -> Result<(), Stop>
     ensures { IsSpoken (string_act (quoted_bytes (latest_text eval.old.flow.texts) at) (front_of eval.old)) eval.old
         eval.new result }
@@ -174,7 +174,7 @@ pub(crate) fn run_quoted<C: CodeStore>(eval: &mut Eval<C>, at: usize) -> Result<
 /// printed.
 ///
 /// -24 for more than 255 bytes, -8 where the code or the data region has no room.
-#[tactic(auto, unfolding(crate::specs::TextActs::text_acted, of_eval::specs::Doing::acted, of_eval::specs::Doing::worked))]
+#[tactic(auto, unfolding(crate::proofs::InFull::in_full))]
 pub(crate) fn print_string<C: CodeStore>(eval: &mut Eval<C>, string: Part) -> Result<(), Stop>
     ensures { IsSpoken (printed_act (bytes_in (latest_text eval.old.flow.texts) string) (front_of eval.old)) eval.old
         eval.new result }

@@ -121,7 +121,7 @@ fn run_char<C: CodeStore>(eval: &mut Eval<C>, found: Result<Cell, Throw>) -> Res
 }
 
 /// `[']` and `[char]`: the cell that was found is compiled as a literal; -14 while words are executed.
-#[tactic(auto, unfolding(crate::specs::TextActs::text_acted, of_eval::specs::Doing::acted, of_eval::specs::Doing::worked))]
+#[tactic(auto, unfolding(crate::proofs::InFull::in_full))]
 fn run_bracketed<C: CodeStore>(eval: &mut Eval<C>, found: Result<Cell, Throw>) -> Result<(), Stop>
     ensures { IsSpoken (bracketed found (front_of eval.old)) eval.old eval.new result }
 {
@@ -135,7 +135,7 @@ fn run_bracketed<C: CodeStore>(eval: &mut Eval<C>, found: Result<Cell, Throw>) -
 }
 
 /// `dev`: the node of the path is the active package from now on.
-#[tactic(auto, unfolding(crate::specs::TextActs::text_acted, of_eval::specs::Doing::acted, of_eval::specs::Doing::worked))]
+#[tactic(auto, unfolding(crate::proofs::InFull::in_full))]
 fn select<C: CodeStore>(eval: &mut Eval<C>, path: Part) -> Result<(), Throw>
     ensures { Leaves (text_acted flat_calls (selecting (node_at (bytes_in (latest_text eval.old.flow.texts) path)
         eval.old.board)) eval.old) eval.new result }
@@ -146,7 +146,7 @@ fn select<C: CodeStore>(eval: &mut Eval<C>, path: Part) -> Result<(), Throw>
 }
 
 /// Does what a word of a text does, with what it parses, or appends it. The reading stands behind it.
-#[tactic(auto, unfolding(crate::specs::TextWords::text_act, crate::specs::TextActs::text_acted, of_eval::specs::Doing::acted, of_eval::specs::Doing::worked))]
+#[tactic(auto, unfolding(crate::specs::TextWords::text_act, crate::proofs::InFull::in_full))]
 pub(crate) fn run_word<C: CodeStore>(eval: &mut Eval<C>, word: TextWord) -> Result<(), Halt>
     ensures { IsHeard (text_act word (front_of eval.old)) eval.old eval.new result }
 {

@@ -1,6 +1,7 @@
 -- Turns of a machine with its devices.
 use Rattle.std.proofs.Common.{◌≡◌, ℕ, zero, suc, ◌+◌, ◌-◌, ◌<◌, ◌≤◌, Bool, true, false, List, Option, Some, None}
-use Rattle.std.proofs.Common.{Result, Ok, Err, OnErr, refl, sym, ap, subst, ◌∙◌, ◌⊎◌, inl, inr, arith, replicate, is_some, if◌then◌else◌}
+use Rattle.std.proofs.Common.{Result, Ok, Err, OnErr, refl, sym, ap, subst, ◌∙◌, ◌⊎◌, inl, inr, arith, replicate}
+use Rattle.std.proofs.Common.{is_some, if◌then◌else◌}
 use Rattle.of_asking.specs.declared.query.Query.{Query}
 use Rattle.of_devices.specs.Racks.{Meant, rack_answer, rack_told}
 use Rattle.of_compile.specs.Coding.{Coding}
@@ -145,7 +146,7 @@ goes_on limit left rest x y z e made few most =
 
 -- ---- where memory is refused
 
-pub held_here : (limit n : ℕ) (x y : Attended Coding) → n ≤ limit → turns flat_calls n x ≡ y → MayGrow y.0
+pub held_here : (limit n : ℕ) (x y : Attended Coding) → n < limit → turns flat_calls n x ≡ y → MayGrow y.0
     → IsHeld limit x y
 held_here limit n x y few there grows = record {
   made = n;
@@ -159,7 +160,7 @@ pub asks_grow : (m n : MachineState Coding) (q : Query) → m.waiting ≡ None �
 asks_grow m n q calm made = inr (ap is_some (sym (ap (λ o. question flat_calls o m) calm) ∙ made.1))
 
 -- by a step that asks
-pub held_asked : (limit n : ℕ) (x y z : Attended Coding) → n ≤ limit → turns flat_calls n x ≡ y → MayGrow y.0
+pub held_asked : (limit n : ℕ) (x y z : Attended Coding) → n < limit → turns flat_calls n x ≡ y → MayGrow y.0
     → IsAsked y z → IsHeld limit x z
 held_asked limit n x y z few there grows asked = record {
   made = n;

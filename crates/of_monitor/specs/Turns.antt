@@ -1,5 +1,5 @@
 -- A machine on its board: what it asks is answered by devices (IEEE 1275-1994, 5.3.7).
-use Rattle.std.specs.Prelude.{ℕ, zero, suc, ◌≡◌, ◌≤◌, ◌⊎◌, List, Option, Some, None}
+use Rattle.std.specs.Prelude.{ℕ, zero, suc, ◌≡◌, ◌<◌, ◌⊎◌, List, Option, Some, None}
 use Rattle.of_asking.specs.declared.query.Query.{Query}
 use Rattle.of_compile.specs.Coding.{Coding}
 use Rattle.of_devices.specs.Racks.{Meant, rack_answer, rack_told}
@@ -33,9 +33,10 @@ IsAsked x y =
     (q : Query) × ((done_by flat_calls Step x.0).waiting ≡ Some q)
     × (y ≡ (done_by flat_calls Step x.0, rack_told x.1 q))
 
--- Memory was refused: so many turns were made, and the next, which may grow, wasn't; of that its question may be open.
+-- Memory was refused: fewer turns were made than may be, and the next, which may grow, wasn't; of that its question may
+-- be open.
 pub record IsHeld (limit : ℕ) (x y : Attended Coding) : Type 0 where
   pub made : ℕ
-  pub few : made ≤ limit
+  pub few : made < limit
   pub grows : MayGrow (turns flat_calls made x).0
   pub at : (y ≡ turns flat_calls made x) ⊎ IsAsked (turns flat_calls made x) y
