@@ -4,3 +4,5 @@ pub mod Ends
 pub mod Faults
 pub mod Seen
 pub mod Sessions
+pub mod Parts
+pub mod Stopped

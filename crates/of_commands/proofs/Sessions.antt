@@ -1,10 +1,12 @@
 -- The lines of a session, one after the other.
 use Rattle.std.proofs.Common.{◌≡◌, ℕ, zero, suc, ◌<◌, ◌≤◌, ◌==◌, Bool, true, false, List, [], ◌∷◌, ◌++◌}
 use Rattle.std.proofs.Common.{length, Option, Some, None, refl, sym, ap, subst, ◌∙◌, arith, if◌then◌else◌, IfSome, drop}
+use Rattle.std.proofs.Common.{Ok}
 use Rattle.std.proofs.lemmas.List.{append_assoc}
 use Rattle.std.proofs.KnownBytes.{Appends-nil, Appends-trans}
 use Rattle.std.specs.Io.BufRead.{DropsThrough, drop_through, take_through}
 use Rattle.std.specs.Io.KnownBytes.{Appends}
+use Rattle.of_arguments.specs.declared.status.Status.TheVariants as status
 use Rattle.of_compile.specs.Coding.{Coding}
 use Rattle.of_devices.specs.Racks.{Meant}
 use Rattle.of_eval_laws.specs.Structured.{no_definitions}
@@ -14,11 +16,14 @@ use Rattle.of_monitor.specs.Turns.{Attended}
 use Rattle.of_state.specs.State.{flat_calls}
 use Rattle.of_commands.specs.Consoles.{at_rest, behind_image, console_text, line_in, printed_since, prompt}
 use Rattle.of_commands.specs.Consoles.{session_text}
+use Rattle.of_commands.specs.GivenUp.{AreEntered, Converses}
 use Rattle.of_commands.specs.Listings.{newline_behind}
 
 -- Some lines were entered, and the others are left.
 pub record IsAt (limit : ℕ) (bytes rest : List ℕ) (old new : Option (List ℕ)) (x y : Attended Coding) : Type 0 where
+  pub made : ℕ
   pub done : List ℕ
+  pub there : AreEntered limit made bytes x done rest y
   pub gone : Appends old new done
   pub most : ℕ
   pub few : length rest ≤ most
@@ -35,10 +40,18 @@ IsAtKnown limit (Some bytes) (Some rest) old new x y = IsAt limit bytes rest old
 pub begins : (limit : ℕ) (known out : Option (List ℕ)) (x : Attended Coding) → IsAtKnown limit known known out out x x
 begins limit None out x = tt
 begins limit (Some bytes) out x =
-    record { done = []; gone = Appends-nil out; most = length bytes; few = omega arith; same = refl }
+    record {
+      made = 0;
+      done = [];
+      there = (refl, refl, refl);
+      gone = Appends-nil out;
+      most = length bytes;
+      few = omega arith;
+      same = refl;
+    }
 
 -- a line that is read is none exactly at the end
-read_nothing : (rest : List ℕ) → length (take_through 10 rest) ≡ 0 → rest ≡ []
+pub read_nothing : (rest : List ℕ) → length (take_through 10 rest) ≡ 0 → rest ≡ []
 read_nothing [] e = refl
 read_nothing (b ∷ rest) e = read_by (b == 10) b rest e
   where
@@ -85,15 +98,17 @@ goes_at : (limit : ℕ) (bytes rest : List ℕ) (old mid new last : Option (List
     → IsAt limit bytes rest old mid x y → 0 < length rest → Appends mid new prompt
     → Appends new last (printed_since y.0 (entry flat_calls limit (line_in (take_through 10 rest)) y).0)
     → IsAt limit bytes (drop_through 10 rest) old last x (entry flat_calls limit (line_in (take_through 10 rest)) y)
-goes_at limit bytes rest old mid new last x y at some shown printed = go rest at.most at.few some at.same printed
+goes_at limit bytes rest old mid new last x y at some shown printed =
+    go rest at.most at.few some at.there at.same printed
   where
     go : (rest : List ℕ) (most : ℕ) → length rest ≤ most → 0 < length rest
+        → AreEntered limit at.made bytes x at.done rest y
         → session_text limit (length bytes) bytes x ≡ at.done ++ session_text limit most rest y
         → Appends new last (printed_since y.0 (entry flat_calls limit (line_in (take_through 10 rest)) y).0)
         → IsAt limit bytes (drop_through 10 rest) old last x (entry flat_calls limit (line_in (take_through 10 rest)) y)
-    go [] most few some same printed = absurd (omega (arith, some))
-    go (b ∷ rest) zero few some same printed = absurd (omega (arith, few))
-    go (b ∷ rest) (suc most) few some same printed =
+    go [] most few some there same printed = absurd (omega (arith, some))
+    go (b ∷ rest) zero few some there same printed = absurd (omega (arith, few))
+    go (b ∷ rest) (suc most) few some there same printed =
         let z = entry flat_calls limit (line_in (take_through 10 (b ∷ rest))) y in
         let text = printed_since y.0 z.0 in
         let more = session_text limit most (drop_through 10 (b ∷ rest)) z in
@@ -102,7 +117,9 @@ goes_at limit bytes rest old mid new last x y at some shown printed = go rest at
         ap (λ t. at.done ++ t) (sym (append_assoc prompt text more))
         ∙ sym (append_assoc at.done (prompt ++ text) more) in
         record {
+          made = suc at.made;
           done = at.done ++ (prompt ++ text);
+          there = (at.done, b ∷ rest, y, prompt ++ text, there, (some, refl, refl, refl), refl);
           gone =
               Appends-trans old mid last at.done (prompt ++ text) at.gone
               (Appends-trans mid new last prompt text shown printed);
@@ -111,7 +128,7 @@ goes_at limit bytes rest old mid new last x y at some shown printed = go rest at
           same = same ∙ joined;
         }
 
-some_read : (rest : List ℕ) → 0 < length (take_through 10 rest) → 0 < length rest
+pub some_read : (rest : List ℕ) → 0 < length (take_through 10 rest) → 0 < length rest
 some_read [] h = h
 some_read (b ∷ rest) h = omega arith
 
@@ -142,7 +159,7 @@ entered_as limit line seen short y z s l e =
 nothing_printed : (ds : List Meant) → length (at_rest ds).0.eval.board.console.text ≡ 0
 nothing_printed ds = refl
 
-since_rest : (ds : List Meant) (x y : Attended Coding) → x ≡ at_rest ds
+pub since_rest : (ds : List Meant) (x y : Attended Coding) → x ≡ at_rest ds
     → (let text = drop 0 y.0.eval.board.console.text in text ++ newline_behind text) ≡ printed_since x.0 y.0
 since_rest ds x y fresh =
     let none : length x.0.eval.board.console.text ≡ 0 =
@@ -171,11 +188,13 @@ pub all_printed : (ds : List Meant) (limit : ℕ) (image : Option (List ℕ)) (k
     (x y : Attended Coding) → x ≡ at_rest ds → y ≡ behind_image limit image x
     → Appends old mid (let text = drop 0 y.0.eval.board.console.text in text ++ newline_behind text)
     → IfSome known (λ bytes. Appends mid new (session_text limit (length bytes) bytes y))
-    → IfSome known (λ bytes. Appends old new (console_text ds limit image bytes))
+    → IfSome known (λ bytes. Converses ds limit image bytes old new (Ok status.Done))
 all_printed ds limit image None old mid new x y fresh begun first rest = tt
-all_printed ds limit image (Some bytes) old mid new x y fresh begun first rest =
-    all_by ds limit image bytes old mid new x y fresh begun
-    (subst (Appends old mid) (since_rest ds x y fresh) first) rest
+all_printed ds limit image (Some bytes) old mid new x y fresh begun first rest = (
+  refl,
+  all_by ds limit image bytes old mid new x y fresh begun
+      (subst (Appends old mid) (since_rest ds x y fresh) first) rest,
+)
 
 -- a machine as it is made, with its devices
 pub as_made : (m : MachineState Coding) (ds : List Meant) → m ≡ flat_machine (idle no_definitions)

@@ -5,3 +5,4 @@ pub mod Definitions
 pub mod Listings
 pub mod Runs
 pub mod States
+pub mod GivenUp

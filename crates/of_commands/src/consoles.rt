@@ -1,5 +1,5 @@
 //! `console`: lines are read, and each is run as soon as it is read.
-ghost use Rattle.std.specs.Prelude.{◌≡◌, ◌==◌, [], ◌∷◌, ◌++◌, IfOk, IfSome, None, OnOk, Ok, Some, drop};
+ghost use Rattle.std.specs.Prelude.{◌≡◌, ◌==◌, [], ◌∷◌, ◌++◌, IfErr, IfOk, IfSome, None, OnErr, OnOk, Ok, Some, drop};
 ghost use Rattle.std.specs.Prelude.{length, map, not, option_map};
 ghost use Rattle.std.specs.Io.BufRead.{DropsThrough, strip_last, take_through};
 ghost use Rattle.std.specs.Io.KnownBytes.{Appends};
@@ -8,8 +8,10 @@ ghost use Rattle.of_eval_laws.specs.Structured.{no_definitions};
 ghost use Rattle.of_machine.specs.States.{flat_machine, idle};
 ghost use Rattle.of_state.specs.State.{flat_calls};
 ghost use Rattle.of_monitor.specs.Sessions.{entry};
-ghost use Rattle.of_commands.specs.Consoles.{behind_image, console_text, image_of, line_in, printed_since, prompt};
-ghost use Rattle.of_commands.specs.Consoles.{session_text};
+ghost use Rattle.of_files.specs.Faults.{IsUnwritten};
+ghost use Rattle.of_files.specs.Messages.{AppendsPart};
+ghost use Rattle.of_commands.specs.Consoles.{behind_image, image_of, line_in, printed_since, prompt, session_text};
+ghost use Rattle.of_commands.specs.GivenUp.{AnswersConsole, Converses, IsUnanswered, IsUnawaited, IsUnrun, StopsBehind};
 ghost use Rattle.of_commands.specs.Listings.{newline_behind};
 
 use crate::listings::ends_line;
@@ -35,12 +37,22 @@ pub struct ConsoleRun<'a> {
     pub limit: u64,
 }
 
+/// What a machine has printed behind so many bytes.
+fn text_since(machine: &ScriptMachine, before: usize) -> &[u8]
+    ensures { result.now ≡ drop before machine.now.eval.board.console.text }
+{
+    machine.console().get(before..).unwrap_or(&[])
+}
+
 /// Prints what a machine has printed behind so many bytes, and ends its last line.
 fn print_since<W: Write>(machine: &ScriptMachine, before: usize, out: &mut W) -> Result<(), Fault>
-    ensures { OnOk result (let text = drop before machine.now.eval.board.console.text in
+    ensures ok { OnOk result (let text = drop before machine.now.eval.board.console.text in
         Appends (W.contents out.old) (W.contents out.new) (text ++ newline_behind text)) }
+    ensures err { OnErr result (let text = drop before machine.now.eval.board.console.text in
+        AppendsPart (W.contents out.old) (W.contents out.new) (text ++ newline_behind text)) }
+    ensures fault { IfErr result IsUnwritten }
 {
-    let text = machine.console().get(before..).unwrap_or(&[]);
+    let text = text_since(machine, before);
     write_whole(out, text)?;
     if ends_line(text) {
         return Ok(());
@@ -70,6 +82,7 @@ fn without_end(line: &[u8]) -> &[u8]
 }
 
 /// Shows that a line is awaited, and reads it with its end; answers whether there is one.
+#[tactic(auto, using(crate::proofs::Stopped::unshown, crate::proofs::Stopped::unread))]
 fn await_line<L: BufRead, W: Write>(
     lines: &mut L,
     line: &mut Vec<u8>,
@@ -79,16 +92,17 @@ fn await_line<L: BufRead, W: Write>(
     ensures some { IfOk result (λ some. some ≡ not (length line.new.items == 0)) }
     ensures read { OnOk result (IfSome (L.remaining lines.old) (λ bytes. line.new.items ≡ take_through 10 bytes)) }
     ensures rest { OnOk result (DropsThrough (L.remaining lines.old) (L.remaining lines.new) 10) }
+    ensures err { IfErr result (λ f. IsUnawaited (W.contents out.old) (W.contents out.new) f) }
 {
     write_whole(out, b"ok ")?;
     let _ = out.flush();
     line.clear();
     match lines.read_until(b'\n', line) {
         Ok(_) => Ok(!line.is_empty()),
-        Err(error) => Err(match error.kind() {
-            ErrorKind::OutOfMemory => Fault::NoMemory,
-            _ => Fault::Unread(error.raw_os_error()),
-        }),
+        Err(error) => match error.kind() {
+            ErrorKind::OutOfMemory => Err(Fault::NoMemory),
+            _ => Err(Fault::Unread(error.raw_os_error())),
+        },
     }
 }
 
@@ -116,6 +130,7 @@ fn say_left<E: Write>(
 }
 
 /// Enters a line and prints what it prints; why it was refused, or that it still runs, is said on the error output.
+#[tactic(auto, using(crate::proofs::Stopped::unwritten))]
 fn answer_line<W: Write, E: Write>(
     machine: &mut ScriptMachine,
     rack: &mut Rack,
@@ -130,6 +145,8 @@ fn answer_line<W: Write, E: Write>(
     ensures printed { OnOk result (Appends (W.contents out.old) (W.contents out.new)
         (printed_since machine.old machine.new)) }
     ensures calm { OnOk result (machine.new.waiting ≡ None) }
+    ensures err { IfErr result (λ f. IsUnanswered limit line.now (machine.old, map (λ d. meant d) rack.old.items)
+        (machine.new, map (λ d. meant d) rack.new.items) (W.contents out.old) (W.contents out.new) f) }
 {
     let before = machine.console().len();
     let refused = match enter(machine, rack, line, limit) {
@@ -156,9 +173,12 @@ fn session<L: BufRead, W: Write, E: Write>(
     errors: &mut E,
 ) -> Result<(), Fault>
     requires calm { machine.old.waiting ≡ None }
-    ensures { OnOk result (IfSome (L.remaining lines.old) (λ bytes.
+    ensures ok { OnOk result (IfSome (L.remaining lines.old) (λ bytes.
         Appends (W.contents out.old) (W.contents out.new)
         (session_text limit (length bytes) bytes (machine.old, map (λ d. meant d) rack.old.items)))) }
+    ensures err { IfErr result (λ f. IfSome (L.remaining lines.old) (λ bytes.
+        StopsBehind limit bytes (machine.old, map (λ d. meant d) rack.old.items) (W.contents out.old)
+        (W.contents out.new) f)) }
 {
     let mut line = Vec::new(alloc);
     for _ in 0..MOST_LINES {
@@ -182,6 +202,7 @@ fn first_image<'a>(console: ConsoleRun<'a>) -> Option<&'a [u8]>
 }
 
 /// Runs the image that a console begins with, if it does.
+#[tactic(auto, using(crate::proofs::Stopped::refuses, crate::proofs::Stopped::lacks_memory))]
 fn run_first(
     machine: &mut ScriptMachine,
     rack: &mut Rack,
@@ -193,6 +214,7 @@ fn run_first(
         ≡ behind_image limit (option_map (λ image. image.now) image.entry)
         (machine.old, map (λ d. meant d) rack.old.items)) }
     ensures calm { OnOk result (machine.new.waiting ≡ None) }
+    ensures err { IfErr result (λ f. IsUnrun machine.old (option_map (λ image. image.now) image.entry) f) }
 {
     let Some(image) = image else {
         return Ok(());
@@ -216,19 +238,19 @@ fn talk_on<L: BufRead, W: Write, E: Write>(
     lines: &mut L,
     out: &mut W,
     errors: &mut E,
-) -> Result<(), Fault>
+) -> Result<Status, Fault>
     requires new { machine.old ≡ flat_machine (idle no_definitions) }
-    ensures { OnOk result (IfSome (L.remaining lines.old) (λ bytes.
-        Appends (W.contents out.old) (W.contents out.new)
-        (console_text (map (λ d. meant d) rack.old.items) console.entry.limit (image_of console.entry) bytes))) }
+    ensures { IfSome (L.remaining lines.old) (λ bytes. Converses (map (λ d. meant d) rack.old.items)
+        console.entry.limit (image_of console.entry) bytes (W.contents out.old) (W.contents out.new) result) }
 {
     run_first(machine, rack, first_image(console), console.limit)?;
     print_since(machine, 0, out)?;
     session(alloc, machine, rack, console.limit, lines, out, errors)?;
-    Ok(())
+    Ok(Status::Done)
 }
 
 /// The same on a new machine with a rack of devices.
+#[tactic(auto, using(crate::proofs::Stopped::no_memory))]
 fn talk<L: BufRead, W: Write, E: Write>(
     alloc: Global,
     console: ConsoleRun<'_>,
@@ -236,10 +258,9 @@ fn talk<L: BufRead, W: Write, E: Write>(
     lines: &mut L,
     out: &mut W,
     errors: &mut E,
-) -> Result<(), Fault>
-    ensures { OnOk result (IfSome (L.remaining lines.old) (λ bytes.
-        Appends (W.contents out.old) (W.contents out.new)
-        (console_text (map (λ d. meant d) rack.old.items) console.entry.limit (image_of console.entry) bytes))) }
+) -> Result<Status, Fault>
+    ensures { IfSome (L.remaining lines.old) (λ bytes. Converses (map (λ d. meant d) rack.old.items)
+        console.entry.limit (image_of console.entry) bytes (W.contents out.old) (W.contents out.new) result) }
 {
     match script_machine(alloc) {
         Ok(mut machine) => talk_on(alloc, &mut machine, console, rack, lines, out, errors),
@@ -248,16 +269,16 @@ fn talk<L: BufRead, W: Write, E: Write>(
 }
 
 /// The same with the devices of a board, which stays as it was.
+#[tactic(auto, using(crate::proofs::Stopped::no_memory))]
 fn converse<L: BufRead, W: Write, E: Write>(
     alloc: Global,
     console: ConsoleRun<'_>,
     lines: &mut L,
     out: &mut W,
     errors: &mut E,
-) -> Result<(), Fault>
-    ensures { OnOk result (IfSome (L.remaining lines.old) (λ bytes.
-        Appends (W.contents out.old) (W.contents out.new)
-        (console_text (board_meant console.entry.board.now ∷ []) console.entry.limit (image_of console.entry) bytes))) }
+) -> Result<Status, Fault>
+    ensures { IfSome (L.remaining lines.old) (λ bytes. Converses (board_meant console.entry.board.now ∷ [])
+        console.entry.limit (image_of console.entry) bytes (W.contents out.old) (W.contents out.new) result) }
 {
     let Ok(board) = console.board.copy(alloc) else {
         return Err(Fault::NoMemory);
@@ -270,7 +291,7 @@ fn converse<L: BufRead, W: Write, E: Write>(
         return Err(Fault::NoMemory);
     };
     match talk(alloc, console, &mut rack, lines, out, errors) {
-        Ok(()) => Ok(()),
+        Ok(status) => Ok(status),
         Err(fault) => Err(fault),
     }
 }
@@ -280,6 +301,7 @@ fn converse<L: BufRead, W: Write, E: Write>(
 ///
 /// What is wrong is said on the error output: with the image behind its path; why a line was refused, which changes
 /// nothing; and that a line has made as many steps as are allowed, where an empty line lets it go on.
+#[tactic(auto, using(crate::proofs::Stopped::ended, crate::proofs::Stopped::reported))]
 pub fn console<L: BufRead, W: Write, E: Write>(
     alloc: Global,
     console: ConsoleRun<'_>,
@@ -287,16 +309,15 @@ pub fn console<L: BufRead, W: Write, E: Write>(
     out: &mut W,
     errors: &mut Messages<E>,
 ) -> Status
-    ensures { result ≡ Status.Done → IfSome (L.remaining lines.old) (λ bytes.
-        Appends (W.contents out.old) (W.contents out.new)
-        (console_text (board_meant console.entry.board.now ∷ []) console.entry.limit (image_of console.entry) bytes)) }
+    ensures { AnswersConsole (board_meant console.entry.board.now ∷ []) console.entry.limit (image_of console.entry)
+        (L.remaining lines.old) (W.contents out.old) (W.contents out.new) result }
 {
     let path = match console.image {
         Some((path, _)) => path,
         None => "",
     };
     match converse(alloc, console, lines, out, errors) {
-        Ok(()) => Status::Done,
+        Ok(status) => status,
         Err(fault) => report(path, fault, errors),
     }
 }
