@@ -5,11 +5,8 @@
 # over a file that was cut there, status 1 with a line on standard error, and the whole output. Asks for strace.
 # usage: bench/files.sh [PROGRAM]
 set -euo pipefail
-top=$(cd "$(dirname "$(readlink -f "${BASH_SOURCE[0]}")")/.." && pwd)
-program=$(readlink -f "${1:-$top/crates/ofw/out/ofw}")
-folder=$(mktemp -d)
-trap 'rm -rf "$folder"' EXIT
-cd "$top/crates/of_examples/data"
+source "$(dirname "$(readlink -f "${BASH_SOURCE[0]}")")/examples.sh"
+cd "$examples"
 wrong=0
 
 # the commands that read a file

@@ -6,11 +6,7 @@
 # beginning of what goes out undisturbed. Asks for strace.
 # usage: bench/hostile.sh [PROGRAM]
 set -euo pipefail
-top=$(cd "$(dirname "$(readlink -f "${BASH_SOURCE[0]}")")/.." && pwd)
-program=$(readlink -f "${1:-$top/crates/ofw/out/ofw}")
-examples=$top/crates/of_examples/data
-folder=$(mktemp -d)
-trap 'rm -rf "$folder"' EXIT
+source "$(dirname "$(readlink -f "${BASH_SOURCE[0]}")")/examples.sh"
 wrong=0
 
 # what is run: the file that it reads, and its arguments

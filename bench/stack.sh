@@ -4,11 +4,7 @@
 # `call-package` 127. Fails where one takes more than 128.
 # usage: bench/stack.sh [PROGRAM]
 set -euo pipefail
-top=$(cd "$(dirname "$(readlink -f "${BASH_SOURCE[0]}")")/.." && pwd)
-program=$(readlink -f "${1:-$top/crates/ofw/out/ofw}")
-examples=$top/crates/of_examples/data
-folder=$(mktemp -d)
-trap 'rm -rf "$folder"' EXIT
+source "$(dirname "$(readlink -f "${BASH_SOURCE[0]}")")/examples.sh"
 most=128
 wrong=0
 
