@@ -2,6 +2,8 @@
 #![tactic(auto)]
 
 #[cfg(test)]
+mod cell_code;
+#[cfg(test)]
 mod cells;
 #[cfg(test)]
 mod code;

@@ -5,7 +5,5 @@ mod cell_code;
 mod cells;
 mod items;
 mod tags;
-#[cfg(test)]
-mod tests;
 
 pub use cell_code::CellCode;

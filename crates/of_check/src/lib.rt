@@ -7,8 +7,6 @@ mod finding;
 mod header;
 mod laws;
 mod made;
-#[cfg(test)]
-mod tests;
 mod text;
 
 pub use checker::findings;

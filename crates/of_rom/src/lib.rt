@@ -7,8 +7,6 @@ mod fault;
 mod image;
 mod laws;
 mod rom;
-#[cfg(test)]
-mod tests;
 mod text;
 
 pub use code::CodeType;

@@ -8,7 +8,11 @@ mod detok;
 #[cfg(test)]
 mod format;
 #[cfg(test)]
+mod looks;
+#[cfg(test)]
 mod prims;
+#[cfg(test)]
+mod rom;
 #[cfg(test)]
 mod rows;
 #[cfg(test)]

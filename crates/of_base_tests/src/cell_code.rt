@@ -3,7 +3,7 @@ ghost use Rattle.std.specs.Prelude.{◌≢◌, Err};
 ghost use Rattle.of_code.specs.Items.{IsStorable};
 ghost use Rattle.of_code.specs.declared.fault.CodeFault.TheVariants.{NoMemory};
 
-use crate::CellCode;
+use of_cell_code::CellCode;
 use of_cells::Cell;
 use of_code::{CAPACITY, CodeFault, CodeStore, Item, ListCode, Place};
 use std::alloc::{AllocError, Global};

@@ -1,5 +1,5 @@
 //! Images and what is found of them, worked out by hand from the bytes (IEEE 1275-1994, 5.2.2, 5.2.2.5, 5.3.3).
-use crate::{
+use of_check::{
     bound_cuts_nothing, clean_images_are_listed, finding_lines, findings, findings_are_ordered,
     plain_items_fit,
 };

@@ -1,6 +1,6 @@
 //! ROMs that were laid out by hand from the tables of the PCI Local Bus Specification 3.0, 6.3.1, each with its lines,
 //! what is wrong behind these, and its FCode program.
-use crate::{
+use of_rom::{
     fcode_of, images_adjoin, images_are_read, pieces_are_read, programs_are_first, rom_images,
     rom_text,
 };
