@@ -23,7 +23,7 @@ use Rattle.of_arguments.specs.Asked.{a_listing, a_look, a_rom, a_run, no_appendi
 use Rattle.of_arguments.specs.CommandLine.{Asks, ofw_app, run_app, AsksToExplain, AsksWith, plain_tokens, AsksToKeep}
 use Rattle.of_arguments.specs.CommandLine.{AsksForCalls, AsksForTree, AsksToTokenize, AsksWithAnswers, AsksWithBoard}
 use Rattle.of_arguments.specs.CommandLine.{AsksForConsole, AsksForConsoleOn, AsksForState, AsksForWords, AsksToSee}
-use Rattle.of_arguments.specs.CommandLine.{AsksToDebug, debug_app}
+use Rattle.of_arguments.specs.CommandLine.{AsksForTerminal, AsksToDebug, debug_app}
 use Rattle.of_arguments.specs.CommandLine.{AsksWithLines}
 use Rattle.of_arguments.specs.CommandLine.{AsksForPci, AsksToCheck, check_app, client_app, pci_app}
 use Rattle.of_arguments.specs.CommandLine.{console_app, detok_app, tok_app}
@@ -409,6 +409,13 @@ debugged program b rest d name e f = (
       (rw (image_passes debug_shape b rest e) (rw (script_passes (b ∷ rest) d name f) refl)),
 )
 
+led : (program : Text) (b : ℕ) (rest : Text) → (b == 45) ≡ false → AsksForTerminal program (b ∷ rest)
+unfolding clap_on_literals debug_shape
+led program b rest e = (
+  rw (image_met debug_shape b rest e) refl,
+  rw (image_met debug_shape b rest e) (image_alone _ (image_passes debug_shape b rest e)),
+)
+
 answered : (program : Text) (b : ℕ) (rest : Text) (d : ℕ) (name : Text) → (b == 45) ≡ false → (d == 45) ≡ false
     → AsksWithAnswers program (b ∷ rest) (d ∷ name)
 unfolding clap_on_literals run_shape with_run with_path
@@ -491,6 +498,7 @@ lines_ask program (b ∷ rest) e = (
     with_definitions program b rest (hyphenless b e),
   ),
   checks program b rest (hyphenless b e),
+  led program b rest (hyphenless b e),
   asked_for_pci program b rest (hyphenless b e),
   kept,
   called,

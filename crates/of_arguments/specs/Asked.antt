@@ -2,6 +2,8 @@
 use Rattle.std.specs.Prelude.{Bool, ℕ, List, Option, None, false}
 use Rattle.std.specs.Borrow.{Bor}
 use Rattle.std.specs.Option.{option_map}
+use Rattle.of_arguments.specs.declared.request.Guide.{Guide}
+use Rattle.of_arguments.specs.declared.request.Guide.TheVariants as guide
 use Rattle.of_arguments.specs.declared.request.Listing.{Listing}
 use Rattle.of_arguments.specs.declared.request.Listings.{Listings}
 use Rattle.of_arguments.specs.declared.request.Outside.{Outside}
@@ -15,6 +17,11 @@ pub data Outsiders : Type 0 where
   standard : Outsiders
   answers_of : List ℕ → Outsiders
   board_of : List ℕ → Outsiders
+
+-- what leads a debugger: the script of the file at a path, or the commands on the standard input
+pub data Guides : Type 0 where
+  script_of : List ℕ → Guides
+  terminal : Guides
 
 -- what is printed behind what a run prints: the device tree, the words, the word of this name, and the state
 pub record Appendix : Type 0 where
@@ -30,9 +37,9 @@ no_appendix = record { tree = false; words = false; see = None; state = false }
 -- the run of the image at a path, and of the console lines of a file, if there is one, with what answers its questions,
 -- for so many steps at most, what is printed then, and whether its end is explained; the same with nothing printed
 -- then, but the calls of a client that a further file has; a console behind the image at a path, if there is one, with
--- the devices of a file, if there is one, for so many steps a line; the run of the image at a path under the script of
--- a file, and of the console lines of a file, if there is one, with the answers of a file, if there is one, for so many
--- steps at most; the image of the source at a path, to be printed or to be written to a file; the listing of the image
+-- the devices of a file, if there is one, for so many steps a line; the run of the image at a path under a debugger,
+-- and of the console lines of a file, if there is one, with the answers of a file, if there is one, for so many steps
+-- at most; the image of the source at a path, to be printed or to be written to a file; the listing of the image
 -- at a path, what is listed, and whether it is up to what is wrong; what is wrong with the image at a path; or the list
 -- of the images in the ROM of a PCI card. Of a run, a listing and a look, whether the file is such a ROM, of which the
 -- FCode program is meant
@@ -40,7 +47,7 @@ pub data Asked : Type 0 where
   a_run : List ℕ → Option (List ℕ) → Outsiders → ℕ → Appendix → Bool → Bool → Asked
   client_calls : List ℕ → List ℕ → Option (List ℕ) → Outsiders → ℕ → Bool → Asked
   a_console : Option (List ℕ) → Option (List ℕ) → ℕ → Asked
-  a_debugging : List ℕ → List ℕ → Option (List ℕ) → Option (List ℕ) → ℕ → Asked
+  a_debugging : List ℕ → Guides → Option (List ℕ) → Option (List ℕ) → ℕ → Asked
   an_image : List ℕ → Option (List ℕ) → Asked
   a_listing : List ℕ → Listing → Bool → Bool → Asked
   a_look : List ℕ → Bool → Asked
@@ -51,6 +58,11 @@ abbrev pub shown : Outside → Outsiders
 shown outside.Standard = standard
 shown (outside.Answers path) = answers_of path.now
 shown (outside.Board path) = board_of path.now
+
+-- what leads
+abbrev pub guide_shown : Guide → Guides
+guide_shown (guide.Script path) = script_of path.now
+guide_shown guide.Terminal = terminal
 
 -- the text of a path or a name, if there is one
 abbrev pub path_of : Option (Bor (List ℕ)) → Option (List ℕ)
@@ -67,8 +79,8 @@ asked (request.Run image lines o limit listings explain pci) =
 asked (request.Client image calls lines o limit explain) =
     client_calls image.now calls.now (path_of lines) (shown o) limit explain
 asked (request.Console image board limit) = a_console (path_of image) (path_of board) limit
-asked (request.Debug image script lines answers limit) =
-    a_debugging image.now script.now (path_of lines) (path_of answers) limit
+asked (request.Debug image g lines answers limit) =
+    a_debugging image.now (guide_shown g) (path_of lines) (path_of answers) limit
 asked (request.Tok source output) = an_image source.now (path_of output)
 asked (request.Detok image listing partial pci) = a_listing image.now listing partial pci
 asked (request.Check image pci) = a_look image.now pci

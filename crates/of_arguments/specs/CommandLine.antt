@@ -14,8 +14,9 @@ use Rattle.clap.specs.declared.builder.value_parser.ValueParser.TheVariants as v
 use Rattle.of_detok.specs.declared.notes.Extras.{Extras}
 use Rattle.of_arguments.specs.declared.request.Listing.{Listing}
 use Rattle.of_arguments.specs.declared.request.Listing.TheVariants as listing
-use Rattle.of_arguments.specs.Asked.{Appendix, Asked, Outsiders, a_run, an_image, a_listing, answers_of, board_of}
-use Rattle.of_arguments.specs.Asked.{a_console, a_debugging, a_look, a_rom, client_calls, no_appendix, standard}
+use Rattle.of_arguments.specs.Asked.{Appendix, Asked, Guides, Outsiders, a_run, an_image, a_listing, answers_of}
+use Rattle.of_arguments.specs.Asked.{a_console, a_debugging, a_look, a_rom, client_calls, no_appendix, script_of}
+use Rattle.of_arguments.specs.Asked.{board_of, standard, terminal}
 
 -- ---- the command line
 
@@ -101,13 +102,13 @@ console_app =
 
 -- `--script FILE`
 abbrev pub script_rule : Rule
-script_rule = record (path_rule (codes "script")) { long = Some (codes "script") }
+script_rule = option_rule (codes "script")
 
--- `debug IMAGE --script FILE [--lines FILE] [--answers FILE] [--limit N]`
+-- `debug IMAGE (--script FILE | --interactive) [--lines FILE] [--answers FILE] [--limit N]`
 abbrev pub debug_app : App
 debug_app =
-    with_rule (with_rule (with_rule (with_rule (with_rule (new_app (codes "debug")) image_rule) script_rule) lines_rule)
-    answers_rule) limit_rule
+    with_rule (with_rule (with_rule (with_rule (with_rule (with_rule (new_app (codes "debug")) image_rule) script_rule)
+    (flag_rule (codes "interactive"))) lines_rule) answers_rule) limit_rule
 
 -- `--output FILE`, or `-o FILE`
 abbrev pub output_rule : Rule
@@ -230,13 +231,23 @@ abbrev pub console_asked : List Row → Asked
 console_asked rows =
     a_console (first_of (codes "image") rows) (first_of (codes "board") rows) (limit_in rows)
 
--- what `debug` asks for with an image: a run of it under the script of the file that is given
+-- what is to lead a debugger, by the script that is given and whether the terminal is to: one of both
+abbrev pub guide_of : Option Text → Bool → Option Guides
+guide_of (Some script) false = Some (script_of script)
+guide_of None true = Some terminal
+guide_of (Some script) true = None
+guide_of None false = None
+
+abbrev pub guide_in : List Row → Option Guides
+guide_in rows = guide_of (first_of (codes "script") rows) (has_flag (codes "interactive") rows)
+
+-- what `debug` asks for with an image: a run of it under what is to lead the debugger
 abbrev pub debug_asked : List Row → Text → Option Asked
 debug_asked rows image =
     option_map
-    (λ script.
-    a_debugging image script (first_of (codes "lines") rows) (first_of (codes "answers") rows) (limit_in rows))
-    (first_of (codes "script") rows)
+    (λ guide.
+    a_debugging image guide (first_of (codes "lines") rows) (first_of (codes "answers") rows) (limit_in rows))
+    (guide_in rows)
 
 -- what `detok` asks for with an image
 abbrev pub detok_asked : List Row → Text → Option Asked
@@ -362,7 +373,12 @@ AsksForConsoleOn program image =
 abbrev pub AsksToDebug : Text → Text → Text → Type 0
 AsksToDebug program image script =
     Asks (program ∷ codes "debug" ∷ image ∷ codes "--script" ∷ script ∷ [])
-    (a_debugging image script None None 1000000)
+    (a_debugging image (script_of script) None None 1000000)
+
+-- a run under the commands of the standard input
+abbrev pub AsksForTerminal : Text → Text → Type 0
+AsksForTerminal program image =
+    Asks (program ∷ codes "debug" ∷ image ∷ codes "--interactive" ∷ []) (a_debugging image terminal None None 1000000)
 
 -- a listing of an image
 abbrev pub AsksToList : Text → Text → Type 0
@@ -410,7 +426,7 @@ LinesAsk = (program image : Text) → is_plain image ≡ true → AsksToRun prog
     × AsksToTokenize program image × AsksToExplain program image × AsksForTree program image
     × AsksForWords program image × AsksForState program image
     × AsksForConsole program × AsksForConsoleOn program image × AsksForMore program image
-    × AsksToCheck program image × AsksForPci program image
+    × AsksToCheck program image × AsksForTerminal program image × AsksForPci program image
     × ((output : Text) → is_plain output ≡ true → AsksToKeep program image output)
     × ((calls : Text) → is_plain calls ≡ true → AsksForCalls program image calls)
     × ((script : Text) → is_plain script ≡ true → AsksToDebug program image script)

@@ -2,19 +2,19 @@ ghost use Rattle.std.specs.Prelude.{◌≡◌, IfOk, codes, false, map, option_m
 ghost use Rattle.clap.specs.Words.{App, fault_of, first_of, rule_of, FailsBy, found_of, rows_of, with_subcommand};
 ghost use Rattle.clap.specs.Values.{kind_of};
 ghost use Rattle.std.specs.String.{string_bytes};
-ghost use Rattle.of_arguments.specs.Asked.{appendix_of, asked, shown};
+ghost use Rattle.of_arguments.specs.Asked.{appendix_of, asked, guide_shown, shown};
 ghost use Rattle.of_arguments.specs.Statuses.{unasked};
 ghost use Rattle.of_arguments.specs.CommandLine.{IsBuilt, answers_rule, asked_by, asks, board_rule, calls_rule};
 ghost use Rattle.of_arguments.specs.CommandLine.{appendix_in, client_app, client_asked, console_app, console_asked};
-ghost use Rattle.of_arguments.specs.CommandLine.{debug_app, debug_asked, script_rule};
+ghost use Rattle.of_arguments.specs.CommandLine.{debug_app, debug_asked, guide_in, script_rule};
 ghost use Rattle.of_arguments.specs.CommandLine.{detok_app, detok_asked, first_image_rule};
 ghost use Rattle.of_arguments.specs.CommandLine.{extras_in, flag_rule, has_flag, image_rule, is_true, limit_in};
 ghost use Rattle.of_arguments.specs.CommandLine.{limit_rule, lines_rule, listing_in, listing_of, ofw_app, outside_in};
-ghost use Rattle.of_arguments.specs.CommandLine.{output_rule, path_rule, run_app, run_asked, running_app, see_rule};
-ghost use Rattle.of_arguments.specs.CommandLine.{check_app, check_asked, pci_app, pci_rule, rom_rule, source_rule};
-ghost use Rattle.of_arguments.specs.CommandLine.{tok_app};
+ghost use Rattle.of_arguments.specs.CommandLine.{option_rule, output_rule, path_rule, run_app, run_asked, running_app};
+ghost use Rattle.of_arguments.specs.CommandLine.{check_app, check_asked, pci_app, pci_rule, rom_rule, see_rule};
+ghost use Rattle.of_arguments.specs.CommandLine.{source_rule, tok_app};
 
-use crate::request::{Listing, Listings, Outside, Request};
+use crate::request::{Guide, Listing, Listings, Outside, Request};
 use crate::status::Status;
 use clap::error::ErrorKind;
 use clap::{Arg, ArgAction, ArgMatches, Command, Error, value_parser};
@@ -74,7 +74,8 @@ script is one of these: `in` makes one step, `over` makes steps until the return
 shallower, `break W K` marks item K of the colon definition W, from 0, `clear W K` takes the mark away, and `go N` makes
 at most N steps up to a marked item. W is a name, or # and an FCode number in hexadecimal digits; K and N are decimal.
 Each of `in`, `over`, `out` and `go` prints the number of steps made and the data stack, the bottom first. The console
-bytes follow at the end.
+bytes follow at the end. With --interactive the commands are lines of the standard input, each carried out as soon as it
+is read, and there are more: `?` shows them.
 
 Status: 0 the script was carried out, 1 fault of input or output, 2 usage, 5 no memory";
 
@@ -127,6 +128,17 @@ fn path_argument<'a>(alloc: Global, name: &'a str, shown: &'a str, help: &'a str
         .action(ArgAction::Set)
 }
 
+/// An option with a value, by its name behind two hyphens.
+fn option_argument<'a>(alloc: Global, name: &'a str, shown: &'a str, help: &'a str) -> Arg<'a>
+    ensures { (rule_of result ≡ option_rule name.now) × (result.global ≡ false) }
+{
+    Arg::new(alloc, name)
+        .long(name)
+        .value_name(shown)
+        .help(help)
+        .action(ArgAction::Set)
+}
+
 /// `IMAGE`
 fn image_argument<'a>(alloc: Global) -> Arg<'a>
     ensures { (rule_of result ≡ image_rule) × (result.global ≡ false) }
@@ -170,69 +182,68 @@ fn calls_argument<'a>(alloc: Global) -> Arg<'a>
 fn script_argument<'a>(alloc: Global) -> Arg<'a>
     ensures { (rule_of result ≡ script_rule) × (result.global ≡ false) }
 {
-    path_argument(
+    option_argument(
         alloc,
         "script",
         "FILE",
         "the script of a debugger, one command a line",
     )
-    .long("script")
 }
 
 /// `--lines FILE`
 fn lines_argument<'a>(alloc: Global) -> Arg<'a>
     ensures { (rule_of result ≡ lines_rule) × (result.global ≡ false) }
 {
-    Arg::new(alloc, "lines")
-        .long("lines")
-        .value_name("FILE")
-        .help("console lines that are read behind the image")
-        .action(ArgAction::Set)
+    option_argument(
+        alloc,
+        "lines",
+        "FILE",
+        "console lines that are read behind the image",
+    )
 }
 
 /// `--see NAME`
 fn see_argument<'a>(alloc: Global) -> Arg<'a>
     ensures { (rule_of result ≡ see_rule) × (result.global ≡ false) }
 {
-    Arg::new(alloc, "see")
-        .long("see")
-        .value_name("NAME")
-        .help("prints the word of this name behind what the run prints")
-        .action(ArgAction::Set)
+    option_argument(
+        alloc,
+        "see",
+        "NAME",
+        "prints the word of this name behind what the run prints",
+    )
 }
 
 /// `--answers FILE`
 fn answers_argument<'a>(alloc: Global) -> Arg<'a>
     ensures { (rule_of result ≡ answers_rule) × (result.global ≡ false) }
 {
-    Arg::new(alloc, "answers")
-        .long("answers")
-        .value_name("FILE")
-        .help("what is answered, one a line")
-        .action(ArgAction::Set)
+    option_argument(alloc, "answers", "FILE", "what is answered, one a line")
 }
 
 /// `--board FILE`
 fn board_argument<'a>(alloc: Global) -> Arg<'a>
     ensures { (rule_of result ≡ board_rule) × (result.global ≡ false) }
 {
-    Arg::new(alloc, "board")
-        .long("board")
-        .value_name("FILE")
-        .help("the devices of the board, one a line")
-        .action(ArgAction::Set)
+    option_argument(
+        alloc,
+        "board",
+        "FILE",
+        "the devices of the board, one a line",
+    )
 }
 
 /// `--output FILE`, or `-o FILE`
 fn output_argument<'a>(alloc: Global) -> Arg<'a>
     ensures { (rule_of result ≡ output_rule) × (result.global ≡ false) }
 {
-    Arg::new(alloc, "output")
-        .long("output")
-        .short('o')
-        .value_name("FILE")
-        .help("writes the image to this file, as bytes, and prints nothing")
-        .action(ArgAction::Set)
+    option_argument(
+        alloc,
+        "output",
+        "FILE",
+        "writes the image to this file, as bytes, and prints nothing",
+    )
+    .short('o')
 }
 
 /// `--limit N`, from 0 to 1,000,000,000
@@ -343,15 +354,20 @@ fn console_command<'a>(alloc: Global) -> Result<Command<'a>, AllocError>
         .arg(limit_argument(alloc))
 }
 
-/// `ofw debug IMAGE --script FILE [--lines FILE] [--answers FILE] [--limit N]`
+/// `ofw debug IMAGE (--script FILE | --interactive) [--lines FILE] [--answers FILE] [--limit N]`
 fn debug_command<'a>(alloc: Global) -> Result<Command<'a>, AllocError>
     ensures { IfOk result (IsBuilt debug_app) }
 {
     Command::new(alloc, "debug")
-        .about("Runs an image under a debugger's script")
+        .about("Runs an image under a debugger")
         .after_help(DEBUG_HELP)
         .arg(image_argument(alloc))?
         .arg(script_argument(alloc))?
+        .arg(flag(
+            alloc,
+            "interactive",
+            "reads the commands from the standard input",
+        ))?
         .arg(lines_argument(alloc))?
         .arg(answers_argument(alloc))?
         .arg(limit_argument(alloc))
@@ -539,13 +555,25 @@ fn console_request<'a>(matches: &ArgMatches<'a>) -> Request<'a>
     }
 }
 
+/// What is to lead a debugger: a script or the terminal; nothing, where both are given, or none.
+fn guide<'a>(matches: &ArgMatches<'a>) -> Option<Guide<'a>>
+    ensures { option_map guide_shown result ≡ guide_in (rows_of (found_of matches.now)) }
+{
+    match (value(matches, "script"), has_flag(matches, "interactive")) {
+        (Some(path), false) => Some(Guide::Script(path)),
+        (None, true) => Some(Guide::Terminal),
+        (Some(_), true) => None,
+        (None, false) => None,
+    }
+}
+
 /// What `debug` asks for with an image.
 fn debug_request<'a>(image: &'a str, matches: &ArgMatches<'a>) -> Option<Request<'a>>
     ensures { option_map asked result ≡ debug_asked (rows_of (found_of matches.now)) image.now }
 {
     Some(Request::Debug {
         image,
-        script: value(matches, "script")?,
+        guide: guide(matches)?,
         lines: value(matches, "lines"),
         answers: value(matches, "answers"),
         limit: step_limit(matches),
@@ -626,10 +654,11 @@ fn request_of<'a>(name: &str, matches: &ArgMatches<'a>) -> Option<Request<'a>>
 
 /// What the words of a command line ask for, the program's name first.
 ///
-/// An error is a call for help or a fault of the words: another subcommand or option, a word too
-/// many, no image, no file of calls for `client`, no script for `debug`, a limit given twice or one that is no number
-/// from 0 to 1,000,000,000. `None` stands for a run with a file of answers and one of devices, of which one alone can
-/// answer, and for a listing of definitions with what is said of tokens.
+/// An error is a call for help or a fault of the words: another subcommand or option, a word too many, no image, no
+/// file of calls for `client`, a limit given twice or one that is no number from 0 to 1,000,000,000. `None` stands for
+/// a run with a file of answers and one of devices, of which one alone can answer, for a debugger with a script and a
+/// terminal, of which one alone can lead it, or with none of these, and for a listing of definitions with what is said
+/// of tokens.
 #[tactic(auto, using(crate::proofs::Requests::ofw_is_simple, crate::proofs::Requests::ofw_is_free))]
 pub fn parse<'a>(alloc: Global, words: &'a [String]) -> Result<Option<Request<'a>>, Error>
     ensures ok { IfOk result (λ request. option_map asked request ≡ asks (map string_bytes words.now)) }

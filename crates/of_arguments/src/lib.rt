@@ -8,5 +8,5 @@ mod status;
 
 pub use arguments::{parse, status_of};
 pub use laws::lines_ask;
-pub use request::{Listing, Listings, Outside, Request};
+pub use request::{Guide, Listing, Listings, Outside, Request};
 pub use status::Status;

@@ -33,6 +33,15 @@ pub enum Listing {
     Definitions,
 }
 
+/// What leads a debugger.
+#[derive(Clone, Copy)]
+pub enum Guide<'a> {
+    /// The script at a path.
+    Script(&'a str),
+    /// The commands on the standard input, as they come.
+    Terminal,
+}
+
 /// What the arguments ask for.
 #[derive(Clone, Copy)]
 pub enum Request<'a> {
@@ -77,12 +86,12 @@ pub enum Request<'a> {
         /// How many steps are made at most for the image, and for each line.
         limit: u64,
     },
-    /// Run an image under a debugger's script.
+    /// Run an image under a debugger.
     Debug {
         /// The path of the image.
         image: &'a str,
-        /// The path of the script.
-        script: &'a str,
+        /// What leads the debugger.
+        guide: Guide<'a>,
         /// The path of the file of console lines that are read behind the image, if there is one.
         lines: Option<&'a str>,
         /// The path of the file of answers, if there is one.

@@ -154,6 +154,7 @@ unwritten_begins fault.NoWord unwritten = refl
 unwritten_begins fault.OutputIsSource unwritten = refl
 unwritten_begins fault.TwoOutsides unwritten = refl
 unwritten_begins fault.TwoListings unwritten = refl
+unwritten_begins fault.NoGuide unwritten = refl
 unwritten_begins (fault.Unwritten code) unwritten = refl
 unwritten_begins (fault.Unkept code) unwritten = refl
 unwritten_begins fault.NoMemory unwritten = refl

@@ -5,4 +5,5 @@ pub mod Faults
 pub mod Seen
 pub mod Sessions
 pub mod Parts
+pub mod Prompted
 pub mod Stopped

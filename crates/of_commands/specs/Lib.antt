@@ -3,6 +3,7 @@ pub mod Consoles
 pub mod Debugs
 pub mod Definitions
 pub mod Listings
+pub mod Prompts
 pub mod Runs
 pub mod States
 pub mod GivenUp

@@ -11,7 +11,8 @@ ghost use Rattle.of_monitor.specs.Sessions.{entry};
 ghost use Rattle.of_files.specs.Faults.{IsUnwritten};
 ghost use Rattle.of_files.specs.Messages.{AppendsPart};
 ghost use Rattle.of_commands.specs.Consoles.{behind_image, image_of, line_in, printed_since, prompt, session_text};
-ghost use Rattle.of_commands.specs.GivenUp.{AnswersConsole, Converses, IsUnanswered, IsUnawaited, IsUnrun, StopsBehind};
+ghost use Rattle.of_commands.specs.GivenUp.{AnswersConsole, Converses, IsUnanswered, IsUnawaited, IsUnread, IsUnrun};
+ghost use Rattle.of_commands.specs.GivenUp.{StopsBehind};
 ghost use Rattle.of_commands.specs.Listings.{newline_behind};
 
 use crate::listings::ends_line;
@@ -45,7 +46,11 @@ fn text_since(machine: &ScriptMachine, before: usize) -> &[u8]
 }
 
 /// Prints what a machine has printed behind so many bytes, and ends its last line.
-fn print_since<W: Write>(machine: &ScriptMachine, before: usize, out: &mut W) -> Result<(), Fault>
+pub(crate) fn print_since<W: Write>(
+    machine: &ScriptMachine,
+    before: usize,
+    out: &mut W,
+) -> Result<(), Fault>
     ensures ok { OnOk result (let text = drop before machine.now.eval.board.console.text in
         Appends (W.contents out.old) (W.contents out.new) (text ++ newline_behind text)) }
     ensures err { OnErr result (let text = drop before machine.now.eval.board.console.text in
@@ -71,7 +76,7 @@ fn without(line: &[u8], byte: u8) -> &[u8]
 }
 
 /// A line without its end, `\n` or `\r\n`, if it has one.
-fn without_end(line: &[u8]) -> &[u8]
+pub(crate) fn without_end(line: &[u8]) -> &[u8]
     ensures { result.now ≡ line_in line.now }
 {
     let rest = without(line, b'\n');
@@ -79,6 +84,23 @@ fn without_end(line: &[u8]) -> &[u8]
         return without(rest, b'\r');
     }
     line
+}
+
+/// Reads a line with its end; answers whether there is one.
+pub(crate) fn read_line<L: BufRead>(lines: &mut L, line: &mut Vec<u8>) -> Result<bool, Fault>
+    ensures some { IfOk result (λ some. some ≡ not (length line.new.items == 0)) }
+    ensures read { OnOk result (IfSome (L.remaining lines.old) (λ bytes. line.new.items ≡ take_through 10 bytes)) }
+    ensures rest { OnOk result (DropsThrough (L.remaining lines.old) (L.remaining lines.new) 10) }
+    ensures err { IfErr result IsUnread }
+{
+    line.clear();
+    match lines.read_until(b'\n', line) {
+        Ok(_) => Ok(!line.is_empty()),
+        Err(error) => match error.kind() {
+            ErrorKind::OutOfMemory => Err(Fault::NoMemory),
+            _ => Err(Fault::Unread(error.raw_os_error())),
+        },
+    }
 }
 
 /// Shows that a line is awaited, and reads it with its end; answers whether there is one.
@@ -96,13 +118,9 @@ fn await_line<L: BufRead, W: Write>(
 {
     write_whole(out, b"ok ")?;
     let _ = out.flush();
-    line.clear();
-    match lines.read_until(b'\n', line) {
-        Ok(_) => Ok(!line.is_empty()),
-        Err(error) => match error.kind() {
-            ErrorKind::OutOfMemory => Err(Fault::NoMemory),
-            _ => Err(Fault::Unread(error.raw_os_error())),
-        },
+    match read_line(lines, line) {
+        Ok(some) => Ok(some),
+        Err(fault) => Err(fault),
     }
 }
 
@@ -296,10 +314,19 @@ fn converse<L: BufRead, W: Write, E: Write>(
     }
 }
 
+/// The file that a fault is of: the image at a path, or the standard input, whose lines can't be read.
+pub(crate) fn blamed(path: &str, fault: Fault) -> &str {
+    match fault {
+        Fault::Unread(_) | Fault::Endless => "standard input",
+        _ => path,
+    }
+}
+
 /// Runs an image, if there is one, and then lines, each as soon as it is read, up to the end of the input, and gives
 /// the status. What a line prints is printed, on lines of its own, and `ok` where the next one is awaited.
 ///
-/// What is wrong is said on the error output: with the image behind its path; why a line was refused, which changes
+/// What is wrong is said on the error output: with the image behind its path, with the lines as of the standard input;
+/// why a line was refused, which changes
 /// nothing; and that a line has made as many steps as are allowed, where an empty line lets it go on.
 #[tactic(auto, using(crate::proofs::Stopped::ended, crate::proofs::Stopped::reported))]
 pub fn console<L: BufRead, W: Write, E: Write>(
@@ -318,6 +345,6 @@ pub fn console<L: BufRead, W: Write, E: Write>(
     };
     match converse(alloc, console, lines, out, errors) {
         Ok(status) => status,
-        Err(fault) => report(path, fault, errors),
+        Err(fault) => report(blamed(path, fault), fault, errors),
     }
 }

@@ -9,9 +9,11 @@ mod engine;
 mod explain;
 mod listings;
 mod places;
+mod prompts;
 mod state;
 
 pub use clients::{ClientRun, client};
 pub use consoles::{ConsoleRun, console};
 pub use debugs::{DebugRun, debug};
 pub use engine::{Run, answer};
+pub use prompts::{PromptRun, follow, prompt};

@@ -223,8 +223,7 @@ fn say_more<E: Write>(count: usize, errors: &mut E) -> io::Result<()> {
 
 /// Says what is on the return stack by names, the top first, if anything is there: items that called words, loops with
 /// their index and limit, cells, and what else goes on; of more than 16 the first, and how many more there are.
-pub(crate) fn say_returns<E: Write>(
-    path: &str,
+pub(crate) fn say_return_items<E: Write>(
     machine: &ScriptMachine,
     errors: &mut E,
 ) -> io::Result<()> {
@@ -232,7 +231,7 @@ pub(crate) fn say_returns<E: Write>(
     if count == 0 {
         return Ok(());
     }
-    write!(errors, "ofw: {path}: return stack: ")?;
+    write!(errors, "return stack: ")?;
     let mut said = 0usize;
     for item in machine.returns().iter().rev() {
         if said >= MOST_ITEMS || !is_said(machine, *item) {
@@ -245,4 +244,17 @@ pub(crate) fn say_returns<E: Write>(
         say_item(machine, *item, errors)?;
     }
     say_more(count, errors)
+}
+
+/// The same behind the path of an image.
+pub(crate) fn say_returns<E: Write>(
+    path: &str,
+    machine: &ScriptMachine,
+    errors: &mut E,
+) -> io::Result<()> {
+    if said_count(machine) == 0 {
+        return Ok(());
+    }
+    write!(errors, "ofw: {path}: ")?;
+    say_return_items(machine, errors)
 }

@@ -111,6 +111,13 @@ impl<'a, C: CodeStore> Debugger<'a, C> {
         (self.feeder.made(), self.feeder.machine())
     }
 
+    /// The items that are marked, those that were marked first first.
+    pub fn marks(&self) -> &[Mark]
+        ensures { result.now ≡ self.now.marks }
+    {
+        self.marks.as_slice()
+    }
+
     /// Gives the machine back.
     pub fn into_machine(self) -> Machine<C>
         ensures { result ≡ self.entry.feed.machine }

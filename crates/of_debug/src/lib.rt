@@ -12,3 +12,4 @@ mod marks;
 pub use debugger::Debugger;
 pub use fault::DebugFault;
 pub use laws::{calls_stop_first, debugged_runs_agree, due_is_left, shown_states_are_the_runs};
+pub use marks::Mark;

@@ -14,11 +14,11 @@ pub(crate) type Marks = ArrayVec<Mark, MOST_MARKS>;
 
 /// An item of a finished colon definition at which `go` stops.
 #[derive(Clone, Copy, Default)]
-pub(crate) struct Mark {
+pub struct Mark {
     /// The definition's execution token.
-    pub(crate) xt: Cell,
+    pub xt: Cell,
     /// The item's number in it, from 0.
-    pub(crate) item: usize,
+    pub item: usize,
 }
 
 /// Whether two marks are of one item.

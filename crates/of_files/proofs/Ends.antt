@@ -43,5 +43,6 @@ not_done fault.NoWord = refl
 not_done fault.OutputIsSource = refl
 not_done fault.TwoOutsides = refl
 not_done fault.TwoListings = refl
+not_done fault.NoGuide = refl
 not_done (fault.Unwritten code) = refl
 not_done (fault.Unkept code) = refl

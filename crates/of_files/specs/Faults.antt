@@ -54,6 +54,7 @@ status_of fault.NoWord = status.Fault
 status_of fault.OutputIsSource = status.Usage
 status_of fault.TwoOutsides = status.Usage
 status_of fault.TwoListings = status.Usage
+status_of fault.NoGuide = status.Usage
 status_of (fault.Unwritten code) = status.Fault
 status_of (fault.Unkept code) = status.Fault
 

@@ -99,6 +99,9 @@ pub enum Fault {
     /// The definitions of an image are asked for, and what is said of its tokens.
     #[error("--see excludes --names and --indent")]
     TwoListings,
+    /// A debugger is to be led by a script and by the terminal, or by none of both.
+    #[error("a debugger is led by --script or by --interactive")]
+    NoGuide,
     /// A write failed, with the system's number of the reason.
     #[error("the output can't be written")]
     Unwritten(Option<i32>),
@@ -377,6 +380,7 @@ impl Fault {
             Fault::OutputIsSource => Status::Usage,
             Fault::TwoOutsides => Status::Usage,
             Fault::TwoListings => Status::Usage,
+            Fault::NoGuide => Status::Usage,
             Fault::Unwritten(_) => Status::Fault,
             Fault::Unkept(_) => Status::Fault,
         }

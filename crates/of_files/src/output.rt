@@ -100,9 +100,11 @@ fn say_other<E: Write>(path: &str, fault: Fault, errors: &mut E) -> io::Result<(
             writeln!(errors, "ofw: {path}: {reason}")
         }
         Fault::GivenUp(fault) => say_given_up(path, fault, errors),
-        Fault::ArgumentNotText | Fault::NoMemory | Fault::TwoOutsides | Fault::TwoListings => {
-            writeln!(errors, "ofw: {fault}")
-        }
+        Fault::ArgumentNotText
+        | Fault::NoMemory
+        | Fault::TwoOutsides
+        | Fault::TwoListings
+        | Fault::NoGuide => { writeln!(errors, "ofw: {fault}") }
         _ => writeln!(errors, "ofw: {path}: {fault}"),
     }
 }

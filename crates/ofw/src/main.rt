@@ -2,10 +2,10 @@
 #![tactic(auto)]
 
 use clap::Error;
-use of_arguments::{Listings, Outside as Asked, Request, Status, parse, status_of};
+use of_arguments::{Guide, Listings, Outside as Asked, Request, Status, parse, status_of};
 use of_asking::Answer;
 use of_calls::ScriptCommand;
-use of_commands::{ClientRun, ConsoleRun, DebugRun, Run};
+use of_commands::{ClientRun, ConsoleRun, DebugRun, PromptRun, Run};
 use of_devices::{Board, standard_board};
 use of_files::{Fault, Messages};
 use of_runs::{Answerer, Outside};
@@ -271,7 +271,7 @@ fn read_script(rt: &HostRuntime, path: &str) -> Result<Vec<ScriptCommand>, Statu
     }
 }
 
-/// What an image runs with under a script, read whole.
+/// What an image runs with under a debugger, read whole.
 #[derive(Drop)]
 struct Debugged {
     /// The image.
@@ -280,17 +280,14 @@ struct Debugged {
     lines: Vec<Vec<u8>>,
     /// What is answered, in order.
     answers: Vec<Answer>,
-    /// The commands of the script.
-    commands: Vec<ScriptCommand>,
 }
 
-/// Reads the files with which an image runs under a script.
+/// Reads the files with which an image runs under a debugger.
 fn read_debugged(
     rt: &HostRuntime,
     image: &str,
     lines: Option<&str>,
     answers: Option<&str>,
-    script: &str,
 ) -> Result<Debugged, Status> {
     let image = read_rom(rt, image)?;
     let lines = read_lines(rt, lines)?;
@@ -298,17 +295,19 @@ fn read_debugged(
         Some(path) => read_answers(rt, path)?,
         None => Vec::new(rt.alloc()),
     };
-    let commands = read_script(rt, script)?;
     Ok(Debugged {
         image,
         lines,
         answers,
-        commands,
     })
 }
 
 /// Runs an image under a script.
 fn debug(rt: &HostRuntime, path: &str, script: &str, limit: u64, debugged: &Debugged) -> Status {
+    let commands = match read_script(rt, script) {
+        Ok(commands) => commands,
+        Err(status) => return status,
+    };
     let run = DebugRun {
         path,
         image: &debugged.image,
@@ -316,10 +315,26 @@ fn debug(rt: &HostRuntime, path: &str, script: &str, limit: u64, debugged: &Debu
         answers: &debugged.answers,
         limit,
         script,
-        commands: &debugged.commands,
+        commands: &commands,
     };
     let (mut out, mut errors) = (rt.stdout(), messages(rt));
     of_commands::debug(rt.alloc(), run, &mut out, &mut errors)
+}
+
+/// Runs an image under commands that are lines of the standard input.
+fn prompt(rt: &HostRuntime, path: &str, limit: u64, debugged: &Debugged) -> Status {
+    let Ok(mut lines) = BufReader::new(rt.alloc(), rt.stdin()) else {
+        return report(rt, "", Fault::NoMemory);
+    };
+    let run = PromptRun {
+        path,
+        image: &debugged.image,
+        lines: &debugged.lines,
+        answers: &debugged.answers,
+        limit,
+    };
+    let (mut out, mut errors) = (rt.stdout(), messages(rt));
+    of_commands::prompt(rt.alloc(), run, &mut lines, &mut out, &mut errors)
 }
 
 /// Does with a file what was asked for.
@@ -419,12 +434,15 @@ fn answer(rt: &HostRuntime, request: Request) -> Status {
         } => console(rt, image, board, limit),
         Request::Debug {
             image,
-            script,
+            guide,
             lines,
             answers,
             limit,
-        } => match read_debugged(rt, image, lines, answers, script) {
-            Ok(debugged) => debug(rt, image, script, limit, &debugged),
+        } => match read_debugged(rt, image, lines, answers) {
+            Ok(debugged) => match guide {
+                Guide::Script(script) => debug(rt, image, script, limit, &debugged),
+                Guide::Terminal => prompt(rt, image, limit, &debugged),
+            },
             Err(status) => status,
         },
         Request::Tok { source, .. } => translate(rt, source, false, request),
@@ -466,10 +484,12 @@ fn answer_nothing(rt: &HostRuntime, error: &Error) -> Status {
     }
 }
 
-/// The fault of words that ask for two things of which one alone can be had: a listing asks for others than a run.
+/// The fault of words that ask for two things of which one alone can be had, or of which one must be: a listing asks
+/// for others than a run or a debugger.
 fn excluded(words: &[String]) -> Fault {
     match words.get(1) {
         Some(name) if name.as_str() == "detok" => Fault::TwoListings,
+        Some(name) if name.as_str() == "debug" => Fault::NoGuide,
         _ => Fault::TwoOutsides,
     }
 }

@@ -1,6 +1,6 @@
 use crate::shared::{requested, words_of};
 use crate::tables::{Rows, check, halves};
-use of_arguments::{Listing, Listings, Outside, Request, lines_ask};
+use of_arguments::{Guide, Listing, Listings, Outside, Request, lines_ask};
 use std::alloc::{AllocError, Global};
 use std::test::Fail;
 
@@ -82,6 +82,8 @@ ofw console a.hex b.hex:
 ofw console --lines a.lines:
 ofw console --limit 1000000001:
 ofw debug a.hex --script a.script:debug a.hex a.script 1000000
+ofw debug a.hex --interactive:debug a.hex the terminal 1000000
+ofw debug a.hex --interactive --script a.script:
 ofw debug --lines a.lines a.hex --script a.s --answers a.a --limit 5:debug a.hex a.s answers a.a 5 lines a.lines
 ofw debug a.hex:
 ofw debug a.hex --script a.script --script b.script:
@@ -121,7 +123,6 @@ ofw tok:Some(Usage)
 ofw client --help:Some(Done)
 ofw client a.hex:Some(Usage)
 ofw debug --help:Some(Done)
-ofw debug a.hex:Some(Usage)
 ofw debug a.hex --script a.script --board a.board:Some(Usage)
 ofw run a.hex --steps 5:Some(Usage)
 ofw run a.hex:None
@@ -186,7 +187,15 @@ fn push_console(
     write!(text, " {limit}")
 }
 
-/// Appends what a run under a script asks for.
+/// What leads a debugger.
+fn guide_text(guide: Guide<'_>) -> &str {
+    match guide {
+        Guide::Script(path) => path,
+        Guide::Terminal => "the terminal",
+    }
+}
+
+/// Appends what a run under a debugger asks for.
 fn push_debug(
     text: &mut String,
     (image, script): (&str, &str),
@@ -284,11 +293,11 @@ fn push_request(text: &mut String, request: Request) -> Result<(), AllocError> {
         } => push_console(text, image.unwrap_or("no image"), board, limit),
         Request::Debug {
             image,
-            script,
+            guide,
             lines,
             answers,
             limit,
-        } => push_debug(text, (image, script), lines, answers, limit),
+        } => push_debug(text, (image, guide_text(guide)), lines, answers, limit),
         Request::Tok { source, output } => push_tok(text, source, output),
         Request::Detok {
             image,

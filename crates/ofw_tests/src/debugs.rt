@@ -74,7 +74,7 @@ fn had<T: Drop>(read: Result<T, Status>) -> Result<T, Fail> {
 }
 
 /// A field of a case, by its place.
-fn field(case: &str, place: usize) -> &str {
+pub(crate) fn field(case: &str, place: usize) -> &str {
     case.split('|').nth(place).unwrap_or("")
 }
 
@@ -92,14 +92,14 @@ fn script_in(alloc: Global, text: &str, errors: &mut Screen) -> Result<Vec<Scrip
 
 /// What is run under a script.
 #[derive(Drop)]
-struct Subject {
-    image: Vec<u8>,
-    lines: Vec<Vec<u8>>,
-    answers: Vec<Answer>,
+pub(crate) struct Subject {
+    pub(crate) image: Vec<u8>,
+    pub(crate) lines: Vec<Vec<u8>>,
+    pub(crate) answers: Vec<Answer>,
 }
 
 /// What a case says that is run, each part from its file.
-fn subject_of(alloc: Global, case: &str, errors: &mut Screen) -> Result<Subject, Fail> {
+pub(crate) fn subject_of(alloc: Global, case: &str, errors: &mut Screen) -> Result<Subject, Fail> {
     Ok(Subject {
         image: had(image_in(alloc, image_of(field(case, 0)), errors))?,
         lines: had(lines_in(alloc, field(case, 1), errors))?,

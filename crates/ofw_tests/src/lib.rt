@@ -24,6 +24,8 @@ mod listings;
 #[cfg(test)]
 mod pages;
 #[cfg(test)]
+mod prompts;
+#[cfg(test)]
 mod shared;
 #[cfg(test)]
 mod tables;

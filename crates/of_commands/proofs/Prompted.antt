@@ -1,0 +1,184 @@
+-- The lines of a debugger, one after the other.
+use Rattle.std.proofs.Common.{◌≡◌, ◌≢◌, ℕ, zero, suc, ◌<◌, ◌⊎◌, List, [], ◌∷◌, ◌++◌, length, Option, Some, None, IfSome}
+use Rattle.std.proofs.Common.{refl, sym, ap, subst, ◌∙◌, inl, inr, drop, Ok, Result, ◌==◌, not, true, true≢false}
+use Rattle.std.proofs.Common.{arith}
+use Rattle.std.proofs.lemmas.List.{append-nil}
+use Rattle.std.proofs.KnownBytes.{Appends-nil, Appends-trans}
+use Rattle.std.specs.Prelude.{codes, ⊤}
+use Rattle.std.specs.Io.BufRead.{DropsThrough, drop_through, take_through}
+use Rattle.std.specs.Io.KnownBytes.{Appends}
+use Rattle.of_calls.specs.Scripts.{Scripted, parsed_script}
+use Rattle.of_calls.specs.declared.fault.TextFault.{TextFault}
+use Rattle.of_compile.specs.Coding.{Coding}
+use Rattle.of_debug.specs.Debugging.{Debugged}
+use Rattle.of_machine.specs.States.{MachineState}
+use Rattle.of_script.specs.Scripts.{Plays}
+use Rattle.of_script.specs.declared.fault.ScriptFault.{ScriptFault}
+use Rattle.of_commands.specs.Consoles.{line_in, printed_since}
+use Rattle.of_commands.specs.Listings.{newline_behind}
+use Rattle.of_commands.specs.Prompts.{AreDone, CarriesOut, FollowsAll, FollowsSome, Obeys, ObeysRead, Prints}
+use Rattle.of_commands.specs.Prompts.{command_prompt}
+use Rattle.of_commands.proofs.Sessions.{read_nothing, some_read}
+
+-- ---- a line
+
+-- what is shown was printed
+pub printed : (old new : Option (List ℕ)) (text : List ℕ) → Appends old new text → Prints old new (λ said. ⊤)
+printed old new text out = (text, out, tt)
+
+-- what the machine has printed since, as the two states say it
+pub printed_between : (old new x y : MachineState Coding) (seen : List ℕ) (a b : Option (List ℕ)) → x ≡ old
+    → seen ≡ x.eval.board.console.text → y ≡ new
+    → Appends a b (let t = drop (length seen) y.eval.board.console.text in t ++ newline_behind t)
+    → Appends a b (printed_since old new)
+printed_between old new x y seen a b is_old is_seen is_new h =
+    let count : length seen ≡ length old.eval.board.console.text =
+    ap length (is_seen ∙ ap (λ (m : MachineState Coding). m.eval.board.console.text) is_old) in
+    subst
+    (λ (m : MachineState Coding).
+    Appends a b
+    (let t = drop (length old.eval.board.console.text) m.eval.board.console.text in t ++ newline_behind t))
+    is_new
+    (subst (λ n. Appends a b (let t = drop n y.eval.board.console.text in t ++ newline_behind t)) count h)
+
+-- what the machine printed, the states, and why the command wasn't carried out stand one behind the other
+pub carried : (commands : List Scripted) (old new : Debugged) (text said : List ℕ) (wrong : Option ScriptFault)
+    (a b c d : Option (List ℕ)) → Plays 1 commands old new text wrong
+    → Appends a b (printed_since old.feed.machine new.feed.machine) → Appends b c text → Appends c d said
+    → (wrong ≡ None → said ≡ []) → Prints a d (CarriesOut commands old new)
+carried commands old new text said wrong a b c d played first second third none =
+    let console = printed_since old.feed.machine new.feed.machine in (
+      console ++ (text ++ said),
+      Appends-trans a b d console (text ++ said) first (Appends-trans b c d text said second third),
+      (text, wrong, played, λ e. ap (λ t. console ++ (text ++ t)) (none e) ∙ ap (λ t. console ++ t) (append-nil text)),
+    )
+
+-- the same whatever was printed
+pub carried_unsaid : (commands : List Scripted) (old new : Debugged) (text : List ℕ) (wrong : Option ScriptFault)
+    → Plays 1 commands old new text wrong → (said : List ℕ) × CarriesOut commands old new said
+carried_unsaid commands old new text wrong played =
+    (printed_since old.feed.machine new.feed.machine ++ text, (text, wrong, played, λ e. refl))
+
+-- a line with these commands is obeyed where they are carried out
+pub obeyed : (line : List ℕ) (commands : List Scripted) (old new : Debugged) → parsed_script line ≡ Ok commands
+    → (said : List ℕ) × CarriesOut commands old new said → (said : List ℕ) × Obeys line old new said
+obeyed line commands old new e p =
+    (p.0, subst (λ (r : Result (List Scripted) TextFault). ObeysRead r old new p.0) (sym e) p.1)
+
+-- ---- lines
+
+-- Some lines were done, and the others are left.
+pub record IsAt (bytes rest : List ℕ) (old new : Option (List ℕ)) (x y : Debugged) : Type 0 where
+  pub made : ℕ
+  pub done : List ℕ
+  pub there : AreDone made bytes x done rest y
+  pub gone : Appends old new done
+
+-- the same of the bytes that a reader is known to have
+abbrev pub IsAtKnown :
+    Option (List ℕ) → Option (List ℕ) → Option (List ℕ) → Option (List ℕ) → Debugged → Debugged → Type 0
+IsAtKnown None left old new x y = Unit {0}
+IsAtKnown (Some bytes) None old new x y = ⊥
+IsAtKnown (Some bytes) (Some rest) old new x y = IsAt bytes rest old new x y
+
+pub begins : (known out : Option (List ℕ)) (x : Debugged) → IsAtKnown known known out out x x
+begins None out x = tt
+begins (Some bytes) out x = record { made = 0; done = []; there = (refl, refl, refl); gone = Appends-nil out }
+
+goes_at : (bytes rest said : List ℕ) (old mid new last : Option (List ℕ)) (x y z : Debugged)
+    → IsAt bytes rest old mid x y → 0 < length rest → Appends mid new command_prompt → Appends new last said
+    → line_in (take_through 10 rest) ≢ codes "quit" → Obeys (line_in (take_through 10 rest)) y z said
+    → IsAt bytes (drop_through 10 rest) old last x z
+goes_at bytes rest said old mid new last x y z at some shown out other obeyed = record {
+  made = suc at.made;
+  done = at.done ++ (command_prompt ++ said);
+  there = (at.done, rest, y, command_prompt ++ said, at.there, (said, some, refl, other, obeyed, refl), refl);
+  gone =
+      Appends-trans old mid last at.done (command_prompt ++ said) at.gone
+      (Appends-trans mid new last command_prompt said shown out);
+}
+
+-- a line that was read
+pub some_line : (n : ℕ) → true ≡ not (n == 0) → 0 < n
+some_line zero e = absurd (true≢false e)
+some_line (suc n) e = omega arith
+
+-- a line more
+pub goes_on : (known left after old mid new last : Option (List ℕ)) (line seen short : List ℕ) (x y z : Debugged)
+    → IsAtKnown known left old mid x y → 0 < length line → IfSome left (λ rest. line ≡ take_through 10 rest)
+    → DropsThrough left after 10 → Appends mid new command_prompt → seen ≡ line → short ≡ line_in seen
+    → short ≢ codes "quit" → Prints new last (Obeys short y z) → IsAtKnown known after old last x z
+goes_on None left after old mid new last line seen short x y z at some read drops shown s l other p = tt
+goes_on (Some bytes) None after old mid new last line seen short x y z at some read drops shown s l other p = absurd at
+goes_on (Some bytes) (Some rest) after old mid new last line seen short x y z at some read drops shown s l other p =
+    let here : short ≡ line_in (take_through 10 rest) = l ∙ ap line_in (s ∙ read) in
+    let more : 0 < length rest = some_read rest (subst (λ t. 0 < length t) read some) in
+    subst (λ a. IsAtKnown (Some bytes) a old last x z) (sym drops)
+    (goes_at bytes rest p.0 old mid new last x y z at more shown p.1 (λ e. other (here ∙ e))
+    (subst (λ t. Obeys t y z p.0) here p.2))
+
+-- what was printed last
+joined : (done end : List ℕ) (old mid new last : Option (List ℕ)) → Appends old mid done
+    → Appends mid new command_prompt → Appends new last end → Appends old last (done ++ (command_prompt ++ end))
+joined done end old mid new last gone shown ended =
+    Appends-trans old mid last done (command_prompt ++ end) gone
+    (Appends-trans mid new last command_prompt end shown ended)
+
+-- at the end of the input
+pub ends : (known left old mid new last : Option (List ℕ)) (line : List ℕ) (x y : Debugged)
+    → IsAtKnown known left old mid x y → length line ≡ 0 → IfSome left (λ rest. line ≡ take_through 10 rest)
+    → Appends mid new command_prompt → Appends new last (10 ∷ [])
+    → IfSome known (λ bytes. FollowsAll bytes x y old last)
+ends None left old mid new last line x y at none read shown ended = tt
+ends (Some bytes) None old mid new last line x y at none read shown ended = absurd at
+ends (Some bytes) (Some rest) old mid new last line x y at none read shown ended = (
+  at.made,
+  at.done,
+  rest,
+  10 ∷ [],
+  at.there,
+  inl (read_nothing rest (sym (ap length read) ∙ none), refl),
+  joined at.done (10 ∷ []) old mid new last at.gone shown ended,
+)
+
+-- behind `quit`
+pub quits : (known left old mid new : Option (List ℕ)) (line seen short : List ℕ) (x y : Debugged)
+    → IsAtKnown known left old mid x y → IfSome left (λ rest. line ≡ take_through 10 rest)
+    → Appends mid new command_prompt → seen ≡ line → short ≡ line_in seen → short ≡ codes "quit"
+    → IfSome known (λ bytes. FollowsAll bytes x y old new)
+quits None left old mid new line seen short x y at read shown s l q = tt
+quits (Some bytes) None old mid new line seen short x y at read shown s l q = absurd at
+quits (Some bytes) (Some rest) old mid new line seen short x y at read shown s l q = (
+  at.made,
+  at.done,
+  rest,
+  [],
+  at.there,
+  inr (ap line_in (sym (s ∙ read)) ∙ sym l ∙ q, refl),
+  joined at.done [] old mid new new at.gone shown (Appends-nil new),
+)
+
+-- where the next line can't be awaited, or is none
+pub stops : (known left old mid : Option (List ℕ)) (x y : Debugged) → IsAtKnown known left old mid x y
+    → IfSome known (λ bytes. FollowsSome bytes x y)
+stops None left old mid x y at = tt
+stops (Some bytes) None old mid x y at = absurd at
+stops (Some bytes) (Some rest) old mid x y at = (at.made, at.done, rest, y, at.there, inl refl)
+
+-- where it is given up
+pub breaks : (known left old mid : Option (List ℕ)) (line seen short : List ℕ) (x y z : Debugged)
+    → IsAtKnown known left old mid x y → IfSome left (λ rest. line ≡ take_through 10 rest) → seen ≡ line
+    → short ≡ line_in seen → (z ≡ y) ⊎ ((said : List ℕ) × Obeys short y z said)
+    → IfSome known (λ bytes. FollowsSome bytes x z)
+breaks None left old mid line seen short x y z at read s l h = tt
+breaks (Some bytes) None old mid line seen short x y z at read s l h = absurd at
+breaks (Some bytes) (Some rest) old mid line seen short x y z at read s l h =
+    (at.made, at.done, rest, y, at.there, by_case h)
+  where
+    here : short ≡ line_in (take_through 10 rest)
+    here = l ∙ ap line_in (s ∙ read)
+
+    by_case : (z ≡ y) ⊎ ((said : List ℕ) × Obeys short y z said)
+        → (z ≡ y) ⊎ ((said : List ℕ) × Obeys (line_in (take_through 10 rest)) y z said)
+    by_case (inl same) = inl same
+    by_case (inr p) = inr (p.0, subst (λ t. Obeys t y z p.0) here p.1)

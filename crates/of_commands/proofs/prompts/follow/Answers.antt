@@ -1,0 +1,63 @@
+use Rattle.std.proofs.Common.{rules, ◌≡◌, ◌≢◌, ◌∙◌, ◌<◌, codes, length, sym}
+use Rattle.std.proofs.lemmas.Result.{on_ok_weaker}
+use Rattle.of_commands.proofs.Parts.{on_err}
+use Rattle.of_commands.proofs.Prompted.{breaks, ends, goes_on, quits, some_line, stops}
+use Rattle.of_commands.proofs.prompts.follow.Goals as goal
+
+pub loop-preserved : goal.loop-preserved
+loop-preserved g c =
+    let some : 0 < length c.await_command.new.line.items =
+    some_line (length c.await_command.new.line.items)
+    (sym c.if-not-branch.false ∙ c.in_ok-await_command.ensures.some) in
+    let other : c.without_end-said.result.now ≢ codes "quit" = λ quit. search rules in
+    goes_on (g.L.Read.remaining c.args.lines.now) (g.L.Read.remaining c.loop.lines)
+    (g.L.Read.remaining c.await_command.new.lines) (g.W.Write.contents c.args.out.now) (g.W.Write.contents c.loop.out)
+    (g.W.Write.contents c.await_command.new.out) (g.W.Write.contents c.obey.new.out) c.await_command.new.line.items
+    c.deref.result.now c.without_end-said.result.now c.args.debugger.now c.loop.debugger c.obey.new.debugger
+    c.loop.invariant some c.in_ok-await_command.ensures.read c.in_ok-await_command.ensures.rest
+    c.in_ok-await_command.ensures.prompted c.deref.ensures.value c.without_end-said.ensures other
+    c.in_ok-obey.ensures.ok
+
+pub returns-then-not-branch-clause-ok : goal.returns-then-not-branch-clause-ok
+returns-then-not-branch-clause-ok g c =
+    let none : length c.await_command.new.line.items ≡ 0 = search rules in
+    on_ok_weaker c.write_whole.result
+    (ends (g.L.Read.remaining c.args.lines.now) (g.L.Read.remaining c.loop.lines) (g.W.Write.contents c.args.out.now)
+    (g.W.Write.contents c.loop.out) (g.W.Write.contents c.await_command.new.out)
+    (g.W.Write.contents c.write_whole.new.out) c.await_command.new.line.items c.args.debugger.now c.loop.debugger
+    c.loop.invariant none c.in_ok-await_command.ensures.read c.in_ok-await_command.ensures.prompted)
+    c.write_whole.ensures.ok
+
+pub returns-then-eq-clause-ok : goal.returns-then-eq-clause-ok
+returns-then-eq-clause-ok g c =
+    let quit : c.without_end-said.result.now ≡ codes "quit" = search rules in
+    quits (g.L.Read.remaining c.args.lines.now) (g.L.Read.remaining c.loop.lines) (g.W.Write.contents c.args.out.now)
+    (g.W.Write.contents c.loop.out) (g.W.Write.contents c.await_command.new.out) c.await_command.new.line.items
+    c.deref.result.now c.without_end-said.result.now c.args.debugger.now c.loop.debugger c.loop.invariant
+    c.in_ok-await_command.ensures.read c.in_ok-await_command.ensures.prompted c.deref.ensures.value
+    c.without_end-said.ensures quit
+
+pub returns-in_err-await_command-clause-err : goal.returns-in_err-await_command-clause-err
+returns-in_err-await_command-clause-err g c =
+    on_err c.from_residual.result
+    (stops (g.L.Read.remaining c.args.lines.now) (g.L.Read.remaining c.loop.lines) (g.W.Write.contents c.args.out.now)
+    (g.W.Write.contents c.loop.out) c.args.debugger.now c.loop.debugger c.loop.invariant)
+
+pub returns-then-not-branch-clause-err : goal.returns-then-not-branch-clause-err
+returns-then-not-branch-clause-err g c =
+    on_err c.write_whole.result
+    (stops (g.L.Read.remaining c.args.lines.now) (g.L.Read.remaining c.loop.lines) (g.W.Write.contents c.args.out.now)
+    (g.W.Write.contents c.loop.out) c.args.debugger.now c.loop.debugger c.loop.invariant)
+
+pub returns-in_err-obey-clause-err : goal.returns-in_err-obey-clause-err
+returns-in_err-obey-clause-err g c =
+    on_err c.from_residual-in_err-obey.result
+    (breaks (g.L.Read.remaining c.args.lines.now) (g.L.Read.remaining c.loop.lines) (g.W.Write.contents c.args.out.now)
+    (g.W.Write.contents c.loop.out) c.await_command.new.line.items c.deref.result.now c.without_end-said.result.now
+    c.args.debugger.now c.loop.debugger c.obey.new.debugger c.loop.invariant c.in_ok-await_command.ensures.read
+    c.deref.ensures.value c.without_end-said.ensures c.in_err-obey.ensures.err)
+
+pub returns-clause-err : goal.returns-clause-err
+returns-clause-err g c =
+    stops (g.L.Read.remaining c.args.lines.now) (g.L.Read.remaining c.loop.lines) (g.W.Write.contents c.args.out.now)
+    (g.W.Write.contents c.loop.out) c.args.debugger.now c.loop.debugger c.loop.invariant
