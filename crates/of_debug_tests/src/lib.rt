@@ -8,6 +8,8 @@ mod marks;
 #[cfg(test)]
 mod questions;
 #[cfg(test)]
+mod refused;
+#[cfg(test)]
 mod runs;
 #[cfg(test)]
 mod shared;

@@ -8,7 +8,7 @@ use of_cells::Cell;
 use of_client::{ClientCall, ClientReply};
 use of_machine::{Refusal, ScriptMachine, run_script};
 use of_nodes::Phandle;
-use std::alloc::Global;
+use std::alloc::{AllocError, Global};
 use std::test::Fail;
 
 /// Tokens that are run for `/slot`, and what a client asks then, before what it is answered: a number in 8 digits, and
@@ -78,12 +78,12 @@ fn node(digits: &str) -> Phandle {
 }
 
 /// A name, a path, or none.
-fn text(alloc: Global, word: &str) -> Result<Vec<u8>, Fail> {
-    Ok(Vec::from_slice(alloc, word.as_bytes())?)
+fn text(alloc: Global, word: &str) -> Result<Vec<u8>, AllocError> {
+    Vec::from_slice(alloc, word.as_bytes())
 }
 
 /// What a client asks with the words of a line.
-fn call_of(alloc: Global, line: &str) -> Result<ClientCall, Fail> {
+pub(crate) fn call_of(alloc: Global, line: &str) -> Result<ClientCall, AllocError> {
     let mut words = line.split_whitespace();
     let service = words.next().unwrap_or("");
     let first = words.next().unwrap_or("");

@@ -26,6 +26,8 @@ mod questions;
 #[cfg(test)]
 mod racks;
 #[cfg(test)]
+mod refused;
+#[cfg(test)]
 mod rows;
 #[cfg(test)]
 mod runs;

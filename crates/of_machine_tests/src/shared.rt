@@ -120,7 +120,7 @@ pub(crate) fn after_answers<T, F: FnOnce(&mut Run) -> Result<T, Fail>>(
 }
 
 /// A byte as a character, an end of line as `$`.
-fn shown_byte(byte: u8) -> char {
+pub(crate) fn shown_byte(byte: u8) -> char {
     if byte == b'\n' { '$' } else { char::from(byte) }
 }
 
