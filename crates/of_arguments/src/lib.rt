@@ -2,11 +2,9 @@
 #![tactic(auto)]
 
 mod arguments;
-mod laws;
 mod request;
 mod status;
 
 pub use arguments::{parse, status_of};
-pub use laws::lines_ask;
 pub use request::{Guide, Listing, Listings, Outside, Request};
 pub use status::Status;

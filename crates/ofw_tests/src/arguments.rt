@@ -1,6 +1,7 @@
 use crate::shared::{requested, words_of};
 use crate::tables::{Rows, check, halves};
-use of_arguments::{Guide, Listing, Listings, Outside, Request, lines_ask};
+use of_argument_laws::lines_ask;
+use of_arguments::{Guide, Listing, Listings, Outside, Request};
 use std::alloc::{AllocError, Global};
 use std::test::Fail;
 

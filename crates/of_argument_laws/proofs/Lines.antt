@@ -18,14 +18,18 @@ use Rattle.clap.specs.ValueTests.{is_unsigned_in}
 use Rattle.clap.specs.Words.{Text}
 use Rattle.clap.specs.declared.builder.value_parser.ValueParser.TheVariants as parser
 use Rattle.clap.proofs.ValueTestLemmas.{Accepts-accepts, accepts-Accepts}
-use Rattle.of_arguments.specs.CommandLine.{LinesAsk, is_plain, AsksToRun, AsksToList, AsksForLimit, number_in}
+use Rattle.of_argument_laws.specs.Lines.{LinesAsk, is_plain, AsksToRun, AsksToList, AsksForLimit}
+use Rattle.of_arguments.specs.CommandLine.{number_in}
 use Rattle.of_arguments.specs.Asked.{a_listing, a_look, a_rom, a_run, no_appendix, standard}
-use Rattle.of_arguments.specs.CommandLine.{Asks, ofw_app, run_app, AsksToExplain, AsksWith, plain_tokens, AsksToKeep}
-use Rattle.of_arguments.specs.CommandLine.{AsksForCalls, AsksForTree, AsksToTokenize, AsksWithAnswers, AsksWithBoard}
-use Rattle.of_arguments.specs.CommandLine.{AsksForConsole, AsksForConsoleOn, AsksForState, AsksForWords, AsksToSee}
-use Rattle.of_arguments.specs.CommandLine.{AsksForTerminal, AsksToDebug, debug_app}
-use Rattle.of_arguments.specs.CommandLine.{AsksWithLines}
-use Rattle.of_arguments.specs.CommandLine.{AsksForPci, AsksToCheck, check_app, client_app, pci_app}
+use Rattle.of_argument_laws.specs.Lines.{Asks, AsksToExplain, AsksWith, plain_tokens, AsksToKeep}
+use Rattle.of_arguments.specs.CommandLine.{ofw_app, run_app}
+use Rattle.of_argument_laws.specs.Lines.{AsksForCalls, AsksForTree, AsksToTokenize, AsksWithAnswers, AsksWithBoard}
+use Rattle.of_argument_laws.specs.Lines.{AsksForConsole, AsksForConsoleOn, AsksForState, AsksForWords, AsksToSee}
+use Rattle.of_argument_laws.specs.Lines.{AsksForTerminal, AsksToDebug}
+use Rattle.of_arguments.specs.CommandLine.{debug_app}
+use Rattle.of_argument_laws.specs.Lines.{AsksWithLines}
+use Rattle.of_argument_laws.specs.Lines.{AsksForPci, AsksToCheck}
+use Rattle.of_arguments.specs.CommandLine.{check_app, client_app, pci_app}
 use Rattle.of_arguments.specs.CommandLine.{console_app, detok_app, tok_app}
 use Rattle.of_arguments.specs.declared.request.Listing.TheVariants as listing
 

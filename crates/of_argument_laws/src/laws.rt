@@ -1,6 +1,6 @@
 // A law has no parameters and does nothing: its contract is the law.
 
-ghost use Rattle.of_arguments.specs.CommandLine.{LinesAsk};
+ghost use Rattle.of_argument_laws.specs.Lines.{LinesAsk};
 
 /// What the lines of the usage text ask for, where no word of the user's begins with a hyphen: `run` and a path for a
 /// run of at most 1,000,000 steps, with `--limit` and a number up to 1,000,000,000 for so many, with `--explain` for
