@@ -5,3 +5,4 @@ pub mod Answers
 pub mod Boards
 pub mod ConsoleLines
 pub mod Scripts
+pub mod GivenUp

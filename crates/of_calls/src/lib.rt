@@ -9,9 +9,11 @@ mod fault;
 mod line;
 mod part;
 mod script;
+mod script_fault;
 mod service;
 mod text;
 
 pub use fault::TextFault;
 pub use script::{ScriptCommand, ScriptWord, parse_script};
+pub use script_fault::ScriptFault;
 pub use text::{parse, parse_answers, parse_board, parse_lines};

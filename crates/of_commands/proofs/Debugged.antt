@@ -1,6 +1,6 @@
 -- What was printed under a script.
 use Rattle.std.proofs.Common.{inr, ℕ, List, Option, Err}
-use Rattle.of_script.specs.declared.fault.ScriptFault.{ScriptFault}
+use Rattle.of_calls.specs.declared.script_fault.ScriptFault.{ScriptFault}
 use Rattle.of_commands.specs.Debugs.{Debugging, PrintsStates, Shows}
 use Rattle.of_files.specs.Messages.{AppendsPart}
 use Rattle.of_files.specs.Faults.{IsUnwritten}

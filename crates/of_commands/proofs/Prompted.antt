@@ -13,7 +13,7 @@ use Rattle.of_compile.specs.Coding.{Coding}
 use Rattle.of_debug.specs.Debugging.{Debugged}
 use Rattle.of_machine.specs.States.{MachineState}
 use Rattle.of_script.specs.Scripts.{Plays}
-use Rattle.of_script.specs.declared.fault.ScriptFault.{ScriptFault}
+use Rattle.of_calls.specs.declared.script_fault.ScriptFault.{ScriptFault}
 use Rattle.of_commands.specs.Consoles.{line_in, printed_since}
 use Rattle.of_commands.specs.Listings.{newline_behind}
 use Rattle.of_commands.specs.Prompts.{AreDone, CarriesOut, FollowsAll, FollowsSome, Obeys, ObeysRead, Prints}

@@ -9,8 +9,7 @@ use Rattle.std.specs.Io.KnownBytes.{Appends}
 use Rattle.of_arguments.specs.declared.status.Status.TheVariants as status
 use Rattle.of_compile.specs.Coding.{Coding}
 use Rattle.of_devices.specs.Racks.{Meant}
-use Rattle.of_eval_laws.specs.Structured.{no_definitions}
-use Rattle.of_machine.specs.States.{MachineState, flat_machine, idle}
+use Rattle.of_machine.specs.States.{MachineState, first_machine}
 use Rattle.of_monitor.specs.Sessions.{entry}
 use Rattle.of_monitor.specs.Turns.{Attended}
 use Rattle.of_state.specs.State.{flat_calls}
@@ -197,6 +196,6 @@ all_printed ds limit image (Some bytes) old mid new x y fresh begun first rest =
 )
 
 -- a machine as it is made, with its devices
-pub as_made : (m : MachineState Coding) (ds : List Meant) → m ≡ flat_machine (idle no_definitions)
+pub as_made : (m : MachineState Coding) (ds : List Meant) → m ≡ first_machine
     → ◌≡◌ {A = Attended Coding} (m, ds) (at_rest ds)
 as_made m ds made = ap (λ (n : MachineState Coding). (n, ds)) made

@@ -11,7 +11,7 @@ use Rattle.of_files.specs.Faults.{IsUnwritten, refused_as, status_of}
 use Rattle.of_files.specs.Messages.{AppendsPart}
 use Rattle.of_files.specs.declared.fault.Fault.{Fault}
 use Rattle.of_files.specs.declared.fault.Fault.TheVariants as fault
-use Rattle.of_machine.specs.declared.answers.Refusal.{Refusal}
+use Rattle.of_refusal.specs.declared.refusal.Refusal.{Refusal}
 use Rattle.of_machine.specs.States.{MachineState, RefusesBefore, first_refusal, load_refusal}
 use Rattle.of_monitor.specs.Sessions.{IsBroken, entry}
 use Rattle.of_monitor.specs.Turns.{Attended}

@@ -4,11 +4,9 @@ use Rattle.std.specs.Prelude.{ℕ, zero, suc, List, [], ◌∷◌, ◌++◌, dro
 use Rattle.std.specs.Option.{option_map}
 use Rattle.std.specs.Io.BufRead.{drop_through, ends_with_byte, strip_last, take_through}
 use Rattle.of_compile.specs.Coding.{Coding}
-use Rattle.of_compile.specs.Structured.{flat_of}
 use Rattle.of_devices.specs.Racks.{Meant}
-use Rattle.of_eval_laws.specs.Structured.{no_definitions}
 use Rattle.of_machine.specs.Events.{Load, done_by}
-use Rattle.of_machine.specs.States.{MachineState, idle}
+use Rattle.of_machine.specs.States.{MachineState, idle, no_code}
 use Rattle.of_monitor.specs.Sessions.{entry}
 use Rattle.of_monitor.specs.Turns.{Attended, turns}
 use Rattle.of_state.specs.State.{flat_calls}
@@ -38,7 +36,7 @@ session_text limit (suc n) (b ∷ bytes) x =
 
 -- a new machine with its devices
 abbrev pub at_rest : List Meant → Attended Coding
-at_rest ds = (idle (flat_of no_definitions), ds)
+at_rest ds = (idle no_code, ds)
 
 -- the same behind an image for `/slot`, if there is one
 abbrev pub behind_image : ℕ → Option (List ℕ) → Attended Coding → Attended Coding

@@ -5,7 +5,7 @@ use Rattle.std.specs.Io.KnownBytes.{Keeps, Appends}
 use Rattle.of_asking.specs.declared.query.Answer.{Answer}
 use Rattle.of_calls.specs.Scripts.{Scripted, command_of}
 use Rattle.of_script.specs.Scripts.{Debugs}
-use Rattle.of_script.specs.declared.fault.ScriptFault.{ScriptFault}
+use Rattle.of_calls.specs.declared.script_fault.ScriptFault.{ScriptFault}
 use Rattle.of_arguments.specs.declared.status.Status.{Status}
 use Rattle.of_arguments.specs.declared.status.Status.TheVariants as status
 use Rattle.of_files.specs.Faults.{given_up}

@@ -7,7 +7,7 @@ use Rattle.of_calls.specs.Scripts.{Scripted, parsed_script}
 use Rattle.of_calls.specs.declared.fault.TextFault.{TextFault}
 use Rattle.of_debug.specs.Debugging.{Debugged}
 use Rattle.of_script.specs.Scripts.{Plays}
-use Rattle.of_script.specs.declared.fault.ScriptFault.{ScriptFault}
+use Rattle.of_calls.specs.declared.script_fault.ScriptFault.{ScriptFault}
 use Rattle.of_commands.specs.Consoles.{line_in, printed_since}
 
 -- ---- a line

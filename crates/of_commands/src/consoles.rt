@@ -4,8 +4,7 @@ ghost use Rattle.std.specs.Prelude.{length, map, not, option_map};
 ghost use Rattle.std.specs.Io.BufRead.{DropsThrough, strip_last, take_through};
 ghost use Rattle.std.specs.Io.KnownBytes.{Appends};
 ghost use Rattle.of_devices.specs.Parts.{board_meant};
-ghost use Rattle.of_eval_laws.specs.Structured.{no_definitions};
-ghost use Rattle.of_machine.specs.States.{flat_machine, idle};
+ghost use Rattle.of_machine.specs.States.{first_machine};
 ghost use Rattle.of_state.specs.State.{flat_calls};
 ghost use Rattle.of_monitor.specs.Sessions.{entry};
 ghost use Rattle.of_files.specs.Faults.{IsUnwritten};
@@ -19,8 +18,9 @@ use crate::listings::ends_line;
 use of_arguments::Status;
 use of_devices::{Board, Rack};
 use of_files::{Fault, Messages, refused, report, write_whole};
-use of_machine::{Refusal, ScriptMachine, script_machine};
+use of_machine::{ScriptMachine, script_machine};
 use of_monitor::{attend, enter};
+use of_refusal::Refusal;
 use std::alloc::Global;
 use std::io::{BufRead, ErrorKind, Write};
 
@@ -257,7 +257,7 @@ fn talk_on<L: BufRead, W: Write, E: Write>(
     out: &mut W,
     errors: &mut E,
 ) -> Result<Status, Fault>
-    requires new { machine.old ≡ flat_machine (idle no_definitions) }
+    requires new { machine.old ≡ first_machine }
     ensures { IfSome (L.remaining lines.old) (λ bytes. Converses (map (λ d. meant d) rack.old.items)
         console.entry.limit (image_of console.entry) bytes (W.contents out.old) (W.contents out.new) result) }
 {

@@ -10,9 +10,9 @@ ghost use Rattle.of_files.specs.Faults.{IsUnwritten};
 
 use of_arguments::Status;
 use of_asking::Answer;
-use of_calls::ScriptCommand;
+use of_calls::{ScriptCommand, ScriptFault};
 use of_files::{Fault, Messages, given_up, refused, report, write_whole};
-use of_script::{Played, ScriptFault, debug_image};
+use of_script::{Played, debug_image};
 use std::alloc::Global;
 use std::io::Write;
 

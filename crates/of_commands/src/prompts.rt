@@ -10,14 +10,14 @@ use crate::consoles::{blamed, print_since, read_line, without_end};
 use crate::places::{say_return_items, say_spot};
 use of_arguments::Status;
 use of_asking::Answer;
-use of_calls::{ScriptCommand, TextFault, parse_script};
+use of_calls::{ScriptCommand, ScriptFault, TextFault, parse_script};
 use of_cell_code::CellCode;
 use of_cells::Cell;
 use of_console::tree_text;
 use of_debug::Debugger;
 use of_files::{Fault, Messages, refused, report, write_whole};
 use of_machine::{ScriptMachine, loaded_machine};
-use of_script::{ScriptFault, play};
+use of_script::play;
 use std::alloc::{AllocError, Global};
 use std::io::{self, BufRead, ErrorKind, Write};
 

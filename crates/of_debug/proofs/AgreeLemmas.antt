@@ -4,11 +4,9 @@ use Rattle.std.specs.Prelude.{◌&&◌, drop, is_none}
 use Rattle.of_asking.specs.declared.query.Answer.{Answer}
 use Rattle.of_asking.specs.declared.query.Query.{Query}
 use Rattle.of_compile.specs.Coding.{Coding}
-use Rattle.of_compile.specs.Structured.{flat_of}
-use Rattle.of_eval_laws.specs.Structured.{no_definitions}
 use Rattle.of_machine.specs.Runs.{Due, Feed, RunsAgree as ScriptsAgree, after, asking, beginning, fitting, next}
 use Rattle.of_machine.specs.Runs.{settled, told, turned}
-use Rattle.of_machine.specs.States.{answered, can_step, idle, loaded, moved, slot}
+use Rattle.of_machine.specs.States.{answered, can_step, idle, loaded, moved, no_code, slot}
 use Rattle.of_state.specs.State.{flat_calls}
 use Rattle.of_steps.specs.Steps.{asked_by}
 use Rattle.of_debug.proofs.FeedLemmas.{settled_waiting}
@@ -92,11 +90,11 @@ all_agree (suc n) f a =
     record { same = one.same ∙ ap (next flat_calls) before.same; awaits = one.awaits }
 
 begins_quiet : (image : List ℕ) (lines : List (List ℕ)) (answers : List Answer) (calls : List Due)
-    → (beginning (flat_of no_definitions) image lines answers calls).machine.waiting ≡ None
+    → (beginning no_code image lines answers calls).machine.waiting ≡ None
 begins_quiet image lines answers calls =
     settled_waiting
     (record {
-      machine = loaded (idle (flat_of no_definitions)) image slot;
+      machine = loaded (idle no_code) image slot;
       lines = lines;
       answers = answers;
       calls = calls;
@@ -109,7 +107,7 @@ runs_are scripts = record {
   states =
       λ image lines answers calls n.
       ap (λ (f : Feed Coding). f.machine)
-      (all_agree n (beginning (flat_of no_definitions) image lines answers calls)
+      (all_agree n (beginning no_code image lines answers calls)
       (Quiet (begins_quiet image lines answers calls))).same
       ∙ scripts image lines answers calls n;
 }

@@ -4,10 +4,8 @@ use Rattle.std.specs.Prelude.{Option, Some, None, Result, Ok, Err, nat_le, if◌
 use Rattle.of_asking.specs.declared.query.Answer.{Answer}
 use Rattle.of_cells.specs.declared.cells.Cell.{Cell}
 use Rattle.of_compile.specs.Coding.{Coding}
-use Rattle.of_compile.specs.Structured.{flat_of}
-use Rattle.of_eval_laws.specs.Structured.{no_definitions}
 use Rattle.of_machine.specs.Runs.{Due, Feed, States, after, beginning, settled}
-use Rattle.of_machine.specs.States.{flat_machine}
+use Rattle.of_machine.specs.States.{flat_machine, no_code}
 use Rattle.of_state.specs.State.{flat_calls}
 use Rattle.of_state.specs.Views.{items_of_word}
 use Rattle.of_debug.specs.declared.fault.DebugFault.{DebugFault}
@@ -150,5 +148,5 @@ pub record RunsAgree : Type 0 where
   -- so that of a machine on which an image was loaded is the abstract machine's
   pub states :
       (image : List ℕ) (lines : List (List ℕ)) (answers : List Answer) (calls : List Due) (n : ℕ) →
-      (run flat_calls n (beginning (flat_of no_definitions) image lines answers calls)).machine
+      (run flat_calls n (beginning no_code image lines answers calls)).machine
       ≡ flat_machine (States image lines answers calls n)

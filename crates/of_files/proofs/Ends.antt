@@ -1,6 +1,6 @@
 -- How the program ends with a fault.
 use Rattle.std.proofs.Common.{◌≡◌, false, refl}
-use Rattle.of_machine.specs.declared.answers.Refusal.TheVariants as refusal
+use Rattle.of_refusal.specs.declared.refusal.Refusal.TheVariants as refusal
 use Rattle.of_tok.specs.declared.fault.TokFault.TheVariants as tok
 use Rattle.of_files.specs.Faults.{is_done, status_of}
 use Rattle.of_files.specs.declared.fault.Fault.{Fault}

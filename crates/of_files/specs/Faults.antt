@@ -4,10 +4,10 @@ use Rattle.of_arguments.specs.declared.status.Status.{Status}
 use Rattle.of_arguments.specs.declared.status.Status.TheVariants as status
 use Rattle.of_calls.specs.declared.fault.TextFault.{TextFault}
 use Rattle.of_calls.specs.declared.fault.TextFault.TheVariants as word
-use Rattle.of_machine.specs.declared.answers.Refusal.{Refusal}
-use Rattle.of_machine.specs.declared.answers.Refusal.TheVariants as refusal
-use Rattle.of_script.specs.declared.fault.ScriptFault.{ScriptFault}
-use Rattle.of_script.specs.declared.fault.ScriptFault.TheVariants as script
+use Rattle.of_refusal.specs.declared.refusal.Refusal.{Refusal}
+use Rattle.of_refusal.specs.declared.refusal.Refusal.TheVariants as refusal
+use Rattle.of_calls.specs.declared.script_fault.ScriptFault.{ScriptFault}
+use Rattle.of_calls.specs.declared.script_fault.ScriptFault.TheVariants as script
 use Rattle.of_source.specs.declared.fault.SourceFault.{SourceFault}
 use Rattle.of_source.specs.declared.fault.SourceFault.TheVariants as source
 use Rattle.of_source.specs.declared.place.Place.{Place}

@@ -2,7 +2,7 @@
 use Rattle.std.specs.Prelude.{ℕ, List, [], ◌∷◌, ◌++◌, take, Bool, true, false, Option, Some, None, IfSome, codes}
 use Rattle.std.specs.Io.KnownBytes.{Appends}
 use Rattle.hex.specs.Hex.{encode_lower}
-use Rattle.of_machine.specs.declared.answers.Refusal.TheVariants as refusal
+use Rattle.of_refusal.specs.declared.refusal.Refusal.TheVariants as refusal
 use Rattle.of_stream.specs.declared.fault.StreamFault.{StreamFault}
 use Rattle.of_stream.specs.declared.fault.StreamFault.TheVariants as stream
 use Rattle.of_files.specs.declared.fault.Fault.{Fault}

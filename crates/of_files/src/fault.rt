@@ -5,10 +5,9 @@ ghost use Rattle.of_files.specs.Faults.{given_up, no_script};
 ghost use Rattle.of_files.specs.Faults.{no_answers, no_board, no_image, no_lines, no_source, place_at, text_place_of};
 
 use of_arguments::Status;
-use of_calls::TextFault;
-use of_machine::Refusal;
+use of_calls::{ScriptFault, TextFault};
+use of_refusal::Refusal;
 use of_rom::RomFault;
-use of_script::ScriptFault;
 use of_source::{Place, SourceFault, place_in};
 use of_stream::StreamFault;
 use of_tok::TokFault;

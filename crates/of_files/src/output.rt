@@ -8,7 +8,7 @@ use crate::fault::Fault;
 use crate::messages::Messages;
 use hex::encode_to_slice;
 use of_arguments::Status;
-use of_script::ScriptFault;
+use of_calls::ScriptFault;
 use of_source::Place;
 use std::io::{self, Error, ErrorKind, Write};
 

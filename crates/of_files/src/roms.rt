@@ -9,7 +9,7 @@ use crate::input::{read_image, read_whole};
 use crate::messages::Messages;
 use crate::output::report;
 use of_arguments::Status;
-use of_machine::Refusal;
+use of_refusal::Refusal;
 use of_rom::fcode_of;
 use std::alloc::Global;
 use std::io::{Read, Write};

@@ -1,7 +1,7 @@
+use of_calls::ScriptFault;
 use of_client::ClientCall;
 use of_files::{Fault, given_up, read_calls, read_image, read_whole, refused, write_whole};
-use of_machine::Refusal;
-use of_script::ScriptFault;
+use of_refusal::Refusal;
 use std::alloc::Global;
 use std::test::Fail;
 

@@ -8,8 +8,9 @@ use of_cells::Cell;
 use of_code::CodeStore;
 use of_debug::{DebugFault, Debugger};
 use of_fcodes::FIRST_OWN;
-use of_machine::{Machine, Refusal, loaded_machine};
+use of_machine::{Machine, loaded_machine};
 use of_random::Numbers;
+use of_refusal::Refusal;
 use std::alloc::Global;
 
 /// How many steps are made at most.

@@ -1,5 +1,5 @@
 //! What a comparison comes to that isn't carried out, or that finds a difference.
-use of_machine::Refusal;
+use of_refusal::Refusal;
 use std::alloc::AllocError;
 use std::fmt;
 

@@ -1,8 +1,9 @@
 //! What a run is given: an image, the console lines behind it, and answers.
 use crate::program::Program;
 use of_asking::Answer;
-use of_machine::{End, Refusal, ScriptMachine, run_script};
+use of_machine::{End, ScriptMachine, run_script};
 use of_random::{Numbers, random_image};
+use of_refusal::Refusal;
 use std::alloc::{AllocError, Global};
 
 /// What a run is given.

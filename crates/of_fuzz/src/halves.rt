@@ -4,8 +4,9 @@ use crate::given::{Given, Run};
 use crate::lent::lend_both;
 use crate::tally::{Ending, ending_of};
 use crate::views::compare_all;
-use of_machine::{End, Refusal, begin_run};
+use of_machine::{End, begin_run};
 use of_random::Numbers;
+use of_refusal::Refusal;
 use std::alloc::Global;
 
 /// How many steps are made at most.

@@ -8,9 +8,10 @@ use of_asking::Answer;
 use of_cells::Cell;
 use of_client::ClientCall;
 use of_code::{CodeStore, ListCode};
-use of_machine::{Machine, Progress, Refusal, ScriptMachine, script_machine};
+use of_machine::{Machine, Progress, ScriptMachine, script_machine};
 use of_nodes::Phandle;
 use of_random::Numbers;
+use of_refusal::Refusal;
 use std::alloc::{AllocError, Global};
 
 /// How many events happen at most.

@@ -2,7 +2,8 @@
 use crate::shared::{bytes_of, push_bytes};
 use crate::tables::{Cases, check, halves, push_wrong};
 use of_fcodes::FCode;
-use of_machine::{End, Refusal, ScriptMachine, run_script};
+use of_machine::{End, ScriptMachine, run_script};
+use of_refusal::Refusal;
 use of_stream::StreamFault;
 use std::alloc::Global;
 use std::test::Fail;

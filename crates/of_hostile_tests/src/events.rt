@@ -5,8 +5,9 @@ use of_asking::{Answer, Query};
 use of_cell_code::CellCode;
 use of_client::ClientCall;
 use of_code::{CodeStore, ListCode};
-use of_machine::{Machine, Progress, Refusal};
+use of_machine::{Machine, Progress};
 use of_nodes::Phandle;
+use of_refusal::Refusal;
 use std::alloc::{AllocError, Global};
 use std::test::Fail;
 

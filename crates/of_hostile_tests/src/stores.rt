@@ -5,7 +5,8 @@ use crate::shared::push_bytes;
 use of_cell_code::CellCode;
 use of_cells::Cell;
 use of_code::{CodeStore, ListCode};
-use of_machine::{Machine, Progress, Refusal};
+use of_machine::{Machine, Progress};
+use of_refusal::Refusal;
 use std::alloc::Global;
 use std::test::Fail;
 

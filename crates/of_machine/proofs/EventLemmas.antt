@@ -19,7 +19,7 @@ use Rattle.of_state.specs.Loading.{begun, begun_by, begun_unless, instance_on, l
 use Rattle.of_state.specs.declared.load_fault.LoadFault.{LoadFault}
 use Rattle.of_eval_laws.specs.Structured.{StepsAgree, structured_calls, flat_state, no_definitions}
 use Rattle.of_eval_laws.specs.Placed.{AllPlaced, StatesStayPlaced}
-use Rattle.of_machine.specs.declared.answers.Refusal.{Refusal}
+use Rattle.of_refusal.specs.declared.refusal.Refusal.{Refusal}
 use Rattle.of_machine.specs.Events.{Answers, CallsAgree, Client, Event, Line, Load, Step, after_events, done_by}
 use Rattle.of_machine.specs.Events.{lined_unless, loaded_unless}
 use Rattle.of_machine.specs.States.{HasMoved, MachineState, answer_refusal, answered_unless, can_step, flat_machine}

@@ -10,8 +10,8 @@ use Rattle.of_compile.specs.Coding.{Coding}
 use Rattle.of_devices.specs.Racks.{Meant, rack_answer, rack_told}
 use Rattle.of_state.specs.State.{flat_calls}
 use Rattle.of_steps.specs.Steps.{due_grows}
-use Rattle.of_machine.specs.declared.answers.Refusal.{Refusal}
-use Rattle.of_machine.specs.declared.answers.Refusal.TheVariants as refusal
+use Rattle.of_refusal.specs.declared.refusal.Refusal.{Refusal}
+use Rattle.of_refusal.specs.declared.refusal.Refusal.TheVariants as refusal
 use Rattle.of_machine.specs.declared.script_run.Advance.TheVariants as advance
 use Rattle.of_machine.specs.Racks.{HasGoneWith}
 use Rattle.of_machine.specs.Refused.{IsHeld, IsHeldAlone, IsHeldWith, IsUnserved, IsUntold}

@@ -18,9 +18,9 @@ use Rattle.of_asking.specs.declared.query.Query.{Query}
 use Rattle.of_steps.specs.Steps.{asked_by, made, steps_from}
 use Rattle.of_state.specs.Loading.{first_board}
 use Rattle.of_eval_laws.specs.Structured.{no_definitions}
-use Rattle.of_machine.specs.declared.answers.Refusal.{Refusal}
-use Rattle.of_machine.specs.declared.answers.Refusal.TheVariants.{ImageTooLong, NoNode}
-use Rattle.of_machine.specs.declared.answers.Refusal.TheVariants as refusal
+use Rattle.of_refusal.specs.declared.refusal.Refusal.{Refusal}
+use Rattle.of_refusal.specs.declared.refusal.Refusal.TheVariants.{ImageTooLong, NoNode}
+use Rattle.of_refusal.specs.declared.refusal.Refusal.TheVariants as refusal
 use Rattle.of_machine.specs.declared.answers.Progress.TheVariants.{Asks, Ended}
 use Rattle.of_machine.specs.declared.answers.Progress.TheVariants as progress
 use Rattle.of_machine.specs.States.{HasMoved, MachineState, RefusesBefore, Steps, answer_refusal, answered, can_step}

@@ -6,7 +6,7 @@ use Rattle.of_compile.specs.Structured.{flat_of}
 use Rattle.of_compile.specs.Coding.{Coding}
 use Rattle.of_state.specs.State.{Calls, flat_calls}
 use Rattle.of_eval_laws.specs.Structured.{structured_calls, no_definitions}
-use Rattle.of_machine.specs.declared.answers.Refusal.{Refusal}
+use Rattle.of_refusal.specs.declared.refusal.Refusal.{Refusal}
 use Rattle.of_machine.specs.States.{HasMoved, MachineState, answer_refusal, answered_unless, can_step, flat_machine}
 use Rattle.of_machine.specs.States.{idle, line_refusal, lined, load_refusal, loaded_for, node_at, served, tried}
 

@@ -17,8 +17,8 @@ use Rattle.of_machine.specs.declared.answers.End.{End}
 use Rattle.of_machine.specs.declared.answers.End.TheVariants.{AnswersOut, Done, LimitReached}
 use Rattle.of_machine.specs.declared.script_run.Advance.{Advance}
 use Rattle.of_machine.specs.declared.script_run.Advance.TheVariants.{Asks, Further, Over}
-use Rattle.of_machine.specs.declared.answers.Refusal.{Refusal}
-use Rattle.of_machine.specs.declared.answers.Refusal.TheVariants.{ImageTooLong, LineTooLong}
+use Rattle.of_refusal.specs.declared.refusal.Refusal.{Refusal}
+use Rattle.of_refusal.specs.declared.refusal.Refusal.TheVariants.{ImageTooLong, LineTooLong}
 use Rattle.of_machine.specs.States.{MachineState, answered, can_step, flat_machine, idle, is_running, lined, loaded}
 use Rattle.of_machine.specs.States.{longest_line, moved, opened, or_next, served, slot, start_refusal}
 

@@ -14,17 +14,17 @@ use Rattle.of_nodes.specs.Nodes.{phandle_of}
 use Rattle.of_client.specs.Services.{Reply, Service, reply_to}
 use Rattle.of_client.specs.declared.calls.ClientReply.{ClientReply}
 use Rattle.of_compile.specs.Coding.{Coding}
-use Rattle.of_compile.specs.Structured.{Definitions}
+use Rattle.of_compile.specs.Structured.{Definitions, flat_of}
 use Rattle.of_state.specs.State.{Calls, State, flat_calls}
 use Rattle.of_steps.specs.Steps.{answered as eval_answered, asked_by, due_grows, stepped, steps_from}
 use Rattle.of_memory.specs.Growth.{image_fits}
 use Rattle.of_state.specs.Loading.{begun, first_state, instance_on, line_begun}
-use Rattle.of_eval_laws.specs.Structured.{flat_state}
+use Rattle.of_eval_laws.specs.Structured.{flat_state, no_definitions}
 use Rattle.of_machine.specs.declared.answers.Progress.{Progress}
 use Rattle.of_machine.specs.declared.answers.Progress.TheVariants.{Asks, Done, Ended}
-use Rattle.of_machine.specs.declared.answers.Refusal.{Refusal}
-use Rattle.of_machine.specs.declared.answers.Refusal.TheVariants.{Busy, ImageTooLong, BadStart, NoNode, NoMemory}
-use Rattle.of_machine.specs.declared.answers.Refusal.TheVariants.{LineTooLong, NotAsked, WrongAnswer}
+use Rattle.of_refusal.specs.declared.refusal.Refusal.{Refusal}
+use Rattle.of_refusal.specs.declared.refusal.Refusal.TheVariants.{Busy, ImageTooLong, BadStart, NoNode, NoMemory}
+use Rattle.of_refusal.specs.declared.refusal.Refusal.TheVariants.{LineTooLong, NotAsked, WrongAnswer}
 
 -- code is an S
 pub record MachineState (S : Type 0) : Type 0 where
@@ -52,6 +52,14 @@ flat_machine m = record {
   asked = m.asked;
   waiting = m.waiting;
 }
+
+-- the cells of no definitions
+abbrev pub no_code : Coding
+no_code = flat_of no_definitions
+
+-- a machine over cells as it is made
+abbrev pub first_machine : MachineState Coding
+first_machine = flat_machine (idle no_definitions)
 
 -- ---- a step
 

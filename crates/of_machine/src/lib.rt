@@ -8,7 +8,7 @@ mod racks;
 mod run;
 mod script_run;
 
-pub use answers::{End, Progress, Refusal};
+pub use answers::{End, Progress};
 pub use laws::{calls_agree, runs_agree, stretches_join};
 pub use machine::{LONGEST_IMAGE, LONGEST_LINE, Machine};
 pub use racks::{go_with, run_rack};

@@ -14,11 +14,12 @@ ghost use Rattle.of_machine.specs.States.{HasMoved, Refuses, line_refusal, lined
 ghost use Rattle.of_machine.specs.States.{served};
 ghost use Rattle.of_memory.specs.Growth.{image_fits};
 
-use crate::answers::{Progress, Refusal};
+use crate::answers::Progress;
 use of_asking::{Answer, Query, is_fitting};
 use of_client::{ClientCall, ClientReply, reply_to};
 use of_code::CodeStore;
 use of_nodes::Phandle;
+use of_refusal::Refusal;
 use of_state::{Eval, LoadFault};
 use of_steps::{Bar, Pause, run, step, step_with};
 use of_stream::{Stream, open};

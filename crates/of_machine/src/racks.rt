@@ -7,12 +7,13 @@ ghost use Rattle.of_devices.specs.Racks.{told_all};
 ghost use Rattle.of_machine.specs.Runs.{IsCalm, RunsTo, due_of, script_refusal};
 ghost use Rattle.of_machine.specs.Stretches.{StretchesWith};
 
-use crate::answers::{End, Refusal};
+use crate::answers::End;
 use crate::laws::runs_agree;
 use crate::run::{ScriptMachine, begin_run, end_of};
 use crate::script_run::{Advance, ScriptRun};
 use of_client::ClientCall;
 use of_devices::{Rack, ask};
+use of_refusal::Refusal;
 use std::alloc::{AllocError, Global};
 
 /// Makes steps up to one whose question the rack answers, or up to one behind which clients are answered or a line is

@@ -4,7 +4,7 @@ ghost use Rattle.of_eval_laws.specs.Structured.{no_definitions};
 ghost use Rattle.of_machine.specs.States.{Refuses, flat_machine, idle, image_refusal, is_running, loaded, slot};
 ghost use Rattle.of_machine.specs.Runs.{IsCalm, RunsTo, beginning, due_of, end_of, has_long, script_refusal};
 
-use crate::answers::{End, Refusal};
+use crate::answers::End;
 use crate::laws::runs_agree;
 use crate::machine::{LONGEST_IMAGE, LONGEST_LINE, Machine, check_image};
 use crate::script_run::ScriptRun;
@@ -12,6 +12,7 @@ use of_asking::Answer;
 use of_cell_code::CellCode;
 use of_client::ClientCall;
 use of_nodes::Phandle;
+use of_refusal::Refusal;
 use std::alloc::{AllocError, Global};
 
 /// The machine on which scripts run: its definitions stand in bytes.

@@ -7,10 +7,11 @@ ghost use Rattle.of_machine.specs.States.{MayGrow, answer_refusal, answered, is_
 ghost use Rattle.of_machine.specs.Stretches.{Stretches};
 ghost use Rattle.of_state.specs.State.{flat_calls};
 
-use crate::answers::{End, Progress, Refusal};
+use crate::answers::{End, Progress};
 use crate::run::{ScriptMachine, end_of};
 use of_asking::{Answer, Query};
 use of_client::ClientCall;
+use of_refusal::Refusal;
 use std::alloc::AllocError;
 use std::marker::Model;
 

@@ -5,8 +5,9 @@ use crate::shared::{image_of, lend, on_machine_if_room, push_bytes, run_on, run_
 use crate::tree::load_in_turn;
 use of_asking::Answer;
 use of_client::ClientCall;
-use of_machine::{End, Progress, Refusal, ScriptMachine};
+use of_machine::{End, Progress, ScriptMachine};
 use of_nodes::Phandle;
+use of_refusal::Refusal;
 use std::alloc::Global;
 use std::test::Fail;
 

@@ -6,8 +6,9 @@ use crate::shared::{
 };
 use of_cells::Cell;
 use of_client::{ClientCall, ClientReply};
-use of_machine::{Refusal, ScriptMachine, run_script};
+use of_machine::{ScriptMachine, run_script};
 use of_nodes::Phandle;
+use of_refusal::Refusal;
 use std::alloc::{AllocError, Global};
 use std::test::Fail;
 

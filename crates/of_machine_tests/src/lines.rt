@@ -3,7 +3,8 @@ use crate::questions::{answers_of, mark, push_query, push_stack};
 use crate::rows::{Rows, check, halves};
 use crate::shared::{Run, bytes_of, lend, on_machine, push_bytes, run_on};
 use of_asking::Answer;
-use of_machine::{End, LONGEST_LINE, Refusal, ScriptMachine, run_script};
+use of_machine::{End, LONGEST_LINE, ScriptMachine, run_script};
+use of_refusal::Refusal;
 use std::alloc::Global;
 use std::test::Fail;
 

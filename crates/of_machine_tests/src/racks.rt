@@ -7,8 +7,9 @@ use of_asking::{Answer, Query};
 use of_cells::Cell;
 use of_client::ClientCall;
 use of_devices::{AddressRange, Clock, DeviceMemory, Keyboard, Part, Rack, ask};
-use of_machine::{Refusal, run_rack};
+use of_machine::run_rack;
 use of_nodes::Phandle;
+use of_refusal::Refusal;
 use std::alloc::Global;
 use std::test::Fail;
 

@@ -4,7 +4,8 @@ use crate::rows::halves;
 use crate::shared::{on_machine_if_room, shown_byte};
 use of_cells::Cell;
 use of_client::{ClientCall, ClientReply};
-use of_machine::{Refusal, ScriptMachine};
+use of_machine::ScriptMachine;
+use of_refusal::Refusal;
 use std::alloc::{AllocError, Global};
 use std::process::Abort;
 

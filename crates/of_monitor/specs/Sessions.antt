@@ -1,7 +1,7 @@
 -- A console session: lines are entered one after the other (Forth 2012, 3.4; IEEE 1275-1994, 7.3).
 use Rattle.std.specs.Prelude.{ℕ, ◌≡◌, ◌⊎◌, Bool, false, List, ◌&&◌, ◌==◌, length, Option, Some, None, if◌then◌else◌}
 use Rattle.of_compile.specs.Coding.{Coding}
-use Rattle.of_machine.specs.declared.answers.Refusal.{Refusal}
+use Rattle.of_refusal.specs.declared.refusal.Refusal.{Refusal}
 use Rattle.of_machine.specs.Events.{Line, done_by}
 use Rattle.of_machine.specs.States.{MachineState, is_running, line_refusal}
 use Rattle.of_state.specs.State.{Calls, flat_calls}

@@ -6,7 +6,8 @@ ghost use Rattle.of_monitor.specs.Sessions.{IsBroken, entered, entry_refusal};
 use crate::attending::attend;
 use of_code::CodeStore;
 use of_devices::Rack;
-use of_machine::{Machine, Refusal};
+use of_machine::Machine;
+use of_refusal::Refusal;
 
 /// Reads a console line and runs it for at most `limit` steps (Forth 2012, 3.4; IEEE 1275-1994, 7.3). Where something
 /// runs that the line before has begun, an empty line lets it go on for as many.

@@ -1,7 +1,8 @@
 //! Nests of control words: the definition that a console line makes of one is done item by item as that which an image
 //! makes that is tokenized of the same words, with the same stack before each item; what `see` prints of it makes a
 //! definition of which `see` prints the same; and, of nests of up to five words, one that is done item by item alike.
-use of_machine::{Refusal, ScriptMachine, script_machine};
+use of_machine::{ScriptMachine, script_machine};
+use of_refusal::Refusal;
 use of_see_runs::{printed_words_are_remade, see_reads_back};
 use of_source::parse;
 use of_tok::tokenize;

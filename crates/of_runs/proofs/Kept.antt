@@ -8,16 +8,14 @@ use Rattle.std.proofs.lemmas.List.{append-nil}
 use Rattle.std.specs.Io.KnownBytes.{Appends}
 use Rattle.of_asking.specs.declared.query.Answer.{Answer}
 use Rattle.of_compile.specs.Coding.{Coding}
-use Rattle.of_compile.specs.Structured.{flat_of}
 use Rattle.of_devices.specs.Racks.{Meant, told_all}
-use Rattle.of_eval_laws.specs.Structured.{no_definitions}
 use Rattle.of_files.specs.Faults.{IsUnwritten}
 use Rattle.of_files.specs.Messages.{AppendsPart}
 use Rattle.of_files.specs.declared.fault.Fault.{Fault}
 use Rattle.of_files.specs.declared.fault.Fault.TheVariants as fault
 use Rattle.of_machine.specs.Racks.{HasGoneWith, answers_of}
 use Rattle.of_machine.specs.Runs.{Feed, HasGone, IsCalm, RunsTo, after, beginning}
-use Rattle.of_machine.specs.States.{MachineState}
+use Rattle.of_machine.specs.States.{MachineState, no_code}
 use Rattle.of_machine.specs.Stretches.{Stretches, StretchesJoin, StretchesWith, stands}
 use Rattle.of_machine.specs.declared.answers.End.{End}
 use Rattle.of_machine.specs.declared.answers.End.TheVariants.{AnswersOut, Done, LimitReached}
@@ -252,13 +250,13 @@ stops_all_with limit ds f old mid new x before s = (s.0, s.1, s.2, s.3, s.4, s.5
 
 pub breaks : StretchesJoin → (image : List ℕ) (lines : List (List ℕ)) (answers : List Answer) (limit : ℕ)
     (start : Feed Coding) (old new : Option (List ℕ)) (x : Fault) → limit < 2 ^ 64
-    → start ≡ beginning (flat_of no_definitions) image lines answers [] → StopsAll limit start old new x
+    → start ≡ beginning no_code image lines answers [] → StopsAll limit start old new x
     → Breaks (RunsTo image lines answers []) limit old new x
 unfolding Breaks
 breaks join image lines answers limit start old new x small begun s =
     let n = s.0 in
     let g = s.2 in
-    let first : Stretches n (beginning (flat_of no_definitions) image lines answers []) g s.3.0 =
+    let first : Stretches n (beginning no_code image lines answers []) g s.3.0 =
     subst (λ (f : Feed Coding). Stretches n f g s.3.0) begun s.3.1 in (
       n,
       s.1,
@@ -269,14 +267,14 @@ breaks join image lines answers limit start old new x small begun s =
 
 pub breaks_with : StretchesJoin → (image : List ℕ) (lines : List (List ℕ)) (limit : ℕ) (ds : List Meant)
     (start : Feed Coding) (old new : Option (List ℕ)) (x : Fault) → limit < 2 ^ 64
-    → start ≡ beginning (flat_of no_definitions) image lines [] [] → StopsAllWith limit ds start old new x
+    → start ≡ beginning no_code image lines [] [] → StopsAllWith limit ds start old new x
     → Breaks (OnRack image lines ds) limit old new x
 unfolding Breaks
 breaks_with join image lines limit ds start old new x small begun s =
     let n = s.0 in
     let es = s.2 in
     let g = s.3 in
-    let first : StretchesWith n ds es (beginning (flat_of no_definitions) image lines [] []) g s.4.0 =
+    let first : StretchesWith n ds es (beginning no_code image lines [] []) g s.4.0 =
     subst (λ (f : Feed Coding). StretchesWith n ds es f g s.4.0) begun s.4.1 in (
       n,
       s.1,
@@ -288,7 +286,7 @@ breaks_with join image lines limit ds start old new x small begun s =
 -- the run whose first stretch is all
 pub ends_first : StretchesJoin → (image : List ℕ) (lines : List (List ℕ)) (answers : List Answer) (limit : ℕ)
     (start g : Feed Coding) (e : End) → limit < 2 ^ 64
-    → start ≡ beginning (flat_of no_definitions) image lines answers [] → Stretches limit start g e
+    → start ≡ beginning no_code image lines answers [] → Stretches limit start g e
     → RunsTo image lines answers [] limit g.machine e
 ends_first join image lines answers limit start g e small begun s =
     join.ends image lines answers [] limit g e small
@@ -296,7 +294,7 @@ ends_first join image lines answers limit start g e small begun s =
 
 pub ends_first_with : StretchesJoin → (image : List ℕ) (lines : List (List ℕ)) (limit : ℕ) (ds es : List Meant)
     (start g : Feed Coding) (e : End) → limit < 2 ^ 64
-    → start ≡ beginning (flat_of no_definitions) image lines [] [] → StretchesWith limit ds es start g e
+    → start ≡ beginning no_code image lines [] [] → StretchesWith limit ds es start g e
     → RunsTo image lines (answers_of ds g.machine.asked) [] limit g.machine e
 ends_first_with join image lines limit ds es start g e small begun s =
     join.ends_with image lines [] limit ds es g e small

@@ -11,7 +11,7 @@ use Rattle.of_machine.specs.Racks.{answers_of}
 use Rattle.of_machine.specs.Runs.{RunsTo, script_refusal}
 use Rattle.of_machine.specs.States.{MachineState, Refuses}
 use Rattle.of_machine.specs.declared.answers.End.{End}
-use Rattle.of_machine.specs.declared.answers.Refusal.{Refusal}
+use Rattle.of_refusal.specs.declared.refusal.Refusal.{Refusal}
 use Rattle.of_runs.specs.declared.outside.Answerer.{Answerer}
 use Rattle.of_runs.specs.declared.outside.Answerer.TheVariants as answering
 use Rattle.of_runs.specs.declared.outside.Outside.{Outside}

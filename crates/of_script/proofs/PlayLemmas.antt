@@ -5,8 +5,8 @@ use Rattle.std.proofs.Common.{refl, sym, subst, append_assoc, append-nil, length
 use Rattle.of_calls.specs.Scripts.{Break, Clear, Go, In, Out, Over, Scripted}
 use Rattle.of_cells.specs.declared.cells.Cell.{Cell}
 use Rattle.of_debug.specs.Debugging.{BreakAt, Clear as ClearAt, Command, Debugged}
-use Rattle.of_script.specs.declared.fault.ScriptFault.{ScriptFault}
-use Rattle.of_script.specs.declared.fault.ScriptFault.TheVariants as fault
+use Rattle.of_calls.specs.declared.script_fault.ScriptFault.{ScriptFault}
+use Rattle.of_calls.specs.declared.script_fault.ScriptFault.TheVariants as fault
 use Rattle.of_debug.specs.declared.fault.DebugFault.{DebugFault}
 use Rattle.of_debug.specs.declared.fault.DebugFault.TheVariants as refused
 use Rattle.of_script.specs.Scripts.{Carries, HasMarked, Plays, marked_text, word_of}

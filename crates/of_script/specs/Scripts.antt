@@ -10,11 +10,10 @@ use Rattle.of_debug.specs.Debugging.{StepOver, begun}
 use Rattle.of_debug.specs.Turns.{handed_over}
 use Rattle.of_debug.specs.declared.fault.DebugFault.{DebugFault}
 use Rattle.of_debug.specs.declared.fault.DebugFault.TheVariants as refused
-use Rattle.of_eval_laws.specs.Structured.{no_definitions}
-use Rattle.of_machine.specs.States.{MachineState, flat_machine, idle, loaded, slot}
+use Rattle.of_machine.specs.States.{MachineState, first_machine, loaded, slot}
 use Rattle.of_machine.specs.Views.{word_named, xt_numbered}
-use Rattle.of_script.specs.declared.fault.ScriptFault.{ScriptFault}
-use Rattle.of_script.specs.declared.fault.ScriptFault.TheVariants as fault
+use Rattle.of_calls.specs.declared.script_fault.ScriptFault.{ScriptFault}
+use Rattle.of_calls.specs.declared.script_fault.ScriptFault.TheVariants as fault
 use Rattle.of_script.specs.Shown.{state_line}
 
 -- ---- a command
@@ -80,7 +79,7 @@ Plays line (c ∷ cs) old new text wrong =
 -- the debugger of a new machine on which an image is loaded
 abbrev pub debugged : List ℕ → List (List ℕ) → List Answer → ℕ → Debugged
 debugged image lines answers limit =
-    begun (handed_over (loaded (flat_machine (idle no_definitions)) image slot) lines answers []).feed limit
+    begun (handed_over (loaded first_machine image slot) lines answers []).feed limit
 
 -- all that is printed of a script: behind a whole one the console bytes follow
 abbrev pub all_text : List ℕ → Option ScriptFault → Debugged → List ℕ

@@ -3,9 +3,8 @@ ghost use Rattle.std.specs.String.{string_bytes};
 ghost use Rattle.of_calls.specs.Scripts.{command_of, named_of};
 ghost use Rattle.of_script.specs.Scripts.{Carries, marked_text, stepped_text, word_of};
 
-use crate::fault::ScriptFault;
 use crate::shown::state_line;
-use of_calls::{ScriptCommand, ScriptWord};
+use of_calls::{ScriptCommand, ScriptFault, ScriptWord};
 use of_cells::Cell;
 use of_code::CodeStore;
 use of_debug::{DebugFault, Debugger};

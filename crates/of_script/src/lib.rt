@@ -2,9 +2,7 @@
 #![tactic(auto)]
 
 mod commands;
-mod fault;
 mod playing;
 mod shown;
 
-pub use fault::ScriptFault;
 pub use playing::{Played, debug_image, play};

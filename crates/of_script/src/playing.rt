@@ -5,12 +5,12 @@ ghost use Rattle.of_machine.specs.States.{Refuses};
 ghost use Rattle.of_script.specs.Scripts.{Debugs, Plays, PlaysWhole};
 
 use crate::commands::carry_out;
-use crate::fault::ScriptFault;
 use of_asking::Answer;
-use of_calls::ScriptCommand;
+use of_calls::{ScriptCommand, ScriptFault};
 use of_code::CodeStore;
 use of_debug::Debugger;
-use of_machine::{Refusal, loaded_machine};
+use of_machine::loaded_machine;
+use of_refusal::Refusal;
 use std::alloc::Global;
 
 /// What was printed under a script.

@@ -1,6 +1,6 @@
 use Rattle.std.proofs.Common.{rules, ◌≡◌, ◌∙◌, sym}
 use Rattle.std.proofs.lemmas.Result.{err_from_is_err_and}
-use Rattle.of_machine.specs.declared.answers.Refusal.TheVariants as refusal
+use Rattle.of_refusal.specs.declared.refusal.Refusal.TheVariants as refusal
 use Rattle.of_machine.proofs.RunLemmas.{first_refused}
 use Rattle.of_machine.proofs.run.begun_machine.Goals as goal
 

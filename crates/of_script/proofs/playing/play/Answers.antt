@@ -2,7 +2,7 @@ use Rattle.std.proofs.Common.{rules, ◌≡◌, ◌∷◌, Ok, Err, ap, length, 
 use Rattle.std.specs.String.{string_bytes}
 use Rattle.of_calls.specs.Scripts.{command_of}
 use Rattle.of_script.specs.Scripts.{Carries, Plays}
-use Rattle.of_script.specs.declared.fault.ScriptFault.TheVariants as fault
+use Rattle.of_calls.specs.declared.script_fault.ScriptFault.TheVariants as fault
 use Rattle.of_script.proofs.PlayLemmas.{leads_end, leads_out, none_of, text_refused}
 use Rattle.of_script.proofs.playing.play.Goals as goal
 

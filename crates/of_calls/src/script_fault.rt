@@ -1,5 +1,5 @@
 ghost use Rattle.std.specs.Prelude.{◌≡◌};
-ghost use Rattle.of_script.specs.Shown.{line_of};
+ghost use Rattle.of_calls.specs.GivenUp.{line_of};
 
 use thiserror::Error;
 
