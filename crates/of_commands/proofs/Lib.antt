@@ -7,3 +7,4 @@ pub mod Sessions
 pub mod Parts
 pub mod Prompted
 pub mod Stopped
+pub mod Unled

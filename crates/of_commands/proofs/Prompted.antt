@@ -1,23 +1,20 @@
 -- The lines of a debugger, one after the other.
-use Rattle.std.proofs.Common.{◌≡◌, ◌≢◌, ℕ, zero, suc, ◌<◌, ◌⊎◌, List, [], ◌∷◌, ◌++◌, length, Option, Some, None, IfSome}
-use Rattle.std.proofs.Common.{refl, sym, ap, subst, ◌∙◌, inl, inr, drop, Ok, Result, ◌==◌, not, true, true≢false}
-use Rattle.std.proofs.Common.{arith}
-use Rattle.std.proofs.lemmas.List.{append-nil}
+use Rattle.std.proofs.Common.{◌≡◌, ◌≢◌, ℕ, zero, suc, ◌<◌, List, [], ◌∷◌, ◌++◌, length, Option, Some, None, IfSome}
+use Rattle.std.proofs.Common.{refl, sym, ap, subst, ◌∙◌, inl, inr, drop, Ok, ◌==◌, not, true, true≢false, arith}
 use Rattle.std.proofs.KnownBytes.{Appends-nil, Appends-trans}
 use Rattle.std.specs.Prelude.{codes, ⊤}
 use Rattle.std.specs.Io.BufRead.{DropsThrough, drop_through, take_through}
 use Rattle.std.specs.Io.KnownBytes.{Appends}
-use Rattle.of_calls.specs.Scripts.{Scripted, parsed_script}
-use Rattle.of_calls.specs.declared.fault.TextFault.{TextFault}
+use Rattle.of_calls.specs.Scripts.{Scripted}
 use Rattle.of_compile.specs.Coding.{Coding}
 use Rattle.of_debug.specs.Debugging.{Debugged}
 use Rattle.of_machine.specs.States.{MachineState}
 use Rattle.of_script.specs.Scripts.{Plays}
 use Rattle.of_calls.specs.declared.script_fault.ScriptFault.{ScriptFault}
+use Rattle.of_calls.specs.declared.script_fault.ScriptFault.TheVariants as script
 use Rattle.of_commands.specs.Consoles.{line_in, printed_since}
 use Rattle.of_commands.specs.Listings.{newline_behind}
-use Rattle.of_commands.specs.Prompts.{AreDone, CarriesOut, FollowsAll, FollowsSome, Obeys, ObeysRead, Prints}
-use Rattle.of_commands.specs.Prompts.{command_prompt}
+use Rattle.of_commands.specs.Prompts.{AreDone, FollowsAll, Obeys, ObeysRead, Prints, command_prompt, wrong_text}
 use Rattle.of_commands.proofs.Sessions.{read_nothing, some_read}
 
 -- ---- a line
@@ -27,43 +24,28 @@ pub printed : (old new : Option (List ℕ)) (text : List ℕ) → Appends old ne
 printed old new text out = (text, out, tt)
 
 -- what the machine has printed since, as the two states say it
-pub printed_between : (old new x y : MachineState Coding) (seen : List ℕ) (a b : Option (List ℕ)) → x ≡ old
+pub printed_between : (P : List ℕ → Type 0) (old new x y : MachineState Coding) (seen : List ℕ) → x ≡ old
     → seen ≡ x.eval.board.console.text → y ≡ new
-    → Appends a b (let t = drop (length seen) y.eval.board.console.text in t ++ newline_behind t)
-    → Appends a b (printed_since old new)
-printed_between old new x y seen a b is_old is_seen is_new h =
+    → P (let t = drop (length seen) y.eval.board.console.text in t ++ newline_behind t) → P (printed_since old new)
+printed_between P old new x y seen is_old is_seen is_new h =
     let count : length seen ≡ length old.eval.board.console.text =
     ap length (is_seen ∙ ap (λ (m : MachineState Coding). m.eval.board.console.text) is_old) in
     subst
     (λ (m : MachineState Coding).
-    Appends a b
-    (let t = drop (length old.eval.board.console.text) m.eval.board.console.text in t ++ newline_behind t))
+    P (let t = drop (length old.eval.board.console.text) m.eval.board.console.text in t ++ newline_behind t))
     is_new
-    (subst (λ n. Appends a b (let t = drop n y.eval.board.console.text in t ++ newline_behind t)) count h)
+    (subst (λ n. P (let t = drop n y.eval.board.console.text in t ++ newline_behind t)) count h)
 
--- what the machine printed, the states, and why the command wasn't carried out stand one behind the other
-pub carried : (commands : List Scripted) (old new : Debugged) (text said : List ℕ) (wrong : Option ScriptFault)
-    (a b c d : Option (List ℕ)) → Plays 1 commands old new text wrong
-    → Appends a b (printed_since old.feed.machine new.feed.machine) → Appends b c text → Appends c d said
-    → (wrong ≡ None → said ≡ []) → Prints a d (CarriesOut commands old new)
-carried commands old new text said wrong a b c d played first second third none =
-    let console = printed_since old.feed.machine new.feed.machine in (
-      console ++ (text ++ said),
-      Appends-trans a b d console (text ++ said) first (Appends-trans b c d text said second third),
-      (text, wrong, played, λ e. ap (λ t. console ++ (text ++ t)) (none e) ∙ ap (λ t. console ++ t) (append-nil text)),
-    )
-
--- the same whatever was printed
-pub carried_unsaid : (commands : List Scripted) (old new : Debugged) (text : List ℕ) (wrong : Option ScriptFault)
-    → Plays 1 commands old new text wrong → (said : List ℕ) × CarriesOut commands old new said
-carried_unsaid commands old new text wrong played =
-    (printed_since old.feed.machine new.feed.machine ++ text, (text, wrong, played, λ e. refl))
-
--- a line with these commands is obeyed where they are carried out
-pub obeyed : (line : List ℕ) (commands : List Scripted) (old new : Debugged) → parsed_script line ≡ Ok commands
-    → (said : List ℕ) × CarriesOut commands old new said → (said : List ℕ) × Obeys line old new said
-obeyed line commands old new e p =
-    (p.0, subst (λ (r : Result (List Scripted) TextFault). ObeysRead r old new p.0) (sym e) p.1)
+-- what the machine printed, and what the commands did and why the last can't be carried out, stand one behind the other
+pub carried : (commands : List Scripted) (old new : Debugged) (text : List ℕ) (wrong : Option ScriptFault)
+    (a b c : Option (List ℕ)) → Plays 1 commands old new text wrong
+    → Appends a b (printed_since old.feed.machine new.feed.machine)
+    → (wrong ≢ Some script.NoMemory) × Appends b c (text ++ wrong_text wrong)
+    → Prints a c (ObeysRead (Ok commands) old new)
+carried commands old new text wrong a b c played first rest =
+    let console = printed_since old.feed.machine new.feed.machine in
+    let said = text ++ wrong_text wrong in
+    (console ++ said, Appends-trans a b c console said first rest.1, (wrong, rest.0, (text, played, refl)))
 
 -- ---- lines
 
@@ -157,28 +139,3 @@ quits (Some bytes) (Some rest) old mid new line seen short x y at read shown s l
   inr (ap line_in (sym (s ∙ read)) ∙ sym l ∙ q, refl),
   joined at.done [] old mid new new at.gone shown (Appends-nil new),
 )
-
--- where the next line can't be awaited, or is none
-pub stops : (known left old mid : Option (List ℕ)) (x y : Debugged) → IsAtKnown known left old mid x y
-    → IfSome known (λ bytes. FollowsSome bytes x y)
-stops None left old mid x y at = tt
-stops (Some bytes) None old mid x y at = absurd at
-stops (Some bytes) (Some rest) old mid x y at = (at.made, at.done, rest, y, at.there, inl refl)
-
--- where it is given up
-pub breaks : (known left old mid : Option (List ℕ)) (line seen short : List ℕ) (x y z : Debugged)
-    → IsAtKnown known left old mid x y → IfSome left (λ rest. line ≡ take_through 10 rest) → seen ≡ line
-    → short ≡ line_in seen → (z ≡ y) ⊎ ((said : List ℕ) × Obeys short y z said)
-    → IfSome known (λ bytes. FollowsSome bytes x z)
-breaks None left old mid line seen short x y z at read s l h = tt
-breaks (Some bytes) None old mid line seen short x y z at read s l h = absurd at
-breaks (Some bytes) (Some rest) old mid line seen short x y z at read s l h =
-    (at.made, at.done, rest, y, at.there, by_case h)
-  where
-    here : short ≡ line_in (take_through 10 rest)
-    here = l ∙ ap line_in (s ∙ read)
-
-    by_case : (z ≡ y) ⊎ ((said : List ℕ) × Obeys short y z said)
-        → (z ≡ y) ⊎ ((said : List ℕ) × Obeys (line_in (take_through 10 rest)) y z said)
-    by_case (inl same) = inl same
-    by_case (inr p) = inr (p.0, subst (λ t. Obeys t y z p.0) here p.1)

@@ -1,10 +1,12 @@
 //! `debug --interactive`: an image runs under a debugger whose commands are read as they come.
-ghost use Rattle.std.specs.Prelude.{◌≡◌, ◌==◌, ◌⊎◌, [], ⊤, ℕ, IfOk, IfSome, List, None, OnErr, OnOk, length, map, not};
-ghost use Rattle.std.specs.String.{string_bytes};
+ghost use Rattle.std.specs.Prelude.{◌≡◌, ◌≢◌, ◌==◌, ◌++◌, [], ⊤, ℕ, Err, IfErr, IfOk, IfSome, List, None, Ok, OnOk};
+ghost use Rattle.std.specs.Prelude.{Some, length, map, not};
 ghost use Rattle.std.specs.Io.BufRead.{DropsThrough, take_through};
 ghost use Rattle.std.specs.Io.KnownBytes.{Appends};
 ghost use Rattle.of_calls.specs.Scripts.{command_of};
-ghost use Rattle.of_commands.specs.Prompts.{CarriesOut, FollowsAll, FollowsSome, Obeys, Prints, command_prompt};
+ghost use Rattle.of_commands.specs.Prompts.{AnswersPrompts, Fails, FailsRead, FollowsAll, FollowsSome, IsUncommanded};
+ghost use Rattle.of_commands.specs.Prompts.{IsUnsaid, IsUnshown, Leads, Obeys, ObeysRead, Prints, command_prompt};
+ghost use Rattle.of_commands.specs.Prompts.{led_of, wrong_text};
 
 use crate::consoles::{blamed, print_since, read_line, without_end};
 use crate::places::{say_return_items, say_spot};
@@ -17,7 +19,7 @@ use of_console::tree_text;
 use of_debug::Debugger;
 use of_files::{Fault, Messages, refused, report, write_whole};
 use of_machine::{ScriptMachine, loaded_machine};
-use of_script::play;
+use of_script::{Played, play};
 use std::alloc::{AllocError, Global};
 use std::io::{self, BufRead, ErrorKind, Write};
 
@@ -164,7 +166,7 @@ fn say_seen(
 }
 
 /// Prints what a line asks to see, or why it fits nowhere.
-#[tactic(auto, using(crate::proofs::Prompted::printed))]
+#[tactic(auto, using(crate::proofs::Prompted::printed, crate::proofs::Unled::unshown, crate::proofs::Unled::unwritten))]
 fn look<W: Write>(
     alloc: Global,
     image: &[u8],
@@ -173,7 +175,8 @@ fn look<W: Write>(
     fault: TextFault,
     out: &mut W,
 ) -> Result<(), Fault>
-    ensures { OnOk result (Prints (W.contents out.old) (W.contents out.new) (λ said. ⊤)) }
+    ensures ok { OnOk result (Prints (W.contents out.old) (W.contents out.new) (λ said. ⊤)) }
+    ensures err { IfErr result (λ f. IsUnshown (W.contents out.old) (W.contents out.new) f) }
 {
     let line = std::str::from_utf8(line).unwrap_or("-");
     let mut text = Vec::new(alloc);
@@ -183,19 +186,31 @@ fn look<W: Write>(
     }
 }
 
-/// What is said of a command that can't be carried out; nothing of one that is.
-fn wrong_text(alloc: Global, wrong: Option<ScriptFault>) -> Result<String, Fault>
-    ensures none { IfOk result (λ text. wrong ≡ None → string_bytes text ≡ []) }
+/// Why a command can't be carried out, as a line; nothing of one that can be, and of refused memory.
+fn wrong_text(wrong: Option<ScriptFault>) -> &'static str
+    ensures { result.now ≡ wrong_text wrong }
 {
-    let Some(fault) = wrong else {
-        return Ok(String::new(alloc));
-    };
-    if let ScriptFault::NoMemory = fault {
-        return Err(Fault::NoMemory);
+    match wrong {
+        Some(ScriptFault::Unknown(_)) => "no such word\n",
+        Some(ScriptFault::NoWord(_)) => "no colon definition\n",
+        Some(ScriptFault::NoItem(_)) => "no such item\n",
+        Some(ScriptFault::TooMany(_)) => "too many marks\n",
+        Some(ScriptFault::NoMemory) | None => "",
     }
-    match format!(in alloc; "{fault}\n") {
-        Ok(text) => Ok(text),
-        Err(_) => Err(Fault::NoMemory),
+}
+
+/// Prints what commands have printed, and why the last of them can't be carried out.
+fn say_played<W: Write>(played: &Played, out: &mut W) -> Result<(), Fault>
+    ensures ok { OnOk result ((played.now.wrong ≢ Some ScriptFault.NoMemory)
+        × Appends (W.contents out.old) (W.contents out.new) (played.now.text.items ++ wrong_text played.now.wrong)) }
+    ensures err { IfErr result (λ f. IsUnsaid (played.now.text.items ++ wrong_text played.now.wrong) played.now.wrong
+        (W.contents out.old) (W.contents out.new) f) }
+{
+    write_whole(out, &played.text)?;
+    write_whole(out, wrong_text(played.wrong).as_bytes())?;
+    match played.wrong {
+        Some(ScriptFault::NoMemory) => Err(Fault::NoMemory),
+        _ => Ok(()),
     }
 }
 
@@ -207,16 +222,14 @@ fn carry_out<W: Write>(
     out: &mut W,
 ) -> Result<(), Fault>
     ensures ok { OnOk result (Prints (W.contents out.old) (W.contents out.new)
-        (CarriesOut (map command_of commands.now) debugger.old debugger.new)) }
-    ensures err { OnErr result ((said : List ℕ)
-        × CarriesOut (map command_of commands.now) debugger.old debugger.new said) }
+        (ObeysRead (Ok (map command_of commands.now)) debugger.old debugger.new)) }
+    ensures err { IfErr result (λ f. FailsRead (Ok (map command_of commands.now)) debugger.old debugger.new
+        (W.contents out.old) (W.contents out.new) f) }
 {
     let before = debugger.shown().1.console().len();
     let played = play(alloc, debugger, commands);
     print_since(debugger.shown().1, before, out)?;
-    write_whole(out, &played.text)?;
-    let wrong = wrong_text(alloc, played.wrong)?;
-    write_whole(out, wrong.as_bytes())
+    say_played(&played, out)
 }
 
 /// Does what a line says: carries its command out, or prints what it asks to see.
@@ -234,8 +247,8 @@ fn obey<W: Write>(
 ) -> Result<(), Fault>
     ensures ok { OnOk result (Prints (W.contents out.old) (W.contents out.new)
         (Obeys line.now debugger.old debugger.new)) }
-    ensures err { OnErr result ((debugger.new ≡ debugger.old)
-        ⊎ ((said : List ℕ) × Obeys line.now debugger.old debugger.new said)) }
+    ensures err { IfErr result (λ f. Fails line.now debugger.old debugger.new (W.contents out.old) (W.contents out.new)
+        f) }
 {
     match parse_script(alloc, line) {
         Ok(commands) => carry_out(alloc, debugger, &commands, out),
@@ -245,6 +258,7 @@ fn obey<W: Write>(
 }
 
 /// Shows that a command is awaited, and reads its line; answers whether there is one.
+#[tactic(auto, using(crate::proofs::Unled::unprompted, crate::proofs::Unled::unread))]
 fn await_command<L: BufRead, W: Write>(
     lines: &mut L,
     line: &mut Vec<u8>,
@@ -254,17 +268,22 @@ fn await_command<L: BufRead, W: Write>(
     ensures some { IfOk result (λ some. some ≡ not (length line.new.items == 0)) }
     ensures read { OnOk result (IfSome (L.remaining lines.old) (λ bytes. line.new.items ≡ take_through 10 bytes)) }
     ensures rest { OnOk result (DropsThrough (L.remaining lines.old) (L.remaining lines.new) 10) }
+    ensures err { IfErr result (λ f. IsUncommanded (W.contents out.old) (W.contents out.new) f) }
 {
     write_whole(out, b"debug> ")?;
     let _ = out.flush();
-    read_line(lines, line)
+    match read_line(lines, line) {
+        Ok(some) => Ok(some),
+        Err(fault) => Err(fault),
+    }
 }
 
 /// Reads lines, and does what each says, up to `quit` or the end of the input: `in`, `over`, `out`, `go`, `break` and
 /// `clear` are the commands of a script, and `?` prints the others, which show something and change nothing. What is
 /// printed stands between prompts.
 ///
-/// An error is for a write that fails, a line that can't be read, or memory; then some of the lines were done.
+/// An error is for a write that fails, a line that can't be read, or memory; then some of the lines were done, and all
+/// went out that they print. Of the next a part went out.
 pub fn follow<L: BufRead, W: Write>(
     alloc: Global,
     image: &[u8],
@@ -274,13 +293,14 @@ pub fn follow<L: BufRead, W: Write>(
 ) -> Result<(), Fault>
     ensures ok { OnOk result (IfSome (L.remaining lines.old) (λ bytes.
         FollowsAll bytes debugger.old debugger.new (W.contents out.old) (W.contents out.new))) }
-    ensures err { OnErr result (IfSome (L.remaining lines.old) (λ bytes.
-        FollowsSome bytes debugger.old debugger.new)) }
+    ensures err { IfErr result (λ f. IfSome (L.remaining lines.old) (λ bytes.
+        FollowsSome bytes debugger.old debugger.new (W.contents out.old) (W.contents out.new) f)) }
 {
     let mut line = Vec::new(alloc);
     for _ in 0..MOST_LINES {
         if !await_command(lines, &mut line, out)? {
-            return write_whole(out, b"\n");
+            write_whole(out, b"\n")?;
+            return Ok(());
         }
         let said = without_end(&line);
         if said == b"quit".as_slice() {
@@ -292,13 +312,15 @@ pub fn follow<L: BufRead, W: Write>(
 }
 
 /// Loads the image, and does what lines say up to the end of the input.
+#[tactic(auto, using(crate::proofs::Unled::all_led, crate::proofs::Unled::some_led, crate::proofs::Unled::unloaded))]
 fn step_by_lines<L: BufRead, W: Write>(
     alloc: Global,
     asked: PromptRun<'_>,
     lines: &mut L,
     out: &mut W,
 ) -> Result<Status, Fault>
-    ensures { IfOk result (λ s. s ≡ Status.Done) }
+    ensures { IfSome (L.remaining lines.old) (λ bytes. Leads (led_of asked.entry) bytes (W.contents out.old)
+        (W.contents out.new) result) }
 {
     match loaded_machine(alloc, asked.image, asked.lines) {
         Ok(machine) => {
@@ -315,6 +337,7 @@ fn step_by_lines<L: BufRead, W: Write>(
 /// Runs an image under a debugger that is led by lines, each of which is done as soon as it is read, up to `quit` or
 /// the end of the input, and gives the status: that of a run that is done, or of what is wrong, which is said on the
 /// error output behind the path of the image, or as of the standard input.
+#[tactic(auto, using(crate::proofs::Unled::ended, crate::proofs::Unled::reported))]
 pub fn prompt<L: BufRead, W: Write, E: Write>(
     alloc: Global,
     asked: PromptRun<'_>,
@@ -322,6 +345,8 @@ pub fn prompt<L: BufRead, W: Write, E: Write>(
     out: &mut W,
     errors: &mut Messages<E>,
 ) -> Status
+    ensures answered { AnswersPrompts (led_of asked.entry) (L.remaining lines.old) (W.contents out.old)
+        (W.contents out.new) result }
     ensures silent { result ≡ Status.Done → errors.new ≡ errors.old }
 {
     match step_by_lines(alloc, asked, lines, out) {
