@@ -29,6 +29,11 @@ loops|||99|go 17,break #800 7,go 100,list,where|0|>@17 [ 5 ]/>>@24 [ 4 ffffffff 
 loops|||99|go 17,break #800 7,break #800 1,clear #800 7,list|0|>@17 [ 5 ]/>>>>\
 : h# c000052c begin dup if 1 - dup 2 <> if again then then ;/next: item 0/marked: item 1/>/|
 empty|: t 2 0 do 5 >r r> drop loop ; t||99|go 17,where|0|>@17 [ ]/>item 5 of `t`/return stack: 5, loop 0 of 2/>/|
+loops|||99|go 17,break #800 10,clear #800 10,go 2|0|>@17 [ 5 ]/>no such item/>no such item/>@19 [ 5 ]/>/|
+empty|: t 1 2 3 4 5 6 7 8 9 a b c d e f 10 11 ;||99|\
+go 20,break t 0,break t 1,break t 2,break t 3,break t 4,break t 5,break t 6,break t 7,break t 8,break t 9,break t 10,\
+break t 11,break t 12,break t 13,break t 14,break t 15,break t 3,break t 16|0|\
+>@20 [ ]/>>>>>>>>>>>>>>>>>>too many marks/>/|
 five|||99|mem 200010 14,mem 1ffffe 3,mem 0,mem 0 1001,mem 0 0|0|\
 >00200010: 6e 61 6d 65 62 6f 61 72 64 00 00 00 6e 61 6d 65/00200020: 70 61 63 6b/\
 >001ffffe: -- -- 00/>an address and a length up to 1000 are wanted, in hexadecimal digits/\
