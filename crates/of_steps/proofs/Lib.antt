@@ -8,6 +8,9 @@
 -- StillRunning: what throws leaves what runs running.
 -- Runs: runs, step by step.
 -- Asked: with an answer at hand nothing asks.
+-- CodeKept: acts that leave the code as it was.
+-- GoalLemmas: runs to a goal.
+-- UnmarkedLemmas: cells at which no marked item begins.
 pub mod Registers
 pub mod Executed
 pub mod AtOnce
@@ -18,3 +21,6 @@ pub mod Settled
 pub mod StillRunning
 pub mod Runs
 pub mod Asked
+pub mod CodeKept
+pub mod GoalLemmas
+pub mod UnmarkedLemmas

@@ -1,2 +1,4 @@
 pub mod AtOnce
 pub mod Steps
+pub mod Goals
+pub mod Unmarked
