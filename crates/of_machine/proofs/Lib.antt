@@ -5,6 +5,7 @@
 -- RackLemmas: runs whose questions a rack answers, for `run_rack`.
 -- StretchLemmas: the law `stretches_join`.
 -- RefusedLemmas: runs for which memory is refused.
+-- GoalLemmas: runs to a goal.
 -- OwnNumbers: the numbers of own words by their execution tokens, for the view `name`.
 pub mod FirstLemmas
 pub mod EventLemmas
@@ -14,3 +15,4 @@ pub mod RackLemmas
 pub mod StretchLemmas
 pub mod RefusedLemmas
 pub mod OwnNumbers
+pub mod GoalLemmas

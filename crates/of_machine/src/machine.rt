@@ -26,6 +26,7 @@ use of_stream::{Stream, open};
 use std::alloc::{AllocError, Global};
 use std::marker::Model;
 
+mod goals;
 mod listings;
 mod views;
 
