@@ -8,9 +8,9 @@ use Rattle.of_machine.specs.Runs.{Feed, asking, settled}
 use Rattle.of_state.specs.State.{flat_calls}
 use Rattle.of_debug.specs.declared.fault.DebugFault.{DebugFault}
 use Rattle.of_debug.specs.declared.fault.DebugFault.TheVariants as fault
-use Rattle.of_debug.specs.declared.goal.Goal.{Goal}
-use Rattle.of_debug.specs.declared.goal.Goal.TheVariants as goal
-use Rattle.of_debug.specs.declared.marks.Mark.{Mark}
+use Rattle.of_steps.specs.declared.goals.Goal.{Goal}
+use Rattle.of_steps.specs.declared.goals.Goal.TheVariants as goal
+use Rattle.of_steps.specs.declared.marks.Mark.{Mark}
 use Rattle.of_debug.proofs.FeedLemmas.{settled_again, settled_steps}
 use Rattle.of_debug.proofs.StepLemmas.{run_none, run_one, shows_itself, shows_so}
 use Rattle.of_debug.proofs.TurnLemmas.{Stayed, Turned, Went, settled_turn, steps_at, turn_at, turned_so}

@@ -5,3 +5,4 @@ pub mod StepLemmas
 pub mod FaithfulLemmas
 pub mod StopLemmas
 pub mod AgreeLemmas
+pub mod GoingLemmas

@@ -8,8 +8,8 @@ use Rattle.of_machine.specs.Runs.{Feed, settled}
 use Rattle.of_state.specs.State.{flat_calls}
 use Rattle.of_debug.specs.declared.fault.DebugFault.{DebugFault}
 use Rattle.of_debug.specs.declared.fault.DebugFault.TheVariants as fault
-use Rattle.of_debug.specs.declared.goal.Goal.{Goal}
-use Rattle.of_debug.specs.declared.marks.Mark.{Mark}
+use Rattle.of_steps.specs.declared.goals.Goal.{Goal}
+use Rattle.of_steps.specs.declared.marks.Mark.{Mark}
 use Rattle.of_debug.proofs.FeedLemmas.{settled_steps}
 use Rattle.of_debug.proofs.TurnLemmas.{grows_at, settled_at, settled_turn, steps_at}
 use Rattle.of_machine.specs.Refused.{HasDue}
@@ -128,7 +128,7 @@ last_turn true marks goal g = refl
 last_turn false marks goal g = until_none marks goal g
 
 -- up to one step is a turn
-until_turn : (marks : List Mark) (goal : Goal) (f : Feed Coding) → until marks goal 1 f ≡ turn flat_calls f
+pub until_turn : (marks : List Mark) (goal : Goal) (f : Feed Coding) → until marks goal 1 f ≡ turn flat_calls f
 until_turn marks goal f =
     let g = turn flat_calls f in
     until_suc marks goal 0 f ∙ last_turn (has_stayed f g || is_there marks goal g.machine) marks goal g

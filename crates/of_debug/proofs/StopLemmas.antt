@@ -6,8 +6,8 @@ use Rattle.std.specs.Prelude.{◌||◌, if◌then◌else◌}
 use Rattle.of_compile.specs.Coding.{Coding}
 use Rattle.of_machine.specs.Runs.{Feed}
 use Rattle.of_state.specs.State.{flat_calls}
-use Rattle.of_debug.specs.declared.goal.Goal.{Goal}
-use Rattle.of_debug.specs.declared.marks.Mark.{Mark}
+use Rattle.of_steps.specs.declared.goals.Goal.{Goal}
+use Rattle.of_steps.specs.declared.marks.Mark.{Mark}
 use Rattle.of_debug.proofs.FaithfulLemmas.{run_joined, shows_joined}
 use Rattle.of_debug.proofs.StepLemmas.{run_none, run_one, shows_itself, shows_so}
 use Rattle.of_debug.proofs.TurnLemmas.{Stayed, Turned, Went, steps_at, turn_at, turned_so}

@@ -93,7 +93,7 @@ turned_so f = by_can f (can_step f.machine) refl
 runs_if : (m : MachineState Coding) → can_step m ≡ true → is_running m ≡ true
 runs_if m can = (and_parts (is_running m) (nat_lt m.steps (2 ^ 64 - 1)) can).0
 
-later_so : (f : Feed Coding) → settled f ≡ f → AreLater f.machine.steps f.calls
+pub later_so : (f : Feed Coding) → settled f ≡ f → AreLater f.machine.steps f.calls
 later_so f full = subst (λ (x : Feed Coding). AreLater x.machine.steps x.calls) full (settled_later f)
 
 pub settled_at : (f g : Feed Coding) → IsAt f g → settled f ≡ f → settled g ≡ g

@@ -10,10 +10,11 @@ use Rattle.of_state.specs.State.{flat_calls}
 use Rattle.of_state.specs.Views.{items_of_word}
 use Rattle.of_debug.specs.declared.fault.DebugFault.{DebugFault}
 use Rattle.of_debug.specs.declared.fault.DebugFault.TheVariants as fault
-use Rattle.of_debug.specs.declared.goal.Goal.{Goal}
-use Rattle.of_debug.specs.declared.goal.Goal.TheVariants as goal
-use Rattle.of_debug.specs.declared.marks.Mark.{Mark}
-use Rattle.of_debug.specs.Marks.{is_in, without}
+use Rattle.of_steps.specs.declared.goals.Goal.{Goal}
+use Rattle.of_steps.specs.declared.goals.Goal.TheVariants as goal
+use Rattle.of_steps.specs.declared.marks.Mark.{Mark}
+use Rattle.of_debug.specs.Marks.{without}
+use Rattle.of_steps.specs.Goals.{is_in}
 use Rattle.of_debug.specs.Stepping.{Advances, depth}
 use Rattle.of_debug.specs.Turns.{Shows, Stands, run}
 

@@ -1,19 +1,17 @@
 -- Where a stepping call stops.
 use Rattle.std.specs.Prelude.{ℕ, zero, suc, ◌≡◌, ◌<◌, ◌≤◌, ◌+◌, ◌⊎◌, Bool, true, false, List, length}
-use Rattle.std.specs.Prelude.{Result, Ok, Err, nat_eq, nat_le, nat_lt, ◌||◌, None, if◌then◌else◌, ⊤}
+use Rattle.std.specs.Prelude.{Result, Ok, Err, nat_eq, ◌||◌, None, if◌then◌else◌, ⊤}
 use Rattle.of_compile.specs.Coding.{Coding}
 use Rattle.of_machine.specs.Refused.{HasDue}
 use Rattle.of_machine.specs.Runs.{Feed, next_answer, settled, told}
 use Rattle.of_machine.specs.States.{MachineState, MayGrow}
 use Rattle.of_state.specs.State.{flat_calls}
-use Rattle.of_state.specs.Views.{next_item}
 use Rattle.of_debug.specs.declared.fault.DebugFault.{DebugFault}
 use Rattle.of_debug.specs.declared.fault.DebugFault.TheVariants as fault
-use Rattle.of_debug.specs.declared.goal.Goal.{Goal}
-use Rattle.of_debug.specs.declared.goal.Goal.TheVariants as goal
-use Rattle.of_debug.specs.declared.marks.Mark.{Mark}
-use Rattle.of_debug.specs.Marks.{is_marked}
-use Rattle.of_debug.specs.Turns.{IsAt, turn}
+use Rattle.of_steps.specs.declared.goals.Goal.{Goal}
+use Rattle.of_steps.specs.declared.marks.Mark.{Mark}
+use Rattle.of_steps.specs.Goals.{is_reached}
+use Rattle.of_debug.specs.Turns.{IsAt, run, turn}
 
 -- how many items the return stack has
 abbrev pub depth : MachineState Coding → ℕ
@@ -21,10 +19,7 @@ depth m = length m.eval.flow.items
 
 -- whether a stepping call stops at a machine
 abbrev pub is_there : List Mark → Goal → MachineState Coding → Bool
-is_there marks goal.Step m = true
-is_there marks (goal.NoDeeper n) m = nat_le (depth m) n
-is_there marks (goal.Shallower n) m = nat_lt (depth m) n
-is_there marks goal.Marked m = is_marked marks (next_item m.eval)
+is_there marks goal m = is_reached marks goal m.eval
 
 -- whether no step was made from one feed to another
 abbrev pub has_stayed : Feed Coding → Feed Coding → Bool
@@ -67,6 +62,19 @@ Advances marks goal n old new (Err fault.TooMany) = ⊥
 abbrev pub Comes : ℕ → Result ⊤ DebugFault → Type 0
 Comes made (Ok _) = zero < made
 Comes made (Err e) = (e ≡ fault.Idle) × (made ≡ 0)
+
+-- ---- turns, as they are made
+
+-- So many turns were made, at most n, a step with each, and none but the last has reached the goal.
+pub record HaveGone (marks : List Mark) (goal : Goal) (n k : ℕ) (old new : Feed Coding) : Type 0 where
+  pub few : k ≤ n
+  pub at : new ≡ run flat_calls k old
+  pub steps : (i : ℕ) → i ≤ k → (run flat_calls i old).machine.steps ≡ old.machine.steps + i
+  pub before : (i : ℕ) → 0 < i → i < k → is_there marks goal (run flat_calls i old).machine ≡ false
+
+-- no turn can be made
+abbrev pub HasStayed : Feed Coding → Feed Coding → Type 0
+HasStayed old new = (new ≡ turn flat_calls old) × (new.machine.steps ≡ old.machine.steps)
 
 -- ---- a turn, as it is made
 

@@ -3,8 +3,8 @@ use Rattle.std.specs.Prelude.{ℕ, ◌≡◌, ◌<◌, ◌≤◌, ◌⊎◌, tru
 use Rattle.of_compile.specs.Coding.{Coding}
 use Rattle.of_machine.specs.Runs.{Feed, settled}
 use Rattle.of_state.specs.State.{flat_calls}
-use Rattle.of_debug.specs.declared.goal.Goal.{Goal}
-use Rattle.of_debug.specs.declared.marks.Mark.{Mark}
+use Rattle.of_steps.specs.declared.goals.Goal.{Goal}
+use Rattle.of_steps.specs.declared.marks.Mark.{Mark}
 use Rattle.of_machine.specs.Refused.{HasDue}
 use Rattle.of_debug.specs.Stepping.{is_there, until}
 use Rattle.of_debug.specs.Turns.{Shows, between, run, turn}

@@ -9,14 +9,14 @@ ghost use Rattle.of_state.specs.Views.{items_of_word};
 
 use crate::fault::DebugFault;
 use crate::feeder::Feeder;
-use crate::goal::{Goal, is_there};
-use crate::marks::{MOST_MARKS, Mark, Marks, is_in, without};
+use crate::marks::{MOST_MARKS, Marks, without};
 use arrayvec::ArrayVec;
 use of_asking::Answer;
 use of_cells::Cell;
 use of_client::ClientCall;
 use of_code::CodeStore;
 use of_machine::Machine;
+use of_steps::{Goal, Mark};
 use std::marker::Model;
 
 /// A debugger of a machine. It makes the steps of the machine's undisturbed run and shows its states: console lines,
@@ -57,7 +57,7 @@ fn stopped(made: u64) -> Result<(), DebugFault>
 }
 
 /// Makes at most so many steps, up to the first behind which the goal is reached.
-#[tactic(auto, using(crate::proofs::StepLemmas::advances))]
+#[tactic(auto)]
 fn advance<C: CodeStore>(
     feeder: &mut Feeder<'_, C>,
     marks: &[Mark],
@@ -69,15 +69,15 @@ fn advance<C: CodeStore>(
     ensures few { feeder.new.feed.machine.steps ≤ feeder.old.feed.machine.steps + most }
     ensures began { feeder.new.began ≡ feeder.old.began }
 {
-    for made in 0..most {
-        match feeder.turn() {
-            Ok(true) => {
-                if is_there(marks, goal, feeder.machine()) {
-                    return Ok(());
-                }
-            }
-            Ok(false) => return stopped(made),
+    let mut made = 0;
+    while made < most {
+        match feeder.go(marks, goal, most - made) {
+            Ok(0) => return stopped(made),
+            Ok(more) => made += more,
             Err(_) => return Err(DebugFault::NoMemory),
+        }
+        if feeder.machine().is_reached(marks, goal) {
+            return Ok(());
         }
     }
     stopped(most)
@@ -187,7 +187,7 @@ impl<'a, C: CodeStore> Debugger<'a, C> {
     {
         self.item_of(xt, item)?;
         let mark = Mark { xt, item };
-        if is_in(mark, &self.marks) {
+        if mark.is_in(&self.marks) {
             return Ok(());
         }
         if self.marks.len() >= MOST_MARKS {

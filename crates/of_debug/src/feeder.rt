@@ -1,14 +1,15 @@
-ghost use Rattle.std.specs.Prelude.{◌≡◌, ◌≤◌, ◌-◌, ◌+◌, IfOk, OnErr, OnOk, Some, map, nat_le, true};
-ghost use Rattle.of_machine.specs.Runs.{clients_heard, fed, settled};
+ghost use Rattle.std.specs.Prelude.{◌≡◌, ◌≤◌, ◌<◌, ◌-◌, ◌+◌, IfOk, OnErr, OnOk, Some, map, nat_le, true};
+ghost use Rattle.of_machine.specs.Runs.{AreLater, AreUpto, clients_heard, fed, settled};
 ghost use Rattle.of_machine.specs.States.{is_running};
 ghost use Rattle.of_machine.specs.Refused.{HasDue, has_line, is_first_due};
-ghost use Rattle.of_debug.specs.Stepping.{Breaks, IsTold, Turns, Untold};
+ghost use Rattle.of_debug.specs.Stepping.{Breaks, HasStayed, HaveGone, IsRefused, IsTold, Turns, Untold};
 ghost use Rattle.of_debug.specs.Turns.{handed_over};
 
 use of_asking::{Answer, Query, is_fitting};
 use of_client::ClientCall;
 use of_code::CodeStore;
 use of_machine::{Machine, Progress};
+use of_steps::{Goal, Mark};
 use std::alloc::AllocError;
 use std::marker::Model;
 
@@ -188,5 +189,54 @@ impl<'a, C: CodeStore> Feeder<'a, C> {
             }
             Progress::Asks(query) => self.tell(query),
         }
+    }
+
+    /// How many steps are made before a client is to be answered, and `most` at most.
+    fn quiet(&self, most: u64) -> u64
+        requires later { AreLater self.now.feed.machine.steps self.now.feed.calls }
+        ensures few { result ≤ most }
+        ensures some { 1 ≤ most → 1 ≤ result }
+        ensures upto { AreUpto (self.now.feed.machine.steps + result) self.now.feed.calls }
+    {
+        match self.calls.first() {
+            Some((due, _)) => most.min(*due - self.made()),
+            None => most,
+        }
+    }
+
+    /// Makes one turn; answers how many were made.
+    fn turn_once(&mut self) -> Result<u64, AllocError>
+        ensures went { IfOk result (λ k. 0 < k → (k ≡ 1) × Turns true self.old.feed self.new.feed) }
+        ensures stayed { IfOk result (λ k. k ≡ 0 → HasStayed self.old.feed self.new.feed) }
+        ensures broken { OnErr result (Breaks self.old.feed self.new.feed) }
+        ensures began { self.new.began ≡ self.old.began }
+    {
+        Ok(if self.turn()? { 1 } else { 0 })
+    }
+
+    /// Makes turns of the run, one at least where one can be made and `most` at most, up to the first with which the
+    /// goal is reached, or the first behind which something is handed in or asked; answers how many.
+    ///
+    /// Where memory is refused, the steps before stand, and what comes next asks for it.
+    pub(crate) fn go(&mut self, marks: &[Mark], goal: Goal, most: u64) -> Result<u64, AllocError>
+        requires some { 1 ≤ most }
+        requires settled { settled self.old.feed ≡ self.old.feed }
+        ensures went { IfOk result (λ k. 0 < k → HaveGone marks.now goal most k self.old.feed self.new.feed) }
+        ensures stayed { IfOk result (λ k. k ≡ 0 → HasStayed self.old.feed self.new.feed) }
+        ensures refused { OnErr result (IsRefused marks.now goal most self.old.feed self.new.feed) }
+        ensures began { self.new.began ≡ self.old.began }
+    {
+        if self.machine.question().is_some() {
+            return self.turn_once();
+        }
+        let before = self.machine.steps();
+        let quiet = self.quiet(most);
+        let _ = self.machine.run_to(marks, goal, quiet)?;
+        let made = self.machine.steps() - before;
+        if made == 0 {
+            return self.turn_once();
+        }
+        self.settle()?;
+        Ok(made)
     }
 }

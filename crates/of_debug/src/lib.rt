@@ -5,11 +5,10 @@
 mod debugger;
 mod fault;
 mod feeder;
-mod goal;
 mod laws;
 mod marks;
 
 pub use debugger::Debugger;
 pub use fault::DebugFault;
 pub use laws::{calls_stop_first, debugged_runs_agree, due_is_left, shown_states_are_the_runs};
-pub use marks::Mark;
+pub use of_steps::Mark;

@@ -4,6 +4,8 @@
 #[cfg(test)]
 mod clients;
 #[cfg(test)]
+mod goals;
+#[cfg(test)]
 mod marks;
 #[cfg(test)]
 mod questions;
