@@ -83,6 +83,20 @@ impl<'a> Parser<'a> {
         }
     }
 
+    /// The position of the latest word.
+    pub fn at(&self) -> usize
+        ensures { result ≡ self.now.at }
+    {
+        self.at
+    }
+
+    /// How many items there are.
+    pub fn count(&self) -> usize
+        ensures { result ≡ length self.now.items }
+    {
+        self.items.len()
+    }
+
     /// One more item.
     fn give(&mut self, item: Item) -> Result<(), AllocError>
         ensures { OnOk result (self.new ≡ giving (item_shown item ∷ []) self.old) }

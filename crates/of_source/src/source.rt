@@ -84,7 +84,7 @@ pub enum Beyond<'a> {
 }
 
 /// The position of the last byte of a text.
-fn last_place(text: &[u8]) -> usize
+pub(crate) fn last_place(text: &[u8]) -> usize
     ensures { result ≡ last_place text.now }
 {
     if text.len() == 0 {
@@ -94,7 +94,7 @@ fn last_place(text: &[u8]) -> usize
 }
 
 /// Past at most so many comments.
-fn past_comments(mut rest: Rest<'_>, most: usize) -> Beyond<'_>
+pub(crate) fn past_comments(mut rest: Rest<'_>, most: usize) -> Beyond<'_>
     ensures { beyond_shown result ≡ beyond most rest.entry }
 {
     for _ in 0..most {

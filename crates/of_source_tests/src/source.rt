@@ -1,5 +1,5 @@
 use of_fcodes::{FCode, Word, name_of, word_of};
-use of_source::{Item, Made, Maker, Name, Place, Plain, SourceFault, parse, place_in};
+use of_source::{Item, Made, Maker, Name, Place, Plain, SourceFault, item_places, parse, place_in};
 use of_stream::OffsetSize;
 use std::alloc::{AllocError, Global};
 use std::process::Abort;
@@ -424,6 +424,35 @@ fn places(rt: HostRuntime) -> Result<(), Fail> {
         assert_eq!(rt; place_in(b"ab\nc", position), Place { line, column });
     }
     assert_eq!(rt; place_in(b"\n\n", 2), Place { line: 3, column: 1 });
+    Ok(())
+}
+
+/// Sources with the positions of the words that begin them, of their items, and of the words that end them; of one that
+/// isn't accepted those up to the word that fits nowhere.
+const POSITIONS: &str = "\
+fcode-version2 fcode-end|0 15
+( a ) fcode-version2 : t 1+ ; t fcode-end|6 21 25 25 28 30 32
+fcode-version2 : double dup + ; decimal 12 double fcode-end|0 15 24 28 30 40 43 50
+fcode-version2 \" a b\" 2drop h# 10 drop ( no ) ' dup drop fcode-end|0 15 22 28 34 46 52 57
+fcode-version2 begin 0 while repeat fcode-end|0 15 21 23 29 29 36
+fcode-version2 1 2 then fcode-end|0 15 17
+5|0
+";
+
+#[test]
+fn positions(rt: HostRuntime) -> Result<(), Fail> {
+    for line in POSITIONS.lines() {
+        let (source, wanted) = line.split_once('|').unwrap_or(("", ""));
+        let places = item_places(rt.alloc(), source.as_bytes())?;
+        let mut shown = String::new(rt.alloc());
+        for place in places.as_slice() {
+            if !shown.is_empty() {
+                shown.push(' ')?;
+            }
+            shown.push_str(&format!(in rt.alloc(); "{place}")?)?;
+        }
+        assert_eq!(rt; shown.as_str(), wanted, "{source}");
+    }
     Ok(())
 }
 
