@@ -9,3 +9,4 @@ mod AimLemmas
 mod FollowLemmas
 pub mod OrderLemmas
 mod HeaderLemmas
+pub mod OriginLemmas

@@ -4,3 +4,4 @@ pub mod Image
 pub mod Layout
 pub mod Shown
 pub mod Laws
+pub mod Origins

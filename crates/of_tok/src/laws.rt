@@ -2,6 +2,7 @@
 
 ghost use Rattle.of_tok.specs.Laws.{HeaderIsTheSum, ImageHasTokens, NestsEndAtTheirPlaces};
 ghost use Rattle.of_tok.specs.Layout.{PassesGiveTokens};
+ghost use Rattle.of_tok.specs.Origins.{TokensHaveOrigins};
 
 use of_source::items_give_nest;
 use of_stream::tokens_read_back;
@@ -35,3 +36,12 @@ pub fn header_is_the_sum()
 pub fn nests_end_at_their_places()
     ensures { NestsEndAtTheirPlaces }
 {}
+
+/// The tokens of an image are those of the items of its source, one item behind the other, and `end0`: so the header
+/// and each token come from one word.
+#[tactic(auto, using(crate::proofs::OriginLemmas::tokens_have_origins))]
+pub fn tokens_have_origins()
+    ensures { TokensHaveOrigins }
+{
+    items_give_nest();
+}

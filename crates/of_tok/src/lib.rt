@@ -5,6 +5,7 @@ mod fault;
 mod header;
 mod laws;
 mod layout;
+mod origin;
 mod place;
 mod placing;
 mod token;
@@ -15,5 +16,7 @@ mod written;
 pub use fault::TokFault;
 pub use laws::{
     header_is_the_sum, image_has_tokens, nests_end_at_their_places, passes_give_tokens,
+    tokens_have_origins,
 };
+pub use origin::image_origins;
 pub use tokenizer::tokenize;

@@ -1,10 +1,11 @@
 //! Sources as lines of text, and their images.
 
+use of_margin::{beside_lines, lines_have_margins};
 use of_meaning::body_of_nest;
-use of_source::{Place, SourceFault, parse, place_in};
+use of_source::{Place, SourceFault, item_places, parse, place_in};
 use of_tok::{
-    TokFault, header_is_the_sum, image_has_tokens, nests_end_at_their_places, passes_give_tokens,
-    tokenize,
+    TokFault, header_is_the_sum, image_has_tokens, image_origins, nests_end_at_their_places,
+    passes_give_tokens, tokenize, tokens_have_origins,
 };
 use std::alloc::{AllocError, Global};
 use std::test::Fail;
@@ -162,12 +163,56 @@ fn headers(rt: HostRuntime) -> Result<(), Fail> {
     Ok(())
 }
 
+/// Sources with the positions of the words from which their headers and tokens come.
+const ORIGINS: &str = "\
+fcode-version2 fcode-end|0 15
+fcode-version2 : t 1+ ; t fcode-end|0 15 15 19 19 22 24 26
+fcode-version2 5 value t 0 if 1 else t then fcode-end|0 15 17 17 25 27 30 32 32 37 39 44
+";
+
+#[test]
+fn origins(rt: HostRuntime) -> Result<(), Fail> {
+    let alloc = rt.alloc();
+    for line in ORIGINS.lines() {
+        let (text, wanted) = line.split_once('|').unwrap_or(("", ""));
+        let source = parse(alloc, text.as_bytes())?;
+        let places = item_places(alloc, text.as_bytes())?;
+        let mut shown = String::new(alloc);
+        for place in image_origins(alloc, &source, &places)?.as_slice() {
+            if !shown.is_empty() {
+                shown.push(' ')?;
+            }
+            shown.push_str(&format!(in alloc; "{place}")?)?;
+        }
+        assert_eq!(rt; shown.as_str(), wanted, "{text}");
+    }
+    Ok(())
+}
+
+/// The lines of a text beside a listing: a line that was shown is shown again behind another, and a line of the listing
+/// without a position has none.
+#[test]
+fn margins(rt: HostRuntime) -> Result<(), Fail> {
+    let listing = b"one\ntwo\nthree\nfour\n";
+    let lines = beside_lines(rt.alloc(), b"ab\nc\td\n", &[3, 4, 0], listing)?;
+    let wanted = "\
+one                                      \\ 2: c d
+two                                      \\ 2:
+three                                    \\ 1: ab
+four
+";
+    assert_eq!(rt; lines.as_slice(), wanted.as_bytes());
+    Ok(())
+}
+
 #[test]
 fn laws(_rt: HostRuntime) -> Result<(), Fail> {
     passes_give_tokens();
     image_has_tokens();
     nests_end_at_their_places();
     header_is_the_sum();
+    tokens_have_origins();
+    lines_have_margins();
     body_of_nest();
     Ok(())
 }
