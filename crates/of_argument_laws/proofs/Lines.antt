@@ -1,6 +1,6 @@
 -- What the lines of the usage text ask for.
 use Rattle.std.proofs.Common.{not, true≢false, cond, ◌==◌, ◌∷◌, [], codes, ◌≡◌, ◌∙◌, ℕ, Bool, List, Option, Some, None}
-use Rattle.std.proofs.Common.{true, false, arith, refl, sym, ap, unwrap_or}
+use Rattle.std.proofs.Common.{true, false, refl, sym, ap, option_map}
 use Rattle.std.specs.Str.Parse.{digits_value, without_leading_plus}
 use Rattle.std.specs.Str.{bytes_eq}
 use Rattle.std.specs.Option.{option_map_or}
@@ -16,10 +16,8 @@ use Rattle.clap.specs.declared.builder.value_parser.Reading.TheVariants.{AsWritt
 use Rattle.clap.proofs.OnLiterals.{clap_on_literals}
 use Rattle.clap.specs.ValueTests.{is_unsigned_in}
 use Rattle.clap.specs.Words.{Text}
-use Rattle.clap.specs.declared.builder.value_parser.ValueParser.TheVariants as parser
-use Rattle.clap.proofs.ValueTestLemmas.{Accepts-accepts, accepts-Accepts}
 use Rattle.of_argument_laws.specs.Lines.{LinesAsk, is_plain, AsksToRun, AsksToList, AsksForLimit}
-use Rattle.of_arguments.specs.CommandLine.{number_in}
+use Rattle.of_arguments.specs.CommandLine.{limit_of}
 use Rattle.of_arguments.specs.Asked.{a_listing, a_look, a_rom, a_run, no_appendix, standard}
 use Rattle.of_argument_laws.specs.Lines.{Asks, AsksToExplain, AsksWith, plain_tokens, AsksToKeep}
 use Rattle.of_arguments.specs.CommandLine.{ofw_app, run_app}
@@ -27,7 +25,8 @@ use Rattle.of_argument_laws.specs.Lines.{AsksForCalls, AsksForTree, AsksToTokeni
 use Rattle.of_argument_laws.specs.Lines.{AsksForConsole, AsksForConsoleOn, AsksForState, AsksForWords, AsksToSee}
 use Rattle.of_argument_laws.specs.Lines.{AsksForTerminal, AsksToDebug}
 use Rattle.of_arguments.specs.CommandLine.{debug_app}
-use Rattle.of_argument_laws.specs.Lines.{AsksWithLines}
+use Rattle.of_argument_laws.specs.Lines.{AsksForListing, AsksForSymbols, AsksToBeStrict, AsksToTrace, AsksWithLines}
+use Rattle.of_argument_laws.specs.Lines.{LimitsAreCounted}
 use Rattle.of_argument_laws.specs.Lines.{AsksForPci, AsksToCheck}
 use Rattle.of_arguments.specs.CommandLine.{check_app, client_app, pci_app}
 use Rattle.of_arguments.specs.CommandLine.{console_app, detok_app, tok_app}
@@ -123,6 +122,10 @@ with_devices image = with_path (codes "image") (codes "board") image
 with_text : Text → Held
 with_text image = with_path (codes "image") (codes "lines") image
 
+-- of a run behind its image and `--trace`
+with_trace : Text → Held
+with_trace image = with_path (codes "image") (codes "trace") image
+
 -- of a run behind its image and `--see`
 with_name : Text → Held
 with_name image = with_path (codes "image") (codes "see") image
@@ -215,6 +218,15 @@ name_passes : (image : Text) (b : ℕ) (rest : Text) → (b == 45) ≡ false
     → word_fault run_shape [] false (option (codes "see")) (b ∷ rest) (with_name image) ≡ []
 name_passes image b rest e = word_has_no_fault run_shape b rest (with_name image) e
 
+trace_met : (image : Text) (b : ℕ) (rest : Text) → (b == 45) ≡ false
+    → word_met run_shape.rules [] false (option (codes "trace")) 2 (b ∷ rest) (with_trace image)
+    ≡ plain_word run_shape.rules (option (codes "trace")) (b ∷ rest) (with_trace image)
+trace_met image b rest e = word_is_plain run_shape.rules (option (codes "trace")) 2 b rest (with_trace image) e
+
+trace_passes : (image : Text) (b : ℕ) (rest : Text) → (b == 45) ≡ false
+    → word_fault run_shape [] false (option (codes "trace")) (b ∷ rest) (with_trace image) ≡ []
+trace_passes image b rest e = word_has_no_fault run_shape b rest (with_trace image) e
+
 limit_passes : (image : Text) (b : ℕ) (rest : Text) → (b == 45) ≡ false
     → word_fault run_shape [] false (option (codes "limit")) (b ∷ rest) (with_image image) ≡ []
 limit_passes image b rest e = word_has_no_fault run_shape b rest (with_image image) e
@@ -229,12 +241,6 @@ image_alone k e = ap (λ (x : Kinds). or_else (or_else (or_else (or_else x []) [
 image_and_value : (k l : Kinds) → k ≡ [] → l ≡ []
     → or_else (or_else (or_else (or_else k []) (or_else (or_else l []) [])) []) [] ≡ []
 image_and_value k l e f = rw (e, f) refl
-
--- nor where the value is a number that is taken
-image_and_number : (k l m : Kinds) (t : Bool) → k ≡ [] → l ≡ [] → t ≡ true
-    → or_else (or_else (or_else (or_else k []) (or_else (or_else l []) [])) (or_else (or_else (cond t [] m) []) [])) []
-    ≡ []
-image_and_number k l m t e f g = rw (e, f, g) refl
 
 runs : (program : Text) (b : ℕ) (rest : Text) → (b == 45) ≡ false → AsksToRun program (b ∷ rest)
 unfolding clap_on_literals run_shape
@@ -360,7 +366,7 @@ checks program b rest e = (
 
 runs_pci : (program : Text) (b : ℕ) (rest : Text) → (b == 45) ≡ false
     → Asks (program ∷ codes "run" ∷ (b ∷ rest) ∷ codes "--pci" ∷ [])
-    (a_run (b ∷ rest) None standard 1000000 no_appendix false true)
+    (a_run (b ∷ rest) None standard 1000000 no_appendix false true None false)
 unfolding clap_on_literals run_shape
 runs_pci program b rest e = (
   rw (image_met run_shape b rest e) refl,
@@ -401,7 +407,7 @@ unfolding clap_on_literals client_shape with_client with_path
 calls_asked program b rest d name e f = (
   rw (image_met client_shape b rest e, calls_met (b ∷ rest) d name f) refl,
   rw (image_met client_shape b rest e, calls_met (b ∷ rest) d name f)
-      (rw (image_passes client_shape b rest e) (rw (calls_pass (b ∷ rest) d name f) refl)),
+      (image_and_value _ _ (image_passes client_shape b rest e) (calls_pass (b ∷ rest) d name f)),
 )
 
 debugged : (program : Text) (b : ℕ) (rest : Text) (d : ℕ) (name : Text) → (b == 45) ≡ false → (d == 45) ≡ false
@@ -456,24 +462,53 @@ seen program b rest d name e f = (
       (image_and_value _ _ (image_passes run_shape b rest e) (name_passes (b ∷ rest) d name f)),
 )
 
--- a number in the range of limits is one of 64 bits
-limit_read : (limit : Text) → is_unsigned_in 0 1000000000 limit ≡ true
-    → number_in limit ≡ Some (digits_value 10 (without_leading_plus limit))
-limit_read limit e =
-    let number = accepts-Accepts false (parser.Unsigned 0 1000000000) limit e in
-    let wide = Accepts-accepts false (parser.Unsigned 0 18446744073709551615) limit
-    (number.0, number.1, number.2, omega arith) in
-    rw wide refl
+traced : (program : Text) (b : ℕ) (rest : Text) (d : ℕ) (name : Text) → (b == 45) ≡ false → (d == 45) ≡ false
+    → AsksToTrace program (b ∷ rest) (d ∷ name)
+unfolding clap_on_literals run_shape with_trace with_path
+traced program b rest d name e f = (
+  rw (image_met run_shape b rest e, trace_met (b ∷ rest) d name f) refl,
+  rw (image_met run_shape b rest e, trace_met (b ∷ rest) d name f)
+      (image_and_value _ _ (image_passes run_shape b rest e) (trace_passes (b ∷ rest) d name f)),
+)
 
-limits : (program : Text) (b : ℕ) (rest : Text) (d : ℕ) (digits : Text) → (b == 45) ≡ false → (d == 45) ≡ false
-    → is_unsigned_in 0 1000000000 (d ∷ digits) ≡ true → AsksForLimit program (b ∷ rest) (d ∷ digits)
+strict : (program : Text) (b : ℕ) (rest : Text) → (b == 45) ≡ false → AsksToBeStrict program (b ∷ rest)
+unfolding clap_on_literals run_shape
+strict program b rest e = (
+  rw (image_met run_shape b rest e) refl,
+  rw (image_met run_shape b rest e) (image_alone _ (image_passes run_shape b rest e)),
+)
+
+symbols_asked : (program : Text) (b : ℕ) (rest : Text) → (b == 45) ≡ false → AsksForSymbols program (b ∷ rest)
+unfolding clap_on_literals tok_shape
+symbols_asked program b rest e = (
+  rw (image_met tok_shape b rest e) refl,
+  rw (image_met tok_shape b rest e) (image_alone _ (image_passes tok_shape b rest e)),
+)
+
+listing_asked : (program : Text) (b : ℕ) (rest : Text) → (b == 45) ≡ false → AsksForListing program (b ∷ rest)
+unfolding clap_on_literals tok_shape
+listing_asked program b rest e = (
+  rw (image_met tok_shape b rest e) refl,
+  rw (image_met tok_shape b rest e) (image_alone _ (image_passes tok_shape b rest e)),
+)
+
+-- a number in the range of limits is one
+number_read : (limit : Text) → is_unsigned_in 0 1000000000 limit ≡ true
+    → limit_of limit ≡ Some (digits_value 10 (without_leading_plus limit))
+number_read limit e = rw e refl
+
+counted : LimitsAreCounted
+counted = (refl, refl, refl, refl, refl, refl, refl, refl, refl)
+
+limits : (program : Text) (b : ℕ) (rest : Text) (d : ℕ) (digits : Text) (n : ℕ) → (b == 45) ≡ false
+    → (d == 45) ≡ false → limit_of (d ∷ digits) ≡ Some n → AsksForLimit program (b ∷ rest) (d ∷ digits) n
 unfolding clap_on_literals run_shape with_image with_path
-limits program b rest d digits e f number = (
+limits program b rest d digits n e f number = (
   rw (image_met run_shape b rest e, limit_met (b ∷ rest) d digits f)
-      (ap (λ (n : Option ℕ). Some (a_run (b ∷ rest) None standard (unwrap_or n 1000000) no_appendix false false))
-      (limit_read (d ∷ digits) number)),
+      (ap (λ (n : Option ℕ). option_map (λ n. a_run (b ∷ rest) None standard n no_appendix false false None false) n)
+      number),
   rw (image_met run_shape b rest e, limit_met (b ∷ rest) d digits f)
-      (image_and_number _ _ _ _ (image_passes run_shape b rest e) (limit_passes (b ∷ rest) d digits f) number),
+      (image_and_value _ _ (image_passes run_shape b rest e) (limit_passes (b ∷ rest) d digits f)),
 )
 
 hyphenless : (b : ℕ) → not (b == 45) ≡ true → (b == 45) ≡ false
@@ -504,6 +539,9 @@ lines_ask program (b ∷ rest) e = (
   checks program b rest (hyphenless b e),
   led program b rest (hyphenless b e),
   asked_for_pci program b rest (hyphenless b e),
+  strict program b rest (hyphenless b e),
+  symbols_asked program b rest (hyphenless b e),
+  listing_asked program b rest (hyphenless b e),
   kept,
   called,
   with_steps,
@@ -511,7 +549,10 @@ lines_ask program (b ∷ rest) e = (
   with_board,
   with_lines,
   with_seen,
+  with_lines_of_steps,
+  numbered,
   limited,
+  counted,
 )
   where
     kept : (output : Text) → is_plain output ≡ true → AsksToKeep program (b ∷ rest) output
@@ -542,7 +583,19 @@ lines_ask program (b ∷ rest) e = (
     with_seen [] f = absurd (true≢false (sym f))
     with_seen (d ∷ name) f = seen program b rest d name (hyphenless b e) (hyphenless d f)
 
-    limited : (limit : Text) → is_plain limit ≡ true → is_unsigned_in 0 1000000000 limit ≡ true
-        → AsksForLimit program (b ∷ rest) limit
-    limited [] f number = absurd (true≢false (sym f))
-    limited (d ∷ digits) f number = limits program b rest d digits (hyphenless b e) (hyphenless d f) number
+    with_lines_of_steps : (trace : Text) → is_plain trace ≡ true → AsksToTrace program (b ∷ rest) trace
+    with_lines_of_steps [] f = absurd (true≢false (sym f))
+    with_lines_of_steps (d ∷ name) f = traced program b rest d name (hyphenless b e) (hyphenless d f)
+
+    limited : (limit : Text) (n : ℕ) → is_plain limit ≡ true → limit_of limit ≡ Some n
+        → AsksForLimit program (b ∷ rest) limit n
+    limited [] n f number = absurd (true≢false (sym f))
+    limited (d ∷ digits) n f number =
+        limits program b rest d digits n (hyphenless b e) (hyphenless d f) number
+
+    numbered : (limit : Text) → is_plain limit ≡ true → is_unsigned_in 0 1000000000 limit ≡ true
+        → AsksForLimit program (b ∷ rest) limit (digits_value 10 (without_leading_plus limit))
+    numbered [] f number = absurd (true≢false (sym f))
+    numbered (d ∷ digits) f number =
+        limits program b rest d digits (digits_value 10 (without_leading_plus (d ∷ digits))) (hyphenless b e)
+        (hyphenless d f) (number_read (d ∷ digits) number)

@@ -1,22 +1,21 @@
 -- What a command line asks for, in the terms of the parser of command lines: an application has rules
 -- for its words, and a parse gives rows of values that it found.
-use Rattle.std.specs.Prelude.{◌≡◌, ◌==◌, ◌∷◌, ◌||◌, [], not, Bool, ℕ, List, false, Option, Some, None, true, codes}
-use Rattle.std.specs.Prelude.{option_map, option_and_then, unwrap_or, if◌then◌else◌}
+use Rattle.std.specs.Prelude.{◌≡◌, ◌==◌, ◌∷◌, ◌||◌, ◌*◌, ◌/◌, [], Bool, ℕ, List, false, Option, Some, None, true}
+use Rattle.std.specs.Prelude.{codes, option_map, option_and_then, if◌then◌else◌}
 use Rattle.std.specs.Str.{bytes_eq}
 use Rattle.std.specs.Str.Parse.{digits_value, without_leading_plus}
 use Rattle.clap.specs.ValueTests.{is_unsigned_in}
-use Rattle.clap.specs.Words.{App, fault_of, app_of, Rule, Row, Text, first_of, one_of, new_app, new_rule, subcommand_of}
+use Rattle.clap.specs.Words.{App, app_of, Rule, Row, Text, first_of, new_app, new_rule, subcommand_of}
 use Rattle.clap.specs.Words.{with_rule, with_subcommand}
 use Rattle.clap.specs.declared.builder.command.Command.{Command}
 use Rattle.clap.specs.declared.builder.command.Command.TheViews.{out-Command}
 use Rattle.clap.specs.declared.builder.action.ArgAction.TheVariants.{Set, SetTrue}
-use Rattle.clap.specs.declared.builder.value_parser.ValueParser.TheVariants as value
 use Rattle.of_detok.specs.declared.notes.Extras.{Extras}
 use Rattle.of_arguments.specs.declared.request.Listing.{Listing}
 use Rattle.of_arguments.specs.declared.request.Listing.TheVariants as listing
 use Rattle.of_arguments.specs.Asked.{Appendix, Asked, Guides, Outsiders, a_run, an_image, a_listing, answers_of}
-use Rattle.of_arguments.specs.Asked.{a_console, a_debugging, a_look, a_rom, client_calls, no_appendix, script_of}
-use Rattle.of_arguments.specs.Asked.{board_of, standard, terminal}
+use Rattle.of_arguments.specs.Asked.{a_console, a_debugging, a_look, a_rom, client_calls, script_of}
+use Rattle.of_arguments.specs.Asked.{Products, beside, board_of, digits, kept_at, standard, symbols, terminal}
 
 -- ---- the command line
 
@@ -32,18 +31,17 @@ image_rule = path_rule (codes "image")
 abbrev pub source_rule : Rule
 source_rule = path_rule (codes "source")
 
--- `--limit N`, from 0 to 1,000,000,000
-abbrev pub limit_rule : Rule
-limit_rule = record (new_rule (codes "limit")) {
-  long = Some (codes "limit");
-  value_names = 1;
-  action = Some Set;
-  parser = Some (value.Unsigned 0 1000000000);
-}
-
 -- an option with a value, by its name behind two hyphens
 abbrev pub option_rule : Text → Rule
 option_rule name = record (new_rule name) { long = Some name; value_names = 1; action = Some Set }
+
+-- `--limit N`
+abbrev pub limit_rule : Rule
+limit_rule = option_rule (codes "limit")
+
+-- `--trace FILE`
+abbrev pub trace_rule : Rule
+trace_rule = option_rule (codes "trace")
 
 -- a flag, by its name behind two hyphens
 abbrev pub flag_rule : Text → Rule
@@ -75,21 +73,31 @@ running_app =
 abbrev pub pci_rule : Rule
 pci_rule = flag_rule (codes "pci")
 
--- the same, with `[--tree] [--words] [--see NAME] [--state] [--explain] [--pci]`
+-- `--strict`
+abbrev pub strict_rule : Rule
+strict_rule = flag_rule (codes "strict")
+
+-- the same, with `[--tree] [--words] [--see NAME] [--state]`
+abbrev pub showing_app : App
+showing_app =
+    with_rule (with_rule (with_rule (with_rule running_app (flag_rule (codes "tree"))) (flag_rule (codes "words")))
+    see_rule) (flag_rule (codes "state"))
+
+-- and with `[--explain] [--pci] [--trace FILE] [--strict]`
 abbrev pub run_app : App
 run_app =
-    with_rule (with_rule (with_rule (with_rule (with_rule (with_rule running_app (flag_rule (codes "tree")))
-    (flag_rule (codes "words"))) see_rule) (flag_rule (codes "state"))) (flag_rule (codes "explain"))) pci_rule
+    with_rule (with_rule (with_rule (with_rule showing_app (flag_rule (codes "explain"))) pci_rule) trace_rule)
+    strict_rule
 
 -- `--calls FILE`
 abbrev pub calls_rule : Rule
 calls_rule = record (path_rule (codes "calls")) { long = Some (codes "calls") }
 
--- `client IMAGE --calls FILE [--lines FILE] [--answers FILE | --board FILE] [--limit N] [--explain]`
+-- `client IMAGE --calls FILE [--lines FILE] [--answers FILE | --board FILE] [--limit N] [--explain] [--strict]`
 abbrev pub client_app : App
 client_app =
-    with_rule (with_rule (with_rule (with_rule (with_rule (with_rule (with_rule (new_app (codes "client")) image_rule)
-    calls_rule) lines_rule) answers_rule) board_rule) limit_rule) (flag_rule (codes "explain"))
+    with_rule (with_rule (with_rule (with_rule (with_rule (with_rule (with_rule (with_rule (new_app (codes "client"))
+    image_rule) calls_rule) lines_rule) answers_rule) board_rule) limit_rule) (flag_rule (codes "explain"))) strict_rule
 
 -- `[IMAGE]`
 abbrev pub first_image_rule : Rule
@@ -114,9 +122,11 @@ debug_app =
 abbrev pub output_rule : Rule
 output_rule = record (option_rule (codes "output")) { short = Some 111 }
 
--- `tok SOURCE [--output FILE]`
+-- `tok SOURCE [--output FILE | --symbols | --listing]`
 abbrev pub tok_app : App
-tok_app = with_rule (with_rule (new_app (codes "tok")) source_rule) output_rule
+tok_app =
+    with_rule (with_rule (with_rule (with_rule (new_app (codes "tok")) source_rule) output_rule)
+    (flag_rule (codes "symbols"))) (flag_rule (codes "listing"))
 
 -- `detok IMAGE [[--names] [--indent] | --see] [--partial] [--pci]`
 abbrev pub detok_app : App
@@ -158,14 +168,41 @@ IsBuilt a c = (app_of c ≡ a) × ((out-Command c).has_globals ≡ false)
 
 -- ---- what is asked
 
--- the number that a text has in decimal digits, where it is one of 64 bits
-abbrev pub number_in : Text → Option ℕ
-number_in text =
-    if is_unsigned_in 0 18446744073709551615 text then Some (digits_value 10 (without_leading_plus text)) else None
+-- the number that a text has in decimal digits, where it is no greater than this
+abbrev pub number_upto : ℕ → Text → Option ℕ
+number_upto most text =
+    if is_unsigned_in 0 most text then Some (digits_value 10 (without_leading_plus text)) else None
 
--- the limit that is given, or 1,000,000
-abbrev pub limit_in : List Row → ℕ
-limit_in rows = unwrap_or (option_and_then number_in (one_of (codes "limit") rows)) 1000000
+-- what stands before the last byte of a text, where that is this byte
+abbrev pub before_last : ℕ → Text → Option Text
+before_last b [] = None
+before_last b (c ∷ []) = if c == b then Some [] else None
+before_last b (c ∷ d ∷ rest) = option_map (λ front. c ∷ front) (before_last b (d ∷ rest))
+
+-- the number that a text has before this byte, so many times, where that is no greater than 1,000,000,000
+abbrev pub times_before : ℕ → ℕ → Text → Option ℕ
+times_before each b text =
+    option_and_then (λ front. option_map (λ n. n * each) (number_upto (1000000000 / each) front)) (before_last b text)
+
+-- the first of two that is there
+abbrev pub first_found : Option ℕ → Option ℕ → Option ℕ
+first_found (Some n) other = Some n
+first_found None other = other
+
+-- the limit that a text gives: a number from 0 to 1,000,000,000, or of thousands, behind which `k` stands, or of
+-- millions, behind which `M` does
+abbrev pub limit_of : Text → Option ℕ
+limit_of text =
+    first_found (number_upto 1000000000 text)
+    (first_found (times_before 1000 107 text) (times_before 1000000 77 text))
+
+-- the limit that is given, or 1,000,000 where none is
+abbrev pub limit_given : Option Text → Option ℕ
+limit_given None = Some 1000000
+limit_given (Some text) = limit_of text
+
+abbrev pub limit_in : List Row → Option ℕ
+limit_in rows = limit_given (first_of (codes "limit") rows)
 
 -- the value of a flag
 abbrev pub is_true : Option Text → Bool
@@ -210,10 +247,13 @@ outside_in rows = outside_of (first_of (codes "answers") rows) (first_of (codes 
 -- what `run` asks for with an image
 abbrev pub run_asked : List Row → Text → Option Asked
 run_asked rows image =
-    option_map
+    option_and_then
     (λ o.
-    a_run image (first_of (codes "lines") rows) o (limit_in rows) (appendix_in rows) (has_flag (codes "explain") rows)
-    (has_flag (codes "pci") rows))
+    option_map
+    (λ limit.
+    a_run image (first_of (codes "lines") rows) o limit (appendix_in rows) (has_flag (codes "explain") rows)
+    (has_flag (codes "pci") rows) (first_of (codes "trace") rows) (has_flag (codes "strict") rows))
+    (limit_in rows))
     (outside_in rows)
 
 -- what `client` asks for with an image: the calls of the file that is given, behind such a run
@@ -221,15 +261,21 @@ abbrev pub client_asked : List Row → Text → Option Asked
 client_asked rows image =
     option_and_then
     (λ calls.
+    option_and_then
+    (λ o.
     option_map
-    (λ o. client_calls image calls (first_of (codes "lines") rows) o (limit_in rows) (has_flag (codes "explain") rows))
+    (λ limit.
+    client_calls image calls (first_of (codes "lines") rows) o limit (has_flag (codes "explain") rows)
+    (has_flag (codes "strict") rows))
+    (limit_in rows))
     (outside_in rows))
     (first_of (codes "calls") rows)
 
 -- what `console` asks for
-abbrev pub console_asked : List Row → Asked
+abbrev pub console_asked : List Row → Option Asked
 console_asked rows =
-    a_console (first_of (codes "image") rows) (first_of (codes "board") rows) (limit_in rows)
+    option_map (λ limit. a_console (first_of (codes "image") rows) (first_of (codes "board") rows) limit)
+    (limit_in rows)
 
 -- what is to lead a debugger, by the script that is given and whether the terminal is to: one of both
 abbrev pub guide_of : Option Text → Bool → Option Guides
@@ -244,10 +290,31 @@ guide_in rows = guide_of (first_of (codes "script") rows) (has_flag (codes "inte
 -- what `debug` asks for with an image: a run of it under what is to lead the debugger
 abbrev pub debug_asked : List Row → Text → Option Asked
 debug_asked rows image =
-    option_map
+    option_and_then
     (λ guide.
-    a_debugging image guide (first_of (codes "lines") rows) (first_of (codes "answers") rows) (limit_in rows))
+    option_map
+    (λ limit. a_debugging image guide (first_of (codes "lines") rows) (first_of (codes "answers") rows) limit)
+    (limit_in rows))
     (guide_in rows)
+
+-- what is to be made of a source: its image, to be printed or to be written to the file that is given, its symbols, or
+-- the listing of its image; not two of these
+abbrev pub product_of : Option Text → Bool → Bool → Option Products
+product_of None false false = Some digits
+product_of None true false = Some symbols
+product_of None false true = Some beside
+product_of None true true = None
+product_of (Some output) false false = Some (kept_at output)
+product_of (Some output) true listing = None
+product_of (Some output) false true = None
+
+abbrev pub product_in : List Row → Option Products
+product_in rows =
+    product_of (first_of (codes "output") rows) (has_flag (codes "symbols") rows) (has_flag (codes "listing") rows)
+
+-- what `tok` asks for with a source
+abbrev pub tok_asked : List Row → Text → Option Asked
+tok_asked rows source = option_map (an_image source) (product_in rows)
 
 -- what `detok` asks for with an image
 abbrev pub detok_asked : List Row → Text → Option Asked
@@ -272,8 +339,8 @@ asked_as name rows image =
 abbrev pub asked_by : Text × List Row → Option Asked
 asked_by p =
     if bytes_eq p.0 (codes "tok")
-    then option_map (λ source. an_image source (first_of (codes "output") p.1)) (first_of (codes "source") p.1)
-    else (if bytes_eq p.0 (codes "console") then Some (console_asked p.1)
+    then option_and_then (tok_asked p.1) (first_of (codes "source") p.1)
+    else (if bytes_eq p.0 (codes "console") then console_asked p.1
     else (if bytes_eq p.0 (codes "pci") then option_map a_rom (first_of (codes "rom") p.1)
     else option_and_then (asked_as p.0 p.1) (first_of (codes "image") p.1)))
 

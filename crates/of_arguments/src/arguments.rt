@@ -1,23 +1,26 @@
-ghost use Rattle.std.specs.Prelude.{◌≡◌, IfOk, codes, false, map, option_map};
+ghost use Rattle.std.specs.Prelude.{◌≡◌, IfOk, Some, codes, false, map, option_map};
 ghost use Rattle.clap.specs.Words.{App, fault_of, first_of, rule_of, FailsBy, found_of, rows_of, with_subcommand};
 ghost use Rattle.clap.specs.Values.{kind_of};
 ghost use Rattle.std.specs.String.{string_bytes};
-ghost use Rattle.of_arguments.specs.Asked.{appendix_of, asked, guide_shown, shown};
+ghost use Rattle.of_arguments.specs.Asked.{appendix_of, asked, guide_shown, product_shown, shown};
 ghost use Rattle.of_arguments.specs.Statuses.{unasked};
 ghost use Rattle.of_arguments.specs.CommandLine.{IsBuilt, answers_rule, asked_by, asks, board_rule, calls_rule};
 ghost use Rattle.of_arguments.specs.CommandLine.{appendix_in, client_app, client_asked, console_app, console_asked};
 ghost use Rattle.of_arguments.specs.CommandLine.{debug_app, debug_asked, guide_in, script_rule};
 ghost use Rattle.of_arguments.specs.CommandLine.{detok_app, detok_asked, first_image_rule};
 ghost use Rattle.of_arguments.specs.CommandLine.{extras_in, flag_rule, has_flag, image_rule, is_true, limit_in};
-ghost use Rattle.of_arguments.specs.CommandLine.{limit_rule, lines_rule, listing_in, listing_of, ofw_app, outside_in};
-ghost use Rattle.of_arguments.specs.CommandLine.{option_rule, output_rule, path_rule, run_app, run_asked, running_app};
+ghost use Rattle.of_arguments.specs.CommandLine.{limit_rule, lines_rule, listing_in, listing_of, ofw_app};
+ghost use Rattle.of_arguments.specs.CommandLine.{outside_in};
+ghost use Rattle.of_arguments.specs.CommandLine.{option_rule, output_rule, path_rule, product_in, product_of};
+ghost use Rattle.of_arguments.specs.CommandLine.{run_app, run_asked, running_app, showing_app, strict_rule};
 ghost use Rattle.of_arguments.specs.CommandLine.{check_app, check_asked, pci_app, pci_rule, rom_rule, see_rule};
-ghost use Rattle.of_arguments.specs.CommandLine.{source_rule, tok_app};
+ghost use Rattle.of_arguments.specs.CommandLine.{source_rule, tok_app, tok_asked, trace_rule};
 
-use crate::request::{Guide, Listing, Listings, Outside, Request};
+use crate::limits::limit_of;
+use crate::request::{Guide, Listing, Listings, Outside, Product, Request};
 use crate::status::Status;
 use clap::error::ErrorKind;
-use clap::{Arg, ArgAction, ArgMatches, Command, Error, value_parser};
+use clap::{Arg, ArgAction, ArgMatches, Command, Error};
 use of_detok::Extras;
 use std::alloc::{AllocError, Global};
 
@@ -40,7 +43,9 @@ of the word of that name. The words of an image are methods of /slot, so names f
 `dev /slot`. A name that begins with a hyphen stands behind --see and an equals sign. With --state the data stack is
 printed, the bottom first, how many items the return stack has, where `here` is, and how many own words were made, each
 number in 8 hexadecimal digits. With --pci the file is the ROM of a PCI card as it stands, and the FCode program of its
-first image for Open Firmware is run.
+first image for Open Firmware is run. With --trace a line of JSON is written to a file for each step: where it was made,
+the data stack behind it, and what it has changed. With --strict the status is 1 where the run ends by a throw that
+nothing catches.
 
 Status: 0 done, 1 fault of input or output, 2 usage, 3 limit reached, 4 answers out, 5 no memory";
 
@@ -50,7 +55,8 @@ Example: ofw client card.rom --calls card.calls
 
 The image, the lines, the board and the answers are read as for run. A line of the calls is one of these, with numbers
 in hexadecimal digits: finddevice PATH, child PH, peer PH, parent PH, getproplen PH NAME, getprop PH NAME ROOM,
-nextprop PH NAME, instance-to-package IH, package-to-path PH ROOM.
+nextprop PH NAME, instance-to-package IH, package-to-path PH ROOM. With --strict the status is 1 where the run ends by a
+throw that nothing catches.
 
 Status: 0 done, 1 fault of input or output, 2 usage, 3 limit reached, 4 answers out, 5 no memory";
 
@@ -82,6 +88,9 @@ Status: 0 the script was carried out, 1 fault of input or output, 2 usage, 5 no 
 /// What the help of `tok` ends with.
 const TOK_HELP: &str = "\
 Example: ofw tok card.fs --output card.rom
+
+With --symbols the FCodes and names of the words that the source makes are printed in place of the image, one a line,
+with --listing the image's listing, and beside each line the line of the source that it comes from.
 
 Status: 0 done, 1 fault of input or output, 2 usage, 5 no memory";
 
@@ -246,16 +255,39 @@ fn output_argument<'a>(alloc: Global) -> Arg<'a>
     .short('o')
 }
 
-/// `--limit N`, from 0 to 1,000,000,000
+/// `--limit N`
 fn limit_argument<'a>(alloc: Global) -> Arg<'a>
     ensures { (rule_of result ≡ limit_rule) × (result.global ≡ false) }
 {
-    Arg::new(alloc, "limit")
-        .long("limit")
-        .value_name("N")
-        .help("the most steps, 0 to 1000000000 (1000000 where it is left out)")
-        .action(ArgAction::Set)
-        .value_parser(value_parser!(u64).range(0..=1_000_000_000))
+    option_argument(
+        alloc,
+        "limit",
+        "N",
+        "the most steps, 0 to 1000000000, or thousands as 10k, or millions as 2M (1M where it is left out)",
+    )
+}
+
+/// `--trace FILE`
+fn trace_argument<'a>(alloc: Global) -> Arg<'a>
+    ensures { (rule_of result ≡ trace_rule) × (result.global ≡ false) }
+{
+    option_argument(
+        alloc,
+        "trace",
+        "FILE",
+        "writes a line for each step to this file",
+    )
+}
+
+/// `--strict`
+fn strict_flag<'a>(alloc: Global) -> Arg<'a>
+    ensures { (rule_of result ≡ strict_rule) × (result.global ≡ false) }
+{
+    flag(
+        alloc,
+        "strict",
+        "ends with status 1 where the run ends by a throw",
+    )
 }
 
 /// A flag.
@@ -293,9 +325,9 @@ fn running_command<'a>(alloc: Global) -> Result<Command<'a>, AllocError>
         .arg(limit_argument(alloc))
 }
 
-/// The same, with `[--tree] [--words] [--see NAME] [--state] [--explain] [--pci]`
-fn run_command<'a>(alloc: Global) -> Result<Command<'a>, AllocError>
-    ensures { IfOk result (IsBuilt run_app) }
+/// The same, with `[--tree] [--words] [--see NAME] [--state]`
+fn showing_command<'a>(alloc: Global) -> Result<Command<'a>, AllocError>
+    ensures { IfOk result (IsBuilt showing_app) }
 {
     running_command(alloc)?
         .arg(flag(
@@ -313,16 +345,25 @@ fn run_command<'a>(alloc: Global) -> Result<Command<'a>, AllocError>
             alloc,
             "state",
             "prints the stacks, here and the words' number behind what the run prints",
-        ))?
+        ))
+}
+
+/// And with `[--explain] [--pci] [--trace FILE] [--strict]`
+fn run_command<'a>(alloc: Global) -> Result<Command<'a>, AllocError>
+    ensures { IfOk result (IsBuilt run_app) }
+{
+    showing_command(alloc)?
         .arg(flag(
             alloc,
             "explain",
             "says on the error output how the run ended",
         ))?
-        .arg(pci_flag(alloc))
+        .arg(pci_flag(alloc))?
+        .arg(trace_argument(alloc))?
+        .arg(strict_flag(alloc))
 }
 
-/// `ofw client IMAGE --calls FILE [--lines FILE] [--answers FILE | --board FILE] [--limit N] [--explain]`
+/// `ofw client IMAGE --calls FILE [--lines FILE] [--answers FILE | --board FILE] [--limit N] [--explain] [--strict]`
 fn client_command<'a>(alloc: Global) -> Result<Command<'a>, AllocError>
     ensures { IfOk result (IsBuilt client_app) }
 {
@@ -339,7 +380,8 @@ fn client_command<'a>(alloc: Global) -> Result<Command<'a>, AllocError>
             alloc,
             "explain",
             "says on the error output how the run ended",
-        ))
+        ))?
+        .arg(strict_flag(alloc))
 }
 
 /// `ofw console [IMAGE] [--board FILE] [--limit N]`
@@ -373,7 +415,7 @@ fn debug_command<'a>(alloc: Global) -> Result<Command<'a>, AllocError>
         .arg(limit_argument(alloc))
 }
 
-/// `ofw tok SOURCE [--output FILE]`
+/// `ofw tok SOURCE [--output FILE | --symbols | --listing]`
 fn tok_command<'a>(alloc: Global) -> Result<Command<'a>, AllocError>
     ensures { IfOk result (IsBuilt tok_app) }
 {
@@ -381,7 +423,17 @@ fn tok_command<'a>(alloc: Global) -> Result<Command<'a>, AllocError>
         .about("Prints the image of a source, in hexadecimal")
         .after_help(TOK_HELP)
         .arg(source_argument(alloc))?
-        .arg(output_argument(alloc))
+        .arg(output_argument(alloc))?
+        .arg(flag(
+            alloc,
+            "symbols",
+            "prints the FCodes and names of the words that the source makes",
+        ))?
+        .arg(flag(
+            alloc,
+            "listing",
+            "prints the listing of the image, with the lines of the source beside it",
+        ))
 }
 
 /// `ofw detok IMAGE [[--names] [--indent] | --see] [--partial] [--pci]`
@@ -467,11 +519,15 @@ fn value<'a>(matches: &ArgMatches<'a>, name: &str) -> Option<&'a str>
     matches.get_str(name)
 }
 
-/// The limit that a subcommand was given, or the one that stands where it is left out.
-fn step_limit(matches: &ArgMatches) -> u64
+/// The limit that a subcommand was given, or the one that stands where it is left out; nothing, where the text gives
+/// none.
+fn step_limit(matches: &ArgMatches) -> Option<u64>
     ensures { result ≡ limit_in (rows_of (found_of matches.now)) }
 {
-    matches.get_one::<u64>("limit").unwrap_or(DEFAULT_LIMIT)
+    match value(matches, "limit") {
+        Some(text) => limit_of(text),
+        None => Some(DEFAULT_LIMIT),
+    }
 }
 
 /// The value of a flag, as the text of one.
@@ -523,10 +579,12 @@ fn run_request<'a>(image: &'a str, matches: &ArgMatches<'a>) -> Option<Request<'
         image,
         lines: value(matches, "lines"),
         outside: outside(matches)?,
-        limit: step_limit(matches),
+        limit: step_limit(matches)?,
         listings: listings(matches),
         explain: has_flag(matches, "explain"),
         pci: has_flag(matches, "pci"),
+        trace: value(matches, "trace"),
+        strict: has_flag(matches, "strict"),
     })
 }
 
@@ -539,20 +597,21 @@ fn client_request<'a>(image: &'a str, matches: &ArgMatches<'a>) -> Option<Reques
         calls: value(matches, "calls")?,
         lines: value(matches, "lines"),
         outside: outside(matches)?,
-        limit: step_limit(matches),
+        limit: step_limit(matches)?,
         explain: has_flag(matches, "explain"),
+        strict: has_flag(matches, "strict"),
     })
 }
 
 /// What `console` asks for.
-fn console_request<'a>(matches: &ArgMatches<'a>) -> Request<'a>
-    ensures { asked result ≡ console_asked (rows_of (found_of matches.now)) }
+fn console_request<'a>(matches: &ArgMatches<'a>) -> Option<Request<'a>>
+    ensures { option_map asked result ≡ console_asked (rows_of (found_of matches.now)) }
 {
-    Request::Console {
+    Some(Request::Console {
         image: value(matches, "image"),
         board: value(matches, "board"),
-        limit: step_limit(matches),
-    }
+        limit: step_limit(matches)?,
+    })
 }
 
 /// What is to lead a debugger: a script or the terminal; nothing, where both are given, or none.
@@ -576,7 +635,42 @@ fn debug_request<'a>(image: &'a str, matches: &ArgMatches<'a>) -> Option<Request
         guide: guide(matches)?,
         lines: value(matches, "lines"),
         answers: value(matches, "answers"),
-        limit: step_limit(matches),
+        limit: step_limit(matches)?,
+    })
+}
+
+/// What is to be made of a source; nothing, where two products are asked for.
+fn product_of<'a>(output: Option<&'a str>, symbols: bool, listing: bool) -> Option<Product<'a>>
+    ensures { option_map product_shown result
+        ≡ product_of (option_map (λ text. text.now) output.entry) symbols listing }
+{
+    match (output, symbols, listing) {
+        (None, false, false) => Some(Product::Digits),
+        (None, true, false) => Some(Product::Symbols),
+        (None, false, true) => Some(Product::Listing),
+        (Some(path), false, false) => Some(Product::File(path)),
+        (None, true, true) | (Some(_), true, _) | (Some(_), false, true) => None,
+    }
+}
+
+/// What is to be made of the source of `tok`.
+fn product<'a>(matches: &ArgMatches<'a>) -> Option<Product<'a>>
+    ensures { option_map product_shown result ≡ product_in (rows_of (found_of matches.now)) }
+{
+    product_of(
+        value(matches, "output"),
+        has_flag(matches, "symbols"),
+        has_flag(matches, "listing"),
+    )
+}
+
+/// What `tok` asks for with a source.
+fn tok_request<'a>(source: &'a str, matches: &ArgMatches<'a>) -> Option<Request<'a>>
+    ensures { option_map asked result ≡ tok_asked (rows_of (found_of matches.now)) source.now }
+{
+    Some(Request::Tok {
+        source,
+        product: product(matches)?,
     })
 }
 
@@ -628,13 +722,10 @@ fn request_of<'a>(name: &str, matches: &ArgMatches<'a>) -> Option<Request<'a>>
     ensures { option_map asked result ≡ asked_by (name.now, rows_of (found_of matches.now)) }
 {
     if name == "tok" {
-        return Some(Request::Tok {
-            source: value(matches, "source")?,
-            output: value(matches, "output"),
-        });
+        return tok_request(value(matches, "source")?, matches);
     }
     if name == "console" {
-        return Some(console_request(matches));
+        return console_request(matches);
     }
     if name == "pci" {
         return Some(Request::Pci {
@@ -655,10 +746,11 @@ fn request_of<'a>(name: &str, matches: &ArgMatches<'a>) -> Option<Request<'a>>
 /// What the words of a command line ask for, the program's name first.
 ///
 /// An error is a call for help or a fault of the words: another subcommand or option, a word too many, no image, no
-/// file of calls for `client`, a limit given twice or one that is no number from 0 to 1,000,000,000. `None` stands for
-/// a run with a file of answers and one of devices, of which one alone can answer, for a debugger with a script and a
-/// terminal, of which one alone can lead it, or with none of these, and for a listing of definitions with what is said
-/// of tokens.
+/// file of calls for `client`, a limit given twice. `None` stands for a limit that is no number from 0 to
+/// 1,000,000,000, nor one of thousands with `k` or of millions with `M`, for a run with a file of answers and one of
+/// devices, of which one alone can answer, for a debugger with a script and a terminal, of which one alone can lead it,
+/// or with none of these, for a source of which two things are to be made, and for a listing of definitions with what
+/// is said of tokens.
 #[tactic(auto, using(crate::proofs::Requests::ofw_is_simple, crate::proofs::Requests::ofw_is_free))]
 pub fn parse<'a>(alloc: Global, words: &'a [String]) -> Result<Option<Request<'a>>, Error>
     ensures ok { IfOk result (λ request. option_map asked request ≡ asks (map string_bytes words.now)) }

@@ -2,9 +2,11 @@
 #![tactic(auto)]
 
 mod arguments;
+mod limits;
 mod request;
 mod status;
 
 pub use arguments::{parse, status_of};
-pub use request::{Guide, Listing, Listings, Outside, Request};
+pub use limits::limit_of;
+pub use request::{Guide, Listing, Listings, Outside, Product, Request};
 pub use status::Status;

@@ -42,6 +42,19 @@ pub enum Guide<'a> {
     Terminal,
 }
 
+/// What is made of a source.
+#[derive(Clone, Copy)]
+pub enum Product<'a> {
+    /// Its image, printed in hexadecimal digits.
+    Digits,
+    /// Its image, written to the file at a path.
+    File(&'a str),
+    /// The names and FCodes of its own words, printed.
+    Symbols,
+    /// The listing of its image with the lines of the source beside it, printed.
+    Listing,
+}
+
 /// What the arguments ask for.
 #[derive(Clone, Copy)]
 pub enum Request<'a> {
@@ -61,6 +74,10 @@ pub enum Request<'a> {
         explain: bool,
         /// Whether the file is the ROM of a PCI card, of which the FCode program is run.
         pci: bool,
+        /// The path of the file that is to hold a line for each step, if one is.
+        trace: Option<&'a str>,
+        /// Whether a throw that nothing catches, where it is the last step, is a fault.
+        strict: bool,
     },
     /// Run an image, and then answer a client's calls.
     Client {
@@ -76,6 +93,8 @@ pub enum Request<'a> {
         limit: u64,
         /// Whether its end is explained on the error output.
         explain: bool,
+        /// Whether a throw that nothing catches, where it is the last step, is a fault.
+        strict: bool,
     },
     /// Read lines and run each.
     Console {
@@ -103,8 +122,8 @@ pub enum Request<'a> {
     Tok {
         /// The path of the source.
         source: &'a str,
-        /// The path of the file that is to hold the image, where it isn't to be printed.
-        output: Option<&'a str>,
+        /// What is made of it.
+        product: Product<'a>,
     },
     /// List an image.
     Detok {

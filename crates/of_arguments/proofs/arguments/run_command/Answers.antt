@@ -5,17 +5,13 @@ use Rattle.of_arguments.proofs.arguments.run_command.Goals as goal
 
 pub returns : goal.returns
 returns c =
-    let running = c.in_ok-running_command.ensures.0 in
-    let tree = c.flag.ensures in
-    let words = c.flag-2.ensures in
-    let see = c.see_argument.ensures in
-    let state = c.flag-3.ensures in
-    let explain = c.flag-4.ensures in
-    let with_tree = c.in_ok-arg.ensures.shape tree.1 ∙ ap₂ with_rule running tree.0 in
-    let with_words = c.in_ok-arg-2.ensures.shape words.1 ∙ ap₂ with_rule with_tree words.0 in
-    let with_see = c.in_ok-arg-3.ensures.shape see.1 ∙ ap₂ with_rule with_words see.0 in
-    let with_state = c.in_ok-arg-4.ensures.shape state.1 ∙ ap₂ with_rule with_see state.0 in
+    let showing = c.in_ok-showing_command.ensures.0 in
+    let explain = c.flag.ensures in
     let pci = c.pci_flag.ensures in
-    let with_explain = c.in_ok-arg-5.ensures.shape explain.1 ∙ ap₂ with_rule with_state explain.0 in
-    IfOk-weaker c.arg-6.result _ _ (λ r h. (h.shape pci.1 ∙ ap₂ with_rule with_explain pci.0, search rules))
-    c.arg-6.ensures
+    let trace = c.trace_argument.ensures in
+    let strict = c.strict_flag.ensures in
+    let with_explain = c.in_ok-arg.ensures.shape explain.1 ∙ ap₂ with_rule showing explain.0 in
+    let with_pci = c.in_ok-arg-2.ensures.shape pci.1 ∙ ap₂ with_rule with_explain pci.0 in
+    let with_trace = c.in_ok-arg-3.ensures.shape trace.1 ∙ ap₂ with_rule with_pci trace.0 in
+    IfOk-weaker c.arg-4.result _ _ (λ r h. (h.shape strict.1 ∙ ap₂ with_rule with_trace strict.0, search rules))
+    c.arg-4.ensures

@@ -9,5 +9,9 @@ returns c =
     let source = c.source_argument.ensures in
     let output = c.output_argument.ensures in
     let with_source = c.in_ok-arg.ensures.shape source.1 ∙ ap₂ with_rule new_is source.0 in
-    IfOk-weaker c.arg-2.result _ _ (λ r h. (h.shape output.1 ∙ ap₂ with_rule with_source output.0, search rules))
-    c.arg-2.ensures
+    let symbols = c.flag.ensures in
+    let with_output = c.in_ok-arg-2.ensures.shape output.1 ∙ ap₂ with_rule with_source output.0 in
+    let listing = c.flag-2.ensures in
+    let with_symbols = c.in_ok-arg-3.ensures.shape symbols.1 ∙ ap₂ with_rule with_output symbols.0 in
+    IfOk-weaker c.arg-4.result _ _ (λ r h. (h.shape listing.1 ∙ ap₂ with_rule with_symbols listing.0, search rules))
+    c.arg-4.ensures
