@@ -1,13 +1,14 @@
 -- A file of a source that was read.
-use Rattle.std.proofs.Common.{◌≡◌, ◌≤◌, ◌⊎◌, ◌∙◌, ℕ, List, length, Option, Some, None, IfSome, Ok, Err, IfErr, Result}
+use Rattle.std.proofs.Common.{◌≡◌, ◌≤◌, ◌⊎◌, ◌∙◌, ℕ, List, length, Option, Some, None, IfSome, Err, IfErr, Result}
 use Rattle.std.proofs.Common.{subst, sym, inl, inr}
 use Rattle.std.specs.Io.KnownBytes.{Keeps}
 use Rattle.of_arguments.specs.declared.status.Status.{Status}
 use Rattle.of_files.specs.declared.fault.Fault.{Fault}
 use Rattle.of_files.specs.declared.fault.Fault.TheVariants as fault
+use Rattle.of_files.specs.declared.source_lists.SourceList.{SourceList}
 use Rattle.of_files.specs.Faults.{EndsWith, ended_with, status_of}
 use Rattle.of_files.specs.Files.{IsUnread}
-use Rattle.of_files.specs.Sources.{FaultsSource, FaultsSourceFile, FaultsWith, Tokenizes}
+use Rattle.of_files.specs.Sources.{FaultsSource, FaultsSourceFile, FaultsWith, Lists, Tokenizes}
 
 -- nothing was printed of a source with a fault
 pub source_given_up : (text : List ℕ) (old new : Option (List ℕ)) (f : Fault) → Keeps old new → FaultsSource text f
@@ -54,3 +55,28 @@ pub image_refused : (known : Option (List ℕ)) (text read : List ℕ) (f : Faul
 image_refused None text read f s ends same all why = tt
 image_refused (Some file) text read f s ends same all why =
     (f, sym ends, inr (inr (inr (subst (λ t. FaultsSource t f) (same ∙ all) why))))
+
+-- ---- what is listed of a source
+
+-- nothing was printed of a source with a fault
+pub lists_given_up : (l : SourceList) (text : List ℕ) (old new : Option (List ℕ)) (f : Fault) → Keeps old new → FaultsSource text f
+    → Lists l text old new (Err f)
+lists_given_up l text old new f kept fault = (inl kept, inr (inr (inr fault)))
+
+-- nor of a file that can't be read
+pub lists_unread : (l : SourceList) (known old new : Option (List ℕ)) (Said : Fault → Type 0) (f : Fault) (s : Status)
+    → Keeps old new → s ≡ status_of f → IsUnread f ⊎ (f ≡ fault.Endless) ⊎ (f ≡ fault.NoMemory)
+    → (f ≡ fault.Endless → IfSome known (λ bytes. 16777216 ≤ length bytes)) → Said f
+    → IfSome known (λ file. EndsWith (Lists l file old new) Said s)
+lists_unread l None old new Said f s kept ends why long said = tt
+lists_unread l (Some file) old new Said f s kept ends why long said =
+    (Err f, sym ends, (inl kept, unread_faults file f why long), said)
+
+-- what was printed of the text that was read was printed of the file
+pub lists_ended : (l : SourceList) (known : Option (List ℕ)) (text read : List ℕ) (old new : Option (List ℕ))
+    (Said : Fault → Type 0) (r : Result Status Fault) (s : Status) → read ≡ text → IfSome known (λ bytes. text ≡ bytes)
+    → Lists l read old new r → ended_with r ≡ s → IfErr r Said
+    → IfSome known (λ file. EndsWith (Lists l file old new) Said s)
+lists_ended l None text read old new Said r s same all prints ends said = tt
+lists_ended l (Some file) text read old new Said r s same all prints ends said =
+    (r, ends, subst (λ t. Lists l t old new r) (same ∙ all) prints, said)

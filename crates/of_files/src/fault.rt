@@ -92,6 +92,15 @@ pub enum Fault {
     /// An image is to be written over its source.
     #[error("the output is the source itself")]
     OutputIsSource,
+    /// A limit isn't written as one.
+    #[error("a limit is a number up to 1000000000, or of thousands as 10k, or of millions as 2M")]
+    BadLimit,
+    /// A run has ended by a throw that nothing caught, where that is to be a fault.
+    #[error("the run ended by a throw that nothing caught")]
+    Uncaught,
+    /// Two things are to be made of a source.
+    #[error("--output, --symbols and --listing exclude each other")]
+    TwoProducts,
     /// A file of answers and one of devices are given.
     #[error("--answers and --board exclude each other")]
     TwoOutsides,
@@ -377,6 +386,9 @@ impl Fault {
             Fault::NoProgram => Status::Fault,
             Fault::NoWord => Status::Fault,
             Fault::OutputIsSource => Status::Usage,
+            Fault::BadLimit => Status::Usage,
+            Fault::Uncaught => Status::Fault,
+            Fault::TwoProducts => Status::Usage,
             Fault::TwoOutsides => Status::Usage,
             Fault::TwoListings => Status::Usage,
             Fault::NoGuide => Status::Usage,

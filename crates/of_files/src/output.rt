@@ -57,15 +57,32 @@ fn say_unwritten<E: Write>(code: Option<i32>, errors: &mut E) -> io::Result<()> 
     }
 }
 
+/// Whether a byte that is no digit stands as one does in a source: in `fcode-version1` or `fcode-version2`, or where a
+/// comment begins.
+fn is_of_source(place: Place, byte: u8) -> bool {
+    match byte {
+        b'o' => place.column == 3,
+        b'\\' | b'(' => true,
+        _ => false,
+    }
+}
+
 /// Says which byte of a text is no digit, with its place.
 fn say_stray<E: Write>(path: &str, place: Place, byte: u8, errors: &mut E) -> io::Result<()> {
     let Place { line, column } = place;
     if byte.is_ascii_graphic() {
         let digit = char::from(byte);
-        return writeln!(
+        writeln!(
             errors,
             "ofw: {path}:{line}:{column}: '{digit}' is no hexadecimal digit"
-        );
+        )?;
+        if is_of_source(place, byte) {
+            return writeln!(
+                errors,
+                "ofw: this looks like a source: `ofw tok` makes its image"
+            );
+        }
+        return Ok(());
     }
     if byte == 0xef && line == 1 && column == 1 {
         return writeln!(
@@ -103,6 +120,8 @@ fn say_other<E: Write>(path: &str, fault: Fault, errors: &mut E) -> io::Result<(
         Fault::ArgumentNotText
         | Fault::NoMemory
         | Fault::TwoOutsides
+        | Fault::BadLimit
+        | Fault::TwoProducts
         | Fault::TwoListings
         | Fault::NoGuide => { writeln!(errors, "ofw: {fault}") }
         _ => writeln!(errors, "ofw: {path}: {fault}"),

@@ -1,7 +1,8 @@
 //! Why a word of a source fits nowhere, in words.
 
 use crate::excerpts::{Excerpt, excerpt_at, say_excerpt};
-use of_source::{SourceFault, parse};
+use crate::openers::{open_in, opens};
+use of_source::{SourceFault, parse, place_in};
 use std::alloc::Global;
 use std::io::Write;
 use thiserror::Error;
@@ -237,6 +238,23 @@ fn position_of(fault: SourceFault) -> Option<usize> {
     }
 }
 
+/// Says which word before a position opens what is open there, where the word there closes something else.
+fn say_open<E: Write>(alloc: Global, text: &[u8], fault: SourceFault, word: &[u8], errors: &mut E) {
+    let SourceFault::Unclosed(position) = fault else {
+        return;
+    };
+    if opens(word) {
+        return;
+    }
+    let before = text.get(..position).unwrap_or(text);
+    let Ok(Some(opener)) = open_in(alloc, before) else {
+        return;
+    };
+    let line = place_in(text, opener.at).line;
+    let name = std::str::from_utf8(opener.word).unwrap_or("");
+    let _ = writeln!(errors, "ofw: `{name}` of line {line} is open here");
+}
+
 /// Says the line of the word that fits nowhere in a text, and what is wrong there.
 pub(crate) fn say_wrong<E: Write>(alloc: Global, text: &[u8], fault: SourceFault, errors: &mut E) {
     let Some(position) = position_of(fault) else {
@@ -247,4 +265,5 @@ pub(crate) fn say_wrong<E: Write>(alloc: Global, text: &[u8], fault: SourceFault
     if let Some(reason) = reason_of(alloc, text, fault, excerpt) {
         let _ = writeln!(errors, "ofw: {reason}");
     }
+    say_open(alloc, text, fault, excerpt.word, errors);
 }

@@ -1,12 +1,11 @@
 //! `tok`: the images of sources.
-ghost use Rattle.std.specs.Prelude.{◌≡◌, true, false, IfOk, IfErr, IfSome, OnOk};
+ghost use Rattle.std.specs.Prelude.{◌≡◌, false, true, IfOk, IfErr, IfSome, OnOk};
 ghost use Rattle.std.specs.Io.KnownBytes.{Appends};
 ghost use Rattle.std.specs.String.{string_bytes};
 ghost use Rattle.of_files.specs.Faults.{EndsWith, IsUnwritten, is_done, status_of};
 ghost use Rattle.of_files.specs.Messages.{AppendsPart};
 ghost use Rattle.of_files.specs.Saying.{Said};
-ghost use Rattle.of_files.specs.Sources.{FaultsSource, FaultsWith, HasImage, Tokenizes};
-ghost use Rattle.of_files.specs.Sources.{TokenizesFile, Writes};
+ghost use Rattle.of_files.specs.Sources.{FaultsSource, FaultsWith, HasImage, Tokenizes, TokenizesFile, Writes};
 
 use crate::fault::{Fault, no_image, no_source};
 use crate::input::read_whole;
@@ -52,7 +51,7 @@ fn tokenize_text(alloc: Global, text: &[u8]) -> Result<String, Fault>
 
 /// Says a fault of the file of a text, and where it is one of a word of a source, the word's line and what is wrong
 /// there; gives the status that belongs to it.
-fn report_in<E: Write>(
+pub(crate) fn report_in<E: Write>(
     alloc: Global,
     path: &str,
     text: &[u8],
