@@ -49,30 +49,28 @@ carried commands old new text wrong a b c played first rest =
 
 -- ---- lines
 
--- Some lines were done, and the others are left.
-pub record IsAt (bytes rest : List ℕ) (old new : Option (List ℕ)) (x y : Debugged) : Type 0 where
-  pub made : ℕ
+-- So many lines were done, and the others are left.
+pub record IsAt (made : ℕ) (bytes rest : List ℕ) (old new : Option (List ℕ)) (x y : Debugged) : Type 0 where
   pub done : List ℕ
   pub there : AreDone made bytes x done rest y
   pub gone : Appends old new done
 
 -- the same of the bytes that a reader is known to have
 abbrev pub IsAtKnown :
-    Option (List ℕ) → Option (List ℕ) → Option (List ℕ) → Option (List ℕ) → Debugged → Debugged → Type 0
-IsAtKnown None left old new x y = Unit {0}
-IsAtKnown (Some bytes) None old new x y = ⊥
-IsAtKnown (Some bytes) (Some rest) old new x y = IsAt bytes rest old new x y
+    ℕ → Option (List ℕ) → Option (List ℕ) → Option (List ℕ) → Option (List ℕ) → Debugged → Debugged → Type 0
+IsAtKnown made None left old new x y = Unit {0}
+IsAtKnown made (Some bytes) None old new x y = ⊥
+IsAtKnown made (Some bytes) (Some rest) old new x y = IsAt made bytes rest old new x y
 
-pub begins : (known out : Option (List ℕ)) (x : Debugged) → IsAtKnown known known out out x x
+pub begins : (known out : Option (List ℕ)) (x : Debugged) → IsAtKnown 0 known known out out x x
 begins None out x = tt
-begins (Some bytes) out x = record { made = 0; done = []; there = (refl, refl, refl); gone = Appends-nil out }
+begins (Some bytes) out x = record { done = []; there = (refl, refl, refl); gone = Appends-nil out }
 
-goes_at : (bytes rest said : List ℕ) (old mid new last : Option (List ℕ)) (x y z : Debugged)
-    → IsAt bytes rest old mid x y → 0 < length rest → Appends mid new command_prompt → Appends new last said
+goes_at : (made : ℕ) (bytes rest said : List ℕ) (old mid new last : Option (List ℕ)) (x y z : Debugged)
+    → IsAt made bytes rest old mid x y → 0 < length rest → Appends mid new command_prompt → Appends new last said
     → line_in (take_through 10 rest) ≢ codes "quit" → Obeys (line_in (take_through 10 rest)) y z said
-    → IsAt bytes (drop_through 10 rest) old last x z
-goes_at bytes rest said old mid new last x y z at some shown out other obeyed = record {
-  made = suc at.made;
+    → IsAt (suc made) bytes (drop_through 10 rest) old last x z
+goes_at made bytes rest said old mid new last x y z at some shown out other obeyed = record {
   done = at.done ++ (command_prompt ++ said);
   there = (at.done, rest, y, command_prompt ++ said, at.there, (said, some, refl, other, obeyed, refl), refl);
   gone =
@@ -86,18 +84,23 @@ some_line zero e = absurd (true≢false e)
 some_line (suc n) e = omega arith
 
 -- a line more
-pub goes_on : (known left after old mid new last : Option (List ℕ)) (line seen short : List ℕ) (x y z : Debugged)
-    → IsAtKnown known left old mid x y → 0 < length line → IfSome left (λ rest. line ≡ take_through 10 rest)
+pub goes_on : (made more : ℕ) (known left after old mid new last : Option (List ℕ)) (line seen short : List ℕ)
+    (x y z : Debugged) → more ≡ suc made → IsAtKnown made known left old mid x y → 0 < length line
+    → IfSome left (λ rest. line ≡ take_through 10 rest)
     → DropsThrough left after 10 → Appends mid new command_prompt → seen ≡ line → short ≡ line_in seen
-    → short ≢ codes "quit" → Prints new last (Obeys short y z) → IsAtKnown known after old last x z
-goes_on None left after old mid new last line seen short x y z at some read drops shown s l other p = tt
-goes_on (Some bytes) None after old mid new last line seen short x y z at some read drops shown s l other p = absurd at
-goes_on (Some bytes) (Some rest) after old mid new last line seen short x y z at some read drops shown s l other p =
+    → short ≢ codes "quit" → Prints new last (Obeys short y z) → IsAtKnown more known after old last x z
+goes_on made more None left after old mid new last line seen short x y z one at some read drops shown s l other p = tt
+goes_on made more (Some bytes) None after old mid new last line seen short x y z one at some read drops shown s l other
+    p =
+    absurd at
+goes_on made more (Some bytes) (Some rest) after old mid new last line seen short x y z one at some read drops shown s l
+    other p =
     let here : short ≡ line_in (take_through 10 rest) = l ∙ ap line_in (s ∙ read) in
-    let more : 0 < length rest = some_read rest (subst (λ t. 0 < length t) read some) in
-    subst (λ a. IsAtKnown (Some bytes) a old last x z) (sym drops)
-    (goes_at bytes rest p.0 old mid new last x y z at more shown p.1 (λ e. other (here ∙ e))
-    (subst (λ t. Obeys t y z p.0) here p.2))
+    let left : 0 < length rest = some_read rest (subst (λ t. 0 < length t) read some) in
+    subst (λ a. IsAtKnown more (Some bytes) a old last x z) (sym drops)
+    (subst (λ n. IsAt n bytes (drop_through 10 rest) old last x z) (sym one)
+    (goes_at made bytes rest p.0 old mid new last x y z at left shown p.1 (λ e. other (here ∙ e))
+    (subst (λ t. Obeys t y z p.0) here p.2)))
 
 -- what was printed last
 joined : (done end : List ℕ) (old mid new last : Option (List ℕ)) → Appends old mid done
@@ -107,14 +110,14 @@ joined done end old mid new last gone shown ended =
     (Appends-trans mid new last command_prompt end shown ended)
 
 -- at the end of the input
-pub ends : (known left old mid new last : Option (List ℕ)) (line : List ℕ) (x y : Debugged)
-    → IsAtKnown known left old mid x y → length line ≡ 0 → IfSome left (λ rest. line ≡ take_through 10 rest)
+pub ends : (made : ℕ) (known left old mid new last : Option (List ℕ)) (line : List ℕ) (x y : Debugged)
+    → IsAtKnown made known left old mid x y → length line ≡ 0 → IfSome left (λ rest. line ≡ take_through 10 rest)
     → Appends mid new command_prompt → Appends new last (10 ∷ [])
     → IfSome known (λ bytes. FollowsAll bytes x y old last)
-ends None left old mid new last line x y at none read shown ended = tt
-ends (Some bytes) None old mid new last line x y at none read shown ended = absurd at
-ends (Some bytes) (Some rest) old mid new last line x y at none read shown ended = (
-  at.made,
+ends made None left old mid new last line x y at none read shown ended = tt
+ends made (Some bytes) None old mid new last line x y at none read shown ended = absurd at
+ends made (Some bytes) (Some rest) old mid new last line x y at none read shown ended = (
+  made,
   at.done,
   rest,
   10 ∷ [],
@@ -124,14 +127,14 @@ ends (Some bytes) (Some rest) old mid new last line x y at none read shown ended
 )
 
 -- behind `quit`
-pub quits : (known left old mid new : Option (List ℕ)) (line seen short : List ℕ) (x y : Debugged)
-    → IsAtKnown known left old mid x y → IfSome left (λ rest. line ≡ take_through 10 rest)
+pub quits : (made : ℕ) (known left old mid new : Option (List ℕ)) (line seen short : List ℕ) (x y : Debugged)
+    → IsAtKnown made known left old mid x y → IfSome left (λ rest. line ≡ take_through 10 rest)
     → Appends mid new command_prompt → seen ≡ line → short ≡ line_in seen → short ≡ codes "quit"
     → IfSome known (λ bytes. FollowsAll bytes x y old new)
-quits None left old mid new line seen short x y at read shown s l q = tt
-quits (Some bytes) None old mid new line seen short x y at read shown s l q = absurd at
-quits (Some bytes) (Some rest) old mid new line seen short x y at read shown s l q = (
-  at.made,
+quits made None left old mid new line seen short x y at read shown s l q = tt
+quits made (Some bytes) None old mid new line seen short x y at read shown s l q = absurd at
+quits made (Some bytes) (Some rest) old mid new line seen short x y at read shown s l q = (
+  made,
   at.done,
   rest,
   [],

@@ -18,9 +18,9 @@ use Rattle.of_commands.specs.Consoles.{session_text}
 use Rattle.of_commands.specs.GivenUp.{AreEntered, Converses}
 use Rattle.of_commands.specs.Listings.{newline_behind}
 
--- Some lines were entered, and the others are left.
-pub record IsAt (limit : ℕ) (bytes rest : List ℕ) (old new : Option (List ℕ)) (x y : Attended Coding) : Type 0 where
-  pub made : ℕ
+-- So many lines were entered, and the others are left.
+pub record IsAt (limit made : ℕ) (bytes rest : List ℕ) (old new : Option (List ℕ)) (x y : Attended Coding)
+    : Type 0 where
   pub done : List ℕ
   pub there : AreEntered limit made bytes x done rest y
   pub gone : Appends old new done
@@ -30,17 +30,17 @@ pub record IsAt (limit : ℕ) (bytes rest : List ℕ) (old new : Option (List �
 
 -- the same of the bytes that a reader is known to have
 abbrev pub IsAtKnown :
-    ℕ → Option (List ℕ) → Option (List ℕ) → Option (List ℕ) → Option (List ℕ) → Attended Coding → Attended Coding
-    → Type 0
-IsAtKnown limit None left old new x y = Unit {0}
-IsAtKnown limit (Some bytes) None old new x y = ⊥
-IsAtKnown limit (Some bytes) (Some rest) old new x y = IsAt limit bytes rest old new x y
+    ℕ → ℕ → Option (List ℕ) → Option (List ℕ) → Option (List ℕ) → Option (List ℕ) → Attended Coding
+    → Attended Coding → Type 0
+IsAtKnown limit made None left old new x y = Unit {0}
+IsAtKnown limit made (Some bytes) None old new x y = ⊥
+IsAtKnown limit made (Some bytes) (Some rest) old new x y = IsAt limit made bytes rest old new x y
 
-pub begins : (limit : ℕ) (known out : Option (List ℕ)) (x : Attended Coding) → IsAtKnown limit known known out out x x
+pub begins : (limit : ℕ) (known out : Option (List ℕ)) (x : Attended Coding)
+    → IsAtKnown limit 0 known known out out x x
 begins limit None out x = tt
 begins limit (Some bytes) out x =
     record {
-      made = 0;
       done = [];
       there = (refl, refl, refl);
       gone = Appends-nil out;
@@ -69,10 +69,10 @@ drop_less [] = omega arith
 drop_less (b ∷ rest) =
     let less = drop_less_by (b == 10) rest (drop_less rest) in omega (arith, less)
 
-ends_at : (limit : ℕ) (bytes rest : List ℕ) (old mid new last : Option (List ℕ)) (x y : Attended Coding)
-    → IsAt limit bytes rest old mid x y → rest ≡ [] → Appends mid new prompt → Appends new last (10 ∷ [])
+ends_at : (limit made : ℕ) (bytes rest : List ℕ) (old mid new last : Option (List ℕ)) (x y : Attended Coding)
+    → IsAt limit made bytes rest old mid x y → rest ≡ [] → Appends mid new prompt → Appends new last (10 ∷ [])
     → Appends old last (session_text limit (length bytes) bytes x)
-ends_at limit bytes rest old mid new last x y at none shown ended =
+ends_at limit made bytes rest old mid new last x y at none shown ended =
     let left : session_text limit at.most rest y ≡ prompt ++ 10 ∷ [] =
     ap (λ r. session_text limit at.most r y) none in
     let whole : at.done ++ (prompt ++ 10 ∷ []) ≡ session_text limit (length bytes) bytes x =
@@ -82,29 +82,32 @@ ends_at limit bytes rest old mid new last x y at none shown ended =
     (Appends-trans mid new last prompt (10 ∷ []) shown ended))
 
 -- at the end of the input
-pub ends : (limit : ℕ) (known left old mid new last : _) (line : List ℕ) (x y : Attended Coding)
-    → IsAtKnown limit known left old mid x y → length line ≡ 0 → IfSome left (λ rest. line ≡ take_through 10 rest)
+pub ends : (limit made : ℕ) (known left old mid new last : _) (line : List ℕ) (x y : Attended Coding)
+    → IsAtKnown limit made known left old mid x y → length line ≡ 0 → IfSome left (λ rest. line ≡ take_through 10 rest)
     → Appends mid new prompt → Appends new last (10 ∷ [])
     → IfSome known (λ bytes. Appends old last (session_text limit (length bytes) bytes x))
-ends limit None left old mid new last line x y at none read shown ended = tt
-ends limit (Some bytes) None old mid new last line x y at none read shown ended = absurd at
-ends limit (Some bytes) (Some rest) old mid new last line x y at none read shown ended =
-    ends_at limit bytes rest old mid new last x y at (read_nothing rest (sym (ap length read) ∙ none)) shown ended
+ends limit made None left old mid new last line x y at none read shown ended = tt
+ends limit made (Some bytes) None old mid new last line x y at none read shown ended = absurd at
+ends limit made (Some bytes) (Some rest) old mid new last line x y at none read shown ended =
+    ends_at limit made bytes rest old mid new last x y at (read_nothing rest (sym (ap length read) ∙ none)) shown
+    ended
 
 -- ---- a line more
 
-goes_at : (limit : ℕ) (bytes rest : List ℕ) (old mid new last : Option (List ℕ)) (x y : Attended Coding)
-    → IsAt limit bytes rest old mid x y → 0 < length rest → Appends mid new prompt
+goes_at : (limit made : ℕ) (bytes rest : List ℕ) (old mid new last : Option (List ℕ)) (x y : Attended Coding)
+    → IsAt limit made bytes rest old mid x y → 0 < length rest → Appends mid new prompt
     → Appends new last (printed_since y.0 (entry flat_calls limit (line_in (take_through 10 rest)) y).0)
-    → IsAt limit bytes (drop_through 10 rest) old last x (entry flat_calls limit (line_in (take_through 10 rest)) y)
-goes_at limit bytes rest old mid new last x y at some shown printed =
+    → IsAt limit (suc made) bytes (drop_through 10 rest) old last x
+    (entry flat_calls limit (line_in (take_through 10 rest)) y)
+goes_at limit made bytes rest old mid new last x y at some shown printed =
     go rest at.most at.few some at.there at.same printed
   where
     go : (rest : List ℕ) (most : ℕ) → length rest ≤ most → 0 < length rest
-        → AreEntered limit at.made bytes x at.done rest y
+        → AreEntered limit made bytes x at.done rest y
         → session_text limit (length bytes) bytes x ≡ at.done ++ session_text limit most rest y
         → Appends new last (printed_since y.0 (entry flat_calls limit (line_in (take_through 10 rest)) y).0)
-        → IsAt limit bytes (drop_through 10 rest) old last x (entry flat_calls limit (line_in (take_through 10 rest)) y)
+        → IsAt limit (suc made) bytes (drop_through 10 rest) old last x
+        (entry flat_calls limit (line_in (take_through 10 rest)) y)
     go [] most few some there same printed = absurd (omega (arith, some))
     go (b ∷ rest) zero few some there same printed = absurd (omega (arith, few))
     go (b ∷ rest) (suc most) few some there same printed =
@@ -116,7 +119,6 @@ goes_at limit bytes rest old mid new last x y at some shown printed =
         ap (λ t. at.done ++ t) (sym (append_assoc prompt text more))
         ∙ sym (append_assoc at.done (prompt ++ text) more) in
         record {
-          made = suc at.made;
           done = at.done ++ (prompt ++ text);
           there = (at.done, b ∷ rest, y, prompt ++ text, there, (some, refl, refl, refl), refl);
           gone =
@@ -131,21 +133,25 @@ pub some_read : (rest : List ℕ) → 0 < length (take_through 10 rest) → 0 < 
 some_read [] h = h
 some_read (b ∷ rest) h = omega arith
 
-pub goes_on : (limit : ℕ) (known left after old mid new last : Option (List ℕ)) (line : List ℕ)
-    (x y z : Attended Coding)
-    → IsAtKnown limit known left old mid x y → 0 < length line → IfSome left (λ rest. line ≡ take_through 10 rest)
+pub goes_on : (limit made more : ℕ) (known left after old mid new last : Option (List ℕ)) (line : List ℕ)
+    (x y z : Attended Coding) → more ≡ suc made
+    → IsAtKnown limit made known left old mid x y → 0 < length line → IfSome left (λ rest. line ≡ take_through 10 rest)
     → DropsThrough left after 10 → Appends mid new prompt → z ≡ entry flat_calls limit (line_in line) y
-    → Appends new last (printed_since y.0 z.0) → IsAtKnown limit known after old last x z
-goes_on limit None left after old mid new last line x y z at some read drops shown entered printed = tt
-goes_on limit (Some bytes) None after old mid new last line x y z at some read drops shown entered printed = absurd at
-goes_on limit (Some bytes) (Some rest) after old mid new last line x y z at some read drops shown entered printed =
+    → Appends new last (printed_since y.0 z.0) → IsAtKnown limit more known after old last x z
+goes_on limit made more None left after old mid new last line x y z one at some read drops shown entered printed = tt
+goes_on limit made more (Some bytes) None after old mid new last line x y z one at some read drops shown entered
+    printed =
+    absurd at
+goes_on limit made more (Some bytes) (Some rest) after old mid new last line x y z one at some read drops shown
+    entered printed =
     let here : z ≡ entry flat_calls limit (line_in (take_through 10 rest)) y =
     entered ∙ ap (λ l. entry flat_calls limit (line_in l) y) read in
-    let more : 0 < length rest = some_read rest (subst (λ l. 0 < length l) read some) in
+    let left : 0 < length rest = some_read rest (subst (λ l. 0 < length l) read some) in
     let out = subst (λ w. Appends new last (printed_since y.0 w.0)) here printed in
-    subst (λ a. IsAtKnown limit (Some bytes) a old last x z) (sym drops)
-    (subst (IsAt limit bytes (drop_through 10 rest) old last x) (sym here)
-    (goes_at limit bytes rest old mid new last x y at more shown out))
+    subst (λ a. IsAtKnown limit more (Some bytes) a old last x z) (sym drops)
+    (subst (λ n. IsAt limit n bytes (drop_through 10 rest) old last x z) (sym one)
+    (subst (IsAt limit (suc made) bytes (drop_through 10 rest) old last x) (sym here)
+    (goes_at limit made bytes rest old mid new last x y at left shown out)))
 
 -- the line without its end was entered
 pub entered_as : (limit : ℕ) (line seen short : List ℕ) (y z : Attended Coding) → seen ≡ line → short ≡ line_in seen

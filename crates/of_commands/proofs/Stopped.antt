@@ -16,7 +16,7 @@ use Rattle.of_machine.specs.States.{MachineState, RefusesBefore, first_refusal, 
 use Rattle.of_monitor.specs.Sessions.{IsBroken, entry}
 use Rattle.of_monitor.specs.Turns.{Attended}
 use Rattle.of_state.specs.State.{flat_calls}
-use Rattle.of_commands.specs.Consoles.{at_rest, behind_image, line_in, printed_since, prompt}
+use Rattle.of_commands.specs.Consoles.{at_rest, behind_image, line_in, most_lines, printed_since, prompt}
 use Rattle.of_commands.specs.GivenUp.{AnswersConsole, Converses, GivesUp, IsUnanswered, IsUnawaited, IsUnread}
 use Rattle.of_commands.specs.GivenUp.{IsUnrun, Stops, StopsBehind}
 use Rattle.of_commands.specs.Listings.{newline_behind}
@@ -57,31 +57,31 @@ unwritten limit line x y old new f part entered cut = (part, inl (entered, cut))
 -- ---- a session
 
 -- behind the lines that were entered
-stops_at : (limit : ℕ) (known left old mid new : Option (List ℕ)) (f : Fault) (x y : Attended Coding)
-    → IsAtKnown limit known left old mid x y → IfSome left (λ rest. Stops limit rest y mid new f)
+stops_at : (limit made : ℕ) (known left old mid new : Option (List ℕ)) (f : Fault) (x y : Attended Coding)
+    → IsAtKnown limit made known left old mid x y → IfSome left (λ rest. Stops limit made rest y mid new f)
     → IfSome known (λ bytes. StopsBehind limit bytes x old new f)
-stops_at limit None left old mid new f x y at stops = tt
-stops_at limit (Some bytes) None old mid new f x y at stops = absurd at
-stops_at limit (Some bytes) (Some rest) old mid new f x y at stops =
-    (at.made, at.done, rest, y, mid, at.there, at.gone, stops)
+stops_at limit made None left old mid new f x y at stops = tt
+stops_at limit made (Some bytes) None old mid new f x y at stops = absurd at
+stops_at limit made (Some bytes) (Some rest) old mid new f x y at stops =
+    (made, at.done, rest, y, mid, at.there, at.gone, stops)
 
 -- where the next line isn't awaited
-pub unawaited : (limit : ℕ) (known left old mid new : Option (List ℕ)) (f : Fault) (x y : Attended Coding)
-    → IsAtKnown limit known left old mid x y → IsUnawaited mid new f
+pub unawaited : (limit made : ℕ) (known left old mid new : Option (List ℕ)) (f : Fault) (x y : Attended Coding)
+    → IsAtKnown limit made known left old mid x y → IsUnawaited mid new f
     → IfSome known (λ bytes. StopsBehind limit bytes x old new f)
-unawaited limit known left old mid new f x y at h =
-    stops_at limit known left old mid new f x y at (known_or_not left (λ rest. inl h))
+unawaited limit made known left old mid new f x y at h =
+    stops_at limit made known left old mid new f x y at (known_or_not left (λ rest. inl h))
 
 -- where there is none, and the newline isn't written
-pub unended : (limit : ℕ) (known left old mid new last : Option (List ℕ)) (line : List ℕ) (f : Fault)
-    (x y : Attended Coding) → IsAtKnown limit known left old mid x y → length line ≡ 0
+pub unended : (limit made : ℕ) (known left old mid new last : Option (List ℕ)) (line : List ℕ) (f : Fault)
+    (x y : Attended Coding) → IsAtKnown limit made known left old mid x y → length line ≡ 0
     → IfSome left (λ rest. line ≡ take_through 10 rest) → Appends mid new prompt → AppendsPart new last (10 ∷ [])
     → IsUnwritten f → IfSome known (λ bytes. StopsBehind limit bytes x old last f)
-unended limit known left old mid new last line f x y at none read shown part cut =
-    stops_at limit known left old mid last f x y at (by_rest left read)
+unended limit made known left old mid new last line f x y at none read shown part cut =
+    stops_at limit made known left old mid last f x y at (by_rest left read)
   where
     by_rest : (left : Option (List ℕ)) → IfSome left (λ rest. line ≡ take_through 10 rest)
-        → IfSome left (λ rest. Stops limit rest y mid last f)
+        → IfSome left (λ rest. Stops limit made rest y mid last f)
     by_rest None read = tt
     by_rest (Some rest) read =
         inr (inr (inl (
@@ -92,18 +92,18 @@ unended limit known left old mid new last line f x y at none read shown part cut
         )))
 
 -- where it isn't answered
-pub unanswered : (limit : ℕ) (known left old mid new last : Option (List ℕ)) (line seen short : List ℕ) (f : Fault)
-    (x y z : Attended Coding) → IsAtKnown limit known left old mid x y → 0 < length line
+pub unanswered : (limit made : ℕ) (known left old mid new last : Option (List ℕ)) (line seen short : List ℕ)
+    (f : Fault) (x y z : Attended Coding) → IsAtKnown limit made known left old mid x y → 0 < length line
     → IfSome left (λ rest. line ≡ take_through 10 rest) → Appends mid new prompt → seen ≡ line → short ≡ line_in seen
     → IsUnanswered limit short y z new last f → IfSome known (λ bytes. StopsBehind limit bytes x old last f)
-unanswered limit known left old mid new last line seen short f x y z at some read shown s l h =
-    stops_at limit known left old mid last f x y at (by_rest left read)
+unanswered limit made known left old mid new last line seen short f x y z at some read shown s l h =
+    stops_at limit made known left old mid last f x y at (by_rest left read)
   where
     entered : IsUnanswered limit (line_in line) y z new last f
     entered = subst (λ t. IsUnanswered limit t y z new last f) (l ∙ ap line_in s) h
 
     by_rest : (left : Option (List ℕ)) → IfSome left (λ rest. line ≡ take_through 10 rest)
-        → IfSome left (λ rest. Stops limit rest y mid last f)
+        → IfSome left (λ rest. Stops limit made rest y mid last f)
     by_rest None read = tt
     by_rest (Some rest) read =
         inr (inl (
@@ -115,12 +115,12 @@ unanswered limit known left old mid new last line seen short f x y z at some rea
         ))
 
 -- where as many were read as ever are
-pub endless : (limit : ℕ) (known left old mid : Option (List ℕ)) (x y : Attended Coding)
-    → IsAtKnown limit known left old mid x y
+pub endless : (limit made : ℕ) (known left old mid : Option (List ℕ)) (x y : Attended Coding) → made ≡ most_lines
+    → IsAtKnown limit made known left old mid x y
     → IfSome known (λ bytes. StopsBehind limit bytes x old mid fault.Endless)
-endless limit known left old mid x y at =
-    stops_at limit known left old mid mid fault.Endless x y at
-    (known_or_not left (λ rest. inr (inr (inr (kept mid, refl)))))
+endless limit made known left old mid x y all at =
+    stops_at limit made known left old mid mid fault.Endless x y at
+    (known_or_not left (λ rest. inr (inr (inr (all, kept mid, refl)))))
 
 -- ---- a console
 

@@ -17,7 +17,7 @@ use Rattle.of_files.specs.declared.fault.Fault.TheVariants as fault
 use Rattle.of_runs.specs.Runs.{IsRefusedFor}
 use Rattle.of_script.specs.Scripts.{Plays}
 use Rattle.of_calls.specs.declared.script_fault.ScriptFault.{ScriptFault}
-use Rattle.of_commands.specs.Consoles.{line_in, printed_since}
+use Rattle.of_commands.specs.Consoles.{line_in, most_lines, printed_since}
 use Rattle.of_commands.specs.GivenUp.{IsUnread}
 use Rattle.of_commands.specs.Prompts.{AnswersPrompts, Fails, FailsRead, FollowsAll}
 use Rattle.of_commands.specs.Prompts.{FollowsSome, IsUncommanded, IsUnsaid}
@@ -92,31 +92,32 @@ pub unread : (old new : Option (List ℕ)) (f : Fault) → Appends old new comma
 unread old new f shown cut = inr (shown, cut)
 
 -- behind the lines that were done
-stops_at : (known left old mid new : Option (List ℕ)) (f : Fault) (x y z : Debugged)
-    → IsAtKnown known left old mid x y → IfSome left (λ rest. Stops rest y z mid new f)
+stops_at : (made : ℕ) (known left old mid new : Option (List ℕ)) (f : Fault) (x y z : Debugged)
+    → IsAtKnown made known left old mid x y → IfSome left (λ rest. Stops made rest y z mid new f)
     → IfSome known (λ bytes. FollowsSome bytes x z old new f)
-stops_at None left old mid new f x y z at stops = tt
-stops_at (Some bytes) None old mid new f x y z at stops = absurd at
-stops_at (Some bytes) (Some rest) old mid new f x y z at stops =
-    (at.made, at.done, rest, y, mid, at.there, at.gone, stops)
+stops_at made None left old mid new f x y z at stops = tt
+stops_at made (Some bytes) None old mid new f x y z at stops = absurd at
+stops_at made (Some bytes) (Some rest) old mid new f x y z at stops =
+    (made, at.done, rest, y, mid, at.there, at.gone, stops)
 
 -- where the next line isn't awaited
-pub unawaited : (known left old mid new : Option (List ℕ)) (f : Fault) (x y : Debugged)
-    → IsAtKnown known left old mid x y → IsUncommanded mid new f
+pub unawaited : (made : ℕ) (known left old mid new : Option (List ℕ)) (f : Fault) (x y : Debugged)
+    → IsAtKnown made known left old mid x y → IsUncommanded mid new f
     → IfSome known (λ bytes. FollowsSome bytes x y old new f)
-unawaited known left old mid new f x y at h =
-    stops_at known left old mid new f x y y at (known_or_not left (λ rest. inl (refl, h)))
+unawaited made known left old mid new f x y at h =
+    stops_at made known left old mid new f x y y at (known_or_not left (λ rest. inl (refl, h)))
 
 -- where there is none, and the newline isn't written
-pub unended : (known left old mid new last : Option (List ℕ)) (line : List ℕ) (f : Fault) (x y : Debugged)
-    → IsAtKnown known left old mid x y → length line ≡ 0 → IfSome left (λ rest. line ≡ take_through 10 rest)
+pub unended : (made : ℕ) (known left old mid new last : Option (List ℕ)) (line : List ℕ) (f : Fault)
+    (x y : Debugged) → IsAtKnown made known left old mid x y → length line ≡ 0
+    → IfSome left (λ rest. line ≡ take_through 10 rest)
     → Appends mid new command_prompt → AppendsPart new last (10 ∷ []) → IsUnwritten f
     → IfSome known (λ bytes. FollowsSome bytes x y old last f)
-unended known left old mid new last line f x y at none read shown part cut =
-    stops_at known left old mid last f x y y at (by_rest left read)
+unended made known left old mid new last line f x y at none read shown part cut =
+    stops_at made known left old mid last f x y y at (by_rest left read)
   where
     by_rest : (left : Option (List ℕ)) → IfSome left (λ rest. line ≡ take_through 10 rest)
-        → IfSome left (λ rest. Stops rest y y mid last f)
+        → IfSome left (λ rest. Stops made rest y y mid last f)
     by_rest None read = tt
     by_rest (Some rest) read =
         inr (inr (inl (
@@ -127,16 +128,16 @@ unended known left old mid new last line f x y at none read shown part cut =
         )))
 
 -- where it isn't done
-pub undone : (known left old mid new last : Option (List ℕ)) (line seen short : List ℕ) (f : Fault)
-    (x y z : Debugged) → IsAtKnown known left old mid x y → 0 < length line
+pub undone : (made : ℕ) (known left old mid new last : Option (List ℕ)) (line seen short : List ℕ) (f : Fault)
+    (x y z : Debugged) → IsAtKnown made known left old mid x y → 0 < length line
     → IfSome left (λ rest. line ≡ take_through 10 rest) → Appends mid new command_prompt → seen ≡ line
     → short ≡ line_in seen → short ≢ codes "quit" → Fails short y z new last f
     → IfSome known (λ bytes. FollowsSome bytes x z old last f)
-undone known left old mid new last line seen short f x y z at some read shown s l other h =
-    stops_at known left old mid last f x y z at (by_rest left read)
+undone made known left old mid new last line seen short f x y z at some read shown s l other h =
+    stops_at made known left old mid last f x y z at (by_rest left read)
   where
     by_rest : (left : Option (List ℕ)) → IfSome left (λ rest. line ≡ take_through 10 rest)
-        → IfSome left (λ rest. Stops rest y z mid last f)
+        → IfSome left (λ rest. Stops made rest y z mid last f)
     by_rest None read = tt
     by_rest (Some rest) read =
         let here : short ≡ line_in (take_through 10 rest) = l ∙ ap line_in (s ∙ read) in
@@ -149,11 +150,12 @@ undone known left old mid new last line seen short f x y z at some read shown s 
         ))
 
 -- where as many were read as ever are
-pub endless : (known left old mid : Option (List ℕ)) (x y : Debugged) → IsAtKnown known left old mid x y
+pub endless : (made : ℕ) (known left old mid : Option (List ℕ)) (x y : Debugged) → made ≡ most_lines
+    → IsAtKnown made known left old mid x y
     → IfSome known (λ bytes. FollowsSome bytes x y old mid fault.Endless)
-endless known left old mid x y at =
-    stops_at known left old mid mid fault.Endless x y y at
-    (known_or_not left (λ rest. inr (inr (inr (refl, kept mid, refl)))))
+endless made known left old mid x y all at =
+    stops_at made known left old mid mid fault.Endless x y y at
+    (known_or_not left (λ rest. inr (inr (inr (all, refl, kept mid, refl)))))
 
 -- ---- an image
 

@@ -22,6 +22,10 @@ printed_since old new =
 abbrev pub prompt : List ℕ
 prompt = codes "ok "
 
+-- how many lines are read at most
+abbrev pub most_lines : ℕ
+most_lines = 18446744073709551615
+
 -- a line without its end, if it has one
 abbrev pub line_in : List ℕ → List ℕ
 line_in line = if ends_with_byte 10 line then strip_last 13 (strip_last 10 line) else line

@@ -17,7 +17,7 @@ use Rattle.of_machine.specs.States.{MachineState, RefusesBefore, first_refusal, 
 use Rattle.of_monitor.specs.Sessions.{IsBroken, entry}
 use Rattle.of_monitor.specs.Turns.{Attended}
 use Rattle.of_state.specs.State.{flat_calls}
-use Rattle.of_commands.specs.Consoles.{at_rest, behind_image, console_text, line_in, printed_since, prompt}
+use Rattle.of_commands.specs.Consoles.{at_rest, behind_image, console_text, line_in, most_lines, printed_since, prompt}
 
 -- ---- lines that were entered
 
@@ -53,21 +53,21 @@ IsUnanswered limit line x y old new f =
     AppendsPart old new (printed_since x.0 y.0)
     × (((y ≡ entry flat_calls limit line x) × IsUnwritten f) ⊎ (IsBroken limit line x y × (f ≡ fault.NoMemory)))
 
--- The next line is given up, of which these bytes are left: it isn't awaited or not answered; or there is none, and the
--- newline isn't written that ends what is printed; or as many were read as ever are.
-abbrev pub Stops : ℕ → List ℕ → Attended Coding → Option (List ℕ) → Option (List ℕ) → Fault → Type 0
-Stops limit rest x old new f =
+-- Behind n lines the next one is given up, of which these bytes are left: it isn't awaited or not answered; or there is
+-- none, and the newline isn't written that ends what is printed; or as many were read as ever are.
+abbrev pub Stops : ℕ → ℕ → List ℕ → Attended Coding → Option (List ℕ) → Option (List ℕ) → Fault → Type 0
+Stops limit n rest x old new f =
     IsUnawaited old new f
     ⊎ ((0 < length rest) × (y : Attended Coding) × (mid : Option (List ℕ)) × Appends old mid prompt
     × IsUnanswered limit (line_in (take_through 10 rest)) x y mid new f)
     ⊎ ((rest ≡ []) × AppendsPart old new (prompt ++ 10 ∷ []) × IsUnwritten f)
-    ⊎ (Keeps old new × (f ≡ fault.Endless))
+    ⊎ ((n ≡ most_lines) × Keeps old new × (f ≡ fault.Endless))
 
 -- some lines were entered, all went out that they print, and the next one is given up
 abbrev pub StopsBehind : ℕ → List ℕ → Attended Coding → Option (List ℕ) → Option (List ℕ) → Fault → Type 0
 StopsBehind limit bytes x old new f =
     (n : ℕ) × (text : List ℕ) × (rest : List ℕ) × (y : Attended Coding) × (mid : Option (List ℕ))
-    × AreEntered limit n bytes x text rest y × Appends old mid text × Stops limit rest y mid new f
+    × AreEntered limit n bytes x text rest y × Appends old mid text × Stops limit n rest y mid new f
 
 -- ---- how a console is given up
 

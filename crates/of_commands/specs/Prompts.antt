@@ -17,7 +17,7 @@ use Rattle.of_runs.specs.Runs.{IsRefusedFor}
 use Rattle.of_script.specs.Scripts.{Plays, debugged}
 use Rattle.of_calls.specs.declared.script_fault.ScriptFault.{ScriptFault}
 use Rattle.of_calls.specs.declared.script_fault.ScriptFault.TheVariants as script
-use Rattle.of_commands.specs.Consoles.{line_in, printed_since}
+use Rattle.of_commands.specs.Consoles.{line_in, most_lines, printed_since}
 use Rattle.of_commands.specs.GivenUp.{IsUnread}
 use Rattle.of_commands.specs.declared.prompts.PromptRun.{PromptRun}
 
@@ -120,21 +120,21 @@ abbrev pub IsUncommanded : Option (List ℕ) → Option (List ℕ) → Fault →
 IsUncommanded before after f =
     (AppendsPart before after command_prompt × IsUnwritten f) ⊎ (Appends before after command_prompt × IsUnread f)
 
--- The next line is given up, of which these bytes are left: it isn't awaited, or not done; or there is none, and the
--- newline isn't written that ends what is printed; or as many were read as ever are.
-abbrev pub Stops : List ℕ → Debugged → Debugged → Option (List ℕ) → Option (List ℕ) → Fault → Type 0
-Stops rest old new before after f =
+-- Behind n lines the next one is given up, of which these bytes are left: it isn't awaited, or not done; or there is
+-- none, and the newline isn't written that ends what is printed; or as many were read as ever are.
+abbrev pub Stops : ℕ → List ℕ → Debugged → Debugged → Option (List ℕ) → Option (List ℕ) → Fault → Type 0
+Stops n rest old new before after f =
     ((new ≡ old) × IsUncommanded before after f)
     ⊎ ((0 < length rest) × (line_in (take_through 10 rest) ≢ codes "quit") × (mid : Option (List ℕ))
     × Appends before mid command_prompt × Fails (line_in (take_through 10 rest)) old new mid after f)
     ⊎ ((new ≡ old) × (rest ≡ []) × AppendsPart before after (command_prompt ++ codes "\n") × IsUnwritten f)
-    ⊎ ((new ≡ old) × Keeps before after × (f ≡ fault.Endless))
+    ⊎ ((n ≡ most_lines) × (new ≡ old) × Keeps before after × (f ≡ fault.Endless))
 
 -- some lines were done, all went out that they print, and the next one is given up
 abbrev pub FollowsSome : List ℕ → Debugged → Debugged → Option (List ℕ) → Option (List ℕ) → Fault → Type 0
 FollowsSome bytes old new before after f =
     (n : ℕ) × (text : List ℕ) × (rest : List ℕ) × (d : Debugged) × (mid : Option (List ℕ))
-    × AreDone n bytes old text rest d × Appends before mid text × Stops rest d new mid after f
+    × AreDone n bytes old text rest d × Appends before mid text × Stops n rest d new mid after f
 
 -- ---- an image whose debugger is led by lines
 

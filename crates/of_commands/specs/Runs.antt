@@ -126,22 +126,23 @@ Lists l partial file old new (Err f) =
 -- alone, and of the ROM of a PCI card what is printed of its FCode program
 abbrev pub Does :
     Asked → Outside → List ℕ → Option (List ℕ) → Option (List ℕ) → Result Status Fault → Type 0
-Does (a_run image lines path limit a explain pci) o file old new r = Prints a file o limit old new r
-Does (client_calls image calls lines path limit explain) o file old new r = Prints no_appendix file o limit old new r
+Does (a_run image lines path limit a explain pci trace strict) o file old new r = Prints a file o limit old new r
+Does (client_calls image calls lines path limit explain strict) o file old new r =
+    Prints no_appendix file o limit old new r
 Does (a_console image board limit) o file old new r = Prints no_appendix file o limit old new r
 Does (a_debugging image guide lines answers limit) o file old new r = Prints no_appendix file o limit old new r
-Does (an_image source output) o file old new r = Tokenizes file old new r
+Does (an_image source product) o file old new r = Tokenizes file old new r
 Does (a_listing image l partial pci) o file old new r = Lists l partial file old new r
 Does (a_look image pci) o file old new r = Checks file old new r
 Does (a_rom rom) o file old new r = ShowsRom file old new r
 
 -- whether it is asked how a run ended
 abbrev pub is_explained : Asked → Bool
-is_explained (a_run image lines o limit a explain pci) = explain
-is_explained (client_calls image calls lines o limit explain) = explain
+is_explained (a_run image lines o limit a explain pci trace strict) = explain
+is_explained (client_calls image calls lines o limit explain strict) = explain
 is_explained (a_console image board limit) = false
 is_explained (a_debugging image guide lines answers limit) = false
-is_explained (an_image source output) = false
+is_explained (an_image source product) = false
 is_explained (a_listing image l partial pci) = false
 is_explained (a_look image pci) = false
 is_explained (a_rom rom) = false

@@ -12,6 +12,18 @@ use of_runs::Answerer;
 use std::alloc::Global;
 use std::io::{self, Write};
 
+/// The most bytes that the text of a throw has.
+const MOST_OF_A_THROW: usize = 72;
+
+/// Whether what a machine has printed may end with the text of a throw that nothing caught, which begins with `fault `
+/// and ends its line. Where it doesn't, its last step was none.
+pub(crate) fn may_have_thrown(machine: &ScriptMachine) -> bool {
+    let console = machine.console();
+    let behind = console.len().saturating_sub(MOST_OF_A_THROW);
+    let last = console.get(behind..).unwrap_or(&[]);
+    last.ends_with(b"\n") && last.windows(6).any(|part| part == b"fault ".as_slice())
+}
+
 /// A run that has ended.
 #[derive(Clone, Copy)]
 struct Ended<'a> {
@@ -26,13 +38,14 @@ struct Ended<'a> {
 }
 
 impl Ended<'_> {
-    /// How many steps lead to where its end is told: all where it was cut short, or else those before the last.
+    /// How many steps come before its last.
     fn steps(self) -> u64 {
-        let made = self.machine.steps();
-        match self.end {
-            End::LimitReached | End::AnswersOut => made,
-            End::Done => made.saturating_sub(1),
-        }
+        self.machine.steps().saturating_sub(1)
+    }
+
+    /// Whether the machine as it left it tells how it ended: where it was cut short, or no throw ended it.
+    fn tells(self) -> bool {
+        cut_by(self.end).is_some() || !may_have_thrown(self.machine)
     }
 }
 
@@ -55,6 +68,13 @@ fn cut_by(end: End) -> Option<&'static str> {
     }
 }
 
+/// Says that a run is done.
+fn say_done<E: Write>(ended: Ended<'_>, errors: &mut E) -> io::Result<()> {
+    let path = ended.run.image;
+    let steps = ended.machine.steps();
+    writeln!(errors, "ofw: {path}: done after {steps} steps")
+}
+
 /// Says how a run ended by its last step, before which the machine stood so: at the end of its image, or by a throw,
 /// whose text was printed last, and which items of the return stack that has cut off.
 fn say_last<E: Write>(before: &ScriptMachine, ended: Ended<'_>, errors: &mut E) -> io::Result<()> {
@@ -65,8 +85,7 @@ fn say_last<E: Write>(before: &ScriptMachine, ended: Ended<'_>, errors: &mut E) 
         .get(before.console().len()..)
         .unwrap_or(&[]);
     if stands_at_end(before) && text.is_empty() {
-        let steps = ended.machine.steps();
-        return writeln!(errors, "ofw: {path}: done after {steps} steps");
+        return say_done(ended, errors);
     }
     let text = std::str::from_utf8(text).unwrap_or("").trim_end();
     write!(errors, "ofw: {path}: ")?;
@@ -75,22 +94,23 @@ fn say_last<E: Write>(before: &ScriptMachine, ended: Ended<'_>, errors: &mut E) 
     say_returns(path, before, errors)
 }
 
-/// Says how a run ended: at its limit, at a question without an answer, at the end of its image, or by a throw.
-fn say_how<E: Write>(before: &ScriptMachine, ended: Ended<'_>, errors: &mut E) -> io::Result<()> {
+/// Says how a run ended whose machine tells it: at its limit, at a question without an answer, or at the end of what it
+/// read.
+fn say_how<E: Write>(ended: Ended<'_>, errors: &mut E) -> io::Result<()> {
     let Some(cut) = cut_by(ended.end) else {
-        return say_last(before, ended, errors);
+        return say_done(ended, errors);
     };
     let path = ended.run.image;
     let steps = ended.machine.steps();
     write!(errors, "ofw: {path}: {cut} after {steps} steps; next: ")?;
-    say_spot(before, ended.image, errors)?;
+    say_spot(ended.machine, ended.image, errors)?;
     writeln!(errors)?;
-    say_returns(path, before, errors)
+    say_returns(path, ended.machine, errors)
 }
 
-/// Says how a run ended, and what is on its data stack, where the machine stood so before.
+/// Says how a run ended by its last step, and what is on its data stack, where the machine stood so before.
 fn say_all<E: Write>(before: &ScriptMachine, ended: Ended<'_>, errors: &mut E) {
-    if say_how(before, ended, errors).is_ok() {
+    if say_last(before, ended, errors).is_ok() {
         let _ = say_stack(ended.run.image, ended.machine, errors);
     }
 }
@@ -173,7 +193,7 @@ fn explain_on_board<E: Write>(
 }
 
 /// Says how the run of an image ended that left this machine, where it stood then or was thrown out of, and what is on
-/// its data stack. To find that, the image is run again, up to its last step.
+/// its data stack. Where a throw ended it, the image is run again, up to its last step, to find where that was.
 ///
 /// An error is for memory alone. What can't be written is left out.
 pub(crate) fn say_end<E: Write>(
@@ -192,6 +212,12 @@ pub(crate) fn say_end<E: Write>(
         machine,
         end,
     };
+    if ended.tells() {
+        if say_how(ended, errors).is_ok() {
+            let _ = say_stack(run.image, machine, errors);
+        }
+        return Ok(());
+    }
     match run.outside.answerer {
         Answerer::Answers(answers) => explain_answered(alloc, answers, ended, errors),
         Answerer::Board(board) => explain_on_board(alloc, board, ended, errors),

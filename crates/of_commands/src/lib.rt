@@ -11,9 +11,11 @@ mod listings;
 mod places;
 mod prompts;
 mod state;
+mod strict;
 
 pub use clients::{ClientRun, client};
 pub use consoles::{ConsoleRun, console};
 pub use debugs::{DebugRun, debug};
 pub use engine::{Run, answer};
 pub use prompts::{PromptRun, follow, prompt};
+pub use strict::ends_by_throw;

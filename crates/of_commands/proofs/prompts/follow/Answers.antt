@@ -1,4 +1,4 @@
-use Rattle.std.proofs.Common.{rules, ◌≡◌, ◌≢◌, ◌∙◌, ◌<◌, codes, length, sym}
+use Rattle.std.proofs.Common.{rules, arith, ◌≡◌, ◌≢◌, ◌∙◌, ◌<◌, ◌+◌, codes, length, sym}
 use Rattle.std.proofs.lemmas.Result.{err_from_is_err_and}
 use Rattle.of_commands.proofs.Prompted.{ends, goes_on, quits, some_line}
 use Rattle.of_commands.proofs.Unled.{endless, unawaited, undone, unended}
@@ -10,18 +10,19 @@ loop-preserved g c =
     some_line (length c.await_command.new.line.items)
     (sym c.if-not-branch.false ∙ c.in_ok-await_command.ensures.some) in
     let other : c.without_end-said.result.now ≢ codes "quit" = λ quit. search rules in
-    goes_on (g.L.Read.remaining c.args.lines.now) (g.L.Read.remaining c.loop.lines)
+    goes_on c.loop.counter (c.loop.counter + 1) (g.L.Read.remaining c.args.lines.now) (g.L.Read.remaining c.loop.lines)
     (g.L.Read.remaining c.await_command.new.lines) (g.W.Write.contents c.args.out.now) (g.W.Write.contents c.loop.out)
     (g.W.Write.contents c.await_command.new.out) (g.W.Write.contents c.obey.new.out) c.await_command.new.line.items
     c.deref.result.now c.without_end-said.result.now c.args.debugger.now c.loop.debugger c.obey.new.debugger
-    c.loop.invariant some c.in_ok-await_command.ensures.read c.in_ok-await_command.ensures.rest
+    (omega arith) c.loop.invariant some c.in_ok-await_command.ensures.read c.in_ok-await_command.ensures.rest
     c.in_ok-await_command.ensures.prompted c.deref.ensures.value c.without_end-said.ensures other
     c.in_ok-obey.ensures.ok
 
 pub returns-then-not-branch-clause-ok : goal.returns-then-not-branch-clause-ok
 returns-then-not-branch-clause-ok g c =
     let none : length c.await_command.new.line.items ≡ 0 = search rules in
-    ends (g.L.Read.remaining c.args.lines.now) (g.L.Read.remaining c.loop.lines) (g.W.Write.contents c.args.out.now)
+    ends c.loop.counter (g.L.Read.remaining c.args.lines.now) (g.L.Read.remaining c.loop.lines)
+    (g.W.Write.contents c.args.out.now)
     (g.W.Write.contents c.loop.out) (g.W.Write.contents c.await_command.new.out)
     (g.W.Write.contents c.write_whole.new.out) c.await_command.new.line.items c.args.debugger.now c.loop.debugger
     c.loop.invariant none c.in_ok-await_command.ensures.read c.in_ok-await_command.ensures.prompted
@@ -30,7 +31,8 @@ returns-then-not-branch-clause-ok g c =
 pub returns-then-eq-clause-ok : goal.returns-then-eq-clause-ok
 returns-then-eq-clause-ok g c =
     let quit : c.without_end-said.result.now ≡ codes "quit" = search rules in
-    quits (g.L.Read.remaining c.args.lines.now) (g.L.Read.remaining c.loop.lines) (g.W.Write.contents c.args.out.now)
+    quits c.loop.counter (g.L.Read.remaining c.args.lines.now) (g.L.Read.remaining c.loop.lines)
+    (g.W.Write.contents c.args.out.now)
     (g.W.Write.contents c.loop.out) (g.W.Write.contents c.await_command.new.out) c.await_command.new.line.items
     c.deref.result.now c.without_end-said.result.now c.args.debugger.now c.loop.debugger c.loop.invariant
     c.in_ok-await_command.ensures.read c.in_ok-await_command.ensures.prompted c.deref.ensures.value
@@ -42,7 +44,7 @@ returns-in_err-await_command-clause-err g c =
     let p = err_from_is_err_and c.from_residual.result c.from_residual.ensures.1 in
     let same : error ≡ p.0 = search rules in
     rw (p.1, sym same)
-    (unawaited (g.L.Read.remaining c.args.lines.now) (g.L.Read.remaining c.loop.lines)
+    (unawaited c.loop.counter (g.L.Read.remaining c.args.lines.now) (g.L.Read.remaining c.loop.lines)
     (g.W.Write.contents c.args.out.now) (g.W.Write.contents c.loop.out) (g.W.Write.contents c.await_command.new.out)
     error c.args.debugger.now c.loop.debugger c.loop.invariant c.in_err-await_command.ensures.err)
 
@@ -54,7 +56,7 @@ returns-in_err-write_whole-clause-err g c =
     c.from_residual-in_err-write_whole.ensures.1 in
     let same : error ≡ p.0 = search rules in
     rw (p.1, sym same)
-    (unended (g.L.Read.remaining c.args.lines.now) (g.L.Read.remaining c.loop.lines)
+    (unended c.loop.counter (g.L.Read.remaining c.args.lines.now) (g.L.Read.remaining c.loop.lines)
     (g.W.Write.contents c.args.out.now) (g.W.Write.contents c.loop.out) (g.W.Write.contents c.await_command.new.out)
     (g.W.Write.contents c.write_whole.new.out) c.await_command.new.line.items error c.args.debugger.now
     c.loop.debugger c.loop.invariant none c.in_ok-await_command.ensures.read c.in_ok-await_command.ensures.prompted
@@ -70,7 +72,7 @@ returns-in_err-obey-clause-err g c =
     let p = err_from_is_err_and c.from_residual-in_err-obey.result c.from_residual-in_err-obey.ensures.1 in
     let same : error ≡ p.0 = search rules in
     rw (p.1, sym same)
-    (undone (g.L.Read.remaining c.args.lines.now) (g.L.Read.remaining c.loop.lines)
+    (undone c.loop.counter (g.L.Read.remaining c.args.lines.now) (g.L.Read.remaining c.loop.lines)
     (g.W.Write.contents c.args.out.now) (g.W.Write.contents c.loop.out) (g.W.Write.contents c.await_command.new.out)
     (g.W.Write.contents c.obey.new.out) c.await_command.new.line.items c.deref.result.now
     c.without_end-said.result.now error c.args.debugger.now c.loop.debugger c.obey.new.debugger c.loop.invariant some
@@ -79,6 +81,6 @@ returns-in_err-obey-clause-err g c =
 
 pub returns-clause-err : goal.returns-clause-err
 returns-clause-err g c =
-    endless (g.L.Read.remaining c.args.lines.now) (g.L.Read.remaining c.loop.lines)
+    endless c.loop.counter (g.L.Read.remaining c.args.lines.now) (g.L.Read.remaining c.loop.lines)
     (g.W.Write.contents c.args.out.now) (g.W.Write.contents c.loop.out) c.args.debugger.now c.loop.debugger
-    c.loop.invariant
+    (omega (arith, c.loop-test.false)) c.loop.invariant
