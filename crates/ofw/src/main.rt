@@ -2,15 +2,19 @@
 #![tactic(auto)]
 
 use clap::Error;
-use of_arguments::{Guide, Listings, Outside as Asked, Request, Status, parse, status_of};
+use of_arguments::{
+    Guide, Listings, Outside as Asked, Product, Request, Status, limit_of, parse, status_of,
+};
 use of_asking::Answer;
 use of_calls::ScriptCommand;
 use of_commands::{ClientRun, ConsoleRun, DebugRun, PromptRun, Run};
 use of_devices::{Board, standard_board};
-use of_files::{Fault, Messages};
+use of_files::{Fault, Messages, SourceList};
 use of_runs::{Answerer, Outside};
+use of_trace::{TraceFault, trace_answered, trace_on_board};
 use std::fs::{self, File};
 use std::io::{BufReader, Read, Stderr};
+use std::os::unix::fs::MetadataExt;
 use std::process::ExitCode;
 use std::{env, io};
 
@@ -62,9 +66,17 @@ fn replace(rt: &HostRuntime, path: &str, image: &[u8]) -> Status {
     }
 }
 
+/// Whether two paths lead to one file, where the system can tell that.
+fn are_same(rt: &HostRuntime, one: &str, other: &str) -> bool {
+    match (fs::metadata(rt, one), fs::metadata(rt, other)) {
+        (Ok(one), Ok(other)) => one.dev() == other.dev() && one.ino() == other.ino(),
+        _ => one == other,
+    }
+}
+
 /// Writes the image of a source to the file at a path, which is made anew, or to the standard output.
 fn keep<R: Read>(rt: &HostRuntime, source: &str, file: &mut R, output: &str) -> Status {
-    if output == source && output != STANDARD {
+    if source != STANDARD && output != STANDARD && are_same(rt, source, output) {
         return report(rt, output, Fault::OutputIsSource);
     }
     let image = match of_files::image(rt.alloc(), source, file, &mut messages(rt)) {
@@ -187,6 +199,34 @@ fn client(rt: &HostRuntime, asked: &ClientRun) -> Status {
         &mut out,
         &mut errors,
     )
+}
+
+/// Says that a run which is done has ended by a throw, if it has, and gives the status that is then.
+fn judge(rt: &HostRuntime, path: &str, image: &[u8], outside: Outside, limit: u64) -> Status {
+    match of_commands::ends_by_throw(rt.alloc(), image, outside, limit) {
+        Ok(false) => Status::Done,
+        Ok(true) => report(rt, path, Fault::Uncaught),
+        Err(fault) => report(rt, path, fault),
+    }
+}
+
+/// Runs an image, and answers the calls of a file; where that is strict, a throw at the end of the run is a fault.
+fn call_strictly<'a>(
+    rt: &HostRuntime,
+    image: &'a str,
+    calls: &'a str,
+    handed: &'a Handed,
+    limit: u64,
+    explain: bool,
+) -> Status {
+    let status = call(rt, image, calls, handed, limit, explain);
+    if status != Status::Done {
+        return status;
+    }
+    match read_rom(rt, image) {
+        Ok(bytes) => judge(rt, image, &bytes, lend(handed), limit),
+        Err(status) => status,
+    }
 }
 
 /// Runs an image, and answers the calls of a file.
@@ -337,6 +377,12 @@ fn prompt(rt: &HostRuntime, path: &str, limit: u64, debugged: &Debugged) -> Stat
     of_commands::prompt(rt.alloc(), run, &mut lines, &mut out, &mut errors)
 }
 
+/// Lists what is asked for of the source of a file.
+fn list<R: Read>(rt: &HostRuntime, path: &str, list: SourceList, file: &mut R) -> Status {
+    let (mut out, mut errors) = (rt.stdout(), messages(rt));
+    of_files::list(rt.alloc(), path, list, file, &mut out, &mut errors)
+}
+
 /// Does with a file what was asked for.
 fn perform_on<R: Read>(
     rt: &HostRuntime,
@@ -344,14 +390,15 @@ fn perform_on<R: Read>(
     outside: Outside,
     file: &mut R,
 ) -> Status {
-    if let Request::Tok {
-        source,
-        output: Some(output),
-    } = request
-    {
-        return keep(rt, source, file, output);
-    }
     let (mut out, mut errors) = (rt.stdout(), messages(rt));
+    if let Request::Tok { source, product } = request {
+        match product {
+            Product::File(output) => return keep(rt, source, file, output),
+            Product::Symbols => return list(rt, source, SourceList::Symbols, file),
+            Product::Listing => return list(rt, source, SourceList::Tokens, file),
+            Product::Digits => {}
+        }
+    }
     of_commands::answer(rt.alloc(), request, outside, file, &mut out, &mut errors)
 }
 
@@ -394,6 +441,128 @@ fn perform_in(
     }
 }
 
+/// The bytes of the file at a path, or of the standard input, or the FCode program in the ROM that it is.
+fn read_bytes(rt: &HostRuntime, path: &str, pci: bool) -> Result<Vec<u8>, Status> {
+    if pci {
+        return read_program(rt, path);
+    }
+    if path == STANDARD {
+        return match of_files::read_whole(rt.alloc(), &mut rt.stdin()) {
+            Ok(bytes) => Ok(bytes),
+            Err(fault) => Err(report(rt, path, fault)),
+        };
+    }
+    match File::open(rt, path) {
+        Ok(mut file) => match of_files::read_whole(rt.alloc(), &mut file) {
+            Ok(bytes) => Ok(bytes),
+            Err(fault) => Err(report(rt, path, fault)),
+        },
+        Err(error) => Err(unopened(rt, path, &error)),
+    }
+}
+
+/// What is wanted of a run beside what it prints.
+#[derive(Clone, Copy)]
+struct Watched<'a> {
+    /// The path of its image.
+    path: &'a str,
+    /// Whether that is a ROM, of which the FCode program is run.
+    pci: bool,
+    /// How many steps it makes at most.
+    limit: u64,
+    /// The path of its trace, if one is wanted.
+    trace: Option<&'a str>,
+    /// Whether a throw at its end is a fault.
+    strict: bool,
+}
+
+/// Writes a line for each step of a run to the file at a path, which was opened, and gives the status: that of the run,
+/// or of what is wrong with the trace.
+fn trace(
+    rt: &HostRuntime,
+    path: &str,
+    image: &[u8],
+    outside: Outside,
+    limit: u64,
+    file: &mut File,
+) -> Result<(), Status> {
+    let (alloc, lines) = (rt.alloc(), outside.lines);
+    let traced = match outside.answerer {
+        Answerer::Answers(answers) => trace_answered(alloc, image, lines, answers, limit, file),
+        Answerer::Board(board) => trace_on_board(alloc, image, lines, board, limit, file),
+    };
+    match traced {
+        Ok(_) | Err(TraceFault::Refused(_)) => Ok(()),
+        Err(TraceFault::Unwritten(code)) => Err(report(rt, path, Fault::Unkept(code))),
+        Err(TraceFault::NoMemory) => Err(report(rt, path, Fault::NoMemory)),
+    }
+}
+
+/// The file of a trace, made anew, with its path, if one is wanted.
+fn open_trace<'a>(
+    rt: &HostRuntime,
+    path: Option<&'a str>,
+) -> Result<Option<(&'a str, File)>, Status> {
+    let Some(path) = path else {
+        return Ok(None);
+    };
+    match File::create(rt, path) {
+        Ok(file) => Ok(Some((path, file))),
+        Err(error) => Err(unopened(rt, path, &error)),
+    }
+}
+
+/// Does what is wanted of a run beside what it prints, once that has ended with a status.
+fn watch(
+    rt: &HostRuntime,
+    watched: Watched,
+    outside: Outside,
+    mut bytes: &[u8],
+    file: Option<(&str, File)>,
+    status: Status,
+) -> Status {
+    let image = match of_files::read_image(rt.alloc(), &mut bytes) {
+        Ok(image) => image,
+        Err(_) => return status,
+    };
+    if let Some((path, mut file)) = file {
+        if let Err(status) = trace(rt, path, &image, outside, watched.limit, &mut file) {
+            return status;
+        }
+    }
+    if watched.strict && status == Status::Done {
+        return judge(rt, watched.path, &image, outside, watched.limit);
+    }
+    status
+}
+
+/// Runs an image, of which more is wanted than what it prints.
+fn run_watched(rt: &HostRuntime, watched: Watched, request: Request, outside: Outside) -> Status {
+    let bytes = match read_bytes(rt, watched.path, watched.pci) {
+        Ok(bytes) => bytes,
+        Err(status) => return status,
+    };
+    let file = match open_trace(rt, watched.trace) {
+        Ok(file) => file,
+        Err(status) => return status,
+    };
+    let status = perform_on(rt, request, outside, &mut bytes.as_slice());
+    match status {
+        Status::Done | Status::LimitReached | Status::AnswersOut => {
+            watch(rt, watched, outside, &bytes, file, status)
+        }
+        Status::Fault | Status::Usage | Status::NoMemory => status,
+    }
+}
+
+/// Runs an image.
+fn run(rt: &HostRuntime, watched: Watched, request: Request, outside: Outside) -> Status {
+    if watched.trace.is_none() && !watched.strict {
+        return perform_in(rt, watched.path, watched.pci, request, outside);
+    }
+    run_watched(rt, watched, request, outside)
+}
+
 /// The same, where nothing is run.
 fn translate(rt: &HostRuntime, path: &str, pci: bool, request: Request) -> Status {
     let nothing = Outside {
@@ -403,19 +572,38 @@ fn translate(rt: &HostRuntime, path: &str, pci: bool, request: Request) -> Statu
     perform_in(rt, path, pci, request, nothing)
 }
 
+/// Does what was asked for with a run, where what is handed in to it can be had.
+fn run_request(rt: &HostRuntime, request: Request) -> Status {
+    let Request::Run {
+        image,
+        lines,
+        outside,
+        limit,
+        pci,
+        trace,
+        strict,
+        ..
+    } = request
+    else {
+        return Status::Usage;
+    };
+    let watched = Watched {
+        path: image,
+        pci,
+        limit,
+        trace,
+        strict,
+    };
+    match read_handed(rt, lines, outside) {
+        Ok(handed) => run(rt, watched, request, lend(&handed)),
+        Err(status) => status,
+    }
+}
+
 /// Does what was asked for, where what is handed in to a run can be had.
 fn answer(rt: &HostRuntime, request: Request) -> Status {
     match request {
-        Request::Run {
-            image,
-            lines,
-            outside,
-            pci,
-            ..
-        } => match read_handed(rt, lines, outside) {
-            Ok(handed) => perform_in(rt, image, pci, request, lend(&handed)),
-            Err(status) => status,
-        },
+        Request::Run { .. } => run_request(rt, request),
         Request::Client {
             image,
             calls,
@@ -423,7 +611,9 @@ fn answer(rt: &HostRuntime, request: Request) -> Status {
             outside,
             limit,
             explain,
+            strict,
         } => match read_handed(rt, lines, outside) {
+            Ok(handed) if strict => call_strictly(rt, image, calls, &handed, limit, explain),
             Ok(handed) => call(rt, image, calls, &handed, limit, explain),
             Err(status) => status,
         },
@@ -484,10 +674,37 @@ fn answer_nothing(rt: &HostRuntime, error: &Error) -> Status {
     }
 }
 
-/// The fault of words that ask for two things of which one alone can be had, or of which one must be: a listing asks
-/// for others than a run or a debugger.
+/// Whether a word is a limit that isn't written as one, behind `--limit` or in one word with it.
+fn is_bad_limit(word: &str, before: &str) -> bool {
+    if before == "--limit" {
+        return limit_of(word).is_none();
+    }
+    match word.strip_prefix("--limit=") {
+        Some(text) => limit_of(text).is_none(),
+        None => false,
+    }
+}
+
+/// Whether a limit among the words isn't written as one.
+fn has_bad_limit(words: &[String]) -> bool {
+    let mut before = "";
+    for word in words {
+        if is_bad_limit(word, before) {
+            return true;
+        }
+        before = word;
+    }
+    false
+}
+
+/// The fault of words that ask for two things of which one alone can be had, or of which one must be, or for a limit
+/// that is none.
 fn excluded(words: &[String]) -> Fault {
+    if has_bad_limit(words) {
+        return Fault::BadLimit;
+    }
     match words.get(1) {
+        Some(name) if name.as_str() == "tok" => Fault::TwoProducts,
         Some(name) if name.as_str() == "detok" => Fault::TwoListings,
         Some(name) if name.as_str() == "debug" => Fault::NoGuide,
         _ => Fault::TwoOutsides,

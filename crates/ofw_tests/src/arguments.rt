@@ -1,7 +1,7 @@
 use crate::shared::{requested, words_of};
 use crate::tables::{Rows, check, halves};
 use of_argument_laws::lines_ask;
-use of_arguments::{Guide, Listing, Listings, Outside, Request};
+use of_arguments::{Guide, Listing, Listings, Outside, Product, Request};
 use std::alloc::{AllocError, Global};
 use std::test::Fail;
 
@@ -13,6 +13,28 @@ ofw run a.hex:a.hex 1000000
 ofw run a.hex --limit 0:a.hex 0
 ofw run a.hex --limit 1000000000:a.hex 1000000000
 ofw run a.hex --limit 1000000001:
+ofw run a.hex --limit 10k:a.hex 10000
+ofw run a.hex --limit=2M:a.hex 2000000
+ofw run a.hex --limit 1000000k:a.hex 1000000000
+ofw run a.hex --limit 1000001k:
+ofw run a.hex --limit 1000M:a.hex 1000000000
+ofw run a.hex --limit 1001M:
+ofw run a.hex --limit 2m:
+ofw run a.hex --limit 2K:
+ofw run a.hex --limit k:
+ofw run a.hex --limit 10kk:
+ofw run a.hex --limit 18446744073709551616:
+ofw console --limit 3k:console no image 3000
+ofw debug a.hex --script a.script --limit 1M:debug a.hex a.script 1000000
+ofw run a.hex --trace a.json:a.hex 1000000 trace a.json
+ofw run --trace a.json --strict a.hex --limit 5 --pci:a.hex 5 pci trace a.json strict
+ofw run a.hex --trace:
+ofw run a.hex --trace a.json --trace b.json:
+ofw run a.hex --strict:a.hex 1000000 strict
+ofw client a.hex --calls a.calls --strict --limit 1k:a.hex a.calls 1000 strict
+ofw client a.hex --calls a.calls --trace a.json:
+ofw debug a.hex --interactive --strict:
+ofw tok a.fs --strict:
 ofw run a.hex --steps 5:
 ofw detok a.hex:a.hex
 ofw detok a.hex --names:a.hex names
@@ -95,6 +117,12 @@ ofw tok a.fs --limit 5:
 ofw tok a.fs --output a.rom:a.fs a.rom
 ofw tok a.fs -o a.rom:a.fs a.rom
 ofw tok - --output -:- -
+ofw tok a.fs --symbols:a.fs symbols
+ofw tok a.fs --symbols --output a.rom:
+ofw tok a.fs --listing:a.fs listing
+ofw tok a.fs --listing --symbols:
+ofw tok a.fs --listing --output a.rom:
+ofw detok a.hex --symbols:
 ofw tok --output a.rom:
 ofw detok a.hex --limit 5:
 ofw walk a.hex:
@@ -221,12 +249,14 @@ fn push_listing(text: &mut String, listing: Listing) -> Result<(), AllocError> {
     }
 }
 
-/// Appends what the image of a source asks for.
-fn push_tok(text: &mut String, source: &str, output: Option<&str>) -> Result<(), AllocError> {
+/// Appends what is made of a source.
+fn push_tok(text: &mut String, source: &str, product: Product) -> Result<(), AllocError> {
     text.push_str(source)?;
-    match output {
-        Some(output) => write!(text, " {output}"),
-        None => Ok(()),
+    match product {
+        Product::Digits => Ok(()),
+        Product::File(output) => write!(text, " {output}"),
+        Product::Symbols => push_flag(text, true, "symbols"),
+        Product::Listing => push_flag(text, true, "listing"),
     }
 }
 
@@ -261,11 +291,15 @@ fn push_running(text: &mut String, request: Request) -> Result<(), AllocError> {
             listings,
             explain,
             pci,
+            trace,
+            strict,
         } => {
             push_run(text, image, outside, limit, explain)?;
             push_listings(text, listings)?;
             push_said(text, "lines", lines)?;
-            push_flag(text, pci, "pci")
+            push_flag(text, pci, "pci")?;
+            push_said(text, "trace", trace)?;
+            push_flag(text, strict, "strict")
         }
         Request::Client {
             image,
@@ -274,10 +308,12 @@ fn push_running(text: &mut String, request: Request) -> Result<(), AllocError> {
             outside,
             limit,
             explain,
+            strict,
         } => {
             write!(text, "{image} ")?;
             push_run(text, calls, outside, limit, explain)?;
-            push_said(text, "lines", lines)
+            push_said(text, "lines", lines)?;
+            push_flag(text, strict, "strict")
         }
         _ => Ok(()),
     }
@@ -299,7 +335,7 @@ fn push_request(text: &mut String, request: Request) -> Result<(), AllocError> {
             answers,
             limit,
         } => push_debug(text, (image, guide_text(guide)), lines, answers, limit),
-        Request::Tok { source, output } => push_tok(text, source, output),
+        Request::Tok { source, product } => push_tok(text, source, product),
         Request::Detok {
             image,
             listing,

@@ -30,6 +30,8 @@ fn code_with(alloc: Global, outside: Outside, explain: bool, outputs: &mut Outpu
         listings: no_listings(),
         explain,
         pci: false,
+        trace: None,
+        strict: false,
     };
     let Outputs { out, errors } = outputs;
     answered(alloc, request, outside, &mut image, out, errors)

@@ -28,6 +28,8 @@ mod prompts;
 #[cfg(test)]
 mod shared;
 #[cfg(test)]
+mod strict;
+#[cfg(test)]
 mod tables;
 #[cfg(test)]
 mod trees;

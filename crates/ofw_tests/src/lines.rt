@@ -31,6 +31,8 @@ fn code_with(alloc: Global, lines: &[Vec<u8>], outputs: &mut Outputs) -> u8 {
         listings: no_listings(),
         explain: true,
         pci: false,
+        trace: None,
+        strict: false,
     };
     let outside = Outside {
         lines,

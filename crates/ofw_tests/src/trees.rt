@@ -40,6 +40,8 @@ fn code_of(alloc: Global, image: &str, outputs: &mut Outputs) -> u8 {
         },
         explain: false,
         pci: false,
+        trace: None,
+        strict: false,
     };
     let outside = without_lines(Answerer::Answers(&[]));
     let Outputs { out, errors } = outputs;
