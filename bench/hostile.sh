@@ -17,6 +17,7 @@ commands=(
     "serial.hex run serial.hex --board serial.board"
     "card.hex detok card.hex --names --indent"
     "card.fs tok card.fs"
+    "card.fs tok card.fs --listing"
     "branch-out-of-image.hex check branch-out-of-image.hex"
     "card.pci pci card.pci"
     "card.pci run card.pci --pci"

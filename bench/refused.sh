@@ -6,6 +6,7 @@
 # usage: bench/refused.sh [PROGRAM]
 set -euo pipefail
 source "$(dirname "$(readlink -f "${BASH_SOURCE[0]}")")/examples.sh"
+source "$top/bench/refusing.sh"
 wrong=0
 all=0
 all_refused=0
@@ -18,6 +19,8 @@ commands=(
     "run serial.hex --board serial.board"
     "detok card.hex --names --indent"
     "tok card.fs"
+    "tok card.fs --symbols"
+    "tok card.fs --listing"
     "check branch-out-of-image.hex"
     "pci card.pci"
     "run card.pci --pci"
@@ -27,18 +30,11 @@ commands=(
 )
 printf '%s\n' ': t begin dup while 1- repeat ;' 'see t' '3 t .' show-devs words nonsense >"$folder/lines"
 
-# Put before the C library's own functions, these count the calls that ask for memory, in the file COUNTED, and refuse
-# the one whose number REFUSED says.
-cat >"$folder/refuse.c" <<'END'
-#include <errno.h>
+# The calls that ask for memory are counted in the file COUNTED, and the one is refused whose number REFUSED says.
+make_refusing "$folder" <<'END'
 #include <fcntl.h>
-#include <stdlib.h>
 #include <sys/mman.h>
 #include <unistd.h>
-
-void *__libc_malloc(size_t size);
-void *__libc_calloc(size_t count, size_t size);
-void *__libc_realloc(void *block, size_t size);
 
 static long *calls;
 static long refused;
@@ -61,28 +57,9 @@ __attribute__((constructor)) static void begin(void)
 
 static int is_refused(void)
 {
-    if (calls == NULL || ++*calls != refused)
-        return 0;
-    errno = ENOMEM;
-    return 1;
-}
-
-void *malloc(size_t size)
-{
-    return is_refused() ? NULL : __libc_malloc(size);
-}
-
-void *calloc(size_t count, size_t size)
-{
-    return is_refused() ? NULL : __libc_calloc(count, size);
-}
-
-void *realloc(void *block, size_t size)
-{
-    return is_refused() ? NULL : __libc_realloc(block, size);
+    return calls != NULL && ++*calls == refused;
 }
 END
-cc -O1 -Wall -shared -fPIC -o "$folder/refuse.so" "$folder/refuse.c"
 
 # NUMBER OUT ERRORS WORD..: runs a command with that allocation refused, or none where it is 0
 refuse() {

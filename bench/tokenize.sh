@@ -1,7 +1,7 @@
 #!/usr/bin/env bash
 # Prints how long `ofw tok` takes for sources of 500, 1,000 and 2,000 definitions, each of which calls the one
-# before it, and how many instructions each takes: both grow in proportion. A source without definitions is
-# measured beside them, for the start of the process.
+# before it, how many instructions each takes, and how many with `--listing`: all grow in proportion. A source
+# without definitions is measured beside them, for the start of the process.
 # usage: bench/tokenize.sh
 set -euo pipefail
 source "$(dirname "${BASH_SOURCE[0]}")/program.sh"
@@ -23,5 +23,6 @@ cost() { echo $(($(fastest 5 "$program" tok "$1") / 1000)); }
 for count in 1 500 1000 2000; do
     file=$folder/$count.fs
     source_of "$count" >"$file"
-    echo "$(cost "$file") microseconds, $(instructions tok "$file") instructions for $count definitions"
+    echo "$(cost "$file") microseconds, $(instructions tok "$file") instructions for $count definitions," \
+        "$(instructions tok "$file" --listing) for their listing"
 done

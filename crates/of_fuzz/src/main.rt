@@ -2,7 +2,8 @@
 //! and what they read back as, images of sources and the same text on the console, a debugger and undisturbed runs, and
 //! runs that are divided and runs in whole. Without arguments some rounds are made, always the same; `of_fuzz SEED
 //! ROUNDS` makes others. The status is 1 where something differs, and each difference is said with the seed of its
-//! round, with which `of_fuzz SEED 1` makes it again, and `of_fuzz SEED` prints its inputs.
+//! round, with which `of_fuzz SEED 1` makes it again, and `of_fuzz SEED` prints its inputs. `of_fuzz quiet` makes calls
+//! that take no memory between two lines of its output, for a script that refuses all memory meanwhile.
 #![tactic(auto)]
 
 mod debugged;
@@ -12,6 +13,7 @@ mod halves;
 mod lent;
 mod lists;
 mod program;
+mod quiet;
 mod round;
 mod sources;
 mod stores;
@@ -36,6 +38,8 @@ enum Request {
     Rounds(u64, u64),
     /// The inputs of the round of a seed.
     Inputs(u64),
+    /// The calls that take no memory.
+    Quiet,
 }
 
 /// What the arguments ask for, if it is anything.
@@ -43,6 +47,7 @@ fn asked(rt: &HostRuntime) -> Option<Request> {
     let words: Vec<String> = env::args(rt).ok()?.collect(rt.alloc()).ok()?;
     match words.as_slice() {
         [_] => Some(Request::Rounds(SEED, ROUNDS)),
+        [_, word] if word.as_str() == "quiet" => Some(Request::Quiet),
         [_, seed] => Some(Request::Inputs(seed.parse::<u64>().ok()?)),
         [_, seed, rounds] => {
             Some(Request::Rounds(seed.parse::<u64>().ok()?, rounds.parse::<u64>().ok()?))
@@ -96,6 +101,10 @@ fn run(rt: &HostRuntime) -> Option<bool> {
         Request::Rounds(seed, rounds) => make_all(rt, seed, rounds),
         Request::Inputs(seed) => {
             show(rt, seed)?;
+            Some(false)
+        }
+        Request::Quiet => {
+            quiet::make(rt)?;
             Some(false)
         }
     }

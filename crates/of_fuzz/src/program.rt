@@ -14,7 +14,7 @@ pub struct Program {
 }
 
 /// The image of a text, if it is a source.
-fn image_of(alloc: Global, text: &[u8]) -> Result<Option<Vec<u8>>, AllocError> {
+pub fn image_of(alloc: Global, text: &[u8]) -> Result<Option<Vec<u8>>, AllocError> {
     let source = match parse(alloc, text) {
         Ok(source) => source,
         Err(SourceFault::NoMemory) => return Err(AllocError),
