@@ -15,9 +15,9 @@ ghost use Rattle.of_argument_laws.specs.Lines.{LinesAsk};
 /// a run of at most 1,000,000 steps under the script of that file, and with `--interactive` in place of the script for
 /// one under the commands of the standard input; `tok` and a path for an image, with `--output` or `-o` and a path for
 /// one that is written there, with `--symbols` for its symbols, and with `--listing` for the listing of its image;
-/// `detok` and a path for a plain listing, with `--names`, `--indent` or `--partial` for one with that, with `--see` for
-/// one of the definitions in place of the tokens; `check` and a path for a look at an image; `pci` and a path for the
-/// images of a ROM; and `run`, `detok` and `check` with `--pci` for the FCode program of one. None has a fault.
+/// `detok` and a path for a plain listing, with `--names`, `--indent` or `--partial` for one with that, with `--see`
+/// for one of the definitions in place of the tokens; `check` and a path for a look at an image; `pci` and a path for
+/// the images of a ROM; and `run`, `detok` and `check` with `--pci` for the FCode program of one. None has a fault.
 pub fn lines_ask()
     ensures { LinesAsk }
 {}

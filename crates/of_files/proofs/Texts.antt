@@ -59,8 +59,8 @@ image_refused (Some file) text read f s ends same all why =
 -- ---- what is listed of a source
 
 -- nothing was printed of a source with a fault
-pub lists_given_up : (l : SourceList) (text : List ℕ) (old new : Option (List ℕ)) (f : Fault) → Keeps old new → FaultsSource text f
-    → Lists l text old new (Err f)
+pub lists_given_up : (l : SourceList) (text : List ℕ) (old new : Option (List ℕ)) (f : Fault)
+    → Keeps old new → FaultsSource text f → Lists l text old new (Err f)
 lists_given_up l text old new f kept fault = (inl kept, inr (inr (inr fault)))
 
 -- nor of a file that can't be read

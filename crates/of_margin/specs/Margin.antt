@@ -1,6 +1,6 @@
 -- A listing with the line of a source beside each of its lines.
-use Rattle.std.specs.Prelude.{◌≡◌, ℕ, ◌+◌, ◌-◌, Bool, true, List, [], ◌∷◌, ◌++◌, length, map, take, drop, take_while, reverse}
-use Rattle.std.specs.Prelude.{codes, not, nat_eq, nat_le, nat_lt, ◌&&◌, if◌then◌else◌}
+use Rattle.std.specs.Prelude.{◌≡◌, ℕ, ◌+◌, ◌-◌, Bool, true, List, [], ◌∷◌, ◌++◌, length, map, take, drop}
+use Rattle.std.specs.Prelude.{take_while, reverse, codes, not, nat_eq, nat_le, nat_lt, ◌&&◌, if◌then◌else◌}
 use Rattle.std.specs.List.{list_all, repeat}
 use Rattle.std.specs.Fmt.{decimal}
 use Rattle.of_source.specs.Places.{line_at}

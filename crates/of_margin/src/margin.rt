@@ -109,8 +109,9 @@ fn push_said(
 struct Beside<'a> {
     /// The positions that they come from.
     places: &'a [usize],
-    /// A position of the text, and its line.
+    /// A position of the text.
     at: usize,
+    /// The line of that position, the first being 0.
     line: usize,
     /// The line beside the one above.
     above: usize,

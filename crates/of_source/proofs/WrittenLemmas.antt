@@ -164,8 +164,8 @@ ended_at e k = (moved e.blanks k).at + length e.word
 abbrev trailing : Ending → List ℕ
 trailing e = each_written e.comments e.more
 
-pub end_goes : (last at : ℕ) (e : Ending) (k : Known) (n : Nesting) → IsEnded k e → run k.items nothing ≡ Some (shape_of n)
-    → run k.items nothing ≡ Some nothing
+pub end_goes : (last at : ℕ) (e : Ending) (k : Known) (n : Nesting) → IsEnded k e
+    → run k.items nothing ≡ Some (shape_of n) → run k.items nothing ≡ Some nothing
     → next_step last (state_at at (rest_at k.at (end_written e)) k n)
     ≡ Ends (state_at (moved e.blanks k).at (rest_at (ended_at e k) (trailing e)) (moved e.blanks k) n)
 end_goes last at e k n h r c =
