@@ -5,3 +5,4 @@ pub mod LaidOutLemmas
 pub mod StandingLemmas
 pub mod ReplacedLemmas
 pub mod SoundLemmas
+pub mod KindLemmas

@@ -2,3 +2,4 @@ pub mod Spelling
 pub mod Numbers
 pub mod Reading
 pub mod Soundness
+pub mod Kinds

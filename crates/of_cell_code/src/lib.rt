@@ -4,6 +4,7 @@
 mod cell_code;
 mod cells;
 mod items;
+mod kinds;
 mod tags;
 
 pub use cell_code::CellCode;
