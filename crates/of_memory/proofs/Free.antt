@@ -1,8 +1,7 @@
 -- The least address at which a block may be taken.
 use Rattle.std.proofs.Common.{◌≡◌, ℕ, ◌+◌, ◌-◌, ◌*◌, ◌/◌, ◌%◌, ◌<◌, ◌≤◌, zero, suc, nat_le, Bool, true, false, ◌&&◌}
 use Rattle.std.proofs.Common.{◌||◌, List, ◌∷◌, ◌⊎◌, inl, inr, Some, None, add-zero, refl, sym, ap, ◌∙◌, arith}
-use Rattle.std.proofs.lemmas.Grind.{common_steps}
-use Rattle.std.proofs.lemmas.Bool.{false≢true, le-leb, leb-true, lt-leb}
+use Rattle.std.proofs.lemmas.Bool.{false≢true, le-leb, leb-true}
 use Rattle.of_memory.specs.declared.blocks.Block.{Block}
 use Rattle.of_memory.specs.Blocks.{IsFree, IsLeastFree, meets_none, least_free, first_of_eighths}
 

@@ -9,6 +9,7 @@ pub mod Begun
 pub mod Room
 pub mod Readable
 pub mod Faults
+pub mod DataRegion
 pub mod Nothing
 pub mod Sound
 pub mod Bytes

@@ -14,7 +14,7 @@ impl Memory {
     /// The byte at the address.
     ///
     /// Address, if it can't be read.
-    #[inline]
+    #[inline(always)]
     pub fn read8(&self, addr: Cell) -> Result<u8, MemFault>
         ensures value { result ≡ read Width.One self.now addr.0 }
         ensures sound { IsSound self.now }
@@ -44,7 +44,7 @@ impl Memory {
     /// The cell at the address, the high byte first.
     ///
     /// Address, if a byte can't be read; Alignment, if the address is no multiple of 4.
-    #[inline]
+    #[inline(always)]
     pub fn read32(&self, addr: Cell) -> Result<Cell, MemFault>
         ensures value { result ≡ read_cell self.now addr.0 }
         ensures sound { IsSound self.now }
@@ -59,7 +59,7 @@ impl Memory {
     /// Stores a byte at the address.
     ///
     /// Address, if it can't be read; ReadOnly, if programs may only read the region.
-    #[inline]
+    #[inline(always)]
     pub fn write8(&mut self, addr: Cell, value: u8) -> Result<(), MemFault>
         ensures value { Becomes (write Width.One self.old addr.0 value) self.old self.new result }
         ensures memory { TakesNoMemory result }
@@ -89,7 +89,7 @@ impl Memory {
     ///
     /// Address, if a byte can't be read; Alignment, if the address is no multiple of 4; ReadOnly,
     /// if programs may only read the region.
-    #[inline]
+    #[inline(always)]
     pub fn write32(&mut self, addr: Cell, value: Cell) -> Result<(), MemFault>
         ensures value { Becomes (write Width.Four self.old addr.0 value.0) self.old self.new result }
         ensures memory { TakesNoMemory result }

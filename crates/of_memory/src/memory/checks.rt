@@ -1,4 +1,5 @@
-ghost use Rattle.std.specs.Prelude.{◌≡◌, ◌+◌, ◌*◌, ◌-◌, ◌<◌, ◌≤◌, take, drop, Some, None, Ok, Err, IfOk, MatchResult};
+ghost use Rattle.std.specs.Prelude.{◌≡◌, ◌+◌, ◌*◌, ◌-◌, ◌<◌, ◌≤◌, take, drop, Some, None, Ok, Err, IfOk, IfSome};
+ghost use Rattle.std.specs.Prelude.{IsSome, MatchResult};
 ghost use Rattle.of_memory.specs.Regions.{place_of, byte_count};
 ghost use Rattle.of_memory.specs.DataSpace.{IsSound};
 ghost use Rattle.of_memory.specs.Access.{are_readable, read_fault, write_fault, read_bytes, read_spread, every};
@@ -8,7 +9,7 @@ ghost use Rattle.of_memory.specs.Outcomes.{TakesNoMemory};
 use super::Memory;
 use crate::blocks::{block_end, covers};
 use crate::fault::MemFault;
-use crate::regions::{LONGEST, Region, SPAN, may_write, place};
+use crate::regions::{DATA_LIMIT, DATA_START, LONGEST, Region, SPAN, may_write, place};
 use crate::width::Width;
 use of_cells::Cell;
 
@@ -34,38 +35,94 @@ impl Memory {
         }
     }
 
-    /// Where the bytes of a read stand.
-    #[inline]
+    /// Where the bytes of a range stand that lies in the data region from a multiple of the width on: such a one can be
+    /// read and written.
+    #[inline(always)]
+    #[tactic(auto, using(crate::proofs::DataRegion::in_data))]
+    fn in_data(&self, addr: u32, len: u32, width: Width) -> Option<usize>
+        requires { 0 < len }
+        ensures read { IsSome result → read_fault self.now addr len width ≡ None }
+        ensures write { IsSome result → write_fault self.now addr len width ≡ None }
+        ensures place { IfSome result (λ at. at ≡ place_of addr) }
+        ensures within { IfSome result (λ at. at + len ≤ byte_count) }
+    {
+        if addr < DATA_START || len > DATA_LIMIT - DATA_START || addr > DATA_LIMIT - len {
+            return None;
+        }
+        if addr % width.bytes() != 0 {
+            return None;
+        }
+        Some((addr - DATA_START) as usize)
+    }
+
+    /// The fault of a read in whichever region, if it has one.
+    #[inline(never)]
     #[tactic(auto, using(crate::proofs::Faults::read_faults))]
+    fn read_fault(&self, addr: u32, len: u32, width: Width) -> Option<MemFault>
+        requires { 0 < len }
+        ensures value { result ≡ read_fault self.now addr len width }
+        ensures memory { result ≡ Some MemFault.NoMemory → ⊥ }
+    {
+        if !self.is_readable(addr, len) {
+            return Some(MemFault::Address);
+        }
+        if addr % width.bytes() != 0 {
+            return Some(MemFault::Alignment);
+        }
+        None
+    }
+
+    /// The fault of a write in whichever region, if it has one.
+    #[inline(never)]
+    #[tactic(auto, using(crate::proofs::Faults::write_faults))]
+    fn write_fault(&self, addr: u32, len: u32, width: Width) -> Option<MemFault>
+        requires { 0 < len }
+        ensures value { result ≡ write_fault self.now addr len width }
+        ensures memory { result ≡ Some MemFault.NoMemory → ⊥ }
+    {
+        if let Some(fault) = self.read_fault(addr, len, width) {
+            return Some(fault);
+        }
+        if !may_write(addr) {
+            return Some(MemFault::ReadOnly);
+        }
+        None
+    }
+
+    /// Where the bytes of a read stand. Most stand in the data region, where a few comparisons tell it.
+    #[inline(always)]
+    #[tactic(auto, using(crate::proofs::Faults::read_placed))]
     pub(super) fn to_read(&self, addr: u32, len: u32, width: Width) -> Result<usize, MemFault>
         requires { 0 < len }
         ensures value { result ≡ unless (read_fault self.now addr len width) (place_of addr) }
         ensures within { IfOk result (λ at. at + len ≤ byte_count) }
         ensures memory { TakesNoMemory result }
     {
-        if !self.is_readable(addr, len) {
-            return Err(MemFault::Address);
+        if let Some(at) = self.in_data(addr, len, width) {
+            return Ok(at);
         }
-        if addr % width.bytes() != 0 {
-            return Err(MemFault::Alignment);
+        match self.read_fault(addr, len, width) {
+            None => Ok(place(addr)),
+            Some(fault) => Err(fault),
         }
-        Ok(place(addr))
     }
 
     /// Where the bytes of a write stand.
-    #[inline]
-    #[tactic(auto, using(crate::proofs::Faults::write_faults))]
+    #[inline(always)]
+    #[tactic(auto, using(crate::proofs::Faults::write_placed))]
     pub(super) fn to_write(&self, addr: u32, len: u32, width: Width) -> Result<usize, MemFault>
         requires { 0 < len }
         ensures value { result ≡ unless (write_fault self.now addr len width) (place_of addr) }
         ensures within { IfOk result (λ at. at + len ≤ byte_count) }
         ensures memory { TakesNoMemory result }
     {
-        let at = self.to_read(addr, len, width)?;
-        if !may_write(addr) {
-            return Err(MemFault::ReadOnly);
+        if let Some(at) = self.in_data(addr, len, width) {
+            return Ok(at);
         }
-        Ok(at)
+        match self.write_fault(addr, len, width) {
+            None => Ok(place(addr)),
+            Some(fault) => Err(fault),
+        }
     }
 
     /// Where the bytes of a range stand, or any place where it has none.
