@@ -173,7 +173,7 @@ fn go(lands: bool) -> Result<bool, Throw>
 ///
 /// -4 with too few cells, -26 where no loop is on top, -257 where control goes to a target that isn't
 /// there, -5 where the return stack has no room for a loop. A throw changes nothing.
-#[inline]
+#[inline(always)]
 #[tactic(auto, unfolding(crate::specs::Turns::control_entry))]
 pub fn run_control(
     word: ControlWord,

@@ -295,7 +295,7 @@ fn give_back(stack: &mut DataStack, memory: &mut Memory) -> Result<(), Throw>
 /// -4 where a cell is missing, then -9, -23 or -20 where a range can't be read or written, -24
 /// where no block is given back, -8 where the data region is full, -3 where the stack has no room.
 #[tactic(auto, unfolding(crate::specs::Memory::memory_entry))]
-#[inline]
+#[inline(always)]
 pub fn run_memory_word(
     word: MemoryWord,
     stack: &mut DataStack,
