@@ -183,6 +183,7 @@ length-without words (Some n) = length-set words n None
 
 pub changes_are_found : ChangesAreFound
 changes_are_found = record {
+  new_word = λ words name kind. end-push words (Some (made name kind));
   new_name = made_found;
   other_names = others_found;
   hidden_word = hidden_found;

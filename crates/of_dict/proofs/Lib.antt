@@ -1,3 +1,4 @@
+pub mod Headers
 pub mod Indexes
 pub mod LawLemmas
 pub mod Searches

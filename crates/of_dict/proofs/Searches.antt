@@ -1,6 +1,6 @@
 -- Searches from the newest number down, and along the words of one name.
 use Rattle.std.proofs.Common.{◌≡◌, ℕ, zero, suc, ◌+◌, ◌<◌, ◌≤◌, Bool, true, false, cond, List, length, Option, Some}
-use Rattle.std.proofs.Common.{None}
+use Rattle.std.proofs.Common.{None, IfSome}
 use Rattle.std.proofs.Common.{get_or, ◌-◌, inl, inr, IsSome, refl, sym, ◌∙◌, ap, subst, arith, nat_eq}
 use Rattle.std.specs.Char.{to_ascii_lowercase}
 use Rattle.std.specs.Cmp.Lexicographic.{pointwise}
@@ -9,7 +9,8 @@ use Rattle.std.proofs.lemmas.Bool.{cases_lt, false≢true}
 use Rattle.std.proofs.lemmas.Bool.Decides.{Decides-eqb}
 use Rattle.std.proofs.lemmas.Slice.Eq.{slice_eq-Decides}
 use Rattle.of_dict.specs.declared.word.Word.{Word}
-use Rattle.of_dict.specs.Words.{bears, found, has_key, is_hidden_in, is_named, lower, name_in, newest_below, word_at}
+use Rattle.of_dict.specs.Words.{bears, capacity, found, has_key, is_hidden_in, is_named, lower, name_in}
+use Rattle.of_dict.specs.Words.{newest_below, word_at}
 use Rattle.arrayvec.specs.ArrayVec.{ArrayVec}
 use Rattle.of_dict.specs.Index.{IsIndexed, IsNamed, bearer, left_from, visible_from}
 
@@ -29,6 +30,17 @@ left_from-newest_below p (suc n) =
       | false
           ↦ omega (arith, below)
     ]
+
+-- the newest word of a name has a number below the capacity
+pub head_is_less :
+    (words : List (Option Word)) (older : List (Option ℕ)) (newest : ArrayVec ℕ → Option ℕ) (key : ArrayVec ℕ)
+    (head : Option ℕ) → IsIndexed words older newest → head ≡ newest key → IfSome head (λ n. n < capacity)
+head_is_less words older newest key None indexed e = tt
+head_is_less words older newest key (Some n) indexed e =
+    let below = left_from-newest_below (has_key words key.items) (length words) in
+    let less : left_from (Some n) ≤ length words = subst (λ o. left_from o ≤ length words)
+    (sym (e ∙ indexed.heads key)) below in
+    omega (arith, less, indexed.room)
 
 pub same_key : (name key : List ℕ) → pointwise nat_eq (lower name) key ≡ true → lower name ≡ key
 same_key name key e = (slice_eq-Decides Decides-eqb (lower name) key (pointwise nat_eq (lower name) key) refl).0 e

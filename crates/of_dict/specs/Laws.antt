@@ -37,6 +37,10 @@ with_revealed words n = changed (λ w. record w { hidden = false }) words n
 
 -- what is found after a call
 pub record ChangesAreFound : Type 0 where
+  -- a new word has the next number, its name as it was given and its kind, and is neither immediate nor hidden
+  pub new_word : (words : List (Option Word)) (name : Option (List ℕ)) (kind : Kind)
+      → word_at (words ++ Some (made name kind) ∷ []) (length words)
+      ≡ Some (record { name = name; immediate = false; hidden = false; kind = kind })
   -- a new word is found by its name, and no other name is found otherwise
   pub new_name : (words : List (Option Word)) (name other : List ℕ) (kind : Kind)
       → lower name ≡ lower other → found (with_name words name kind) other ≡ Some (length words)

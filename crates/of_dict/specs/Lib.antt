@@ -1,4 +1,5 @@
 pub mod Words
+pub mod Headers
 pub mod Calls
 pub mod Index
 pub mod Laws

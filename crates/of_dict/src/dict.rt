@@ -7,23 +7,25 @@ ghost use Rattle.std.specs.Cmp.Lexicographic.{pointwise};
 ghost use Rattle.arrayvec.specs.ArrayVec.{ArrayVec};
 ghost use Rattle.of_dict.specs.Words.{bears, capacity, found, is_hidden_in, is_immediate_in, kind_in, listed, name_in};
 ghost use Rattle.of_dict.specs.Words.{has_key, lower, newest, newest_below, word_at};
-ghost use Rattle.of_dict.specs.Calls.{Adds, changed, changed_in, removed};
+ghost use Rattle.of_dict.specs.Calls.{Adds, changed, removed};
+ghost use Rattle.of_dict.specs.Headers.{word_in};
 ghost use Rattle.of_dict.specs.Index.{IsNamed, after, visible_from};
 
 use crate::DictFault;
+use crate::header::Header;
 use crate::name::{Key, LONGEST_NAME, Name, key_of};
 use crate::word::{CAPACITY, Change, Kind, OwnWord, Word};
 use std::alloc::Global;
 use std::collections::HashMap;
 use std::marker::Model;
 
-/// The own words in the order of making. A word that was taken away leaves its number used.
+/// The own words in the order of making, each a header in byte memory. A word that was taken away leaves its number
+/// used.
 ///
 /// Only `add` takes memory. A number that no word has, or has any more, changes nothing.
 #[derive(Drop)]
 pub struct Dict {
-    words: Vec<Option<Word>>,
-    older: Vec<Option<u32>>,
+    headers: Vec<Header>,
     newest: HashMap<Key, u32>,
 }
 
@@ -33,33 +35,25 @@ impl Model for Dict {
     ghost use Rattle.std.specs.Cmp.Lexicographic.{pointwise};
     ghost use Rattle.std.specs.HashMap as hash;
     ghost use Rattle.of_dict.specs.declared.word.Word.{Word};
+    ghost use Rattle.of_dict.specs.Headers.{links_of, words_of};
     ghost use Rattle.of_dict.specs.Index.{IsIndexed};
 
     ghost Value = { List (Option Word) };
 
-    ghost view = { λ d. d.words.items };
+    ghost view = { λ d. words_of d.headers.items };
 
-    ghost invariant = { λ d. IsIndexed d.words.items d.older.items
+    ghost invariant = { λ d. IsIndexed (words_of d.headers.items) (links_of d.headers.items)
         (hash.get (λ k q. pointwise nat_eq k.items q.items) d.newest) };
 }
 
-#[inline(always)]
-fn change_in(word: &mut Option<Word>, change: Change)
-    ensures { word.new ≡ changed_in (after change) word.old }
-{
-    if let Some(word) = word {
-        word.change(change);
-    }
-}
-
 /// Gives a name that is found another newest word, or none.
-fn unlink(newest: &mut HashMap<Key, u32>, key: Key, older: Option<u32>)
+fn unlink(newest: &mut HashMap<Key, u32>, key: Key, before: Option<u32>)
     requires { IsSome (hash.get (λ k q. pointwise nat_eq k.items q.items) newest.old key) }
     ensures { (q : ArrayVec ℕ) → hash.get (λ k q. pointwise nat_eq k.items q.items) newest.new q
-        ≡ (if pointwise nat_eq key.items q.items then older
+        ≡ (if pointwise nat_eq key.items q.items then before
         else hash.get (λ k q. pointwise nat_eq k.items q.items) newest.old q) }
 {
-    match older {
+    match before {
         Some(number) => {
             let _ = newest.insert(key, number);
         }
@@ -75,8 +69,7 @@ impl Dict {
         ensures { result ≡ [] }
     {
         Dict {
-            words: Vec::new(alloc),
-            older: Vec::new(alloc),
+            headers: Vec::new(alloc),
             newest: HashMap::new(alloc),
         }
     }
@@ -86,7 +79,7 @@ impl Dict {
         ensures value { result ≡ length self.now }
         ensures fits { result ≤ capacity }
     {
-        self.words.len()
+        self.headers.len()
     }
 
     /// The newest word that still exists.
@@ -94,10 +87,10 @@ impl Dict {
         ensures newest { option_map (λ word. word.0) result ≡ newest self.now }
         ensures fits { IfSome result (λ word. word.0 < capacity) }
     {
-        let mut number = self.words.len();
+        let mut number = self.headers.len();
         while number > 0 {
             number -= 1;
-            if self.words[number].is_some() {
+            if self.headers[number].is_there() {
                 return Some(OwnWord(number as u32));
             }
         }
@@ -123,19 +116,17 @@ impl Dict {
         ensures added { Adds result self.old self.new None kind }
         ensures fits { IfOk result (λ word. word.0 < capacity) }
     {
-        if self.words.len() >= CAPACITY {
+        if self.headers.len() >= CAPACITY {
             return Err(DictFault::Full);
         }
-        let number = self.words.len() as u32;
-        self.words.reserve(1)?;
-        self.older.push(None)?;
+        let number = self.headers.len() as u32;
         let word = Word {
             name: None,
             immediate: false,
             hidden: false,
             kind,
         };
-        self.words.push(Some(word)).unwrap();
+        self.headers.push(Header::of(&word, None))?;
         Ok(OwnWord(number))
     }
 
@@ -149,30 +140,28 @@ impl Dict {
         if name.len() > LONGEST_NAME {
             return Err(DictFault::LongName);
         }
-        if self.words.len() >= CAPACITY {
+        if self.headers.len() >= CAPACITY {
             return Err(DictFault::Full);
         }
-        let number = self.words.len() as u32;
-        self.words.reserve(1)?;
-        self.older.reserve(1)?;
-        let older = self.newest.insert(key_of(name), number)?;
-        self.older.push(older).unwrap();
+        let number = self.headers.len() as u32;
+        self.headers.reserve(1)?;
+        let before = self.newest.insert(key_of(name), number)?;
         let word = Word {
             name: Some(Name::spelt(name)),
             immediate: false,
             hidden: false,
             kind,
         };
-        self.words.push(Some(word)).unwrap();
+        self.headers.push(Header::of(&word, before)).unwrap();
         Ok(OwnWord(number))
     }
 
-    /// The word of a number.
+    /// The header of a number.
     #[inline(always)]
-    fn word(&self, number: u32) -> Option<&Word>
-        ensures { option_copied result ≡ word_at self.now number }
+    fn header(&self, number: u32) -> Option<&Header>
+        ensures { word_in (option_copied result) ≡ word_at self.now number }
     {
-        self.words.get(number as usize)?.as_ref()
+        self.headers.get(number as usize)
     }
 
     /// What a word does, with what it keeps.
@@ -180,15 +169,15 @@ impl Dict {
     pub fn kind_of(&self, word: OwnWord) -> Option<Kind>
         ensures { result ≡ kind_in (word_at self.now word.0) }
     {
-        Some(self.word(word.0)?.kind)
+        self.header(word.0)?.kind()
     }
 
     /// Whether a word is executed while compiling.
     pub fn is_immediate(&self, word: OwnWord) -> bool
         ensures { result ≡ is_immediate_in (word_at self.now word.0) }
     {
-        match self.word(word.0) {
-            Some(word) => word.immediate,
+        match self.header(word.0) {
+            Some(header) => header.is_immediate(),
             None => false,
         }
     }
@@ -196,8 +185,8 @@ impl Dict {
     fn is_hidden(&self, number: u32) -> bool
         ensures { result ≡ is_hidden_in (word_at self.now number) }
     {
-        match self.word(number) {
-            Some(word) => word.hidden,
+        match self.header(number) {
+            Some(header) => header.is_hidden(),
             None => false,
         }
     }
@@ -207,8 +196,7 @@ impl Dict {
         ensures name { option_copied result ≡ name_in (word_at self.now word.0) }
         ensures fits { IfSome result (λ name. length name.now ≤ 31) }
     {
-        let name = self.word(word.0)?.name.as_ref()?;
-        Some(name.as_bytes())
+        self.header(word.0)?.name()
     }
 
     /// The newest word of a name that isn't hidden, whatever the case of ASCII letters (Forth
@@ -242,7 +230,7 @@ impl Dict {
             if !self.is_hidden(number) {
                 return Some(OwnWord(number));
             }
-            at = self.older[number as usize];
+            at = self.headers[number as usize].link();
         }
         None
     }
@@ -269,15 +257,16 @@ impl Dict {
         requires { name_in (word_at self.now word.0) ≡ Some name.now }
         ensures { result ≡ is_some (newest_below (bears self.now name.now) word.0) }
     {
-        self.visible_from(self.older[word.0 as usize]).is_some()
+        self.visible_from(self.headers[word.0 as usize].link())
+            .is_some()
     }
 
     fn change(&mut self, word: OwnWord, change: Change)
         ensures { self.new ≡ changed (after change) self.old word.0 }
     {
         let number = word.0 as usize;
-        if number < self.words.len() {
-            change_in(&mut self.words[number], change);
+        if number < self.headers.len() {
+            self.headers[number].change(change);
         }
     }
 
@@ -325,7 +314,7 @@ impl Dict {
     pub fn take_back(&mut self)
         ensures { self.new ≡ take (length self.old - 1) self.old }
     {
-        let Some(number) = self.words.len().checked_sub(1) else {
+        let Some(number) = self.headers.len().checked_sub(1) else {
             return;
         };
         let latest = OwnWord(number as u32);
@@ -341,8 +330,7 @@ impl Dict {
         requires nameless { name_in (word_at self.old (length self.old - 1)) ≡ None }
         ensures { self.new ≡ take (length self.old - 1) self.old }
     {
-        let _ = self.words.pop();
-        let _ = self.older.pop();
+        let _ = self.headers.pop();
     }
 
     fn take_away(&mut self, word: OwnWord)
@@ -353,10 +341,10 @@ impl Dict {
         match self.name_of(word) {
             Some(name) => {
                 let key = key_of(name);
-                unlink(&mut self.newest, key, self.older[number]);
-                self.words[number] = None;
+                unlink(&mut self.newest, key, self.headers[number].link());
+                self.headers[number].take_away();
             }
-            None => self.words[number] = None,
+            None => self.headers[number].take_away(),
         }
     }
 }

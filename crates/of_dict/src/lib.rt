@@ -3,6 +3,7 @@
 
 mod dict;
 mod fault;
+mod header;
 mod laws;
 mod name;
 mod word;

@@ -1,8 +1,9 @@
-use Rattle.std.proofs.Common.{◌≡◌, ◌∙◌, Option, Some, None, refl, ap, arith, sym, get_or, is_some}
-use Rattle.std.proofs.lemmas.List.{get_or_read}
+use Rattle.std.proofs.Common.{◌≡◌, ◌∙◌, Option, Some, None, length, refl, ap, arith, sym, get_or, is_some}
 use Rattle.std.specs.Option.{option_map}
 use Rattle.of_dict.specs.declared.word.OwnWord.{OwnWord}
 use Rattle.of_dict.specs.Index.{visible_from}
+use Rattle.of_dict.specs.Headers.{links_of}
+use Rattle.of_dict.proofs.Headers.{link_read, words_many}
 use Rattle.of_dict.proofs.Indexes.{name_is_within}
 use Rattle.of_dict.proofs.Searches.{borne_before, older_is_named}
 use Rattle.of_dict.proofs.dict.Dict.is_borne_before.Goals as goal
@@ -17,10 +18,10 @@ visible_from-requires c =
     let words = c.args.self.now in
     let indexed = rw c.self.view_is at c.self.invariant in
     let within = name_is_within words c.args.word.0 c.args.name.now c.requires in
-    let link : c.index.result.now ≡ get_or c.self.inside.older.items c.args.word.0 None =
-    get_or_read c.self.inside.older.items c.args.word.0 _ (omega
-    (arith, within, indexed.links)) c.index.ensures None in
-    rw link (older_is_named words c.self.inside.older.items _ c.args.word.0 indexed (
+    let es = c.self.inside.headers.items in
+    let link : c.link.result ≡ get_or (links_of es) c.args.word.0 None = c.link.ensures ∙ link_read es c.args.word.0
+    c.index.result.now (omega (arith, within, words_many es, ap length c.self.view_is)) c.index.ensures in
+    rw link (older_is_named words (links_of es) _ c.args.word.0 indexed (
       within,
       (c.args.name.now, c.requires),
     ))
@@ -30,9 +31,9 @@ returns c =
     let words = c.args.self.now in
     let indexed = rw c.self.view_is at c.self.invariant in
     let within = name_is_within words c.args.word.0 c.args.name.now c.requires in
-    let link : c.index.result.now ≡ get_or c.self.inside.older.items c.args.word.0 None =
-    get_or_read c.self.inside.older.items c.args.word.0 _ (omega
-    (arith, within, indexed.links)) c.index.ensures None in
-    let borne = borne_before words c.self.inside.older.items _ c.args.word.0 c.args.name.now indexed c.requires in
+    let es = c.self.inside.headers.items in
+    let link : c.link.result ≡ get_or (links_of es) c.args.word.0 None = c.link.ensures ∙ link_read es c.args.word.0
+    c.index.result.now (omega (arith, within, words_many es, ap length c.self.view_is)) c.index.ensures in
+    let borne = borne_before words (links_of es) _ c.args.word.0 c.args.name.now indexed c.requires in
     c.is_some.ensures ∙ sym (number_is_some c.visible_from.result)
     ∙ ap is_some (c.visible_from.ensures.value ∙ ap (visible_from words) link ∙ sym borne)
