@@ -24,3 +24,4 @@ pub mod Asked
 pub mod CodeKept
 pub mod GoalLemmas
 pub mod UnmarkedLemmas
+pub mod Standing
