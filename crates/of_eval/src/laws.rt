@@ -10,7 +10,8 @@ pub fn plans_unroll()
 {}
 
 /// A written word that runs no other does what its entry says, by its execution token; `execute` does what the word
-/// does of the cell that it takes; and an own word that is no defer does what its kind says.
+/// does of the cell that it takes, and `catch` what it does under a handler; and an own word that is no defer does what
+/// its kind says.
 #[tactic(auto, using(crate::proofs::Executed::words_are_executed))]
 pub fn words_are_executed()
     ensures { WordsAreExecuted Coding }
